@@ -1,0 +1,8 @@
+use Rattle.std.proofs.Common.{◌+◌, ◌∙◌, arith, length, length-append}
+use Rattle.hid_packet.specs.Message.{continuation_packet}
+use Rattle.hid_packet.proofs.Writing.{filled}
+use Rattle.hid_packet.proofs.fragments.continuation.Goals as goal
+
+pub returns : goal.returns
+unfolding continuation_packet
+returns c = c.put_continuation.ensures ∙ filled _ (5 + length c.args.part.now) (simp length-append (omega arith))

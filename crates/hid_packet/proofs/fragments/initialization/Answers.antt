@@ -1,0 +1,8 @@
+use Rattle.std.proofs.Common.{◌+◌, ◌∙◌, arith, length, length-append}
+use Rattle.hid_packet.specs.Message.{initialization_packet}
+use Rattle.hid_packet.proofs.Writing.{filled}
+use Rattle.hid_packet.proofs.fragments.initialization.Goals as goal
+
+pub returns : goal.returns
+unfolding initialization_packet
+returns c = c.put_initialization.ensures ∙ filled _ (7 + length c.args.part.now) (simp length-append (omega arith))

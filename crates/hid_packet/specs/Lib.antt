@@ -1,0 +1,5 @@
+pub mod Packet
+pub mod Message
+pub mod Carries
+pub mod Remaining
+pub mod Queue

@@ -1,0 +1,53 @@
+-- The fields of a packet of 64 bytes (CTAP 2.1, section 11.2.4, "Message and packet structure"). A packet is the list of its bytes.
+use Rattle.std.specs.Prelude.{ℕ, ◌-◌, Bool, ◌&&◌, ◌==◌, nat_le, List, take, drop, slice_index, if◌then◌else◌}
+use Rattle.byteorder.specs.Endian.{big_number}
+use Rattle.hid_packet.specs.declared.packet.View.{View}
+use Rattle.hid_packet.specs.declared.packet.View.TheVariants.{Start, More}
+
+-- the channel: bytes 0 to 3, big endian
+unfoldable pub channel : List ℕ → ℕ
+channel packet = big_number 4 packet
+
+-- An initialization packet has bit 7 of byte 4 set; any other packet is a continuation packet.
+unfoldable pub is_initialization : List ℕ → Bool
+is_initialization packet = nat_le 128 (slice_index packet 4)
+
+-- the command of an initialization packet: the other bits of byte 4
+unfoldable pub command : List ℕ → ℕ
+command packet = slice_index packet 4 - 128
+
+-- the length of the whole message, of an initialization packet: bytes 5 and 6, big endian
+unfoldable pub message_length : List ℕ → ℕ
+message_length packet = big_number 2 (drop 5 packet)
+
+-- the data of an initialization packet: bytes 7 to 63
+unfoldable pub initialization_data : List ℕ → List ℕ
+initialization_data packet = take 57 (drop 7 packet)
+
+-- the sequence number of a continuation packet: byte 4
+unfoldable pub sequence : List ℕ → ℕ
+sequence packet = slice_index packet 4
+
+-- the data of a continuation packet: bytes 5 to 63
+unfoldable pub continuation_data : List ℕ → List ℕ
+continuation_data packet = take 59 (drop 5 packet)
+
+-- an initialization packet with this command
+abbrev pub is_command : ℕ → List ℕ → Bool
+is_command asked packet = is_initialization packet && (command packet == asked)
+
+-- The fields of either kind of packet, together.
+pub data Fields : Type 0 where
+  initialization : (channel command length : ℕ) (data_bytes : List ℕ) → Fields
+  continuation : (channel sequence : ℕ) (data_bytes : List ℕ) → Fields
+
+abbrev pub fields : List ℕ → Fields
+fields packet =
+    if is_initialization packet
+    then initialization (channel packet) (command packet) (message_length packet) (initialization_data packet)
+    else continuation (channel packet) (sequence packet) (continuation_data packet)
+
+-- the same fields, as a `View` lends them
+abbrev pub shown : View → Fields
+shown (Start cid cmd len part) = initialization cid cmd len part.now
+shown (More cid seq part) = continuation cid seq part.now

@@ -1,0 +1,15 @@
+-- The packets of a message that are still to be taken.
+use Rattle.std.specs.Prelude.{ℕ, ◌*◌, ◌-◌, ◌<◌, ◌≤◌, List, length}
+use Rattle.hid_packet.specs.Message.{written, continuation_packets}
+use Rattle.hid_packet.specs.declared.fragments.Due.{Due}
+use Rattle.hid_packet.specs.declared.fragments.Due.TheVariants.{Initialization, Continuation}
+
+-- With the initialization packet due, these are all packets of the message; else the continuation packets of the rest.
+abbrev pub packets_left : ℕ → Due → List ℕ → List (List ℕ)
+packets_left cid (Initialization cmd) rest = written cid cmd rest
+packets_left cid (Continuation number) rest = continuation_packets (128 - number) cid number rest
+
+-- The rest fits the packets that may still come.
+abbrev pub CanCarry : Due → List ℕ → Type 0
+CanCarry (Initialization cmd) rest = (cmd < 128) × (length rest ≤ 7609)
+CanCarry (Continuation number) rest = length rest ≤ 59 * (128 - number)

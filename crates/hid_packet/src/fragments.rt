@@ -1,0 +1,155 @@
+ghost use Rattle.std.specs.Prelude.{◌≡◌, ℕ, ◌+◌, ◌-◌, ◌<◌, ◌≤◌, ◌++◌, ◌∷◌, [], length, take, drop};
+ghost use Rattle.byteorder.specs.Endian.{big_bytes};
+ghost use Rattle.hid_packet.specs.Message.{written, initialization_packet, continuation_packet};
+ghost use Rattle.hid_packet.specs.Carries.{IsLeast};
+ghost use Rattle.std.specs.Iterator.{YieldsFirstBy, item_count};
+
+use crate::packet::Packet;
+use byteorder::{BigEndian, ByteOrder};
+use std::marker::Model;
+
+/// The data bytes of an initialization packet.
+const INITIALIZATION_DATA: usize = 57;
+
+/// The data bytes of a continuation packet.
+const CONTINUATION_DATA: usize = 59;
+
+/// The number of packets that carry a message of `len` bytes: 1 for at most 57, else 1 and the
+/// least number of continuation packets of 59 data bytes that hold the rest, so at most 129.
+pub fn packets_for(len: u16) -> u16
+    requires { len ≤ 7609 }
+    ensures least { IsLeast (result - 1) len }
+    ensures some { 1 ≤ result }
+{
+    // Rounded up: one continuation packet for each 59 bytes behind the first 57.
+    1 + (len + 1) / 59
+}
+
+/// Writes `bytes` at the front.
+fn put_front(out: &mut [u8], bytes: &[u8])
+    requires { length bytes.now ≤ length out.old }
+    ensures { out.new ≡ bytes.now ++ drop (length bytes.now) out.old }
+{
+    out[..bytes.len()].copy_from_slice(bytes);
+}
+
+/// Writes the bytes that both kinds of packet begin with: the channel and byte 4.
+fn put_header(out: &mut [u8], cid: u32, kind: u8)
+    requires { 5 ≤ length out.old }
+    ensures { out.new ≡ (big_bytes 4 cid ++ kind ∷ []) ++ drop 5 out.old }
+{
+    BigEndian::write_u32(out, cid);
+    out[4] = kind;
+}
+
+fn put_initialization(out: &mut [u8], cid: u32, cmd: u8, len: u16, part: &[u8])
+    requires command { cmd < 128 }
+    requires room { 7 + length part.now ≤ length out.old }
+    ensures { out.new ≡ (((big_bytes 4 cid ++ (cmd + 128) ∷ []) ++ big_bytes 2 len) ++ part.now) ++ drop (7 + length part.now) out.old }
+{
+    put_header(out, cid, cmd + 128);
+    BigEndian::write_u16(&mut out[5..], len);
+    put_front(&mut out[7..], part);
+}
+
+fn put_continuation(out: &mut [u8], cid: u32, number: u8, part: &[u8])
+    requires { 5 + length part.now ≤ length out.old }
+    ensures { out.new ≡ ((big_bytes 4 cid ++ number ∷ []) ++ part.now) ++ drop (5 + length part.now) out.old }
+{
+    put_header(out, cid, number);
+    put_front(&mut out[5..], part);
+}
+
+/// The initialization packet with these data bytes, and zeros behind them.
+fn initialization(cid: u32, cmd: u8, len: u16, part: &[u8]) -> Packet
+    requires command { cmd < 128 }
+    requires fits { length part.now ≤ 57 }
+    ensures { result.0 ≡ initialization_packet cid cmd len part.now }
+{
+    let mut packet = [0; 64];
+    put_initialization(&mut packet, cid, cmd, len, part);
+    Packet(packet)
+}
+
+/// The continuation packet with these data bytes, and zeros behind them.
+fn continuation(cid: u32, number: u8, part: &[u8]) -> Packet
+    requires { length part.now ≤ 59 }
+    ensures { result.0 ≡ continuation_packet cid number part.now }
+{
+    let mut packet = [0; 64];
+    put_continuation(&mut packet, cid, number, part);
+    Packet(packet)
+}
+
+/// The packet that is to be made next.
+#[derive(Clone, Copy)]
+enum Due {
+    /// The initialization packet, with this command.
+    Initialization(u8),
+    /// A continuation packet with this sequence number, if any byte is left.
+    Continuation(u8),
+}
+
+/// The packets of a message, in order, as an iterator. Each packet's bytes behind the message are
+/// zero.
+#[derive(Drop)]
+pub struct Fragments<'a> {
+    cid: u32,
+    due: Due,
+    rest: &'a [u8],
+}
+
+// Clauses see the packets that are left.
+impl<'a> Model for Fragments<'a> {
+    ghost use Rattle.std.specs.Prelude.{ℕ, List};
+    ghost use Rattle.hid_packet.specs.Remaining.{packets_left, CanCarry};
+
+    ghost Value = { List (List ℕ) };
+
+    ghost view = { λ s. packets_left s.cid s.due s.rest.now };
+
+    ghost invariant = { λ s. CanCarry s.due s.rest.now };
+}
+
+impl<'a> Fragments<'a> {
+    /// The packets of the message `bytes` with the command `cmd` on the channel `cid`: those that
+    /// [`packets_for`] counts.
+    pub fn new(cid: u32, cmd: u8, bytes: &'a [u8]) -> Self
+        requires short { length bytes.now ≤ 7609 }
+        requires command { cmd < 128 }
+        ensures { result ≡ written cid cmd bytes.now }
+    {
+        Fragments {
+            cid,
+            due: Due::Initialization(cmd),
+            rest: bytes,
+        }
+    }
+}
+
+impl<'a> Iterator for Fragments<'a> {
+    type Item = Packet;
+
+    ghost next_gives = { YieldsFirstBy (λ packet. packet.0) (λ left. left) };
+
+    ghost remaining = { item_count (λ left. left) };
+
+    fn next(&mut self) -> Option<Packet> {
+        let left: &'a [u8] = self.rest;
+        match self.due {
+            Due::Initialization(cmd) => {
+                let (part, rest) = left.split_at(INITIALIZATION_DATA.min(left.len()));
+                self.due = Due::Continuation(0);
+                self.rest = rest;
+                Some(initialization(self.cid, cmd, left.len() as u16, part))
+            }
+            Due::Continuation(_) if left.is_empty() => None,
+            Due::Continuation(number) => {
+                let (part, rest) = left.split_at(CONTINUATION_DATA.min(left.len()));
+                self.due = Due::Continuation(number + 1);
+                self.rest = rest;
+                Some(continuation(self.cid, number, part))
+            }
+        }
+    }
+}
