@@ -1,2 +1,4 @@
 pub mod Writing
 pub mod Ring
+pub mod Carrying
+mod Rows

@@ -14,7 +14,7 @@ filled bytes n e = rw (drop-replicate {X = ℕ}, e) refl
 -- one continuation packet more
 pub one_continuation : (most cid number : ℕ) (bytes : List ℕ) → 0 < most → 0 < length bytes
     → continuation_packets most cid number bytes
-        ≡ continuation_packet cid number (take 59 bytes) ∷ continuation_packets (most - 1) cid (number + 1) (drop 59 bytes)
+    ≡ continuation_packet cid number (take 59 bytes) ∷ continuation_packets (most - 1) cid (number + 1) (drop 59 bytes)
 unfolding continuation_packets
 one_continuation zero cid number bytes some left = absurd (omega arith)
 one_continuation (suc most) cid number [] some left = absurd (omega arith)

@@ -1,4 +1,4 @@
-ghost use Rattle.std.specs.Prelude.{◌≡◌, ℕ, ◌+◌, ◌-◌, ◌<◌, ◌≤◌, ◌++◌, ◌∷◌, [], length, take, drop};
+ghost use Rattle.std.specs.Prelude.{◌≡◌, ℕ, ◌+◌, ◌-◌, ◌<◌, ◌≤◌, ◌++◌, ◌∷◌, [], List, length, drop};
 ghost use Rattle.byteorder.specs.Endian.{big_bytes};
 ghost use Rattle.hid_packet.specs.Message.{written, initialization_packet, continuation_packet};
 ghost use Rattle.hid_packet.specs.Carries.{IsLeast};
@@ -18,8 +18,9 @@ const CONTINUATION_DATA: usize = 59;
 /// least number of continuation packets of 59 data bytes that hold the rest, so at most 129.
 pub fn packets_for(len: u16) -> u16
     requires { len ≤ 7609 }
-    ensures least { IsLeast (result - 1) len }
     ensures some { 1 ≤ result }
+    ensures least { IsLeast (result - 1) len }
+    ensures written { (cid cmd : ℕ) (bytes : List ℕ) → length bytes ≡ len → length (written cid cmd bytes) ≡ result }
 {
     // Rounded up: one continuation packet for each 59 bytes behind the first 57.
     1 + (len + 1) / 59

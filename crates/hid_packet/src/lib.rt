@@ -3,9 +3,13 @@
 #![tactic(auto)]
 
 mod fragments;
+pub mod laws;
 mod outbox;
 mod packet;
 
 pub use fragments::{Fragments, packets_for};
 pub use outbox::{OUTBOX_CAPACITY, Outbox};
 pub use packet::{Packet, View};
+
+#[cfg(test)]
+mod tests;

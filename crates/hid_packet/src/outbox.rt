@@ -53,7 +53,7 @@ impl Outbox {
     pub fn is_empty(&self) -> bool
         ensures { IsTrue result ↔ (self.now ≡ []) }
     {
-        self.len == 0
+        self.len() == 0
     }
 
     /// Takes the first packet, if one waits.

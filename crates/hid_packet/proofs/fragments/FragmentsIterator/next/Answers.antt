@@ -20,10 +20,10 @@ returns-in-Continuation-clause-steps c =
 pub returns-in-Continuation-2-clause-steps : goal.returns-in-Continuation-2-clause-steps
 returns-in-Continuation-2-clause-steps c =
     next_taken _ _ _ _ _ _ _ _ _ c.self.view_is c.in-Continuation-2.is c.self.invariant (grind (arith, nat_tests)) c.min-in-Continuation-2.ensures
-        c.split_at-in-Continuation-2.ensures.front c.split_at-in-Continuation-2.ensures.back c.continuation.ensures
+    c.split_at-in-Continuation-2.ensures.front c.split_at-in-Continuation-2.ensures.back c.continuation.ensures
 
 pub returns-in-Continuation-2-clause-goes : goal.returns-in-Continuation-2-clause-goes
 returns-in-Continuation-2-clause-goes c =
     let shorter = ap length (next_taken _ _ _ _ _ _ _ _ _ c.self.view_is c.in-Continuation-2.is c.self.invariant (grind (arith, nat_tests)) c.min-in-Continuation-2.ensures
-        c.split_at-in-Continuation-2.ensures.front c.split_at-in-Continuation-2.ensures.back c.continuation.ensures) in
+    c.split_at-in-Continuation-2.ensures.front c.split_at-in-Continuation-2.ensures.back c.continuation.ensures) in
     search rules

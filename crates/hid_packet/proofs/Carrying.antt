@@ -1,0 +1,191 @@
+-- The written packets carry their message.
+use Rattle.std.proofs.Common.{◌≡◌, ℕ, ◌+◌, ◌-◌, ◌*◌, ◌/◌, ◌^◌, ◌<◌, ◌≤◌, ◌⊎◌, Bool, true, false, inl, inr, suc, zero, List, [], ◌∷◌, ◌++◌, length, take, drop, replicate, flat_map, append_assoc, append-nil, refl, sym, ◌∙◌, ap, subst, arith, nat_le, length-append, length-drop}
+use Rattle.std.proofs.lemmas.Bool.Decides.{nat_tests}
+use Rattle.std.proofs.lemmas.Bool.{cases_lt}
+use Rattle.std.proofs.lemmas.List.{take-append-le, take-append-drop, take_all, drop_all, length-take, length-replicate}
+use Rattle.std.proofs.Math.Seq.{take-append-add, take-append_seam, take-length}
+use Rattle.byteorder.specs.Endian.{big_bytes}
+use Rattle.byteorder.specs.Numbers.{big_number-reads_back}
+use Rattle.hid_packet.specs.Packet.{channel, is_initialization, command, message_length, initialization_data, sequence, continuation_data}
+use Rattle.hid_packet.specs.Message.{padded, initialization_packet, continuation_packet, continuation_packets, written}
+use Rattle.hid_packet.specs.Carries.{Continue, IsLeast, joined, Carries, CarriesMessage}
+
+-- data bytes and the zeros behind them fill a packet
+all_data : (k : ℕ) (part : List ℕ) → length part ≤ k → take k (part ++ replicate (k - length part) 0) ≡ part ++ replicate (k - length part) 0
+all_data k part short = take_all k _ (omega (arith, length-append part (replicate (k - length part) 0), length-replicate {A = ℕ} (k - length part) 0))
+
+-- The fields of the packets that are written.
+module _ (cid cmd len : ℕ) (part : List ℕ) where
+  channel-initialization : cid < 2 ^ 32 → channel (initialization_packet cid cmd len part) ≡ cid
+  unfolding channel initialization_packet padded
+  channel-initialization fits =
+      let zeros = replicate (64 - length (big_bytes 4 cid ++ (cmd + 128) ∷ [] ++ big_bytes 2 len ++ part)) 0 in
+      big_number-reads_back 4 cid ((cmd + 128) ∷ [] ++ big_bytes 2 len ++ part ++ zeros) fits
+
+  is_initialization-initialization : is_initialization (initialization_packet cid cmd len part) ≡ true
+  unfolding is_initialization initialization_packet padded
+  is_initialization-initialization = above (cmd + 128) (omega arith)
+    where
+      above : (n : ℕ) → 128 ≤ n → nat_le 128 n ≡ true
+      above n h = grind (arith, nat_tests)
+
+  command-initialization : command (initialization_packet cid cmd len part) ≡ cmd
+  unfolding command initialization_packet padded
+  command-initialization = less cmd
+    where
+      less : (n : ℕ) → n + 128 - 128 ≡ n
+      less n = omega arith
+
+  message_length-initialization : len < 2 ^ 16 → message_length (initialization_packet cid cmd len part) ≡ len
+  unfolding message_length initialization_packet padded
+  message_length-initialization fits =
+      let zeros = replicate (64 - length (big_bytes 4 cid ++ (cmd + 128) ∷ [] ++ big_bytes 2 len ++ part)) 0 in
+      big_number-reads_back 2 len (part ++ zeros) fits
+
+  data-initialization : length part ≤ 57 → initialization_data (initialization_packet cid cmd len part) ≡ part ++ replicate (57 - length part) 0
+  unfolding initialization_data initialization_packet padded
+  data-initialization short =
+      let rest : 64 - length (big_bytes 4 cid ++ (cmd + 128) ∷ [] ++ big_bytes 2 len ++ part) ≡ 57 - length part = omega arith in
+      ap (λ k. take 57 (part ++ replicate k 0)) rest ∙ all_data 57 part short
+
+module _ (cid number : ℕ) (part : List ℕ) where
+  channel-continuation : cid < 2 ^ 32 → channel (continuation_packet cid number part) ≡ cid
+  unfolding channel continuation_packet padded
+  channel-continuation fits =
+      big_number-reads_back 4 cid (number ∷ part ++ replicate (64 - length (big_bytes 4 cid ++ number ∷ [] ++ part)) 0) fits
+
+  is_initialization-continuation : number < 128 → is_initialization (continuation_packet cid number part) ≡ false
+  unfolding is_initialization continuation_packet padded
+  is_initialization-continuation h = below number h
+    where
+      below : (n : ℕ) → n < 128 → nat_le 128 n ≡ false
+      below n h = grind (arith, nat_tests)
+
+  sequence-continuation : sequence (continuation_packet cid number part) ≡ number
+  unfolding sequence continuation_packet padded
+  sequence-continuation = refl
+
+  data-continuation : length part ≤ 59 → continuation_data (continuation_packet cid number part) ≡ part ++ replicate (59 - length part) 0
+  unfolding continuation_data continuation_packet padded
+  data-continuation short =
+      let rest : 64 - length (big_bytes 4 cid ++ number ∷ [] ++ part) ≡ 59 - length part = omega arith in
+      ap (λ k. take 59 (part ++ replicate k 0)) rest ∙ all_data 59 part short
+
+-- Whole data bytes, cut to the message's length, are its bytes.
+cut_join : (k : ℕ) (bytes more : List ℕ) → take (length (drop k bytes)) more ≡ drop k bytes
+    → take (length bytes) ((take k bytes ++ replicate (k - length (take k bytes)) 0) ++ more) ≡ bytes
+cut_join k bytes more rest = elim (cases_lt (length bytes) k) [
+  | inl few ↦
+      let all : take k bytes ≡ bytes = take_all k bytes (omega arith) in
+      rw (all, append_assoc) (take-append_seam bytes _)
+  | inr many ↦
+      let full : length (take k bytes) ≡ k = omega (arith, length-take k bytes) in
+      let none : k - length (take k bytes) ≡ 0 = omega arith in
+      let split : length bytes ≡ length (take k bytes) + length (drop k bytes) = omega (arith, length-drop k bytes) in
+      rw (none, append-nil, split, take-append-add, rest) (take-append-drop k bytes)
+]
+
+joins_more : (most cid number : ℕ) (bytes : List ℕ) → length bytes ≤ 59 * most
+    → take (length bytes) (flat_map continuation_data (continuation_packets most cid number bytes)) ≡ bytes
+unfolding continuation_packets
+joins_more zero cid number [] fits = refl
+joins_more zero cid number (b ∷ bytes) fits = absurd (omega arith)
+joins_more (suc most) cid number [] fits = refl
+joins_more (suc most) cid number (b ∷ bytes) fits =
+    let all = b ∷ bytes in
+    let part = data-continuation cid number (take 59 all) (omega (arith, length-take 59 all)) in
+    let rest = joins_more most cid (number + 1) (drop 59 all) (omega (arith, length-drop 59 all)) in
+    rw part (cut_join 59 all _ rest)
+
+continues_all : (most cid number : ℕ) (bytes : List ℕ) → cid < 2 ^ 32 → number + most ≤ 128
+    → Continue cid number (continuation_packets most cid number bytes)
+unfolding continuation_packets
+continues_all zero cid number bytes fits below = tt
+continues_all (suc most) cid number [] fits below = tt
+continues_all (suc most) cid number (b ∷ bytes) fits below =
+    let part = take 59 (b ∷ bytes) in (
+      is_initialization-continuation cid number part (omega arith),
+      channel-continuation cid number part fits,
+      sequence-continuation cid number part,
+      continues_all most cid (number + 1) (drop 59 (b ∷ bytes)) fits (omega arith),
+    )
+
+-- how many continuation packets there are
+length-continuation_packets : (most cid number : ℕ) (bytes : List ℕ) → length bytes ≤ 59 * most
+    → (length bytes ≤ 59 * length (continuation_packets most cid number bytes)) × (59 * length (continuation_packets most cid number bytes) < length bytes + 59)
+unfolding continuation_packets
+length-continuation_packets zero cid number bytes fits = (omega arith, omega arith)
+length-continuation_packets (suc most) cid number [] fits = (omega arith, omega arith)
+length-continuation_packets (suc most) cid number (b ∷ bytes) fits =
+    let all = b ∷ bytes in
+    let dropped = length-drop 59 all in
+    let rest = length-continuation_packets most cid (number + 1) (drop 59 all) (omega (arith, dropped)) in
+    (omega (arith, dropped, rest.0), omega (arith, dropped, rest.1))
+
+-- The data of the written packets, joined, begins with the message.
+joins_written : (cid cmd : ℕ) (bytes : List ℕ) → length bytes ≤ 7609
+    → take (length bytes) (joined (initialization_packet cid cmd (length bytes) (take 57 bytes)) (continuation_packets 128 cid 0 (drop 57 bytes))) ≡ bytes
+joins_written cid cmd bytes short =
+    let first = data-initialization cid cmd (length bytes) (take 57 bytes) (omega (arith, length-take 57 bytes)) in
+    let rest = joins_more 128 cid 0 (drop 57 bytes) (omega (arith, length-drop 57 bytes)) in
+    rw first (cut_join 57 bytes _ rest)
+
+least_of : (len count : ℕ) → (len - 57 ≤ 59 * count) → (59 * count < (len - 57) + 59) → IsLeast count len
+least_of len count enough few = elim (cases_lt len 58) [
+  | inl one ↦ inl (omega arith, omega arith)
+  | inr more ↦ inr (omega arith, omega arith)
+]
+
+-- as many continuation packets as are needed
+pub least_continuations : (cid : ℕ) (bytes : List ℕ) → length bytes ≤ 7609
+    → IsLeast (length (continuation_packets 128 cid 0 (drop 57 bytes))) (length bytes)
+least_continuations cid bytes short =
+    let dropped = length-drop 57 bytes in
+    let count = length-continuation_packets 128 cid 0 (drop 57 bytes) (omega (arith, dropped)) in
+    least_of _ _ (omega (arith, dropped, count.0)) (omega (arith, dropped, count.1))
+
+pub written_carries : (cid cmd : ℕ) (bytes : List ℕ) → cid < 2 ^ 32 → length bytes ≤ 7609
+    → Carries (initialization_packet cid cmd (length bytes) (take 57 bytes)) (continuation_packets 128 cid 0 (drop 57 bytes)) cid cmd bytes
+written_carries cid cmd bytes fits short =
+    let part = take 57 bytes in
+    record {
+      short = short;
+      begins = is_initialization-initialization cid cmd (length bytes) part;
+      on = channel-initialization cid cmd (length bytes) part fits;
+      asks = command-initialization cid cmd (length bytes) part;
+      counts = message_length-initialization cid cmd (length bytes) part (omega arith);
+      continues = continues_all 128 cid 0 (drop 57 bytes) fits (omega arith);
+      least = least_continuations cid bytes short;
+      joins = sym (joins_written cid cmd bytes short);
+    }
+
+-- There is one least number.
+pub one_least : (a b len : ℕ) → IsLeast a len → IsLeast b len → a ≡ b
+one_least a b len (inl x) (inl y) = omega arith
+one_least a b len (inl x) (inr y) = omega arith
+one_least a b len (inr x) (inl y) = omega arith
+one_least a b len (inr x) (inr y) = omega arith
+
+-- Packets carry at most one message.
+pub one_message : (packets : List (List ℕ)) (c d k l : ℕ) (a b : List ℕ) → CarriesMessage packets c k a → CarriesMessage packets d l b
+    → (c ≡ d) × (k ≡ l) × (a ≡ b)
+one_message [] c d k l a b x y = absurd x
+one_message (first ∷ others) c d k l a b x y =
+    let same : length a ≡ length b = sym x.counts ∙ y.counts in
+    (sym x.on ∙ y.on, sym x.asks ∙ y.asks, x.joins ∙ ap (λ n. take n (joined first others)) same ∙ sym y.joins)
+
+pub fewest_written : (cid cmd : ℕ) (bytes : List ℕ) → length bytes ≤ 7609 → IsLeast (length (written cid cmd bytes) - 1) (length bytes)
+unfolding written
+fewest_written cid cmd bytes short =
+    subst (λ n. IsLeast n (length bytes)) (omega arith) (least_continuations cid bytes short)
+
+-- as many as `packets_for` counts
+pub length-written : (cid cmd count : ℕ) (bytes : List ℕ) → length bytes ≤ 7609 → 1 ≤ count → IsLeast (count - 1) (length bytes) → length (written cid cmd bytes) ≡ count
+unfolding written
+length-written cid cmd count bytes short some least =
+    let same = one_least _ _ _ (least_continuations cid bytes short) least in
+    omega arith
+
+-- one continuation packet for each 59 bytes behind the first 57, rounded up
+pub least-rounded_up : (len : ℕ) → IsLeast (1 + (len + 1) / 59 - 1) len
+least-rounded_up len = elim (cases_lt len 58) [ inl one ↦ inl (omega arith, omega arith) | inr more ↦ inr (omega arith, omega arith) ]

@@ -1,0 +1,23 @@
+//! What holds over the definitions alone: which packets carry a message, and which are written for it.
+//! Each law is the contract of a function that does nothing.
+
+ghost use Rattle.std.specs.Prelude.{◌≡◌, ℕ, ◌-◌, ◌^◌, ◌<◌, ◌≤◌, List, length};
+ghost use Rattle.hid_packet.specs.Message.{written};
+ghost use Rattle.hid_packet.specs.Carries.{IsLeast, CarriesMessage};
+
+/// The packets that are written for a message carry it.
+pub fn written_packets_carry_their_message()
+    ensures { (cid cmd : ℕ) (bytes : List ℕ) → cid < 2 ^ 32 → length bytes ≤ 7609 → CarriesMessage (written cid cmd bytes) cid cmd bytes }
+{}
+
+/// They are one initialization packet and the least number of continuation packets, and there is
+/// only one such number.
+pub fn written_packets_are_the_fewest()
+    ensures least { (cid cmd : ℕ) (bytes : List ℕ) → length bytes ≤ 7609 → IsLeast (length (written cid cmd bytes) - 1) (length bytes) }
+    ensures one { (a b len : ℕ) → IsLeast a len → IsLeast b len → a ≡ b }
+{}
+
+/// A list of packets carries at most one message.
+pub fn packets_carry_one_message()
+    ensures { (packets : List (List ℕ)) (c d k l : ℕ) (a b : List ℕ) → CarriesMessage packets c k a → CarriesMessage packets d l b → (c ≡ d) × (k ≡ l) × (a ≡ b) }
+{}
