@@ -189,3 +189,15 @@ length-written cid cmd count bytes short some least =
 -- one continuation packet for each 59 bytes behind the first 57, rounded up
 pub least-rounded_up : (len : ℕ) → IsLeast (1 + (len + 1) / 59 - 1) len
 least-rounded_up len = elim (cases_lt len 58) [ inl one ↦ inl (omega arith, omega arith) | inr more ↦ inr (omega arith, omega arith) ]
+
+-- A message has at most 129 packets.
+few_continuations : (most cid number : ℕ) (bytes : List ℕ) → length (continuation_packets most cid number bytes) ≤ most
+unfolding continuation_packets
+few_continuations zero cid number bytes = omega arith
+few_continuations (suc most) cid number [] = omega arith
+few_continuations (suc most) cid number (b ∷ bytes) =
+    let rest = few_continuations most cid (number + 1) (drop 59 (b ∷ bytes)) in omega arith
+
+pub few_written : (cid cmd : ℕ) (bytes : List ℕ) → length (written cid cmd bytes) ≤ 129
+unfolding written
+few_written cid cmd bytes = let rest = few_continuations 128 cid 0 (drop 57 bytes) in omega arith

@@ -1,3 +1,4 @@
+pub mod Commands
 pub mod Packet
 pub mod Message
 pub mod Carries

@@ -47,6 +47,23 @@ fields packet =
     then initialization (channel packet) (command packet) (message_length packet) (initialization_data packet)
     else continuation (channel packet) (sequence packet) (continuation_data packet)
 
+-- each field by its name; a continuation packet has no command and no length
+abbrev pub channel_of : Fields → ℕ
+channel_of (initialization cid cmd len part) = cid
+channel_of (continuation cid number part) = cid
+
+abbrev pub command_of : Fields → ℕ
+command_of (initialization cid cmd len part) = cmd
+command_of (continuation cid number part) = 0
+
+abbrev pub length_of : Fields → ℕ
+length_of (initialization cid cmd len part) = len
+length_of (continuation cid number part) = 0
+
+abbrev pub data_of : Fields → List ℕ
+data_of (initialization cid cmd len part) = part
+data_of (continuation cid number part) = part
+
 -- the same fields, as a `View` lends them
 abbrev pub shown : View → Fields
 shown (Start cid cmd len part) = initialization cid cmd len part.now

@@ -8,6 +8,9 @@ use crate::packet::Packet;
 use byteorder::{BigEndian, ByteOrder};
 use std::marker::Model;
 
+/// The bytes of the longest message, which takes 129 packets.
+pub const LONGEST_MESSAGE: u16 = 57 + 59 * 128;
+
 /// The data bytes of an initialization packet.
 const INITIALIZATION_DATA: usize = 57;
 

@@ -10,10 +10,11 @@ pub fn written_packets_carry_their_message()
     ensures { (cid cmd : ℕ) (bytes : List ℕ) → cid < 2 ^ 32 → length bytes ≤ 7609 → CarriesMessage (written cid cmd bytes) cid cmd bytes }
 {}
 
-/// They are one initialization packet and the least number of continuation packets, and there is
-/// only one such number.
+/// They are one initialization packet and the least number of continuation packets, at most 129
+/// packets in all, and there is only one least number.
 pub fn written_packets_are_the_fewest()
     ensures least { (cid cmd : ℕ) (bytes : List ℕ) → length bytes ≤ 7609 → IsLeast (length (written cid cmd bytes) - 1) (length bytes) }
+    ensures few { (cid cmd : ℕ) (bytes : List ℕ) → length (written cid cmd bytes) ≤ 129 }
     ensures one { (a b len : ℕ) → IsLeast a len → IsLeast b len → a ≡ b }
 {}
 

@@ -2,14 +2,15 @@
 //! (CTAP 2.1, section 11.2.4, "Message and packet structure"). Nothing here takes memory.
 #![tactic(auto)]
 
+pub mod command;
 mod fragments;
 pub mod laws;
 mod outbox;
 mod packet;
 
-pub use fragments::{Fragments, packets_for};
+pub use fragments::{Fragments, LONGEST_MESSAGE, packets_for};
 pub use outbox::{OUTBOX_CAPACITY, Outbox};
-pub use packet::{Packet, View};
+pub use packet::{BROADCAST, PACKET_SIZE, Packet, View};
 
 #[cfg(test)]
 mod tests;

@@ -6,6 +6,9 @@ use byteorder::{BigEndian, ByteOrder};
 /// The size of a packet, in bytes.
 pub const PACKET_SIZE: usize = 64;
 
+/// The channel on which a host asks for a channel of its own.
+pub const BROADCAST: u32 = 0xffff_ffff;
+
 /// A CTAPHID packet, the unit that crosses USB in either direction: any 64 bytes.
 #[derive(Clone, Copy, Debug, PartialEq, Eq)]
 pub struct Packet(pub [u8; 64]);

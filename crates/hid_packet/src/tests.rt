@@ -1,5 +1,6 @@
 //! What no clause says: that the calls succeed on packets written out by hand.
 
+use crate::laws::written_packets_are_the_fewest;
 use crate::{Fragments, OUTBOX_CAPACITY, Outbox, Packet, View, packets_for};
 use std::test::Fail;
 
@@ -64,7 +65,9 @@ fn short_messages_take_one_packet(rt: HostRuntime) {
     let mut empty = Fragments::new(1, 1, &[]);
     assert_eq!(rt; empty.next(), Some(pad(&[0, 0, 0, 1, 0x81, 0, 0])));
     assert_eq!(rt; empty.next(), None);
-    assert_eq!(rt; Fragments::new(1, 1, &[9; 57]).count(), 1);
+    let mut full = Fragments::new(1, 1, &[9; 57]);
+    assert!(rt; full.next().is_some());
+    assert_eq!(rt; full.next(), None);
 }
 
 #[test]
@@ -76,7 +79,10 @@ fn the_outbox_holds_130_packets_in_order(rt: HostRuntime) {
     outbox.put_packet(pad(&[2]));
     assert_eq!(rt; outbox.pop(), Some(pad(&[1])));
     assert_eq!(rt; outbox.pop(), Some(pad(&[2])));
+    assert!(rt; outbox.is_empty());
 
+    // That there is room for so many packets is a law.
+    written_packets_are_the_fewest();
     outbox.put_message(1, 1, &[9; 7609]);
     assert_eq!(rt; outbox.len(), OUTBOX_CAPACITY - 1);
     outbox.put_packet(pad(&[3]));

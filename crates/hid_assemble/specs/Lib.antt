@@ -1,0 +1,4 @@
+pub mod Table
+pub mod Assembly
+pub mod Verdicts
+pub mod Codes
