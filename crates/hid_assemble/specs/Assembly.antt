@@ -86,11 +86,14 @@ abbrev pub bytes_of : Option Message → List ℕ
 bytes_of None = []
 bytes_of (Some m) = m.bytes
 
+-- What a row makes of all that is kept.
+abbrev pub kept_by : Assembly → ℕ → Fields → Row → Assembly
+kept_by a at f row =
+    record { given = given_after a.given row; current = open_after a.current at f row; finished = bytes_of (message_after a.current f row) }
+
 -- What is kept behind a packet with these fields.
 unfoldable pub accepted : Assembly → ℕ → Option ℕ → Fields → Assembly
-accepted a at work f =
-    let row = row_of a.given (option_map seen a.current) work f in
-    record { given = given_after a.given row; current = open_after a.current at f row; finished = bytes_of (message_after a.current f row) }
+accepted a at work f = kept_by a at f (row_of a.given (option_map seen a.current) work f)
 
 -- An open message is a PING or a CBOR message on a channel that was given out, too long for one packet and not yet whole.
 pub record IsOpenMessage (given : ℕ) (m : Open) : Type 0 where

@@ -2,3 +2,5 @@ pub mod Table
 pub mod Assembly
 pub mod Verdicts
 pub mod Codes
+pub mod Kept
+pub mod Says

@@ -1,5 +1,5 @@
 -- What the reply table answers to a packet.
-use Rattle.std.specs.Prelude.{ℕ, ◌+◌, take, Option, Some, None, option_map, if◌then◌else◌}
+use Rattle.std.specs.Prelude.{ℕ, ◌+◌, List, take, Option, Some, None, option_map, if◌then◌else◌}
 use Rattle.hid_packet.specs.Commands.{BROADCAST}
 use Rattle.hid_packet.specs.Packet.{Fields, channel_of, data_of}
 use Rattle.hid_assemble.specs.Table.{is_on, row_of}
@@ -15,11 +15,8 @@ finished_verdict None = Ignored
 finished_verdict (Some m) = Finished m.cid m.cmd
 
 -- INIT on a given channel is greeted with that channel; work that waits there must be dropped.
-abbrev pub greeted_again : Option ℕ → Fields → Verdict
-greeted_again work f =
-    if is_on work (channel_of f)
-    then GreetAndDrop (channel_of f) (channel_of f) (take 8 (data_of f))
-    else Greet (channel_of f) (channel_of f) (take 8 (data_of f))
+abbrev pub greeted_again : Option ℕ → ℕ → List ℕ → Verdict
+greeted_again work cid nonce = if is_on work cid then GreetAndDrop cid cid nonce else Greet cid cid nonce
 
 -- The answer of each row, where the packet finished this message or none.
 unfoldable pub row_verdict : ℕ → Option ℕ → Fields → Option Message → Row → Verdict
@@ -29,7 +26,7 @@ row_verdict given work f m NoSuchChannel = Refuse (channel_of f) InvalidChannel
 row_verdict given work f m InitLength = Refuse (channel_of f) InvalidLength
 row_verdict given work f m InitFull = Refuse (channel_of f) Other
 row_verdict given work f m InitNew = Greet BROADCAST (given + 1) (take 8 (data_of f))
-row_verdict given work f m InitAgain = greeted_again work f
+row_verdict given work f m InitAgain = greeted_again work (channel_of f) (take 8 (data_of f))
 row_verdict given work f m BusyElsewhere = Refuse (channel_of f) ChannelBusy
 row_verdict given work f m BusyHere = Refuse (channel_of f) ChannelBusy
 row_verdict given work f m BrokenOff = Refuse (channel_of f) InvalidSequence

@@ -1,5 +1,5 @@
 -- The fields of a packet of 64 bytes (CTAP 2.1, section 11.2.4, "Message and packet structure"). A packet is the list of its bytes.
-use Rattle.std.specs.Prelude.{ℕ, ◌-◌, Bool, ◌&&◌, ◌==◌, nat_le, List, take, drop, slice_index, if◌then◌else◌}
+use Rattle.std.specs.Prelude.{◌≡◌, ℕ, ◌-◌, Bool, ◌&&◌, ◌==◌, nat_le, List, length, take, drop, slice_index, if◌then◌else◌}
 use Rattle.byteorder.specs.Endian.{big_number}
 use Rattle.hid_packet.specs.declared.packet.View.{View}
 use Rattle.hid_packet.specs.declared.packet.View.TheVariants.{Start, More}
@@ -63,6 +63,11 @@ length_of (continuation cid number part) = 0
 abbrev pub data_of : Fields → List ℕ
 data_of (initialization cid cmd len part) = part
 data_of (continuation cid number part) = part
+
+-- The data bytes fill the packet: 57 of an initialization packet, 59 of a continuation packet.
+abbrev pub FillsPacket : Fields → Type 0
+FillsPacket (initialization cid cmd len part) = length part ≡ 57
+FillsPacket (continuation cid number part) = length part ≡ 59
 
 -- the same fields, as a `View` lends them
 abbrev pub shown : View → Fields
