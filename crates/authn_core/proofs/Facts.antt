@@ -1,0 +1,32 @@
+-- All that the transport needs to know of the authenticator.
+use Rattle.std.proofs.Common.{◌≡◌, ℕ, ◌≤◌, List, [], ◌∷◌, length, Option, Some, None, refl, arith}
+use Rattle.authn_core.specs.Turn.{CoreState, working, Event, Answer, Answered, Nothing, Request, Cancel, Drop, core_turn}
+
+-- a channel that was given out, where something is on one
+abbrev pub IsGiven : ℕ → Option ℕ → Type 0
+IsGiven given None = Unit {0}
+IsGiven given (Some cid) = (1 ≤ cid) × (cid ≤ given)
+
+-- a request comes on a channel that was given out
+abbrev pub EventIsGiven : ℕ → Event → Type 0
+EventIsGiven given (Request cid bytes) = (1 ≤ cid) × (cid ≤ given)
+EventIsGiven given Cancel = Unit {0}
+EventIsGiven given Drop = Unit {0}
+
+-- Work is on the channel that it was on, or on the request's.
+pub work_stays_given : (given : ℕ) (core : CoreState) (at : ℕ) (e : Event) → IsGiven given (working core) → EventIsGiven given e
+    → IsGiven given (working (core_turn core at e).state)
+unfolding core_turn
+work_stays_given given core at (Request cid bytes) w h = w
+work_stays_given given core at Cancel w h = tt
+work_stays_given given core at Drop w h = tt
+
+-- A drop answers nothing.
+pub drop_is_silent : (core : CoreState) (at : ℕ) → (core_turn core at Drop).answer ≡ Nothing
+unfolding core_turn
+drop_is_silent core at = refl
+
+-- An answer has at most 262 bytes.
+abbrev pub IsShort : Answer → Type 0
+IsShort (Answered bytes) = length bytes ≤ 262
+IsShort answer = Unit {0}

@@ -1,0 +1,9 @@
+//! The authenticator of CTAP 2.1, section 6, as a machine that takes requests and gives answers. It
+//! serves no command yet: every request is answered by status 0x01. Nothing here takes memory.
+#![tactic(auto)]
+
+mod core;
+mod work;
+
+pub use core::{Answer, Core, Turn};
+pub use work::{KeepaliveStatus, Work};

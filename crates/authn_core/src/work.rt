@@ -1,0 +1,30 @@
+/// What waiting work waits for, the byte that a KEEPALIVE carries (CTAP 2.1, section 11.2.9.1.7).
+#[derive(Clone, Copy, Debug, PartialEq, Eq)]
+pub enum KeepaliveStatus {
+    /// 1: the authenticator is processing.
+    Processing,
+    /// 2: the user's presence is needed.
+    PresenceNeeded,
+}
+
+impl KeepaliveStatus {
+    ghost use Rattle.std.specs.Prelude.{◌≡◌};
+    ghost use Rattle.authn_core.specs.Status.{status_number};
+
+    /// The status as the byte that a KEEPALIVE carries.
+    pub fn number(self) -> u8
+        ensures { result ≡ status_number self }
+    {
+        match self {
+            KeepaliveStatus::Processing => 1,
+            KeepaliveStatus::PresenceNeeded => 2,
+        }
+    }
+}
+
+/// Work that waits: the channel that asked, and what it waits for.
+#[derive(Clone, Copy, Debug)]
+pub struct Work {
+    pub cid: u32,
+    pub status: KeepaliveStatus,
+}
