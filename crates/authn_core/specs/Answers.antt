@@ -2,8 +2,8 @@
 use Rattle.std.specs.Prelude.{ℕ}
 use Rattle.authn_core.specs.Turn.{Answer, Answered, Waits}
 use Rattle.authn_core.specs.Status.{status_number}
-use Rattle.authn_core.specs.declared.core.Turn.{Turn}
-use Rattle.authn_core.specs.declared.core.Turn.TheVariants.{Answer as AnswerOf, Waits as WaitsFor}
+use Rattle.authn_core.specs.declared.authenticator.Turn.{Turn}
+use Rattle.authn_core.specs.declared.authenticator.Turn.TheVariants.{Answer as AnswerOf, Waits as WaitsFor}
 
 abbrev pub answer_of : Turn → Answer
 answer_of (AnswerOf bytes) = Answered bytes.items

@@ -2,8 +2,8 @@
 //! serves no command yet: every request is answered by status 0x01. Nothing here takes memory.
 #![tactic(auto)]
 
-mod core;
+mod authenticator;
 mod work;
 
-pub use core::{Answer, Core, Turn};
+pub use authenticator::{Answer, Core, Turn};
 pub use work::{KeepaliveStatus, Work};

@@ -1,0 +1,71 @@
+-- At most one message is open, and how much is held of it.
+use Rattle.std.proofs.Common.{◌≡◌, ℕ, ◌+◌, ◌*◌, ◌≤◌, ◌<◌, Bool, true, false, cond, ◌&&◌, List, [], ◌∷◌, length, Option, Some, None, option_to_list, refl, ap, arith, nat_lt}
+use Rattle.std.proofs.lemmas.Bool.Decides.{nat_tests}
+use Rattle.token_session.proofs.Opens.{From, Lawful, from_earlier, none_stays, open_is_admitted, and_true, cond_none}
+use Rattle.token_session.proofs.Serve.{cond_case, long_says}
+use Rattle.hid_packet.specs.Packet.{channel, message_length}
+use Rattle.token_session.specs.History.{Begun, Judged, end, goes_on, held, is_long, is_next, is_open, open_among, open_at, own, packet}
+use Rattle.token_session.specs.Law.{all_open}
+
+none_all : (h L : List Judged) (t : ℕ) → open_among L h t ≡ None → all_open L h t ≡ []
+unfolding open_among all_open
+none_all [] L t n = refl
+none_all (e ∷ before) L t n =
+    let two = cond_none (is_open e L t) _ _ n in
+    let shut = two.0 in
+    rw shut (none_all before (e ∷ L) t two.1)
+
+pub one_open : (h L : List Judged) (start t : ℕ) → Lawful start h → From (end start h) L → end start h ≤ t → all_open L h t ≡ option_to_list (open_among L h t)
+unfolding open_among all_open open_at
+one_open [] L start t l f le = refl
+one_open (e ∷ before) L start t l f le = go (is_open e L t) refl (one_open before (e ∷ L) start t l.2 (l.0, from_earlier L (end start before) e.at l.0 f) (omega (arith, l.0)))
+  where
+    here : Begun
+    here = record { packet = packet e.input; at = e.at; own = own (channel (packet e.input)) L }
+
+    go : (b : Bool) → is_open e L t ≡ b → all_open (e ∷ L) before t ≡ option_to_list (open_among (e ∷ L) before t)
+        → cond b (here ∷ all_open (e ∷ L) before t) (all_open (e ∷ L) before t) ≡ option_to_list (cond b (Some here) (open_among (e ∷ L) before t))
+    go true h ih = ap (λ os. here ∷ os) (none_all before (e ∷ L) t (none_stays before [] (e ∷ L) e.at t (omega arith, f) le (l.1 (open_is_admitted e L t h))))
+    go false h ih = ih
+
+next_below : (len m : ℕ) (e : Judged) → is_next len m e ≡ true → 57 + 59 * (m + 1) < len
+unfolding is_next
+next_below len m e h = let a = (and_true _ (nat_lt (57 + 59 * (m + 1)) len) h).1 in below _ _ a
+  where
+    below : (a b : ℕ) → nat_lt a b ≡ true → a < b
+    below a b h = grind (arith, nat_tests)
+
+pub goes_on_below : (os : List Judged) (len m since t : ℕ) → 57 + 59 * m < len → goes_on len m since os t ≡ true → 57 + 59 * (m + length os) < len
+unfolding goes_on
+goes_on_below [] len m since t lt h = omega arith
+goes_on_below (o ∷ os) len m since t lt h =
+    let a = and_true (is_next len m o && nat_lt o.at (since + 500)) (goes_on len (m + 1) o.at os t) h in
+    let b = next_below len m o (and_true (is_next len m o) (nat_lt o.at (since + 500)) a.0).0 in
+    let c = goes_on_below os len (m + 1) o.at t b a.1 in
+    omega arith
+
+-- an open message has at most 127 continuations
+abbrev pub FewOwn : Option Begun → Type 0
+FewOwn None = Unit {0}
+FewOwn (Some b) = 57 + 59 * length b.own ≤ 7550
+
+few_here : (e : Judged) (L : List Judged) (t : ℕ) → is_open e L t ≡ true → 57 + 59 * length (own (channel (packet e.input)) L) ≤ 7550
+unfolding is_open
+few_here e L t h =
+    let a = and_true (e.admitted && is_long (packet e.input)) _ h in
+    let l = long_says (packet e.input) (and_true e.admitted (is_long (packet e.input)) a.0).1 in
+    let b = goes_on_below (own (channel (packet e.input)) L) (message_length (packet e.input)) 0 e.at t (omega (arith, l.least)) a.1 in
+    omega (arith, l.most)
+
+few_own : (h L : List Judged) (t : ℕ) → FewOwn (open_among L h t)
+unfolding open_among
+few_own [] L t = tt
+few_own (e ∷ before) L t = cond_case FewOwn (is_open e L t) _ _ (λ y. few_here e L t y) (λ _. few_own before (e ∷ L) t)
+
+pub held_few : (start : ℕ) (h : List Judged) → held start h ≤ 7550
+unfolding held open_at
+held_few start h = go (open_among [] h (end start h)) (few_own h [] (end start h))
+  where
+    go : (o : Option Begun) → FewOwn o → (elim o [ None ↦ 0 | Some b ↦ 57 + 59 * length b.own ]) ≤ 7550
+    go None f = omega arith
+    go (Some b) f = f

@@ -1,0 +1,577 @@
+-- The table's rows, over plain values: what the machine makes of a packet is what the history says.
+use Rattle.std.proofs.Common.{◌≡◌, ℕ, ◌+◌, ◌*◌, ◌≤◌, ◌<◌, Bool, true, false, cond, ◌&&◌, ◌||◌, not, ◌==◌, List, [], ◌∷◌, ◌++◌, length, append-nil, append_assoc, flat_map, Option, Some, None, option_map, is_none, ◌≢◌, refl, sym, ◌∙◌, ap, subst, arith, nat_lt, nat_le, min, ◌⊎◌, inl, inr}
+use Rattle.std.proofs.lemmas.Bool.Decides.{nat_tests}
+use Rattle.std.proofs.lemmas.Grind.{flat_map-append}
+use Rattle.std.proofs.lemmas.List.{map-append, length-append}
+use Rattle.token_session.proofs.Opens.{next, then_next, and_true, both_true, not_true, cond_at}
+use Rattle.authn_core.proofs.Facts.{IsGiven}
+use Rattle.authn_core.specs.Turn.{Cancel, Drop}
+use Rattle.hid_assemble.specs.Assembly.{Message, given_after, grown, message_after, open_after}
+use Rattle.hid_assemble.specs.Table.{LAST_CHANNEL, begin_row, continuation_row, init_row, initialization_row, is_elsewhere, is_given, is_on, row_of}
+use Rattle.hid_assemble.specs.declared.table.Row.{Row}
+use Rattle.hid_assemble.specs.declared.table.Row.TheVariants.{BadLength, BrokenOff, BusyElsewhere, BusyHere, CancelsNothing, CancelsWork, InitAgain, InitFull, InitLength, InitNew, Kept, Long, NoSuchChannel, NoSuchCommand, Short, Stray, Whole, WrongNumber}
+use Rattle.hid_packet.specs.Commands.{BROADCAST, CANCEL, CBOR, INIT, PING}
+use Rattle.hid_packet.specs.Packet.{Fields, channel, command, continuation, continuation_data, fields, initialization, initialization_data, is_initialization, message_length, sequence}
+use Rattle.token_session.specs.History.{Begun, Judged, admits, asks_channel, finished, finished_long, is_last, is_long, is_next, is_own, own, packet, packet_event, packets_of}
+use Rattle.token_session.specs.Law.{as_open, last_at}
+use Rattle.token_session.specs.Machine.{event_after}
+use Rattle.token_session.specs.Replies.{request_of}
+use Rattle.token_session.specs.declared.input.Input.{Input}
+use Rattle.token_session.specs.declared.input.Input.TheVariants.{Packet}
+use Rattle.hid_packet.specs.declared.packet.Packet.{Packet as Packet64}
+use Rattle.hid_assemble.specs.Assembly.{seen}
+
+pub cond_case : {A : Type 0} (P : A → Type 0) (b : Bool) (x y : A) → (b ≡ true → P x) → (b ≡ false → P y) → P (cond b x y)
+cond_case P true x y p q = p refl
+cond_case P false x y p q = q refl
+
+-- What a packet that came at t makes of the open message.
+abbrev pub new_open : ℕ → Option Begun → Option ℕ → ℕ → List ℕ → Input → Option Begun
+new_open g o w t p i =
+    cond (admits g o w p && is_long p) (Some (record { packet = p; at = t; own = [] })) (then_next (record { at = t; input = i; admitted = admits g o w p }) o)
+
+abbrev pub new_given : ℕ → List ℕ → ℕ
+new_given g p = cond (asks_channel p) (min (g + 1) LAST_CHANNEL) g
+
+-- the fields of an initialization packet, and of a continuation packet
+abbrev pub starts : List ℕ → Fields
+starts p = initialization (channel p) (command p) (message_length p) (initialization_data p)
+
+abbrev pub goes : List ℕ → Fields
+goes p = continuation (channel p) (sequence p) (continuation_data p)
+
+-- The row does to each part what the history says.
+pub record Serves (g : ℕ) (o : Option Begun) (w : Option ℕ) (t : ℕ) (p : List ℕ) (f : Fields) (opens : Option Begun) (ends : Option Message) (r : Row) : Type 0 where
+  pub channels : new_given g p ≡ given_after g r
+  pub current : option_map as_open opens ≡ open_after (option_map as_open o) t f r
+  pub message : ends ≡ message_after (option_map as_open o) f r
+  pub event : packet_event w (message_after (option_map as_open o) f r) p ≡ event_after w f (message_after (option_map as_open o) f r) r
+
+-- Tests as facts.
+pub is_eq : (a b : ℕ) → (a == b) ≡ true → a ≡ b
+is_eq a b h = grind (arith, nat_tests)
+
+not_eq : (a b : ℕ) → (a == b) ≡ false → a ≡ b → ⊥
+not_eq a b h e = grind (arith, nat_tests)
+
+or_false : (a b : Bool) → (a || b) ≡ false → (a ≡ false) × (b ≡ false)
+or_false true b h = cc
+or_false false b h = (refl, h)
+
+or_true : (a b : Bool) → (a || b) ≡ true → (a ≡ true) ⊎ (b ≡ true)
+or_true true b h = inl refl
+or_true false b h = inr h
+
+pub not_is : (a b : Bool) → not a ≡ b → a ≡ not b
+not_is true true h = sym h
+not_is true false h = refl
+not_is false true h = refl
+not_is false false h = sym h
+
+pub and_false : (a b : Bool) → a ≡ false → (a && b) ≡ false
+and_false true b h = cc
+and_false false b h = refl
+
+pub record Admitted (g : ℕ) (o : Option Begun) (w : Option ℕ) (p : List ℕ) : Type 0 where
+  pub start : is_initialization p ≡ true
+  pub low : 1 ≤ channel p
+  pub high : channel p ≤ g
+  pub cmd : (command p ≡ 1) ⊎ (command p ≡ 16)
+  pub some : command p ≡ 16 → 1 ≤ message_length p
+  pub none : o ≡ None
+  pub idle : w ≡ None
+
+is_none_says : {A : Type 0} (o : Option A) → is_none o ≡ true → o ≡ None
+is_none_says None h = refl
+is_none_says (Some x) h = cc
+
+record Five (a b c d e : Bool) : Type 0 where
+  one : a ≡ true
+  two : b ≡ true
+  three : c ≡ true
+  four : d ≡ true
+  five : e ≡ true
+
+all_five : (a b c d e : Bool) → ((((a && b) && c) && d) && e) ≡ true → Five a b c d e
+all_five true true true true e h = record { one = refl; two = refl; three = refl; four = refl; five = h }
+all_five true true true false e h = cc
+all_five true true false d e h = cc
+all_five true false c d e h = cc
+all_five false b c d e h = cc
+
+one_of_two : (k n : ℕ) → ((k == 1) || ((k == 16) && nat_le 1 n)) ≡ true → (k ≡ 1) ⊎ (k ≡ 16)
+one_of_two k n h = grind (arith, nat_tests)
+
+some_bytes : (k n : ℕ) → ((k == 1) || ((k == 16) && nat_le 1 n)) ≡ true → k ≡ 16 → 1 ≤ n
+some_bytes k n h e = grind (arith, nat_tests)
+
+between : (g c : ℕ) → (nat_le 1 c && nat_le c g) ≡ true → (1 ≤ c) × (c ≤ g)
+between g c h = grind (arith, nat_tests)
+
+pub says_admitted : (g : ℕ) (o : Option Begun) (w : Option ℕ) (p : List ℕ) → admits g o w p ≡ true → Admitted g o w p
+unfolding admits
+says_admitted g o w p h =
+    let a = all_five (is_initialization p) (is_given g (channel p)) ((command p == PING) || ((command p == CBOR) && nat_le 1 (message_length p))) (is_none o) (is_none w) h in
+    record {
+      start = a.one;
+      low = (between g (channel p) a.two).0;
+      high = (between g (channel p) a.two).1;
+      cmd = one_of_two (command p) (message_length p) a.three;
+      some = some_bytes (command p) (message_length p) a.three;
+      none = is_none_says o a.four;
+      idle = is_none_says w a.five;
+    }
+
+-- Nothing is open, and the row neither begins nor ends a message.
+none_row : (g : ℕ) (w : Option ℕ) (t : ℕ) (x : Packet64) (f : Fields) (r : Row)
+    → new_given g x.0 ≡ given_after g r → (admits g None w x.0 && is_long x.0) ≡ false → (admits g None w x.0 && nat_le (message_length x.0) 57) ≡ false
+    → open_after None t f r ≡ None → message_after None f r ≡ None → packet_event w None x.0 ≡ event_after w f None r
+    → Serves g None w t x.0 f (new_open g None w t x.0 (Packet x)) (finished None (admits g None w x.0) (Packet x)) r
+unfolding finished finished_long
+none_row g w t x f r ch lg sh op ms ev = record {
+  channels = ch;
+  current = rw (lg, op) refl;
+  message = rw (sh, ms) refl;
+  event = rw ms ev;
+}
+
+-- The row where a start is not admitted.
+refused_row : (g : ℕ) (w : Option ℕ) (t : ℕ) (x : Packet64) (f : Fields) (r : Row)
+    → (Admitted g None w x.0 → ⊥) → new_given g x.0 ≡ given_after g r
+    → open_after None t f r ≡ None → message_after None f r ≡ None → packet_event w None x.0 ≡ event_after w f None r
+    → Serves g None w t x.0 f (new_open g None w t x.0 (Packet x)) (finished None (admits g None w x.0) (Packet x)) r
+refused_row g w t x f r never ch op ms ev =
+    let adm : admits g None w x.0 ≡ false = not_true _ (λ y. never (says_admitted g None w x.0 y)) in
+    none_row g w t x f r ch (and_false _ _ adm) (and_false _ _ adm) op ms ev
+
+-- The channels and the event where the row is of another kind.
+record Three (a b c : Bool) : Type 0 where
+  one : a ≡ true
+  two : b ≡ true
+  three : c ≡ true
+
+all_three : (a b c : Bool) → ((a && b) && c) ≡ true → Three a b c
+all_three true true c h = record { one = refl; two = refl; three = h }
+all_three true false c h = cc
+all_three false b c h = cc
+
+pub record Four (a b c d : Bool) : Type 0 where
+  pub one : a ≡ true
+  pub two : b ≡ true
+  pub three : c ≡ true
+  pub four : d ≡ true
+
+pub all_four : (a b c d : Bool) → (((a && b) && c) && d) ≡ true → Four a b c d
+all_four true true true d h = record { one = refl; two = refl; three = refl; four = h }
+all_four true true false d h = cc
+all_four true false c d h = cc
+all_four false b c d h = cc
+
+pub true_or_false : {P : Type 0} (b : Bool) → b ≡ true → b ≡ false → P
+true_or_false b p q = cc
+
+no_channel : (g : ℕ) (p : List ℕ) → (command p ≡ INIT → message_length p ≡ 8 → channel p ≡ BROADCAST → ⊥) → new_given g p ≡ g
+unfolding asks_channel
+no_channel g p never =
+    cond_at (((is_initialization p && (command p == INIT)) && (message_length p == 8)) && (channel p == BROADCAST)) _ _ _
+    (λ y. let a = all_four (is_initialization p) (command p == INIT) (message_length p == 8) (channel p == BROADCAST) y in
+    absurd (never (is_eq (command p) INIT a.two) (is_eq (message_length p) 8 a.three) (is_eq (channel p) BROADCAST a.four)))
+    (λ _. refl)
+
+pub no_event : (w : Option ℕ) (m : Option Message) (p : List ℕ) → (command p ≡ CANCEL → is_on w (channel p) ≡ false) → (command p ≡ INIT → message_length p ≡ 8 → is_on w (channel p) ≡ false)
+    → packet_event w m p ≡ request_of m
+unfolding packet_event
+no_event w m p a b =
+    cond_at ((is_initialization p && (command p == CANCEL)) && is_on w (channel p)) _ _ _
+    (λ y. let q = all_three (is_initialization p) (command p == CANCEL) (is_on w (channel p)) y in
+    true_or_false _ q.three (a (is_eq (command p) CANCEL q.two)))
+    (λ _. cond_at (((is_initialization p && (command p == INIT)) && (message_length p == 8)) && is_on w (channel p)) _ _ _
+    (λ y. let q = all_four (is_initialization p) (command p == INIT) (message_length p == 8) (is_on w (channel p)) y in
+    true_or_false _ q.four (b (is_eq (command p) INIT q.two) (is_eq (message_length p) 8 q.three)))
+    (λ _. refl))
+
+here_given : (g : ℕ) (w : Option ℕ) (c : ℕ) → IsGiven g w → (1 ≤ c → c ≤ g → ⊥) → is_on w c ≡ false
+here_given g None c h never = refl
+here_given g (Some w) c h never = not_true _ (λ y. let e : w ≡ c = is_eq w c y in never (omega (arith, h.0)) (omega (arith, h.1)))
+
+cancel_event : (w : Option ℕ) (m : Option Message) (p : List ℕ) → is_initialization p ≡ true → (command p == CANCEL) ≡ true → is_on w (channel p) ≡ true → packet_event w m p ≡ Some Cancel
+unfolding packet_event
+cancel_event w m p a b c = rw (a, b, c) refl
+
+drop_event : (w : Option ℕ) (m : Option Message) (p : List ℕ) → is_initialization p ≡ true → (command p == CANCEL) ≡ false → (command p == INIT) ≡ true → (message_length p == 8) ≡ true
+    → packet_event w m p ≡ cond (is_on w (channel p)) (Some Drop) (request_of m)
+unfolding packet_event
+drop_event w m p a b c d = rw (a, b, c, d) refl
+
+asked_channel : (g : ℕ) (p : List ℕ) → is_initialization p ≡ true → (command p == INIT) ≡ true → (message_length p == 8) ≡ true → (channel p == BROADCAST) ≡ true → new_given g p ≡ min (g + 1) LAST_CHANNEL
+unfolding asks_channel
+asked_channel g p a b c d = rw (a, b, c, d) refl
+
+not_idle : (w : Option ℕ) (c : ℕ) → w ≡ None → is_on w c ≡ true → ⊥
+not_idle None c e h = cc
+not_idle (Some w) c e h = cc
+
+not_idle_elsewhere : (w : Option ℕ) (c : ℕ) → w ≡ None → is_elsewhere w c ≡ true → ⊥
+not_idle_elsewhere None c e h = cc
+not_idle_elsewhere (Some w) c e h = cc
+
+idle : (w : Option ℕ) (c : ℕ) → is_elsewhere w c ≡ false → is_on w c ≡ false → w ≡ None
+idle None c a b = refl
+idle (Some w) c a b = let e = not_is (w == c) false a in true_or_false (w == c) e b
+
+outside : (g c k : ℕ) → not ((nat_le 1 c && nat_le c g) || ((c == BROADCAST) && (k == INIT))) ≡ true → (1 ≤ c → c ≤ g → ⊥) × (c ≡ BROADCAST → k ≡ INIT → ⊥)
+outside g c k h =
+    let e = or_false (nat_le 1 c && nat_le c g) ((c == BROADCAST) && (k == INIT)) (not_is _ true h) in
+    (λ a b. grind (arith, nat_tests), λ a b. grind (arith, nat_tests))
+
+inside : (g c k : ℕ) → not ((nat_le 1 c && nat_le c g) || ((c == BROADCAST) && (k == INIT))) ≡ false → (k == INIT) ≡ false → is_given g c ≡ true
+inside g c k h n = grind (arith, nat_tests)
+
+admitted_now : (g : ℕ) (w : Option ℕ) (p : List ℕ) → is_initialization p ≡ true → is_given g (channel p) ≡ true → not ((command p == PING) || (command p == CBOR)) ≡ false
+    → (nat_lt 7609 (message_length p) || ((command p == CBOR) && (message_length p == 0))) ≡ false → w ≡ None → admits g None w p ≡ true
+unfolding admits
+admitted_now g w p st gv nc bl e =
+    let k : ((command p == PING) || ((command p == CBOR) && nat_le 1 (message_length p))) ≡ true = grind (arith, nat_tests) in
+    rw (st, gv, k, e) refl
+
+min_full : (g : ℕ) → g ≡ 4294967294 → min (g + 1) 4294967294 ≡ g
+min_full g h = omega arith
+
+min_free : (g : ℕ) → g ≤ 4294967294 → (g ≡ 4294967294 → ⊥) → min (g + 1) 4294967294 ≡ g + 1
+min_free g few free = let f : g ≢ 4294967294 = free in omega arith
+
+not_served : (k : ℕ) → not ((k == 1) || (k == 16)) ≡ true → (k ≡ 1) ⊎ (k ≡ 16) → ⊥
+not_served k h e = grind (arith, nat_tests)
+
+pub record LongLength (p : List ℕ) : Type 0 where
+  pub least : 58 ≤ message_length p
+  pub most : message_length p ≤ 7609
+
+between_lengths : (n : ℕ) → (nat_le 58 n && nat_le n 7609) ≡ true → (58 ≤ n) × (n ≤ 7609)
+between_lengths n h = grind (arith, nat_tests)
+
+pub long_says : (p : List ℕ) → is_long p ≡ true → LongLength p
+unfolding is_long
+long_says p h = let b = between_lengths (message_length p) h in record { least = b.0; most = b.1 }
+
+bad_length : (k n : ℕ) → (nat_lt 7609 n || ((k == 16) && (n == 0))) ≡ true → (7609 < n) ⊎ ((k ≡ 16) × (n ≡ 0))
+bad_length k n h = grind (arith, nat_tests)
+
+good_length : (k n : ℕ) → (nat_lt 7609 n || ((k == 16) && (n == 0))) ≡ false → n ≤ 7609
+good_length k n h = grind (arith, nat_tests)
+
+pub is_le : (a b : ℕ) → nat_le a b ≡ true → a ≤ b
+is_le a b h = grind (arith, nat_tests)
+
+is_above : (a b : ℕ) → nat_le a b ≡ false → b < a
+is_above a b h = grind (arith, nat_tests)
+
+is_long_now : (p : List ℕ) → 58 ≤ message_length p → message_length p ≤ 7609 → is_long p ≡ true
+unfolding is_long
+is_long_now p a b = let x : nat_le 58 (message_length p) ≡ true = grind (arith, nat_tests) in let y : nat_le (message_length p) 7609 ≡ true = grind (arith, nat_tests) in both_true _ _ x y
+
+bad_row : (g : ℕ) (w : Option ℕ) (t : ℕ) (x : Packet64) → new_given g x.0 ≡ g → packet_event w None x.0 ≡ None
+    → (7609 < message_length x.0) ⊎ ((command x.0 ≡ 16) × (message_length x.0 ≡ 0))
+    → Serves g None w t x.0 (starts x.0) (new_open g None w t x.0 (Packet x)) (finished None (admits g None w x.0) (Packet x)) BadLength
+unfolding open_after message_after event_after
+bad_row g w t x ch ev bad =
+    let p = x.0 in
+    none_row g w t x (starts x.0) BadLength ch
+    (not_true _ (λ y. let q = and_true (admits g None w p) (is_long p) y in let a = says_admitted g None w p q.0 in let l = long_says p q.1 in
+    elim bad [ inl z ↦ omega (arith, l.most) | inr z ↦ omega (arith, l.least, z.1) ]))
+    (not_true _ (λ y. let q = and_true (admits g None w p) (nat_le (message_length p) 57) y in let a = says_admitted g None w p q.0 in let l = is_le (message_length p) 57 q.1 in
+    elim bad [ inl z ↦ omega (arith, l, z) | inr z ↦ omega (arith, a.some z.0, z.1) ]))
+    refl refl ev
+
+short_row : (g : ℕ) (w : Option ℕ) (t : ℕ) (x : Packet64) → new_given g x.0 ≡ g → ((m : Option Message) → packet_event w m x.0 ≡ request_of m)
+    → admits g None w x.0 ≡ true → nat_le (message_length x.0) 57 ≡ true
+    → Serves g None w t x.0 (starts x.0) (new_open g None w t x.0 (Packet x)) (finished None (admits g None w x.0) (Packet x)) Short
+unfolding open_after message_after event_after finished finished_long
+short_row g w t x ch ev adm sh =
+    let p = x.0 in
+    let few = is_le (message_length p) 57 sh in
+    let lg : is_long p ≡ false = not_true _ (λ y. let l = long_says p y in omega (arith, l.least)) in
+    record {
+      channels = ch;
+      current = rw (adm, lg) refl;
+      message = rw (adm, sh, append-nil (initialization_data p)) refl;
+      event = ev _;
+    }
+
+long_row : (g : ℕ) (w : Option ℕ) (t : ℕ) (x : Packet64) → new_given g x.0 ≡ g → ((m : Option Message) → packet_event w m x.0 ≡ request_of m)
+    → admits g None w x.0 ≡ true → nat_le (message_length x.0) 57 ≡ false → message_length x.0 ≤ 7609
+    → Serves g None w t x.0 (starts x.0) (new_open g None w t x.0 (Packet x)) (finished None (admits g None w x.0) (Packet x)) Long
+unfolding open_after message_after event_after finished finished_long
+long_row g w t x ch ev adm sh most =
+    let p = x.0 in
+    let lg : is_long p ≡ true = is_long_now p (is_above (message_length p) 57 sh) most in
+    record {
+      channels = ch;
+      current = rw (adm, lg, append-nil (initialization_data p)) refl;
+      message = rw (adm, sh) refl;
+      event = ev _;
+    }
+
+-- The rows of a start where nothing is open.
+start_none : (g : ℕ) (w : Option ℕ) (t : ℕ) (x : Packet64) → g ≤ LAST_CHANNEL → IsGiven g w → is_initialization x.0 ≡ true
+    → Serves g None w t x.0 (starts x.0) (new_open g None w t x.0 (Packet x)) (finished None (admits g None w x.0) (Packet x)) (initialization_row g None w (channel x.0) (command x.0) (message_length x.0))
+unfolding initialization_row init_row begin_row open_after message_after event_after
+start_none g w t x few wg st =
+    let p = x.0 in
+    let c = channel p in
+    let P = Serves g None w t p (starts p) (new_open g None w t p (Packet x)) (finished None (admits g None w p) (Packet x)) in
+    cond_case P (command p == CANCEL) _ _
+    (λ k. let cancel : command p ≡ 17 = is_eq (command p) CANCEL k in
+    let never : Admitted g None w p → ⊥ = λ a. elim a.cmd [ inl y ↦ omega arith | inr y ↦ omega arith ] in
+    let ch = no_channel g p (λ i _ _. omega arith) in
+    cond_case P (is_on w c) _ _
+    (λ h. refused_row g w t x (starts x.0) CancelsWork never ch refl refl (cancel_event w None p st k h))
+    (λ h. refused_row g w t x (starts x.0) CancelsNothing never ch refl refl (no_event w None p (λ _. h) (λ i. absurd (omega arith)))))
+    (λ k. let not_cancel : command p ≡ CANCEL → is_on w c ≡ false = λ y. absurd (not_eq (command p) CANCEL k y) in
+    cond_case P (not (is_given g c || ((c == BROADCAST) && (command p == INIT)))) _ _
+    (λ ng. let out = outside g c (command p) ng in
+    refused_row g w t x (starts x.0) NoSuchChannel (λ a. out.0 a.low a.high) (no_channel g p (λ i _ b. out.1 b i)) refl refl
+    (no_event w None p not_cancel (λ _ _. here_given g w c wg out.0)))
+    (λ ng. cond_case P (command p == INIT) _ _
+    (λ n. let init : command p ≡ 6 = is_eq (command p) INIT n in
+    let never : Admitted g None w p → ⊥ = λ a. elim a.cmd [ inl y ↦ omega arith | inr y ↦ omega arith ] in
+    cond_case P (not (message_length p == 8)) _ _
+    (λ l. let len = not_eq (message_length p) 8 (not_is (message_length p == 8) true l) in
+    refused_row g w t x (starts x.0) InitLength never (no_channel g p (λ _ e _. len e)) refl refl (no_event w None p not_cancel (λ _ e. absurd (len e))))
+    (λ l. let eight = not_is (message_length p == 8) false l in
+    cond_case P (c == BROADCAST) _ _
+    (λ b. let broad : c ≡ 4294967295 = is_eq c BROADCAST b in
+    let ev = no_event w None p not_cancel (λ _ _. here_given g w c wg (λ lo hi. omega arith)) in
+    cond_case P (g == LAST_CHANNEL) _ _
+    (λ f. let full : g ≡ 4294967294 = is_eq g LAST_CHANNEL f in
+    refused_row g w t x (starts x.0) InitFull never (asked_channel g p st n eight b ∙ min_full g full) refl refl ev)
+    (λ f. let free = not_eq g LAST_CHANNEL f in
+    refused_row g w t x (starts x.0) InitNew never (asked_channel g p st n eight b ∙ min_free g few free) refl refl ev))
+    (λ b. let narrow = not_eq c BROADCAST b in
+    refused_row g w t x (starts x.0) InitAgain never (no_channel g p (λ _ _ e. narrow e)) refl refl (drop_event w None p st k n eight))))
+    (λ n. let not_init : command p ≡ INIT → ⊥ = not_eq (command p) INIT n in
+    let ch = no_channel g p (λ i _ _. not_init i) in
+    let ev : (m : Option Message) → packet_event w m p ≡ request_of m = λ m. no_event w m p not_cancel (λ i. absurd (not_init i)) in
+    cond_case P (is_elsewhere w c) _ _ (λ we. refused_row g w t x (starts x.0) BusyElsewhere (λ a. not_idle_elsewhere w c a.idle we) ch refl refl (ev None))
+    (λ we. cond_case P (is_on w c) _ _ (λ wh. refused_row g w t x (starts x.0) BusyHere (λ a. not_idle w c a.idle wh) ch refl refl (ev None))
+    (λ wh. cond_case P (not ((command p == PING) || (command p == CBOR))) _ _
+    (λ nc. refused_row g w t x (starts x.0) NoSuchCommand (λ a. not_served (command p) nc a.cmd) ch refl refl (ev None))
+    (λ nc. cond_case P (nat_lt 7609 (message_length p) || ((command p == CBOR) && (message_length p == 0))) _ _ (λ bl. bad_row g w t x ch (ev None) (bad_length (command p) (message_length p) bl))
+    (λ bl. let adm = admitted_now g w p st (inside g c (command p) ng n) nc bl (idle w c we wh) in
+    cond_case P (nat_le (message_length p) 57) _ _ (λ sh. short_row g w t x ch ev adm sh) (λ sh. long_row g w t x ch ev adm sh (good_length (command p) (message_length p) bl)))))))))
+
+-- Where a message is open, no start is admitted.
+pub never_admitted : (g : ℕ) (b : Begun) (w : Option ℕ) (p : List ℕ) → admits g (Some b) w p ≡ false
+never_admitted g b w p = not_true _ (λ y. let a = says_admitted g (Some b) w p y in cc (a.none))
+
+abbrev pub now_came : ℕ → Packet64 → Judged
+now_came t x = record { at = t; input = Packet x; admitted = false }
+
+-- A row where a message is open, which nothing finishes.
+open_row : (g : ℕ) (b : Begun) (t : ℕ) (x : Packet64) (f : Fields) (r : Row)
+    → new_given g x.0 ≡ given_after g r → is_last b x.0 ≡ false
+    → option_map as_open (next (now_came t x) b) ≡ open_after (Some (as_open b)) t f r
+    → message_after (Some (as_open b)) f r ≡ None → packet_event None None x.0 ≡ event_after None f None r
+    → Serves g (Some b) None t x.0 f (new_open g (Some b) None t x.0 (Packet x)) (finished (Some b) (admits g (Some b) None x.0) (Packet x)) r
+unfolding finished finished_long
+open_row g b t x f r ch last op ms ev =
+    let adm = never_admitted g b None x.0 in
+    record {
+      channels = ch;
+      current = rw adm op;
+      message = rw (adm, last, ms) refl;
+      event = rw ms ev;
+    }
+
+pub last_is_no_start : (b : Begun) (p : List ℕ) → is_initialization p ≡ true → is_last b p ≡ false
+unfolding is_last
+last_is_no_start b p st = rw st refl
+
+foreign : (b : Begun) (t : ℕ) (x : Packet64) → (channel b.packet == channel x.0) ≡ false → next (now_came t x) b ≡ Some b
+unfolding next is_own
+foreign b t x h = rw h refl
+
+and_not : (a b c : Bool) → b ≡ true → c ≡ true → (a && not (b && c)) ≡ false
+and_not true b c p q = rw (p, q) refl
+and_not false b c p q = refl
+
+foreign_cancel : (b : Begun) (t : ℕ) (x : Packet64) → is_initialization x.0 ≡ true → (command x.0 == CANCEL) ≡ true → next (now_came t x) b ≡ Some b
+unfolding next is_own
+foreign_cancel b t x st k =
+    let own : ((channel b.packet == channel x.0) && not (is_initialization x.0 && (command x.0 == CANCEL))) ≡ false = and_not (channel b.packet == channel x.0) _ _ st k in
+    rw own refl
+
+own_start : (b : Begun) (t : ℕ) (x : Packet64) → (channel b.packet == channel x.0) ≡ true → is_initialization x.0 ≡ true → (command x.0 == CANCEL) ≡ false → next (now_came t x) b ≡ None
+unfolding next is_own is_next
+own_start b t x h st k = rw (h, st, k) refl
+
+-- a start that breaks off the open message if it is on its channel
+dropped : (b : Begun) (t : ℕ) (x : Packet64) → is_initialization x.0 ≡ true → (command x.0 == CANCEL) ≡ false
+    → option_map as_open (next (now_came t x) b) ≡ cond (channel b.packet == channel x.0) None (Some (as_open b))
+dropped b t x st k = go (channel b.packet == channel x.0) refl
+  where
+    go : (q : Bool) → (channel b.packet == channel x.0) ≡ q → option_map as_open (next (now_came t x) b) ≡ cond q None (Some (as_open b))
+    go true h = ap (option_map as_open) (own_start b t x h st k)
+    go false h = ap (option_map as_open) (foreign b t x h)
+
+elsewhere : (a b : Bool) → (not a || false) ≡ b → a ≡ not b
+elsewhere true true h = sym h
+elsewhere true false h = refl
+elsewhere false true h = refl
+elsewhere false false h = sym h
+
+-- The rows of a start where a message is open.
+start_open : (g : ℕ) (b : Begun) (t : ℕ) (x : Packet64) → g ≤ LAST_CHANNEL → 1 ≤ channel b.packet → channel b.packet ≤ g → is_initialization x.0 ≡ true
+    → Serves g (Some b) None t x.0 (starts x.0) (new_open g (Some b) None t x.0 (Packet x)) (finished (Some b) (admits g (Some b) None x.0) (Packet x))
+    (initialization_row g (Some (channel b.packet)) None (channel x.0) (command x.0) (message_length x.0))
+unfolding initialization_row init_row begin_row open_after message_after event_after
+start_open g b t x few low high st =
+    let p = x.0 in
+    let c = channel p in
+    let P = Serves g (Some b) None t p (starts p) (new_open g (Some b) None t p (Packet x)) (finished (Some b) (admits g (Some b) None p) (Packet x)) in
+    let last = last_is_no_start b p st in
+    let ev : packet_event None None p ≡ None = no_event None None p (λ _. refl) (λ _ _. refl) in
+    let kept : (channel b.packet ≡ c → ⊥) → next (now_came t x) b ≡ Some b = λ never. foreign b t x (not_true _ (λ y. never (is_eq (channel b.packet) c y))) in
+    cond_case P (command p == CANCEL) _ _
+    (λ k. let cancel : command p ≡ 17 = is_eq (command p) CANCEL k in
+    open_row g b t x (starts x.0) CancelsNothing (no_channel g p (λ i _ _. omega arith)) last (ap (option_map as_open) (foreign_cancel b t x st k)) refl ev)
+    (λ k. cond_case P (not (is_given g c || ((c == BROADCAST) && (command p == INIT)))) _ _
+    (λ ng. let out = outside g c (command p) ng in
+    open_row g b t x (starts x.0) NoSuchChannel (no_channel g p (λ i _ e. out.1 e i)) last
+    (ap (option_map as_open) (kept (λ e. out.0 (omega (arith, e, low)) (omega (arith, e, high))))) refl ev)
+    (λ ng. cond_case P (command p == INIT) _ _
+    (λ n. cond_case P (not (message_length p == 8)) _ _
+    (λ l. let len = not_eq (message_length p) 8 (not_is (message_length p == 8) true l) in
+    open_row g b t x (starts x.0) InitLength (no_channel g p (λ _ e _. len e)) last (dropped b t x st k) refl ev)
+    (λ l. let eight = not_is (message_length p == 8) false l in
+    cond_case P (c == BROADCAST) _ _
+    (λ br. let broad : c ≡ 4294967295 = is_eq c BROADCAST br in
+    let same = ap (option_map as_open) (kept (λ e. omega (arith, e, high, few, broad))) in
+    cond_case P (g == LAST_CHANNEL) _ _
+    (λ f. open_row g b t x (starts x.0) InitFull (asked_channel g p st n eight br ∙ min_full g (is_eq g LAST_CHANNEL f)) last same refl ev)
+    (λ f. open_row g b t x (starts x.0) InitNew (asked_channel g p st n eight br ∙ min_free g few (not_eq g LAST_CHANNEL f)) last same refl ev))
+    (λ br. open_row g b t x (starts x.0) InitAgain (no_channel g p (λ _ _ e. not_eq c BROADCAST br e)) last (dropped b t x st k) refl ev)))
+    (λ n. let ch = no_channel g p (λ i _ _. not_eq (command p) INIT n i) in
+    cond_case P (not (channel b.packet == c) || false) _ _
+    (λ be. open_row g b t x (starts x.0) BusyElsewhere ch last
+    (ap (option_map as_open) (foreign b t x (elsewhere (channel b.packet == c) true be))) refl ev)
+    (λ be. cond_case P (channel b.packet == c) _ _
+    (λ h. open_row g b t x (starts x.0) BrokenOff ch last (ap (option_map as_open) (own_start b t x h st k)) refl ev)
+    (λ h. true_or_false (channel b.packet == c) (elsewhere (channel b.packet == c) false be) h)))))
+
+-- Continuations.
+no_channel_more : (g : ℕ) (p : List ℕ) → is_initialization p ≡ false → new_given g p ≡ g
+unfolding asks_channel
+no_channel_more g p st = rw st refl
+
+no_event_more : (w : Option ℕ) (m : Option Message) (p : List ℕ) → is_initialization p ≡ false → packet_event w m p ≡ request_of m
+unfolding packet_event
+no_event_more w m p st = rw st refl
+
+more_none : (g : ℕ) (w : Option ℕ) (t : ℕ) (x : Packet64) → is_initialization x.0 ≡ false
+    → Serves g None w t x.0 (goes x.0) (new_open g None w t x.0 (Packet x)) (finished None (admits g None w x.0) (Packet x)) Stray
+unfolding open_after message_after event_after
+more_none g w t x st =
+    refused_row g w t x (goes x.0) Stray (λ a. true_or_false (is_initialization x.0) a.start st) (no_channel_more g x.0 st) refl refl (no_event_more w None x.0 st)
+
+pub own_more : (b : Begun) (t : ℕ) (x : Packet64) → is_initialization x.0 ≡ false → (channel b.packet == channel x.0) ≡ true
+    → next (now_came t x) b ≡ cond ((sequence x.0 == length b.own) && nat_lt (57 + 59 * (length b.own + 1)) (message_length b.packet)) (Some (record { packet = b.packet; at = b.at; own = b.own ++ now_came t x ∷ [] })) None
+unfolding next is_own is_next
+own_more b t x st h = rw (h, st) refl
+
+pub last_more : (b : Begun) (p : List ℕ) → is_initialization p ≡ false → is_last b p ≡ ((channel b.packet == channel p) && (sequence p == length b.own) && not (nat_lt (57 + 59 * (length b.own + 1)) (message_length b.packet)))
+unfolding is_last
+last_more b p st = rw st refl
+
+last_at_more : (es : List Judged) (t : ℕ) (e : Judged) → last_at t (es ++ e ∷ []) ≡ e.at
+last_at_more [] t e = refl
+last_at_more (x ∷ es) t e = last_at_more es x.at e
+
+joined_more : (start : List ℕ) (ps : List (List ℕ)) (p : List ℕ) → initialization_data start ++ flat_map continuation_data (ps ++ p ∷ []) ≡ (initialization_data start ++ flat_map continuation_data ps) ++ continuation_data p
+joined_more start ps p =
+    rw (flat_map-append continuation_data ps (p ∷ []), append-nil (continuation_data p))
+    (sym (append_assoc (initialization_data start) (flat_map continuation_data ps) (continuation_data p)))
+
+grown_as : (b : Begun) (t : ℕ) (x : Packet64) → as_open (record { packet = b.packet; at = b.at; own = b.own ++ now_came t x ∷ [] }) ≡ grown t (goes x.0) (as_open b)
+grown_as b t x =
+    rw (map-append (λ (v : Judged). packet v.input) b.own (now_came t x ∷ []), joined_more b.packet (packets_of b.own) x.0, length-append b.own (now_came t x ∷ []), last_at_more b.own b.at (now_came t x)) refl
+
+kept_next : (b : Begun) (t : ℕ) (x : Packet64) → is_initialization x.0 ≡ false → (channel b.packet == channel x.0) ≡ true → (sequence x.0 == length b.own) ≡ true
+    → nat_lt (57 + 59 * (length b.own + 1)) (message_length b.packet) ≡ true → option_map as_open (next (now_came t x) b) ≡ Some (grown t (goes x.0) (as_open b))
+kept_next b t x st h n l =
+    ap (option_map as_open) (own_more b t x st h)
+    ∙ ap (λ v. option_map as_open (cond v (Some (record { packet = b.packet; at = b.at; own = b.own ++ now_came t x ∷ [] })) None)) (both_true (sequence x.0 == length b.own) _ n l)
+    ∙ ap Some (grown_as b t x)
+
+pub gone_next : (b : Begun) (t : ℕ) (x : Packet64) → is_initialization x.0 ≡ false → (channel b.packet == channel x.0) ≡ true
+    → ((sequence x.0 == length b.own) && nat_lt (57 + 59 * (length b.own + 1)) (message_length b.packet)) ≡ false → option_map as_open (next (now_came t x) b) ≡ None
+gone_next b t x st h n =
+    ap (option_map as_open) (own_more b t x st h)
+    ∙ ap (λ v. option_map as_open (cond v (Some (record { packet = b.packet; at = b.at; own = b.own ++ now_came t x ∷ [] })) None)) n
+
+and_second : (a b : Bool) → b ≡ false → (a && b) ≡ false
+and_second true b h = h
+and_second false b h = refl
+
+whole_row : (g : ℕ) (b : Begun) (t : ℕ) (x : Packet64) → is_initialization x.0 ≡ false → (channel b.packet == channel x.0) ≡ true → (sequence x.0 == length b.own) ≡ true
+    → nat_lt (57 + 59 * (length b.own + 1)) (message_length b.packet) ≡ false
+    → Serves g (Some b) None t x.0 (goes x.0) (new_open g (Some b) None t x.0 (Packet x)) (finished (Some b) (admits g (Some b) None x.0) (Packet x)) Whole
+unfolding open_after message_after event_after finished finished_long
+whole_row g b t x st h n l =
+    let p = x.0 in
+    let adm = never_admitted g b None p in
+    let is : is_last b p ≡ true = last_more b p st ∙ rw (h, n, l) refl in
+    record {
+      channels = no_channel_more g p st;
+      current = rw adm (gone_next b t x st h (and_second _ _ l));
+      message = rw (adm, is, joined_more b.packet (packets_of b.own) p) refl;
+      event = no_event_more None _ p st;
+    }
+
+more_open : (g : ℕ) (b : Begun) (t : ℕ) (x : Packet64) → is_initialization x.0 ≡ false
+    → Serves g (Some b) None t x.0 (goes x.0) (new_open g (Some b) None t x.0 (Packet x)) (finished (Some b) (admits g (Some b) None x.0) (Packet x))
+    (continuation_row (option_map seen (Some (as_open b))) (channel x.0) (sequence x.0))
+unfolding continuation_row open_after message_after event_after
+more_open g b t x st =
+    let p = x.0 in
+    let P = Serves g (Some b) None t p (goes p) (new_open g (Some b) None t p (Packet x)) (finished (Some b) (admits g (Some b) None p) (Packet x)) in
+    let ch = no_channel_more g p st in
+    let ev = no_event_more None None p st in
+    cond_case P (not (channel b.packet == channel p)) _ _
+    (λ f. let h = not_is (channel b.packet == channel p) true f in
+    open_row g b t x (goes x.0) Stray ch (last_more b p st ∙ rw h refl) (ap (option_map as_open) (foreign b t x h)) refl ev)
+    (λ f. let h = not_is (channel b.packet == channel p) false f in
+    cond_case P (not (sequence p == length b.own)) _ _
+    (λ q. let n = not_is (sequence p == length b.own) true q in
+    open_row g b t x (goes x.0) WrongNumber ch (last_more b p st ∙ rw (h, n) refl) (gone_next b t x st h (and_false _ _ n)) refl ev)
+    (λ q. let n = not_is (sequence p == length b.own) false q in
+    cond_case P (nat_lt (57 + 59 * (length b.own + 1)) (message_length b.packet)) _ _
+    (λ l. open_row g b t x (goes x.0) Kept ch (last_more b p st ∙ rw (h, n, l) refl) (kept_next b t x st h n l) refl ev)
+    (λ l. whole_row g b t x st h n l)))
+
+-- All rows.
+abbrev pub OpenGiven : ℕ → Option Begun → Option ℕ → Type 0
+OpenGiven g None w = Unit {0}
+OpenGiven g (Some b) w = (1 ≤ channel b.packet) × (channel b.packet ≤ g) × (w ≡ None)
+
+-- what holds behind every history: at most one message is open or waits, on a channel that was given
+pub record Safe (g : ℕ) (o : Option Begun) (w : Option ℕ) : Type 0 where
+  pub few : g ≤ LAST_CHANNEL
+  pub works : IsGiven g w
+  pub opens : OpenGiven g o w
+
+pub serves : (g : ℕ) (o : Option Begun) (w : Option ℕ) (t : ℕ) (x : Packet64) → Safe g o w
+    → Serves g o w t x.0 (fields x.0) (new_open g o w t x.0 (Packet x)) (finished o (admits g o w x.0) (Packet x)) (row_of g (option_map seen (option_map as_open o)) w (fields x.0))
+unfolding row_of continuation_row
+serves g None w t x s =
+    cond_case (λ f. Serves g None w t x.0 f (new_open g None w t x.0 (Packet x)) (finished None (admits g None w x.0) (Packet x)) (row_of g None w f))
+    (is_initialization x.0) (starts x.0) (goes x.0)
+    (λ st. start_none g w t x s.few s.works st)
+    (λ st. more_none g w t x st)
+serves g (Some b) w t x s =
+    let e : None ≡ w = sym (s.opens).2 in
+    subst (λ v. Serves g (Some b) v t x.0 (fields x.0) (new_open g (Some b) v t x.0 (Packet x)) (finished (Some b) (admits g (Some b) v x.0) (Packet x)) (row_of g (Some (seen (as_open b))) v (fields x.0))) e
+    (cond_case (λ f. Serves g (Some b) None t x.0 f (new_open g (Some b) None t x.0 (Packet x)) (finished (Some b) (admits g (Some b) None x.0) (Packet x)) (row_of g (Some (seen (as_open b))) None f))
+    (is_initialization x.0) (starts x.0) (goes x.0)
+    (λ st. start_open g b t x s.few (s.opens).0 (s.opens).1 st)
+    (λ st. more_open g b t x st))

@@ -1,0 +1,12 @@
+use Rattle.std.proofs.Common.{[]}
+use Rattle.token_session.specs.History.{judged, open_at}
+use Rattle.token_session.proofs.Bounds.{one_open, held_few}
+use Rattle.token_session.proofs.Follows.{good_judged}
+use Rattle.token_session.proofs.laws.one_message_is_open.Goals as goal
+
+pub returns-clause-one : goal.returns-clause-one
+unfolding open_at
+returns-clause-one c = λ start t h le. one_open (judged start h) [] start t (good_judged start h).lawful tt le
+
+pub returns-clause-held : goal.returns-clause-held
+returns-clause-held c = λ start h. held_few start (judged start h)

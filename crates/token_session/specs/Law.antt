@@ -1,0 +1,79 @@
+-- What a history names of the composed turn's state, and what runs of it send.
+use Rattle.std.specs.Prelude.{◌≡◌, ℕ, ◌+◌, List, [], ◌∷◌, ◌++◌, length, option_map, Option, if◌then◌else◌}
+use Rattle.hid_packet.specs.Packet.{channel, command, message_length}
+use Rattle.hid_packet.specs.Carries.{joined}
+use Rattle.hid_assemble.specs.Assembly.{Open}
+use Rattle.authn_core.specs.Turn.{working, Event}
+use Rattle.token_session.specs.declared.input.Timed.{Timed}
+use Rattle.token_session.specs.Machine.{State, turn}
+use Rattle.token_session.specs.History.{is_open, own, packet, judge, judged, sent_at, finished, event, Judged, Begun, end, given, open_at, core, last_keepalive, packets_of}
+
+-- the moment of the last of a message's own packets
+abbrev pub last_at : ℕ → List Judged → ℕ
+last_at t [] = t
+last_at t (e ∷ es) = last_at e.at es
+
+-- the open message, with its joined data
+abbrev pub as_open : Begun → Open
+as_open b = record {
+  cid = channel b.packet;
+  cmd = command b.packet;
+  len = message_length b.packet;
+  bytes = joined b.packet (packets_of b.own);
+  kept = length b.own;
+  last = last_at b.at b.own;
+}
+
+-- the state that a history names
+unfoldable pub named : ℕ → List Judged → State
+named start h = record {
+  now = end start h;
+  given = given h;
+  current = option_map as_open (open_at h (end start h));
+  core = core h;
+  keepalive_at = last_keepalive start h;
+}
+
+-- The state holds what the history names.
+abbrev pub Behind : State → ℕ → List Timed → Type 0
+Behind s start h = s ≡ named start (judged start h)
+
+-- the packets that x sends behind h
+unfoldable pub sent_now : ℕ → List Timed → Timed → List (List ℕ)
+sent_now start h x = sent_at start (judge start x (judged start h)) (judged start h)
+
+-- the event that an input is behind a history
+unfoldable pub event_at : Judged → List Judged → Option Event
+event_at e past = event (working (core past)) (finished (open_at past e.at) e.admitted e.input) e.input
+
+-- the inputs of a list, in order, behind a history
+abbrev pub onto : List Timed → List Timed → List Timed
+onto [] h = h
+onto (x ∷ xs) h = onto xs (x ∷ h)
+
+-- the packets of an input, with its number
+abbrev pub numbered : ℕ → List (List ℕ) → List (ℕ × List ℕ)
+numbered n [] = []
+numbered n (p ∷ ps) = (n, p) ∷ numbered n ps
+
+-- what the inputs of a list send behind a history, in order, with the number of the input
+abbrev pub sent_from : ℕ → ℕ → List Timed → List Timed → List (ℕ × List ℕ)
+sent_from n start h [] = []
+sent_from n start h (x ∷ xs) = numbered n (sent_now start h x) ++ sent_from (n + 1) start (x ∷ h) xs
+
+-- the same by the composed turn
+abbrev pub run_state : State → List Timed → State
+run_state s [] = s
+run_state s (x ∷ xs) = run_state (turn s x).state xs
+
+abbrev pub run_sent : ℕ → State → List Timed → List (ℕ × List ℕ)
+run_sent n s [] = []
+run_sent n s (x ∷ xs) = numbered n (turn s x).packets ++ run_sent (n + 1) (turn s x).state xs
+
+-- all initialization packets of a history whose messages are open at t, the newest first
+unfoldable pub all_open : List Judged → List Judged → ℕ → List Begun
+all_open later [] t = []
+all_open later (e ∷ before) t =
+    if is_open e later t
+    then record { packet = packet e.input; at = e.at; own = own (channel (packet e.input)) later } ∷ all_open (e ∷ later) before t
+    else all_open (e ∷ later) before t

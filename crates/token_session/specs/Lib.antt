@@ -1,0 +1,4 @@
+pub mod Replies
+pub mod Machine
+pub mod History
+pub mod Law

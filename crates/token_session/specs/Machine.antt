@@ -1,0 +1,107 @@
+-- The composed turn: the transport and the authenticator together, as a state and what an input makes of it. It knows no
+-- history.
+use Rattle.std.specs.Prelude.{ℕ, ◌+◌, Bool, false, nat_le, List, [], ◌∷◌, ◌++◌, max, Option, Some, None, option_map, if◌then◌else◌}
+use Rattle.hid_packet.specs.Packet.{Fields, fields, channel_of}
+use Rattle.hid_assemble.specs.declared.table.Row.{Row}
+use Rattle.hid_assemble.specs.declared.table.Row.TheVariants.{CancelsWork, InitAgain}
+use Rattle.hid_assemble.specs.Table.{is_on, row_of}
+use Rattle.hid_assemble.specs.Assembly.{Open, Message, seen, is_overdue, given_after, open_after, message_after}
+use Rattle.authn_core.specs.Turn.{Work, CoreState, working, Event, Cancel, Drop, first_state, core_turn}
+use Rattle.token_session.specs.Replies.{error, keepalive, row_packets, ping_packets, request_of, status_of, asker, answer_packets, answer_keeps_alive}
+use Rattle.token_session.specs.declared.input.Input.{Input}
+use Rattle.token_session.specs.declared.input.Input.TheVariants.{Packet, Tick}
+use Rattle.token_session.specs.declared.input.Timed.{Timed}
+
+-- The latest moment, the channels given out, the open message, the authenticator, and the moment of the last KEEPALIVE.
+pub record State : Type 0 where
+  pub now : ℕ
+  pub given : ℕ
+  pub current : Option Open
+  pub core : CoreState
+  pub keepalive_at : ℕ
+
+-- A state, the packets that are sent, and the event that the authenticator was handed.
+pub record Turn : Type 0 where
+  pub state : State
+  pub packets : List (List ℕ)
+  pub event : Option Event
+
+-- What an event, or none, makes of the authenticator and sends.
+abbrev pub event_core : CoreState → ℕ → Option Event → CoreState
+event_core core at None = core
+event_core core at (Some e) = (core_turn core at e).state
+
+abbrev pub event_packets : CoreState → ℕ → Option Event → List (List ℕ)
+event_packets core at None = []
+event_packets core at (Some e) = answer_packets (asker core.work e) (status_of core.work) (core_turn core at e).answer
+
+abbrev pub event_keeps_alive : CoreState → ℕ → Option Event → Bool
+event_keeps_alive core at None = false
+event_keeps_alive core at (Some e) = answer_keeps_alive (status_of core.work) (core_turn core at e).answer
+
+-- Time: an overdue message is given up with ERROR 0x05; else, where work waits, a KEEPALIVE is due 100 ms after the last
+-- (CTAP 2.1, sections 11.2.5.2 and 11.2.9.1.7).
+abbrev pub overdue_packets : Option Open → List (List ℕ)
+overdue_packets None = []
+overdue_packets (Some m) = error m.cid 0x05
+
+unfoldable pub keepalive_due : Option Work → ℕ → ℕ → Bool
+keepalive_due None keepalive_at at = false
+keepalive_due (Some w) keepalive_at at = nat_le (keepalive_at + 100) at
+
+abbrev pub keepalive_packets : Option Work → List (List ℕ)
+keepalive_packets None = []
+keepalive_packets (Some w) = keepalive w.cid w.status
+
+-- Time passes to a moment that is no earlier than the latest.
+unfoldable pub passed : State → ℕ → Turn
+passed s at =
+    if is_overdue s.current at
+    then record { state = record s { now = at; current = None }; packets = overdue_packets s.current; event = None }
+    else if keepalive_due s.core.work s.keepalive_at at
+    then record { state = record s { now = at; keepalive_at = at }; packets = keepalive_packets s.core.work; event = None }
+    else record { state = record s { now = at }; packets = []; event = None }
+
+-- An event behind what else a packet changed: the packets of time come first, then those of the row, then the event's.
+abbrev pub happens : ℕ → ℕ → Option Open → CoreState → ℕ → List (List ℕ) → List (List ℕ) → Option Event → Turn
+happens at given current core keepalive_at early packets e =
+    record {
+      state = record {
+        now = at;
+        given = given;
+        current = current;
+        core = event_core core at e;
+        keepalive_at = if event_keeps_alive core at e then at else keepalive_at;
+      };
+      packets = early ++ (packets ++ event_packets core at e);
+      event = e;
+    }
+
+-- The event of a row: a CANCEL of waiting work, an INIT that drops it, a finished request.
+unfoldable pub event_after : Option ℕ → Fields → Option Message → Row → Option Event
+event_after work f m CancelsWork = Some Cancel
+event_after work f m InitAgain = if is_on work (channel_of f) then Some Drop else None
+event_after work f m _ = request_of m
+
+abbrev pub served_by : State → Fields → List (List ℕ) → Row → Turn
+served_by s f early row =
+    happens s.now (given_after s.given row) (open_after s.current s.now f row) s.core s.keepalive_at
+    early (row_packets s.given f row ++ ping_packets (message_after s.current f row))
+    (event_after (working s.core) f (message_after s.current f row) row)
+
+-- An input is served behind the packets of time.
+abbrev pub served : State → List (List ℕ) → Input → Turn
+served s early (Packet p) = served_by s (fields p.0) early (row_of s.given (option_map seen s.current) (working s.core) (fields p.0))
+served s early Tick = happens s.now s.given s.current s.core s.keepalive_at early [] None
+
+-- One input: its moment counts as the latest where it is earlier. First time passes, then the input is served.
+unfoldable pub turn : State → Timed → Turn
+turn s x = let at = max s.now x.at in served (passed s at).state (passed s at).packets x.input
+
+unfoldable pub start_state : ℕ → State
+start_state at = record { now = at; given = 0; current = None; core = first_state; keepalive_at = 0 }
+
+-- The state behind a list of inputs, the newest first.
+unfoldable pub machine : ℕ → List Timed → State
+machine at [] = start_state at
+machine at (x ∷ past) = (turn (machine at past) x).state

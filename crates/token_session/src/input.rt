@@ -1,0 +1,41 @@
+use hid_packet::Packet;
+
+/// What comes in.
+#[derive(Clone, Copy, Debug, PartialEq, Eq)]
+pub enum Input {
+    /// A packet from a host.
+    Packet(Packet),
+    /// Time has passed, and nothing else happened.
+    Tick,
+}
+
+/// An input with its moment, in milliseconds.
+#[derive(Clone, Copy, Debug, PartialEq, Eq)]
+pub struct Timed {
+    pub at: u64,
+    pub input: Input,
+}
+
+/// A packet that was sent, with the number of the input that sent it, counted from 0.
+#[derive(Clone, Copy, Debug, PartialEq, Eq)]
+pub struct Sent {
+    pub input: u64,
+    pub packet: Packet,
+}
+
+/// What a session has held and served.
+#[derive(Clone, Copy, Debug, PartialEq, Eq)]
+pub struct Meters {
+    /// The most data bytes of an open message, at the start and behind each input.
+    pub held: u16,
+    /// The most credential rows.
+    pub rows: u16,
+    /// The most pending assertions.
+    pub pending: u16,
+    /// How many CBOR requests were finished, at most 2^64-1.
+    pub requests: u64,
+    /// Their bytes behind the command byte, at most 2^64-1.
+    pub bytes: u64,
+    /// The steps that reading them took, at most 2^64-1.
+    pub steps: u64,
+}

@@ -1,0 +1,33 @@
+//! What holds over the definitions alone: the composed turn, which has one state and knows no history,
+//! gives over any history just what that history names. Each law is the contract of a function that
+//! does nothing.
+
+ghost use Rattle.std.specs.Prelude.{◌≡◌, ◌≤◌, ℕ, List, [], ◌∷◌, length, option_to_list};
+ghost use Rattle.token_session.specs.declared.input.Timed.{Timed as OneInput};
+ghost use Rattle.token_session.specs.History.{judged, open_at, end, held};
+ghost use Rattle.token_session.specs.Machine.{State, machine, turn};
+ghost use Rattle.token_session.specs.Law.{all_open, Behind, sent_now, onto, sent_from, run_state, run_sent};
+
+/// The composed turn, over any history, is in the state that the history names, and each input sends
+/// the packets that the history says.
+pub fn machine_follows_history()
+    ensures state { (start : ℕ) (h : List OneInput) → Behind (machine start h) start h }
+    ensures packets { (start : ℕ) (h : List OneInput) (x : OneInput) → (turn (machine start h) x).packets ≡ sent_now start h x }
+{
+}
+
+/// A run from a state that stands behind a history stands behind the longer one, and sends what the
+/// longer history says.
+pub fn runs_follow_history()
+    ensures state { (s : State) (start : ℕ) (h xs : List OneInput) → Behind s start h → Behind (run_state s xs) start (onto xs h) }
+    ensures packets { (s : State) (start n : ℕ) (h xs : List OneInput) → Behind s start h → run_sent n s xs ≡ sent_from n start h xs }
+{
+}
+
+/// At most one message is open behind a history, at its end and at any later moment, and at most 7550
+/// bytes are held of it.
+pub fn one_message_is_open()
+    ensures one { (start t : ℕ) (h : List OneInput) → end start (judged start h) ≤ t → all_open [] (judged start h) t ≡ option_to_list (open_at (judged start h) t) }
+    ensures held { (start : ℕ) (h : List OneInput) → held start (judged start h) ≤ 7550 }
+{
+}
