@@ -68,14 +68,10 @@ module _ (given : ℕ) (current : Option OpenMessage) (buffer : List ℕ) (finis
     short = let n = length-take-le finished buffer (omega (arith, kept.short, kept.size)) in omega (arith, n, kept.short);
   })
 
-  held_some : (m : OpenMessage) → 57 + 59 * m.kept ≤ length buffer → 57 + 59 * m.kept ≡ length (take (57 + 59 * m.kept) buffer)
-  held_some m fits = sym (length-take-le (57 + 59 * m.kept) buffer fits)
-
   pub held-is : (m : OpenMessage) → IsKept given current buffer finished → current ≡ Some m → (57 + 59 * m.kept ≡ held_bytes a.current) × (57 + 59 * m.kept ≤ 7550)
   held-is m kept some =
       let open_message = subst (CurrentMayBeOpen given finished) some kept.open_message in (
-        held_some m (omega (arith, open_message.more, open_message.longest, kept.size))
-            ∙ ap (λ o. held_bytes (option_map (opened buffer) o)) (sym some) ∙ ap held_bytes current-is,
+        ap (λ o. held_bytes (option_map (opened buffer) o)) (sym some) ∙ ap held_bytes current-is,
         omega (arith, open_message.more, open_message.longest),
       )
 

@@ -42,10 +42,10 @@ is_overdue (Some m) at = nat_le (m.last + 500) at
 abbrev pub still_open : Option Open → ℕ → Option Open
 still_open current at = if is_overdue current at then None else current
 
--- the data bytes of the open message
+-- how many data bytes are held of the open message: 57 of its initialization packet, and 59 of each continuation packet
 abbrev pub held_bytes : Option Open → ℕ
 held_bytes None = 0
-held_bytes (Some m) = length m.bytes
+held_bytes (Some m) = 57 + 59 * m.kept
 
 -- What a row makes of the channels and of the open message.
 abbrev pub given_after : ℕ → Row → ℕ

@@ -328,8 +328,9 @@ impl Assembler {
         &self.message[..self.finished]
     }
 
-    /// The data bytes of the open message so far, 0 without one.
+    /// How many data bytes are held of the open message, 0 without one.
     pub fn held(&self) -> u16
+        ensures lawful { IsLawful self.now }
         ensures bytes { result ≡ held_bytes self.now.current }
         ensures limit { held_bytes self.now.current ≤ 7550 }
     {

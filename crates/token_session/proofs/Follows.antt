@@ -147,7 +147,6 @@ unfolding next is_own
 tick_next t b None = refl
 tick_next t b (Some c) = refl
 
-
 served_named : (start t : ℕ) (h : List Judged) (i : Input) → Good start h → end start h ≤ t
     → served (late_state start h t) (time_packets start h t) i ≡ goal_turn start (judged_at t h i) h
 unfolding event finished
@@ -208,7 +207,6 @@ works_more g k (Some w) le h = (h.0, omega (arith, h.1))
 opens_more : (g k : ℕ) (o : Option Begun) (w : Option ℕ) → g ≤ k → OpenGiven g o w → OpenGiven k o w
 opens_more g k None w le h = tt
 opens_more g k (Some b) w le h = (h.0, omega (arith, h.1), h.2)
-
 
 -- behind an input, with what it made of the open message and of the authenticator
 safe_of : (start t : ℕ) (h : List Judged) (i : Input) (o : Option Begun) (w : Option ℕ) → IsGiven (given h) w → OpenGiven (given h) o w

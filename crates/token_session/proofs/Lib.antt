@@ -5,3 +5,8 @@ pub mod Safety
 pub mod Follows
 pub mod Runs
 pub mod Bounds
+pub mod Few
+pub mod Effects
+pub mod Passing
+pub mod Serving
+pub mod Metering

@@ -2,3 +2,5 @@ pub mod Replies
 pub mod Machine
 pub mod History
 pub mod Law
+pub mod Effects
+pub mod Meters

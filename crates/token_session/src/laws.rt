@@ -13,21 +13,18 @@ ghost use Rattle.token_session.specs.Law.{all_open, Behind, sent_now, onto, sent
 pub fn machine_follows_history()
     ensures state { (start : ℕ) (h : List OneInput) → Behind (machine start h) start h }
     ensures packets { (start : ℕ) (h : List OneInput) (x : OneInput) → (turn (machine start h) x).packets ≡ sent_now start h x }
-{
-}
+{}
 
 /// A run from a state that stands behind a history stands behind the longer one, and sends what the
 /// longer history says.
 pub fn runs_follow_history()
     ensures state { (s : State) (start : ℕ) (h xs : List OneInput) → Behind s start h → Behind (run_state s xs) start (onto xs h) }
     ensures packets { (s : State) (start n : ℕ) (h xs : List OneInput) → Behind s start h → run_sent n s xs ≡ sent_from n start h xs }
-{
-}
+{}
 
 /// At most one message is open behind a history, at its end and at any later moment, and at most 7550
 /// bytes are held of it.
 pub fn one_message_is_open()
     ensures one { (start t : ℕ) (h : List OneInput) → end start (judged start h) ≤ t → all_open [] (judged start h) t ≡ option_to_list (open_at (judged start h) t) }
     ensures held { (start : ℕ) (h : List OneInput) → held start (judged start h) ≤ 7550 }
-{
-}
+{}

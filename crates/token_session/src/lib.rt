@@ -4,5 +4,9 @@
 
 mod input;
 pub mod laws;
+mod machine;
+mod session;
 
 pub use input::{Input, Meters, Sent, Timed};
+pub use machine::KEEPALIVE_PERIOD;
+pub use session::Session;

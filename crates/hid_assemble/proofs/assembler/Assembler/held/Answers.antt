@@ -1,6 +1,6 @@
 use Rattle.std.proofs.Common.{◌+◌, ◌*◌, ◌≤◌, ap, subst, sym, ◌∙◌, arith}
 use Rattle.hid_assemble.specs.Assembly.{held_bytes}
-use Rattle.hid_assemble.proofs.Keeping.{held-is, none-held}
+use Rattle.hid_assemble.proofs.Keeping.{held-is, none-held, lawful}
 use Rattle.hid_assemble.proofs.assembler.Assembler.held.Goals as goal
 
 pub returns-in-Some-clause-bytes : goal.returns-in-Some-clause-bytes
@@ -16,3 +16,9 @@ returns-in-None-clause-bytes c = none-held _ _ _ _ _ c.self.view_is c.in-None.is
 
 pub returns-in-None-clause-limit : goal.returns-in-None-clause-limit
 returns-in-None-clause-limit c = omega (arith, none-held _ _ _ _ _ c.self.view_is c.in-None.is)
+
+pub returns-in-Some-clause-lawful : goal.returns-in-Some-clause-lawful
+returns-in-Some-clause-lawful c = lawful _ _ _ _ _ c.self.view_is c.self.invariant
+
+pub returns-in-None-clause-lawful : goal.returns-in-None-clause-lawful
+returns-in-None-clause-lawful c = lawful _ _ _ _ _ c.self.view_is c.self.invariant

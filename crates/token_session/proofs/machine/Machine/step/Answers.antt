@@ -1,0 +1,24 @@
+use Rattle.std.proofs.Common.{◌≡◌, ℕ, ◌≤◌, List, length, max, subst, sym, ◌∙◌, ap}
+use Rattle.token_session.specs.Machine.{Turn, State}
+use Rattle.token_session.specs.Effects.{request_size}
+use Rattle.token_session.proofs.Few.{time_few}
+use Rattle.token_session.proofs.Serving.{step_turn}
+use Rattle.token_session.proofs.machine.Machine.step.Goals as goal
+
+pub serve-requires : goal.serve-requires
+serve-requires c = subst (λ (ps : List (List ℕ)). length ps ≤ 1) (sym c.pass_time.ensures.packets) (time_few c.args.self.now c.max-now.result)
+
+pub returns-clause-state : goal.returns-clause-state
+returns-clause-state c =
+    let at : c.max-now.result ≡ max (c.args.self.now).now c.args.at = c.max-now.ensures ∙ ap (λ (s : State). max s.now c.args.at) c.self.view_is in
+    c.serve.ensures.state ∙ ap (λ (t : Turn). t.state) (step_turn c.args.self.now _ c.max-now.result (record { at = c.args.at; input = c.args.input }) _ at c.pass_time.ensures.state c.pass_time.ensures.packets)
+
+pub returns-clause-packets : goal.returns-clause-packets
+returns-clause-packets c =
+    let at : c.max-now.result ≡ max (c.args.self.now).now c.args.at = c.max-now.ensures ∙ ap (λ (s : State). max s.now c.args.at) c.self.view_is in
+    c.serve.ensures.packets ∙ ap (λ (t : Turn). t.packets) (step_turn c.args.self.now _ c.max-now.result (record { at = c.args.at; input = c.args.input }) _ at c.pass_time.ensures.state c.pass_time.ensures.packets)
+
+pub returns-clause-request : goal.returns-clause-request
+returns-clause-request c =
+    let at : c.max-now.result ≡ max (c.args.self.now).now c.args.at = c.max-now.ensures ∙ ap (λ (s : State). max s.now c.args.at) c.self.view_is in
+    c.serve.ensures.request ∙ ap (λ (t : Turn). request_size t.event) (step_turn c.args.self.now _ c.max-now.result (record { at = c.args.at; input = c.args.input }) _ at c.pass_time.ensures.state c.pass_time.ensures.packets)

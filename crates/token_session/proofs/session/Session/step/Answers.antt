@@ -1,0 +1,25 @@
+use Rattle.std.proofs.Common.{◌≡◌, ℕ, ◌≤◌, List, length, subst, sym, ◌∙◌, ap}
+use Rattle.token_session.specs.declared.input.Timed.{Timed}
+use Rattle.token_session.specs.Machine.{turn}
+use Rattle.token_session.specs.Meters.{SessionState, StandsBehind, stepped}
+use Rattle.token_session.proofs.Few.{turn_few}
+use Rattle.token_session.proofs.Runs.{step_sends}
+use Rattle.token_session.proofs.Metering.{stepped_is, stands_longer, machine_behind}
+use Rattle.token_session.proofs.session.Session.step.Goals as goal
+
+pub returns-clause-state : goal.returns-clause-state
+returns-clause-state g c =
+    stepped_is c.self.inside.machine c.step-request.new.self c.self.inside.meters c.count-self-inside.result c.args.self.now (record { at = c.args.at; input = c.args.input })
+    c.step-request.result c.held.result c.self.view_is c.step-request.ensures.state c.step-request.ensures.request c.held.ensures c.count-self-inside.ensures
+
+pub returns-clause-few : goal.returns-clause-few
+returns-clause-few g c =
+    subst (λ (ps : List (List ℕ)). length ps ≤ 130) (sym c.step-request.ensures.packets) (turn_few c.self.inside.machine (record { at = c.args.at; input = c.args.input }))
+
+pub returns-clause-behind : goal.returns-clause-behind
+returns-clause-behind g c = λ start h b. returns-clause-state g c ∙ stands_longer c.args.self.now start h (record { at = c.args.at; input = c.args.input }) b
+
+pub returns-clause-sent : goal.returns-clause-sent
+returns-clause-sent g c = λ start h b.
+    c.step-request.ensures.packets
+    ∙ step_sends c.self.inside.machine start h (record { at = c.args.at; input = c.args.input }) (machine_behind _ start h (c.self.view_is ∙ b))

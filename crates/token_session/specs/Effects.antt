@@ -1,0 +1,39 @@
+-- What a verdict sends and hands to the authenticator, and the request that an event is.
+use Rattle.std.specs.Prelude.{ℕ, ◌-◌, ◌==◌, List, [], length, Option, Some, None, option_map, if◌then◌else◌}
+use Rattle.hid_packet.specs.Commands.{PING, CBOR}
+use Rattle.hid_packet.specs.Message.{written}
+use Rattle.hid_assemble.specs.Codes.{code_number}
+use Rattle.hid_assemble.specs.declared.verdict.Verdict.{Verdict}
+use Rattle.hid_assemble.specs.declared.verdict.Verdict.TheVariants.{Ignored, Kept, Finished, Refuse, Greet, GreetAndDrop, CancelWork}
+use Rattle.authn_core.specs.Turn.{Event, Request, Cancel, Drop}
+use Rattle.token_session.specs.Replies.{error, greeting}
+
+-- the packets of a verdict on a packet that finished these bytes, but for those of an event
+abbrev pub verdict_packets : Verdict → List ℕ → List (List ℕ)
+verdict_packets Ignored bytes = []
+verdict_packets Kept bytes = []
+verdict_packets (Finished cid cmd) bytes = if cmd == PING then written cid PING bytes else []
+verdict_packets (Refuse cid code) bytes = error cid (code_number code)
+verdict_packets (Greet on cid nonce) bytes = greeting on cid nonce
+verdict_packets (GreetAndDrop on cid nonce) bytes = greeting on cid nonce
+verdict_packets CancelWork bytes = []
+
+abbrev pub verdict_event : Verdict → List ℕ → Option Event
+verdict_event Ignored bytes = None
+verdict_event Kept bytes = None
+verdict_event (Finished cid cmd) bytes = if cmd == CBOR then Some (Request cid bytes) else None
+verdict_event (Refuse cid code) bytes = None
+verdict_event (Greet on cid nonce) bytes = None
+verdict_event (GreetAndDrop on cid nonce) bytes = Some Drop
+verdict_event CancelWork bytes = Some Cancel
+
+-- the message of a finished request, where the event is one
+abbrev pub request_in : Option Event → Option (List ℕ)
+request_in None = None
+request_in (Some (Request cid bytes)) = Some bytes
+request_in (Some Cancel) = None
+request_in (Some Drop) = None
+
+-- how many bytes a request has behind its command byte
+abbrev pub request_size : Option Event → Option ℕ
+request_size e = option_map (λ bytes. length bytes - 1) (request_in e)
