@@ -1,3 +1,4 @@
 pub mod Turn
 pub mod Status
 pub mod Answers
+pub mod Needs

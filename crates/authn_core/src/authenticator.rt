@@ -2,6 +2,7 @@ ghost use Rattle.std.specs.Prelude.{◌≡◌, ℕ, ◌∷◌, [], option_map};
 ghost use Rattle.authn_core.specs.Turn.{core_turn, first_state, Request, Cancel, Drop as DropWork};
 ghost use Rattle.authn_core.specs.Status.{work_of};
 ghost use Rattle.authn_core.specs.Answers.{answer_of};
+ghost use Rattle.authn_core.specs.Needs.{needs};
 
 use crate::work::{KeepaliveStatus, Work};
 use arrayvec::ArrayVec;
@@ -23,6 +24,15 @@ pub enum Turn {
     Answer(Answer),
     /// Work waits with this status.
     Waits(KeepaliveStatus),
+}
+
+/// What the authenticator needs of its caller before its work goes on.
+#[derive(Clone, Copy, Debug, PartialEq, Eq)]
+pub enum Need {
+    /// Nothing.
+    None,
+    /// The user's presence.
+    Presence,
 }
 
 /// The authenticator.
@@ -92,5 +102,18 @@ impl Core {
         ensures { self.now.work ≡ option_map work_of result }
     {
         self.work
+    }
+
+    /// What the waiting work needs, nothing where none waits.
+    pub fn need(&self) -> Need
+        ensures { result ≡ needs self.now }
+    {
+        match self.work() {
+            Some(work) => match work.status {
+                KeepaliveStatus::PresenceNeeded => Need::Presence,
+                KeepaliveStatus::Processing => Need::None,
+            },
+            None => Need::None,
+        }
     }
 }

@@ -5,5 +5,5 @@
 mod authenticator;
 mod work;
 
-pub use authenticator::{Answer, Core, Turn};
+pub use authenticator::{Answer, Core, Need, Turn};
 pub use work::{KeepaliveStatus, Work};

@@ -3,3 +3,5 @@ pub mod Says
 pub mod Keeping
 pub mod Lawful
 pub mod Accepting
+pub mod Receiving
+pub mod Foreign

@@ -4,3 +4,4 @@ pub mod Verdicts
 pub mod Codes
 pub mod Kept
 pub mod Says
+pub mod Receiving

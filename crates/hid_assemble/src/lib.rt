@@ -5,6 +5,7 @@
 
 mod assembler;
 mod code;
+pub mod laws;
 mod table;
 mod verdict;
 
@@ -12,3 +13,6 @@ pub use assembler::{Assembler, MESSAGE_TIMEOUT};
 pub use code::ErrorCode;
 pub use table::{LAST_CHANNEL, Opened, Row};
 pub use verdict::Verdict;
+
+#[cfg(test)]
+mod tests;

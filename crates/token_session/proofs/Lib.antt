@@ -10,3 +10,5 @@ pub mod Effects
 pub mod Passing
 pub mod Serving
 pub mod Metering
+mod Rows
+pub mod Carrying

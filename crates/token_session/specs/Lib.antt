@@ -4,3 +4,4 @@ pub mod History
 pub mod Law
 pub mod Effects
 pub mod Meters
+pub mod Carried

@@ -2,9 +2,12 @@
 //! gives over any history just what that history names. Each law is the contract of a function that
 //! does nothing.
 
-ghost use Rattle.std.specs.Prelude.{◌≡◌, ◌≤◌, ℕ, List, [], ◌∷◌, length, option_to_list};
+ghost use Rattle.std.specs.Prelude.{◌≡◌, ◌≤◌, ℕ, List, [], ◌∷◌, length, Option, Some, option_to_list};
 ghost use Rattle.token_session.specs.declared.input.Timed.{Timed as OneInput};
-ghost use Rattle.token_session.specs.History.{judged, open_at, end, held};
+ghost use Rattle.hid_packet.specs.Carries.{CarriesMessage};
+ghost use Rattle.hid_assemble.specs.Assembly.{Message};
+ghost use Rattle.token_session.specs.Carried.{ArePackets, finished_at, carriers_at};
+ghost use Rattle.token_session.specs.History.{judge, judged, open_at, end, held};
 ghost use Rattle.token_session.specs.Machine.{State, machine, turn};
 ghost use Rattle.token_session.specs.Law.{all_open, Behind, sent_now, onto, sent_from, run_state, run_sent};
 
@@ -27,4 +30,17 @@ pub fn runs_follow_history()
 pub fn one_message_is_open()
     ensures one { (start t : ℕ) (h : List OneInput) → end start (judged start h) ≤ t → all_open [] (judged start h) t ≡ option_to_list (open_at (judged start h) t) }
     ensures held { (start : ℕ) (h : List OneInput) → held start (judged start h) ≤ 7550 }
+{}
+
+/// One input sends at most 130 packets, whatever the state.
+pub fn one_input_sends_few_packets()
+    ensures { (s : State) (x : OneInput) → length (turn s x).packets ≤ 130 }
+{}
+
+/// A message that an input finishes is carried by its initialization packet and its channel's own
+/// packets up to this one: its bytes are just those that they carried.
+pub fn finished_messages_were_carried()
+    ensures { (start : ℕ) (h : List OneInput) (x : OneInput) (m : Message) → ArePackets (x ∷ h)
+        → finished_at (judge start x (judged start h)) (judged start h) ≡ Some m
+        → CarriesMessage (carriers_at (judge start x (judged start h)) (judged start h)) m.cid m.cmd m.bytes }
 {}

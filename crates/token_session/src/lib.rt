@@ -10,3 +10,6 @@ mod session;
 pub use input::{Input, Meters, Sent, Timed};
 pub use machine::KEEPALIVE_PERIOD;
 pub use session::Session;
+
+#[cfg(test)]
+mod tests;

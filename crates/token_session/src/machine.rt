@@ -5,13 +5,14 @@ ghost use Rattle.hid_assemble.specs.Codes.{code_number};
 ghost use Rattle.authn_core.specs.Turn.{Cancel, Request, working};
 ghost use Rattle.authn_core.specs.Status.{status_number};
 ghost use Rattle.authn_core.specs.Answers.{answer_of};
+ghost use Rattle.authn_core.specs.Needs.{needs};
 ghost use Rattle.token_session.specs.Replies.{error, keepalive, greeting, status_of, asker, answer_packets, answer_keeps_alive};
 ghost use Rattle.token_session.specs.Machine.{start_state, passed, served, turn, event_core, event_packets, event_keeps_alive};
 ghost use Rattle.token_session.specs.Effects.{verdict_packets, verdict_event, request_size};
 
 use crate::input::Input;
 use arrayvec::ArrayVec;
-use authn_core::{Core, Turn, Work};
+use authn_core::{Core, Need, Turn, Work};
 use byteorder::{BigEndian, ByteOrder};
 use hid_assemble::{Assembler, ErrorCode, Verdict};
 use hid_packet::command::{CBOR, ERROR, INIT, KEEPALIVE, PING};
@@ -233,6 +234,13 @@ impl Machine {
         ensures { result ≡ held_bytes self.now.current }
     {
         self.assembler.held()
+    }
+
+    /// What the authenticator needs.
+    pub(crate) fn need(&self) -> Need
+        ensures { result ≡ needs self.now.core }
+    {
+        self.core.need()
     }
 
     /// One input. It gives the size of the request that it finished, if it did, behind the command

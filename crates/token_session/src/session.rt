@@ -1,11 +1,13 @@
 ghost use Rattle.std.specs.Prelude.{◌≡◌, ℕ, ◌≤◌, [], ◌∷◌, List, length, option_map};
 ghost use Rattle.hid_assemble.specs.Assembly.{held_bytes};
+ghost use Rattle.authn_core.specs.Needs.{needs};
 ghost use Rattle.token_session.specs.declared.input.Timed.{Timed as OneInput};
 ghost use Rattle.token_session.specs.Law.{sent_now};
 ghost use Rattle.token_session.specs.Meters.{SessionState, StandsBehind, stepped, sent_by, session_of, metered};
 
 use crate::input::{Input, Meters};
 use crate::machine::Machine;
+use authn_core::Need;
 use hid_packet::Outbox;
 use std::marker::Model;
 
@@ -82,6 +84,13 @@ impl<const C: usize> Session<C> {
         ensures { result ≡ held_bytes self.now.machine.current }
     {
         self.machine.held()
+    }
+
+    /// What the authenticator needs of its caller before its work goes on. No command begins work yet.
+    pub fn need(&self) -> Need
+        ensures { result ≡ needs self.now.machine.core }
+    {
+        self.machine.need()
     }
 
     /// What the session has held and served.

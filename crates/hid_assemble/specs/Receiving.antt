@@ -1,0 +1,35 @@
+-- Packets that come one after the other, with their moments.
+use Rattle.std.specs.Prelude.{◌≡◌, ℕ, ◌+◌, ◌≤◌, ◌<◌, ◌⊎◌, List, [], ◌∷◌, length, map, None, Option}
+use Rattle.hid_packet.specs.Commands.{PING, CBOR}
+use Rattle.hid_packet.specs.Packet.{fields}
+use Rattle.hid_assemble.specs.Assembly.{Assembly, still_open, accepted}
+
+-- a packet's bytes, with the moment at which it comes
+pub record Arrival : Type 0 where
+  pub at : ℕ
+  pub packet : List ℕ
+
+abbrev pub packets_of : List Arrival → List (List ℕ)
+packets_of arrivals = map (λ arrival. arrival.packet) arrivals
+
+-- An overdue message is dropped, and then the packet is accepted; no work waits.
+unfoldable pub received_one : Assembly → Arrival → Assembly
+received_one a arrival = accepted (record { given = a.given; current = still_open a.current arrival.at; finished = a.finished }) arrival.at None (fields arrival.packet)
+
+unfoldable pub received : Assembly → List Arrival → Assembly
+received a [] = a
+received a (arrival ∷ arrivals) = received (received_one a arrival) arrivals
+
+-- Each comes less than 500 ms after the one before, the first less than 500 ms after `since`.
+abbrev pub InTime : ℕ → List Arrival → Type 0
+InTime since [] = Unit {0}
+InTime since (arrival ∷ arrivals) = (arrival.at < since + 500) × InTime arrival.at arrivals
+
+-- the first may come at any moment
+abbrev pub ComeInTime : List Arrival → Type 0
+ComeInTime [] = Unit {0}
+ComeInTime (arrival ∷ arrivals) = InTime arrival.at arrivals
+
+-- a command that is served, of a message with these bytes
+abbrev pub IsServed : ℕ → List ℕ → Type 0
+IsServed cmd bytes = (cmd ≡ PING) ⊎ ((cmd ≡ CBOR) × (1 ≤ length bytes))

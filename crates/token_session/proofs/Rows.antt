@@ -1,0 +1,181 @@
+-- Worked histories, by computation: a reader's check that the definitions say what is meant. Code and definitions share the
+-- fields, the error codes, the greeting and the authenticator's turns, and only these rows look at them from outside.
+use Rattle.std.specs.Prelude.{◌≡◌, ℕ, ◌+◌, ◌-◌, List, [], ◌∷◌, ◌++◌, length, refl, replicate, reverse, zero, suc, Option, Some, None}
+use Rattle.authn_core.specs.Turn.{core_turn}
+use Rattle.hid_assemble.specs.Assembly.{is_overdue, message_after, open_after}
+use Rattle.hid_assemble.specs.Table.{begin_row, continuation_row, init_row, initialization_row, row_of}
+use Rattle.hid_packet.specs.Message.{continuation_packet, continuation_packets, initialization_packet, padded, written}
+use Rattle.hid_packet.specs.Packet.{channel, command, continuation_data, initialization_data, is_initialization, message_length, sequence}
+use Rattle.token_session.specs.History.{admits, asks_channel, core, event, finished, finished_long, given, goes_on, held, is_last, is_long, is_next, is_open, is_own, judge, judged, last_keepalive, open_among, open_at, own, packet_event, sent, sent_at, service_packets, time_packets}
+use Rattle.token_session.specs.Law.{run_sent}
+use Rattle.token_session.specs.Machine.{State, event_after, keepalive_due, machine, passed, start_state, turn}
+use Rattle.token_session.specs.Replies.{answer_keeps_alive, answer_packets, greeting, row_packets}
+use Rattle.token_session.specs.declared.input.Input.TheVariants.{Packet, Tick}
+use Rattle.token_session.specs.declared.input.Timed.{Timed}
+
+abbrev pad : List ℕ → List ℕ
+pad x = x ++ replicate (64 - length x) 0
+
+abbrev came : ℕ → List ℕ → Timed
+came t x = record { at = t; input = Packet (record { 0 = pad x }) }
+
+abbrev tick : ℕ → Timed
+tick t = record { at = t; input = Tick }
+
+-- the inputs of a list in order, behind two INITs
+abbrev init_line : List ℕ
+init_line = 255 ∷ 255 ∷ 255 ∷ 255 ∷ 134 ∷ 0 ∷ 8 ∷ 1 ∷ 1 ∷ 1 ∷ 1 ∷ 1 ∷ 1 ∷ 1 ∷ 1 ∷ []
+
+abbrev greeted : ℕ → List ℕ
+greeted c = pad (255 ∷ 255 ∷ 255 ∷ 255 ∷ 134 ∷ 0 ∷ 17 ∷ 1 ∷ 1 ∷ 1 ∷ 1 ∷ 1 ∷ 1 ∷ 1 ∷ 1 ∷ 0 ∷ 0 ∷ 0 ∷ c ∷ 2 ∷ 1 ∷ 0 ∷ 0 ∷ 12 ∷ [])
+
+sent_by : List Timed → List (List ℕ)
+unfolding channel is_initialization command message_length initialization_data sequence continuation_data padded initialization_packet continuation_packet continuation_packets written core_turn init_row begin_row initialization_row continuation_row row_of greeting row_packets answer_packets answer_keeps_alive is_overdue keepalive_due open_after message_after event_after passed turn start_state machine judged sent held asks_channel given is_own own is_next goes_on is_long is_open open_among open_at is_last finished_long finished packet_event event core admits judge last_keepalive time_packets service_packets sent_at
+sent_by xs = sent 0 (judged 0 (reverse xs))
+
+-- the first lines of the plainest log
+init_and_ping : sent_by (came 0 init_line ∷ came 5 (0 ∷ 0 ∷ 0 ∷ 1 ∷ 129 ∷ 0 ∷ 3 ∷ 97 ∷ 98 ∷ 99 ∷ []) ∷ []) ≡ greeted 1 ∷ pad (0 ∷ 0 ∷ 0 ∷ 1 ∷ 129 ∷ 0 ∷ 3 ∷ 97 ∷ 98 ∷ 99 ∷ []) ∷ []
+unfolding sent_by
+init_and_ping = refl
+
+-- Two channels are given at 0; what these inputs send is dropped.
+abbrev begun_with_two : List Timed → List Timed
+begun_with_two xs = came 0 init_line ∷ came 0 init_line ∷ xs
+
+abbrev one : List ℕ → List ℕ
+one x = 0 ∷ 0 ∷ 0 ∷ 1 ∷ x
+
+abbrev two : List ℕ → List ℕ
+two x = 0 ∷ 0 ∷ 0 ∷ 2 ∷ x
+
+abbrev behind_two : List (List ℕ) → List (List ℕ)
+behind_two ps = greeted 1 ∷ greeted 2 ∷ ps
+
+-- PING of 100 bytes, its bytes 1s and 2s
+abbrev ping_100 : List ℕ
+ping_100 = one (129 ∷ 0 ∷ 100 ∷ replicate 57 1)
+
+abbrev number : ℕ → List ℕ
+number k = one (k ∷ replicate 43 2 ++ 9 ∷ 9 ∷ [])
+
+abbrev ping_100_back : List (List ℕ)
+ping_100_back = ping_100 ∷ pad (one (0 ∷ replicate 43 2)) ∷ []
+
+error_1 : ℕ → List ℕ
+error_1 code = pad (one (191 ∷ 0 ∷ 1 ∷ code ∷ []))
+
+two_hosts : sent_by (begun_with_two (came 0 ping_100 ∷ came 10 (two (129 ∷ 0 ∷ 1 ∷ 97 ∷ [])) ∷ came 20 (number 0) ∷ []))
+    ≡ behind_two (pad (two (191 ∷ 0 ∷ 1 ∷ 6 ∷ [])) ∷ ping_100_back)
+unfolding sent_by
+two_hosts = refl
+
+wrong_sequence : sent_by (begun_with_two (came 0 ping_100 ∷ came 0 (two (0 ∷ [])) ∷ came 0 (number 1) ∷ came 0 (number 0) ∷ []))
+    ≡ behind_two (error_1 4 ∷ [])
+unfolding sent_by error_1
+wrong_sequence = refl
+
+init_on_open : sent_by (begun_with_two (came 0 ping_100 ∷ came 0 (one (134 ∷ 0 ∷ 8 ∷ replicate 8 8)) ∷ came 0 (number 0) ∷ []))
+    ≡ behind_two (pad (one (134 ∷ 0 ∷ 17 ∷ replicate 8 8 ++ 0 ∷ 0 ∷ 0 ∷ 1 ∷ 2 ∷ 1 ∷ 0 ∷ 0 ∷ 12 ∷ [])) ∷ [])
+unfolding sent_by
+init_on_open = refl
+
+init_of_seven : sent_by (begun_with_two (came 0 ping_100 ∷ came 0 (one (134 ∷ 0 ∷ 7 ∷ replicate 7 8)) ∷ came 0 (number 0) ∷ []))
+    ≡ behind_two (error_1 3 ∷ [])
+unfolding sent_by error_1
+init_of_seven = refl
+
+init_elsewhere : sent_by (begun_with_two (came 0 ping_100 ∷ came 0 init_line ∷ came 0 (number 0) ∷ []))
+    ≡ behind_two (greeted 3 ∷ ping_100_back)
+unfolding sent_by
+init_elsewhere = refl
+
+in_time : sent_by (begun_with_two (came 1000 ping_100 ∷ came 1499 (number 0) ∷ [])) ≡ behind_two ping_100_back
+unfolding sent_by
+in_time = refl
+
+late : sent_by (begun_with_two (came 2000 ping_100 ∷ tick 2300 ∷ came 2400 (one (145 ∷ 0 ∷ 0 ∷ [])) ∷ came 2500 (number 0) ∷ [])) ≡ behind_two (error_1 5 ∷ [])
+unfolding sent_by error_1
+late = refl
+
+earlier : sent_by (begun_with_two (came 3000 ping_100 ∷ came 900 (number 0) ∷ [])) ≡ behind_two ping_100_back
+unfolding sent_by
+earlier = refl
+
+broken_off : sent_by (begun_with_two (came 0 ping_100 ∷ came 10 (one (145 ∷ 0 ∷ 0 ∷ [])) ∷ came 20 (one (129 ∷ 0 ∷ 0 ∷ [])) ∷ came 30 (one (129 ∷ 0 ∷ 0 ∷ [])) ∷ []))
+    ≡ behind_two (error_1 4 ∷ pad (one (129 ∷ 0 ∷ 0 ∷ [])) ∷ [])
+unfolding sent_by error_1
+broken_off = refl
+
+-- the packets 0 .. n-1 behind the first
+abbrev numbers_from : ℕ → ℕ → List Timed
+numbers_from zero k = []
+numbers_from (suc n) k = came 0 (one (k ∷ replicate 59 2)) ∷ numbers_from n (k + 1)
+
+abbrev back_from : ℕ → ℕ → List (List ℕ)
+back_from zero k = []
+back_from (suc n) k = one (k ∷ replicate 59 2) ∷ back_from n (k + 1)
+
+-- 57 + 10 * 59 = 647 = 2 * 256 + 135
+ten : sent_by (begun_with_two (came 0 (one (129 ∷ 2 ∷ 135 ∷ replicate 57 1)) ∷ numbers_from 10 0)) ≡ behind_two (one (129 ∷ 2 ∷ 135 ∷ replicate 57 1) ∷ back_from 10 0)
+unfolding sent_by
+ten = refl
+
+forty : sent_by (begun_with_two (came 0 (one (129 ∷ 9 ∷ 113 ∷ replicate 57 1)) ∷ numbers_from 40 0)) ≡ behind_two (one (129 ∷ 9 ∷ 113 ∷ replicate 57 1) ∷ back_from 40 0)
+unfolding sent_by
+forty = refl
+
+longest : sent_by (begun_with_two (came 0 (one (129 ∷ 29 ∷ 185 ∷ replicate 57 1)) ∷ numbers_from 128 0)) ≡ behind_two (one (129 ∷ 29 ∷ 185 ∷ replicate 57 1) ∷ back_from 128 0)
+unfolding sent_by
+longest = refl
+
+too_long : sent_by (begun_with_two (came 0 (one (129 ∷ 29 ∷ 186 ∷ replicate 57 1)) ∷ came 1 (number 0) ∷ [])) ≡ behind_two (error_1 3 ∷ [])
+unfolding sent_by error_1
+too_long = refl
+
+-- PING of 0, 57 and 58 bytes
+ping_0 : sent_by (begun_with_two (came 0 (one (129 ∷ 0 ∷ 0 ∷ [])) ∷ [])) ≡ behind_two (pad (one (129 ∷ 0 ∷ 0 ∷ [])) ∷ [])
+unfolding sent_by
+ping_0 = refl
+
+ping_57 : sent_by (begun_with_two (came 0 (one (129 ∷ 0 ∷ 57 ∷ replicate 57 7)) ∷ [])) ≡ behind_two (one (129 ∷ 0 ∷ 57 ∷ replicate 57 7) ∷ [])
+unfolding sent_by
+ping_57 = refl
+
+ping_58 : sent_by (begun_with_two (came 0 (one (129 ∷ 0 ∷ 58 ∷ replicate 57 7)) ∷ came 0 (one (0 ∷ 7 ∷ [])) ∷ []))
+    ≡ behind_two (one (129 ∷ 0 ∷ 58 ∷ replicate 57 7) ∷ pad (one (0 ∷ 7 ∷ [])) ∷ [])
+unfolding sent_by
+ping_58 = refl
+
+-- commands that aren't served, a channel that wasn't given, a CBOR message without a byte and one that isn't served
+refusals : sent_by (begun_with_two (came 0 (one (131 ∷ 0 ∷ 0 ∷ [])) ∷ came 1 (0 ∷ 0 ∷ 0 ∷ 3 ∷ 129 ∷ 0 ∷ 0 ∷ []) ∷ came 2 (one (144 ∷ 0 ∷ 0 ∷ [])) ∷ came 3 (one (144 ∷ 0 ∷ 1 ∷ 4 ∷ [])) ∷ []))
+    ≡ behind_two (error_1 1 ∷ pad (0 ∷ 0 ∷ 0 ∷ 3 ∷ 191 ∷ 0 ∷ 1 ∷ 11 ∷ []) ∷ error_1 3 ∷ pad (one (144 ∷ 0 ∷ 1 ∷ 1 ∷ [])) ∷ [])
+unfolding sent_by error_1
+refusals = refl
+
+-- Work waits for the user's presence on channel 1 since the moment 0. (No command begins work yet, so that such a state
+-- stands behind no history.)
+waiting : State
+waiting = record { now = 0; given = 2; current = None; core = record { work = Some (record { cid = 1; status = 2 }) }; keepalive_at = 0 }
+
+runs : List Timed → List (ℕ × List ℕ)
+unfolding channel is_initialization command message_length initialization_data sequence continuation_data padded initialization_packet continuation_packet continuation_packets written core_turn init_row begin_row initialization_row continuation_row row_of greeting row_packets answer_packets answer_keeps_alive is_overdue keepalive_due open_after message_after event_after passed turn start_state machine judged sent held asks_channel given is_own own is_next goes_on is_long is_open open_among open_at is_last finished_long finished packet_event event core admits judge last_keepalive time_packets service_packets sent_at waiting
+runs xs = run_sent 0 waiting xs
+
+-- busy, a new channel, KEEPALIVE at 100 and 200 but not at 150, an idle CANCEL and a real one
+waits : runs (came 20 (two (129 ∷ 0 ∷ 1 ∷ 7 ∷ [])) ∷ came 25 (one (129 ∷ 0 ∷ 1 ∷ 7 ∷ [])) ∷ came 26 init_line ∷ tick 100 ∷ tick 150 ∷ tick 200
+    ∷ came 210 (two (145 ∷ 0 ∷ 0 ∷ [])) ∷ came 220 (one (145 ∷ 0 ∷ 0 ∷ [])) ∷ came 230 (one (145 ∷ 0 ∷ 0 ∷ [])) ∷ tick 500 ∷ [])
+    ≡ (0, pad (two (191 ∷ 0 ∷ 1 ∷ 6 ∷ []))) ∷ (1, error_1 6) ∷ (2, greeted 3) ∷ (3, pad (one (187 ∷ 0 ∷ 1 ∷ 2 ∷ []))) ∷ (5, pad (one (187 ∷ 0 ∷ 1 ∷ 2 ∷ [])))
+    ∷ (7, pad (one (144 ∷ 0 ∷ 1 ∷ 45 ∷ []))) ∷ []
+unfolding runs error_1
+waits = refl
+
+-- INIT on its channel drops the work, which is answered by nothing from then on
+drops : runs (came 30 (one (134 ∷ 0 ∷ 8 ∷ replicate 8 9)) ∷ tick 500 ∷ came 510 (one (145 ∷ 0 ∷ 0 ∷ [])) ∷ [])
+    ≡ (0, pad (one (134 ∷ 0 ∷ 17 ∷ replicate 8 9 ++ 0 ∷ 0 ∷ 0 ∷ 1 ∷ 2 ∷ 1 ∷ 0 ∷ 0 ∷ 12 ∷ []))) ∷ []
+unfolding runs
+drops = refl
+
+-- time first, service then
+cancel_in_time : runs (came 100 (one (145 ∷ 0 ∷ 0 ∷ [])) ∷ []) ≡ (0, pad (one (187 ∷ 0 ∷ 1 ∷ 2 ∷ []))) ∷ (0, pad (one (144 ∷ 0 ∷ 1 ∷ 45 ∷ []))) ∷ []
+unfolding runs
+cancel_in_time = refl

@@ -1,0 +1,41 @@
+-- The packets that carried a message which an input finished.
+use Rattle.std.specs.Prelude.{◌≡◌, ℕ, Bool, ◌&&◌, nat_le, List, [], ◌∷◌, ◌++◌, length, Option, Some, None, if◌then◌else◌}
+use Rattle.hid_packet.specs.Packet.{message_length}
+use Rattle.hid_assemble.specs.Assembly.{Message}
+use Rattle.token_session.specs.declared.input.Input.{Input}
+use Rattle.token_session.specs.declared.input.Input.TheVariants.{Packet, Tick}
+use Rattle.token_session.specs.declared.input.Timed.{Timed}
+use Rattle.token_session.specs.History.{Judged, Begun, open_at, finished, is_last, packets_of}
+
+-- each packet has 64 bytes
+abbrev pub Are64 : List (List ℕ) → Type 0
+Are64 [] = Unit {0}
+Are64 (p ∷ ps) = (length p ≡ 64) × Are64 ps
+
+abbrev pub IsWhole : Input → Type 0
+IsWhole (Packet p) = length p.0 ≡ 64
+IsWhole Tick = Unit {0}
+
+abbrev pub AreWhole : List Judged → Type 0
+AreWhole [] = Unit {0}
+AreWhole (e ∷ es) = IsWhole e.input × AreWhole es
+
+abbrev pub ArePackets : List Timed → Type 0
+ArePackets [] = Unit {0}
+ArePackets (x ∷ xs) = IsWhole x.input × ArePackets xs
+
+-- the initialization packet of the open message, its channel's own packets, and the last one
+unfoldable pub long_carriers : Option Begun → List ℕ → List (List ℕ)
+long_carriers None p = []
+long_carriers (Some b) p = if is_last b p then b.packet ∷ (packets_of b.own ++ p ∷ []) else []
+
+unfoldable pub carriers : Option Begun → Bool → Input → List (List ℕ)
+carriers o admitted (Packet p) = if admitted && nat_le (message_length p.0) 57 then p.0 ∷ [] else long_carriers o p.0
+carriers o admitted Tick = []
+
+-- the message that an input finishes behind a history, and the packets that carried it
+abbrev pub finished_at : Judged → List Judged → Option Message
+finished_at e past = finished (open_at past e.at) e.admitted e.input
+
+abbrev pub carriers_at : Judged → List Judged → List (List ℕ)
+carriers_at e past = carriers (open_at past e.at) e.admitted e.input
