@@ -1,0 +1,35 @@
+//! The command line of the program.
+use clap::error::ErrorKind;
+use clap::{Command, Error};
+use std::alloc::{AllocError, Global};
+
+/// What the program is asked to do.
+#[derive(Clone, Copy, Debug, PartialEq, Eq)]
+pub enum Task {
+    /// `hidlog replay`
+    Replay,
+}
+
+/// The command line's grammar.
+fn program<'a>(alloc: Global) -> Result<Command<'a>, AllocError> {
+    let replay = Command::new(alloc, "replay").about(
+        "Replays the log on standard input: writes it with the packets that the key sends, and what it counted",
+    );
+    Ok(
+        Command::new(alloc, "hidlog")
+            .about("Replays text logs of CTAPHID sessions on a FIDO2 security key")
+            .subcommand_required(true)
+            .subcommand(replay)?,
+    )
+}
+
+/// What the words ask for, the first of them being the program's name; or clap's answer, which is help or
+/// says what is wrong with them.
+pub fn task_of<'a>(alloc: Global, words: &'a [&'a str]) -> Result<Task, Error> {
+    let mut program = program(alloc)?;
+    let matches = program.try_get_matches_from_mut(words)?;
+    match matches.subcommand_name() {
+        Some("replay") => Ok(Task::Replay),
+        _ => Err(program.error(ErrorKind::MissingSubcommand, "a command is needed")?),
+    }
+}

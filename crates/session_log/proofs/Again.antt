@@ -1,0 +1,237 @@
+-- A log that is played again gives the same bytes.
+use Rattle.std.proofs.Common.{◌≡◌, ◌≢◌, ℕ, suc, ◌+◌, ◌≤◌, ◌<◌, ◌^◌, nat_lt, Bool, true, false, cond, List, [], ◌∷◌, ◌++◌, length, map, flat_map, codes, decimal, Option, Some, None, Ok, IsOk, is_none, refl, sym, ap, ◌∙◌, arith, append_assoc, append-nil, length-append}
+use Rattle.std.proofs.lemmas.Bool.Decides.{nat_tests}
+use Rattle.std.proofs.lemmas.Fmt.{length-decimal-le}
+use Rattle.std.proofs.lemmas.List.{length-map}
+use Rattle.std.proofs.lemmas.Grind.{flat_map-append}
+use Rattle.hex.specs.Hex.{decode_sized, encode_lower, lower_digits}
+use Rattle.hex.proofs.HexLemmas.{decode_sized-encode_lower, length-encode_with, IsOk-decode_sized}
+use Rattle.token_session.specs.declared.input.Meters.{Meters}
+use Rattle.session_log.specs.declared.fault.LogFault.{LogFault}
+use Rattle.session_log.specs.declared.line.Line.{Line}
+use Rattle.session_log.specs.declared.line.Line.TheVariants.{Input, Sent, Remark, Count}
+use Rattle.session_log.specs.Lines.{lines}
+use Rattle.session_log.specs.Log.{Played, behind, played, playing, log_of, log, fault_at, text_of, text_by, after, after_by}
+use Rattle.session_log.specs.Reading.{said}
+use Rattle.session_log.specs.Sent.{IsPacket, ArePackets, SendsPackets, AllSend, FitsMeters}
+use Rattle.session_log.specs.Text.{ended, sent_text, meters_line}
+use Rattle.session_log.specs.World.{World}
+use Rattle.session_log.proofs.Feeds.{feedless, AreLines, feedless-append, AreLines-append, lines_joined, lines_are_lines, decimal_feedless, hex_feedless}
+use Rattle.session_log.proofs.Spelled.{count_rest, spelled_is_read}
+use Rattle.session_log.proofs.Through.{played_sound, played_faulty, behind_twice, no_fault, log_is}
+
+-- The lines that are written, without their line feeds.
+
+abbrev sent_line : List ℕ → List ℕ
+sent_line packet = codes "< " ++ encode_lower packet
+
+abbrev lines_by : {S : Type 0} → World S → S → List ℕ → Option Line → List (List ℕ)
+lines_by world s line None = []
+lines_by world s line (Some Count) = []
+lines_by world s line (Some (Sent packet)) = []
+lines_by world s line (Some Remark) = line ∷ []
+lines_by world s line (Some (Input timed)) = line ∷ map sent_line (world.sends s timed)
+
+abbrev written : {S : Type 0} → World S → S → List (List ℕ) → List (List ℕ)
+written world s [] = []
+written world s (line ∷ more) = lines_by world s line (said line) ++ written world (after world s line) more
+
+-- the meters line, without its line feed
+abbrev counts : Meters → List ℕ
+counts m =
+    codes " held " ++ decimal m.held ++ codes " rows " ++ decimal m.rows ++ codes " pending " ++ decimal m.pending
+    ++ codes " requests " ++ decimal m.requests ++ codes " bytes " ++ decimal m.bytes ++ codes " steps " ++ decimal m.steps
+
+counts_line : (m : Meters) → meters_line m ≡ ended (61 ∷ counts m)
+counts_line m = refl
+
+sents_text : (packets : List (List ℕ)) → flat_map sent_text packets ≡ flat_map ended (map sent_line packets)
+sents_text [] = refl
+sents_text (packet ∷ more) = ap (λ (t : List ℕ). sent_text packet ++ t) (sents_text more)
+
+text_lines : {S : Type 0} (world : World S) (s : S) (line : List ℕ) (l : Option Line) → text_by world s line l ≡ flat_map ended (lines_by world s line l)
+text_lines world s line None = refl
+text_lines world s line (Some Count) = refl
+text_lines world s line (Some (Sent packet)) = refl
+text_lines world s line (Some Remark) = sym (append-nil (ended line))
+text_lines world s line (Some (Input timed)) = ap (λ (t : List ℕ). ended line ++ t) (sents_text (world.sends s timed))
+
+-- Faultless lines.
+
+none_chosen : (a b c : Bool) (x y z : LogFault) → cond a (Some x) (cond b (Some y) (cond c (Some z) None)) ≡ None → (b ≡ false) × (c ≡ false)
+none_chosen true b c x y z h = cc
+none_chosen false true c x y z h = cc
+none_chosen false false true x y z h = cc
+none_chosen false false false x y z h = (refl, refl)
+
+short_is : (n : ℕ) → nat_lt 255 n ≡ false → n < 256
+short_is n h = grind (arith, nat_tests)
+
+pub record IsSound (line : List ℕ) : Type 0 where
+  pub short : length line < 256
+  pub says : said line ≢ None
+
+sound_line : (n : ℕ) (line : List ℕ) → fault_at n line ≡ None → IsSound line
+sound_line n line h =
+    let tests = none_chosen _ (nat_lt 255 (length line)) (is_none (said line)) _ _ _ h in
+    record { short = short_is (length line) tests.0; says = λ e. cc (sym (ap is_none e) ∙ tests.1) }
+
+sound_first : {S : Type 0} (world : World S) (n : ℕ) (s : S) (line : List ℕ) (more : List (List ℕ)) → (played world n s (line ∷ more)).fault ≡ None → fault_at n line ≡ None
+sound_first {S} world n s line more h = go (fault_at n line) refl
+  where
+    go : (o : Option LogFault) → fault_at n line ≡ o → fault_at n line ≡ None
+    go None e = e
+    go (Some f) e = absurd (cc (sym (ap (λ (p : Played S). p.fault) (played_faulty world n s line more f e)) ∙ h))
+
+-- A line that sends is read as one that was sent.
+
+sent_digits : (packet : List ℕ) → IsPacket packet → decode_sized (encode_lower packet) 64 ≡ Ok packet
+sent_digits packet h = decode_sized-encode_lower packet 64 h.0 h.1
+
+sent_said : (packet : List ℕ) → IsPacket packet → said (sent_line packet) ≡ Some (Sent (record { 0 = packet }))
+sent_said packet h = spelled_is_read (sent_line packet) (Sent (record { 0 = packet })) (encode_lower packet, refl, sent_digits packet h)
+
+sent_sound : (packet : List ℕ) → IsPacket packet → IsSound (sent_line packet)
+sent_sound packet h =
+    record {
+      short = omega (arith, h.0, length-append (codes "< ") (encode_lower packet), length-encode_with lower_digits packet);
+      says = λ e. cc (sym e ∙ sent_said packet h);
+    }
+
+sent_feedless : (packet : List ℕ) → IsPacket packet → feedless (sent_line packet) ≡ true
+sent_feedless packet h =
+    let ok : IsOk (decode_sized (encode_lower packet) 64) = rw (sent_digits packet h) refl in
+    hex_feedless (encode_lower packet) ((IsOk-decode_sized (encode_lower packet) 64).0 ok).1
+
+-- Playing again what was written.
+
+add_zero : (n : ℕ) → n ≡ n + 0
+add_zero n = omega arith
+
+sound_step : {S : Type 0} (world : World S) (m : ℕ) (s : S) (line : List ℕ) (more : List (List ℕ)) (l : Option Line) → m < 2 ^ 32 → IsSound line → said line ≡ l
+    → played world m s (line ∷ more) ≡ behind (text_by world s line l) (played world (m + 1) (after_by world s l) more)
+sound_step world m s line more l few sound e =
+    played_sound world m s line more (no_fault m line few sound.short sound.says)
+    ∙ ap (λ (o : Option Line). behind (text_by world s line o) (played world (m + 1) (after_by world s o) more)) e
+
+sents_again : {S : Type 0} (world : World S) (m : ℕ) (s : S) (packets rest : List (List ℕ)) → ArePackets packets → m + length packets ≤ 2 ^ 32
+    → played world m s (map sent_line packets ++ rest) ≡ played world (m + length packets) s rest
+sents_again world m s [] rest h few = ap (λ (k : ℕ). played world k s rest) (add_zero m)
+sents_again world m s (packet ∷ more) rest h few =
+    let next : m + 1 + length more ≡ m + suc (length more) = omega arith in
+    sound_step world m s (sent_line packet) (map sent_line more ++ rest) (Some (Sent (record { 0 = packet }))) (omega (arith, few)) (sent_sound packet h.0) (sent_said packet h.0)
+    ∙ sents_again world (m + 1) s more rest h.1 (omega (arith, few, next))
+    ∙ ap (λ (k : ℕ). played world k s rest) next
+
+line_again : {S : Type 0} (world : World S) (m : ℕ) (s : S) (line : List ℕ) (l : Option Line) (rest : List (List ℕ)) → IsSound line → said line ≡ l → SendsPackets world s l → m + length (lines_by world s line l) ≤ 2 ^ 32
+    → played world m s (lines_by world s line l ++ rest) ≡ behind (text_by world s line l) (played world (m + length (lines_by world s line l)) (after_by world s l) rest)
+line_again world m s line None rest sound e h few = absurd (sound.says e)
+line_again world m s line (Some Count) rest sound e h few = ap (λ (k : ℕ). played world k s rest) (add_zero m)
+line_again world m s line (Some (Sent packet)) rest sound e h few = ap (λ (k : ℕ). played world k s rest) (add_zero m)
+line_again world m s line (Some Remark) rest sound e h few = sound_step world m s line rest (Some Remark) (omega (arith, few)) sound e
+line_again world m s line (Some (Input timed)) rest sound e h few =
+    let packets = world.sends s timed in
+    let same : length (map sent_line packets) ≡ length packets = simp length-map refl in
+    let next : m + 1 + length packets ≡ m + suc (length (map sent_line packets)) = omega (arith, same) in
+    sound_step world m s line (map sent_line packets ++ rest) (Some (Input timed)) (omega (arith, few)) sound e
+    ∙ ap (behind (text_by world s line (Some (Input timed)))) (sents_again world (m + 1) (world.turned s timed) packets rest h (omega (arith, few, next)) ∙ ap (λ (k : ℕ). played world k (world.turned s timed) rest) next)
+
+lines_again : {S : Type 0} (world : World S) (n m : ℕ) (s : S) (ls rest : List (List ℕ)) → (played world n s ls).fault ≡ None → AllSend world s ls → m + length (written world s ls) ≤ 2 ^ 32
+    → played world m s (written world s ls ++ rest) ≡ behind (played world n s ls).text (played world (m + length (written world s ls)) (played world n s ls).state rest)
+lines_again world n m s [] rest h sends few = ap (λ (k : ℕ). played world k s rest) (add_zero m)
+lines_again {S} world n m s (line ∷ more) rest h sends few =
+    let t = after world s line in
+    let first = lines_by world s line (said line) in
+    let others = written world t more in
+    let both = length-append first others in
+    let sound = sound_first world n s line more h in
+    let step = played_sound world n s line more sound in
+    let later : (played world (n + 1) t more).fault ≡ None = sym (ap (λ (p : Played S). p.fault) step) ∙ h in
+    let count : m + length first + length others ≡ m + length (first ++ others) = omega (arith, both) in
+    let final = played world (m + length first + length others) (played world (n + 1) t more).state rest in
+    ap (played world m s) (append_assoc first others rest)
+    ∙ line_again world m s line (said line) (others ++ rest) (sound_line n line sound) refl sends.0 (omega (arith, few, both))
+    ∙ ap (behind (text_of world s line)) (lines_again world (n + 1) (m + length first) t more rest later sends.1 (omega (arith, few, both)))
+    ∙ behind_twice (text_of world s line) (played world (n + 1) t more).text final
+    ∙ λ i. behind (sym step i).text (played world (count i) (sym step i).state rest)
+
+written_text : {S : Type 0} (world : World S) (n : ℕ) (s : S) (ls : List (List ℕ)) → (played world n s ls).fault ≡ None → (played world n s ls).text ≡ flat_map ended (written world s ls)
+written_text world n s [] h = refl
+written_text {S} world n s (line ∷ more) h =
+    let t = after world s line in
+    let step = played_sound world n s line more (sound_first world n s line more h) in
+    let later : (played world (n + 1) t more).fault ≡ None = sym (ap (λ (p : Played S). p.fault) step) ∙ h in
+    ap (λ (p : Played S). p.text) step
+    ∙ ap (λ (a : List ℕ). a ++ (played world (n + 1) t more).text) (text_lines world s line (said line))
+    ∙ ap (λ (a : List ℕ). flat_map ended (lines_by world s line (said line)) ++ a) (written_text world (n + 1) t more later)
+    ∙ sym (flat_map-append ended (lines_by world s line (said line)) (written world t more))
+
+-- What was written has no line feed in a line.
+
+sents_are : (packets : List (List ℕ)) → ArePackets packets → AreLines (map sent_line packets)
+sents_are [] h = tt
+sents_are (packet ∷ more) h = (sent_feedless packet h.0, sents_are more h.1)
+
+line_are : {S : Type 0} (world : World S) (s : S) (line : List ℕ) (l : Option Line) → feedless line ≡ true → SendsPackets world s l → AreLines (lines_by world s line l)
+line_are world s line None h sends = tt
+line_are world s line (Some Count) h sends = tt
+line_are world s line (Some (Sent packet)) h sends = tt
+line_are world s line (Some Remark) h sends = (h, tt)
+line_are world s line (Some (Input timed)) h sends = (h, sents_are (world.sends s timed) sends)
+
+written_are : {S : Type 0} (world : World S) (s : S) (ls : List (List ℕ)) → AreLines ls → AllSend world s ls → AreLines (written world s ls)
+written_are world s [] h sends = tt
+written_are world s (line ∷ more) h sends =
+    AreLines-append (lines_by world s line (said line)) (written world (after world s line) more) (line_are world s line (said line) h.0 sends.0) (written_are world (after world s line) more h.1 sends.1)
+
+counts_feedless : (m : Meters) → FitsMeters m → feedless (61 ∷ counts m) ≡ true
+counts_feedless m h =
+    let f = feedless-append in
+    f (codes "= held " ++ decimal m.held ++ codes " rows " ++ decimal m.rows ++ codes " pending " ++ decimal m.pending ++ codes " requests " ++ decimal m.requests ++ codes " bytes " ++ decimal m.bytes ++ codes " steps ") (decimal m.steps)
+    (f (codes "= held " ++ decimal m.held ++ codes " rows " ++ decimal m.rows ++ codes " pending " ++ decimal m.pending ++ codes " requests " ++ decimal m.requests ++ codes " bytes " ++ decimal m.bytes) (codes " steps ")
+    (f (codes "= held " ++ decimal m.held ++ codes " rows " ++ decimal m.rows ++ codes " pending " ++ decimal m.pending ++ codes " requests " ++ decimal m.requests ++ codes " bytes ") (decimal m.bytes)
+    (f (codes "= held " ++ decimal m.held ++ codes " rows " ++ decimal m.rows ++ codes " pending " ++ decimal m.pending ++ codes " requests " ++ decimal m.requests) (codes " bytes ")
+    (f (codes "= held " ++ decimal m.held ++ codes " rows " ++ decimal m.rows ++ codes " pending " ++ decimal m.pending ++ codes " requests ") (decimal m.requests)
+    (f (codes "= held " ++ decimal m.held ++ codes " rows " ++ decimal m.rows ++ codes " pending " ++ decimal m.pending) (codes " requests ")
+    (f (codes "= held " ++ decimal m.held ++ codes " rows " ++ decimal m.rows ++ codes " pending ") (decimal m.pending)
+    (f (codes "= held " ++ decimal m.held ++ codes " rows " ++ decimal m.rows) (codes " pending ")
+    (f (codes "= held " ++ decimal m.held ++ codes " rows ") (decimal m.rows)
+    (f (codes "= held " ++ decimal m.held) (codes " rows ") (f (codes "= held ") (decimal m.held) refl (decimal_feedless m.held h.held)) refl)
+    (decimal_feedless m.rows h.rows))
+    refl)
+    (decimal_feedless m.pending h.pending))
+    refl)
+    (decimal_feedless m.requests h.requests))
+    refl)
+    (decimal_feedless m.bytes h.bytes))
+    refl)
+    (decimal_feedless m.steps h.steps)
+
+counts_short : (m : Meters) → FitsMeters m → length (61 ∷ counts m) < 256
+counts_short m h =
+    let sum : length (61 ∷ counts m) ≡ suc (6 + length (decimal m.held) + 6 + length (decimal m.rows) + 9 + length (decimal m.pending) + 10 + length (decimal m.requests) + 7 + length (decimal m.bytes) + 7 + length (decimal m.steps)) =
+    simp length-append refl in
+    let short = λ (n : ℕ) (fits : n < 2 ^ 64). length-decimal-le 20 n (omega arith) (omega (arith, fits)) fits in
+    omega (arith, sum, short m.held h.held, short m.rows h.rows, short m.pending h.pending, short m.requests h.requests, short m.bytes h.bytes, short m.steps h.steps)
+
+-- Where no line is faulty, the log's own log is the log again.
+pub log_again : {S : Type 0} (world : World S) (s : S) (bytes : List ℕ) → (playing world s bytes).fault ≡ None → AllSend world s (lines bytes) → FitsMeters (world.counts (playing world s bytes).state)
+    → length (lines (log world s bytes)) < 2 ^ 32 → log world s (log world s bytes) ≡ log world s bytes
+log_again {S} world s bytes h sends fits few =
+    let p = playing world s bytes in
+    let m = world.counts p.state in
+    let last = 61 ∷ counts m in
+    let first = written world s (lines bytes) in
+    let whole : log world s bytes ≡ p.text ++ meters_line m = log_is world p p.state p.text h refl refl in
+    let text : log world s bytes ≡ flat_map ended (first ++ last ∷ []) =
+    whole ∙ ap (λ (t : List ℕ). t ++ meters_line m) (written_text world 1 s (lines bytes) h)
+    ∙ ap (λ (t : List ℕ). flat_map ended first ++ t) (sym (append-nil (ended last))) ∙ sym (flat_map-append ended first (last ∷ [])) in
+    let are : AreLines (first ++ last ∷ []) = AreLines-append first (last ∷ []) (written_are world s (lines bytes) (lines_are_lines bytes) sends) (counts_feedless m fits, tt) in
+    let cut : lines (log world s bytes) ≡ first ++ last ∷ [] = ap lines text ∙ lines_joined (first ++ last ∷ []) are in
+    let room : length first + 1 < 2 ^ 32 = omega (arith, few, ap length cut, length-append first (last ∷ [])) in
+    let sound : IsSound last = record { short = counts_short m fits; says = λ e. cc (sym e ∙ count_rest (counts m)) } in
+    let ends : played world (1 + length first) p.state (last ∷ []) ≡ record { text = []; fault = None; state = p.state } =
+    sound_step world (1 + length first) p.state last [] (Some Count) (omega (arith, room)) sound (count_rest (counts m)) in
+    let plays : playing world s (log world s bytes) ≡ behind p.text (record { text = []; fault = None; state = p.state }) =
+    ap (played world 1 s) cut ∙ lines_again world 1 1 s (lines bytes) (last ∷ []) h sends (omega (arith, room)) ∙ ap (behind p.text) ends in
+    ap (log_of world) plays ∙ ap (λ (t : List ℕ). t ++ meters_line m) (append-nil p.text) ∙ sym whole

@@ -1,0 +1,96 @@
+-- Bytes cut at line feeds, from the front.
+use Rattle.std.proofs.Common.{◌≡◌, ℕ, suc, zero, ◌+◌, ◌≤◌, ◌<◌, ◌==◌, nat_lt, Bool, true, false, cond, List, [], ◌∷◌, ◌++◌, length, get_or, take, drop, position, Some, None, refl, sym, ap, ◌∙◌, arith, add-one, take-append-drop}
+use Rattle.std.proofs.lemmas.Bool.Decides.{nat_tests}
+use Rattle.std.proofs.lemmas.List.Quantifiers.{position-Some}
+use Rattle.std.proofs.lemmas.List.Sums.{fails_before_first}
+use Rattle.std.proofs.lemmas.List.Splits.{slice_split_none, slice_split-cons_yes, slice_split-cons_no}
+use Rattle.std.specs.List.{onto_first, position_or_len}
+use Rattle.session_log.specs.Lines.{is_feed, pieces, all_but_last, last_of, lines_of_pieces, lines}
+
+cut_at : (w : List ℕ) (end : ℕ) (tail : List ℕ) → end < length w → is_feed (get_or w end 0) ≡ true → ((k : ℕ) → k < end → is_feed (get_or w k 0) ≡ false)
+    → pieces (take (suc end) w ++ tail) ≡ take end w ∷ pieces tail
+cut_at [] end tail h p q = absurd (omega arith)
+cut_at (x ∷ xs) zero tail h p q = slice_split-cons_yes is_feed x tail p
+cut_at (x ∷ xs) (suc e) tail h p q =
+    slice_split-cons_no is_feed x (take (suc e) xs ++ tail) (q 0 (omega arith)) ∙ ap (onto_first x) (cut_at xs e tail (omega arith) p (λ k l. q (suc k) (omega arith)))
+
+-- a line and its line feed are cut off
+pub first_piece : (w : List ℕ) (end : ℕ) (tail : List ℕ) → position is_feed w ≡ Some end → pieces (take (end + 1) w ++ tail) ≡ take end w ∷ pieces tail
+first_piece w end tail e =
+    let at = position-Some is_feed w end 0 e in
+    rw add-one (cut_at w end tail at.0 at.1 at.2)
+
+none_is : (b : Bool) (n : ℕ) → cond b (Some n) None ≡ None → b ≡ false
+none_is true n e = cc
+none_is false n e = refl
+
+le_is : (a b : ℕ) → nat_lt a b ≡ false → b ≤ a
+le_is a b h = grind (arith, nat_tests)
+
+-- what has no line feed is one piece
+pub one_piece : (w : List ℕ) → position is_feed w ≡ None → pieces w ≡ w ∷ []
+one_piece w e =
+    let far : length w ≤ position_or_len is_feed w = le_is (position_or_len is_feed w) (length w) (none_is (nat_lt (position_or_len is_feed w) (length w)) (position_or_len is_feed w) e) in
+    slice_split_none is_feed w (λ k d l. fails_before_first is_feed w k d (omega arith))
+
+-- there is a piece
+pub pieces_some : (w : List ℕ) → (p : List ℕ) × (ps : List (List ℕ)) × (pieces w ≡ p ∷ ps)
+pieces_some [] = ([], [], refl)
+pieces_some (x ∷ xs) = go (pieces_some xs) (is_feed x) refl
+  where
+    go : ((p : List ℕ) × (ps : List (List ℕ)) × (pieces xs ≡ p ∷ ps)) → (b : Bool) → is_feed x ≡ b → (p : List ℕ) × (ps : List (List ℕ)) × (pieces (x ∷ xs) ≡ p ∷ ps)
+    go more true e = ([], pieces xs, slice_split-cons_yes is_feed x xs e)
+    go more false e = (x ∷ more.0, more.1, slice_split-cons_no is_feed x xs e ∙ ap (onto_first x) more.2)
+
+-- lines before pieces
+pub lines_behind : (done : List (List ℕ)) (p : List ℕ) (ps : List (List ℕ)) → lines_of_pieces (done ++ p ∷ ps) ≡ done ++ lines_of_pieces (p ∷ ps)
+lines_behind [] p ps = refl
+lines_behind (d ∷ []) p ps = refl
+lines_behind (d ∷ e ∷ ds) p ps = ap (λ (l : List (List ℕ)). d ∷ l) (lines_behind (e ∷ ds) p ps)
+
+pub front_of : (done : List (List ℕ)) (p : List ℕ) → all_but_last (done ++ p ∷ []) ≡ done
+front_of [] p = refl
+front_of (d ∷ []) p = refl
+front_of (d ∷ e ∷ ds) p = ap (λ (l : List (List ℕ)). d ∷ l) (front_of (e ∷ ds) p)
+
+pub last_is : (done : List (List ℕ)) (p : List ℕ) → last_of (done ++ p ∷ []) ≡ p
+last_is [] p = refl
+last_is (d ∷ []) p = refl
+last_is (d ∷ e ∷ ds) p = last_is (e ∷ ds) p
+
+-- the lines of a window
+pub line_in_front : (w : List ℕ) (end : ℕ) → position is_feed w ≡ Some end → lines w ≡ take end w ∷ lines (drop (end + 1) w)
+line_in_front w end e =
+    let rest = drop (end + 1) w in
+    let some = pieces_some rest in
+    let cut : pieces w ≡ take end w ∷ pieces rest = ap pieces (sym (take-append-drop (end + 1) w)) ∙ first_piece w end rest e in
+    ap lines_of_pieces (cut ∙ ap (λ (ps : List (List ℕ)). take end w ∷ ps) some.2)
+    ∙ lines_behind (take end w ∷ []) some.0 some.1 ∙ ap (λ (ps : List (List ℕ)). take end w ∷ lines_of_pieces ps) (sym some.2)
+
+not_zero : (n : ℕ) → (suc n == 0) ≡ false
+not_zero n = grind (arith, nat_tests)
+
+-- one last piece that isn't empty
+pub one_line : (x : ℕ) (xs : List ℕ) → lines_of_pieces ((x ∷ xs) ∷ []) ≡ (x ∷ xs) ∷ []
+one_line x xs = ap (λ (b : Bool). cond b [] ((x ∷ xs) ∷ [])) (not_zero (length xs))
+
+pub last_line : (w : List ℕ) → position is_feed w ≡ None → 0 < length w → lines w ≡ w ∷ []
+last_line [] e h = absurd (omega arith)
+last_line (x ∷ xs) e h = ap lines_of_pieces (one_piece (x ∷ xs) e) ∙ one_line x xs
+
+first_line : (x : ℕ) (p : List ℕ) (ps : List (List ℕ)) → (l : List ℕ) × (more : List (List ℕ)) × (lines_of_pieces ((x ∷ p) ∷ ps) ≡ l ∷ more)
+first_line x p [] = (x ∷ p, [], one_line x p)
+first_line x p (q ∷ qs) = (x ∷ p, lines_of_pieces (q ∷ qs), refl)
+
+pub some_line : (w : List ℕ) → 0 < length w → (l : List ℕ) × (more : List (List ℕ)) × (lines w ≡ l ∷ more)
+some_line [] h = absurd (omega arith)
+some_line (x ∷ xs) h = go (is_feed x) refl
+  where
+    go : (b : Bool) → is_feed x ≡ b → (l : List ℕ) × (more : List (List ℕ)) × (lines (x ∷ xs) ≡ l ∷ more)
+    go true e =
+        let rest = pieces_some xs in
+        ([], lines_of_pieces (rest.0 ∷ rest.1), ap lines_of_pieces (slice_split-cons_yes is_feed x xs e ∙ ap (λ (ps : List (List ℕ)). [] ∷ ps) rest.2))
+    go false e =
+        let rest = pieces_some xs in
+        let first = first_line x rest.0 rest.1 in
+        (first.0, first.1, ap lines_of_pieces (slice_split-cons_no is_feed x xs e ∙ ap (onto_first x) rest.2) ∙ first.2)

@@ -1,0 +1,104 @@
+-- Lines with no line feed in them: what they are joined to is cut into them again.
+use Rattle.std.proofs.Common.{◌≡◌, ℕ, suc, ◌<◌, ◌^◌, ◌==◌, Bool, true, false, cond, List, [], ◌∷◌, ◌++◌, length, decimal, flat_map, refl, sym, ap, ◌∙◌, subst, arith, append_assoc, append-nil}
+use Rattle.std.proofs.lemmas.Fmt.{decimal_is_IsNumeral}
+use Rattle.std.proofs.lemmas.List.Splits.{slice_split-cons_yes, slice_split-cons_no}
+use Rattle.std.specs.Char.{digit_value}
+use Rattle.std.specs.List.{AllPass, onto_first}
+use Rattle.std.specs.Str.Parse.{AllDigits}
+use Rattle.hex.specs.Hex.{is_hex_digit}
+use Rattle.session_log.specs.Lines.{is_feed, pieces, lines_of_pieces, lines}
+use Rattle.session_log.specs.Text.{ended}
+use Rattle.session_log.proofs.Cutting.{pieces_some, lines_behind}
+use Rattle.session_log.proofs.Fields.{eq_is}
+
+abbrev pub feedless : List ℕ → Bool
+feedless [] = true
+feedless (x ∷ xs) = cond (is_feed x) false (feedless xs)
+
+abbrev pub AreLines : List (List ℕ) → Type 0
+AreLines [] = Unit {0}
+AreLines (line ∷ more) = (feedless line ≡ true) × AreLines more
+
+both : (b c : Bool) → cond b false c ≡ true → (b ≡ false) × (c ≡ true)
+both true c h = cc
+both false c h = (refl, h)
+
+joined : (b c : Bool) → b ≡ false → c ≡ true → cond b false c ≡ true
+joined b c h k = λ i. cond (h i) false (k i)
+
+pub feedless-append : (xs ys : List ℕ) → feedless xs ≡ true → feedless ys ≡ true → feedless (xs ++ ys) ≡ true
+feedless-append [] ys h k = k
+feedless-append (x ∷ xs) ys h k =
+    let parts = both (is_feed x) (feedless xs) h in
+    joined (is_feed x) (feedless (xs ++ ys)) parts.0 (feedless-append xs ys parts.1 k)
+
+pub AreLines-append : (xs ys : List (List ℕ)) → AreLines xs → AreLines ys → AreLines (xs ++ ys)
+AreLines-append [] ys h k = k
+AreLines-append (x ∷ xs) ys h k = (h.0, AreLines-append xs ys h.1 k)
+
+-- cutting what was joined
+
+cut_line : (line tail : List ℕ) → feedless line ≡ true → pieces (line ++ 10 ∷ tail) ≡ line ∷ pieces tail
+cut_line [] tail h = slice_split-cons_yes is_feed 10 tail refl
+cut_line (x ∷ xs) tail h =
+    let parts = both (is_feed x) (feedless xs) h in
+    slice_split-cons_no is_feed x (xs ++ 10 ∷ tail) parts.0 ∙ ap (onto_first x) (cut_line xs tail parts.1)
+
+pieces_joined : (ls : List (List ℕ)) → AreLines ls → pieces (flat_map ended ls) ≡ ls ++ [] ∷ []
+pieces_joined [] h = refl
+pieces_joined (line ∷ more) h =
+    ap pieces (append_assoc line (10 ∷ []) (flat_map ended more)) ∙ cut_line line (flat_map ended more) h.0 ∙ ap (λ (ps : List (List ℕ)). line ∷ ps) (pieces_joined more h.1)
+
+pub lines_joined : (ls : List (List ℕ)) → AreLines ls → lines (flat_map ended ls) ≡ ls
+lines_joined ls h = ap lines_of_pieces (pieces_joined ls h) ∙ lines_behind ls [] [] ∙ append-nil ls
+
+-- the lines of any bytes have no line feed
+
+pieces_are : (bytes : List ℕ) → AreLines (pieces bytes)
+pieces_are [] = (refl, tt)
+pieces_are (x ∷ xs) = go (pieces_some xs) (pieces_are xs) (is_feed x) refl
+  where
+    go : ((p : List ℕ) × (ps : List (List ℕ)) × (pieces xs ≡ p ∷ ps)) → AreLines (pieces xs) → (b : Bool) → is_feed x ≡ b → AreLines (pieces (x ∷ xs))
+    go some h true e = subst AreLines (sym (slice_split-cons_yes is_feed x xs e)) (refl, h)
+    go some h false e =
+        let parts = subst AreLines some.2 h in
+        subst AreLines (sym (slice_split-cons_no is_feed x xs e ∙ ap (onto_first x) some.2)) (joined (is_feed x) (feedless some.0) e parts.0, parts.1)
+
+last_are : (line : List ℕ) (b : Bool) → feedless line ≡ true → AreLines (cond b [] (line ∷ []))
+last_are line true h = tt
+last_are line false h = (h, tt)
+
+whole_are : (ps : List (List ℕ)) → AreLines ps → AreLines (lines_of_pieces ps)
+whole_are [] h = tt
+whole_are (p ∷ []) h = last_are p (length p == 0) h.0
+whole_are (p ∷ q ∷ more) h = (h.0, whole_are (q ∷ more) h.1)
+
+pub lines_are_lines : (bytes : List ℕ) → AreLines (lines bytes)
+lines_are_lines bytes = whole_are (pieces bytes) (pieces_are bytes)
+
+-- digits are no line feeds
+
+digit_no_feed : (c : ℕ) → digit_value c < 10 → is_feed c ≡ false
+digit_no_feed c h = go (is_feed c) refl
+  where
+    go : (b : Bool) → is_feed c ≡ b → is_feed c ≡ false
+    go false e = e
+    go true e = let at : digit_value 10 < 10 = subst (λ (x : ℕ). digit_value x < 10) (eq_is c 10 e) h in absurd (omega arith)
+
+digits_feedless : (ds : List ℕ) → AllDigits 10 ds → feedless ds ≡ true
+digits_feedless [] h = refl
+digits_feedless (c ∷ cs) h = joined (is_feed c) (feedless cs) (digit_no_feed c h.0) (digits_feedless cs h.1)
+
+pub decimal_feedless : (n : ℕ) → n < 2 ^ 64 → feedless (decimal n) ≡ true
+decimal_feedless n fits = digits_feedless (decimal n) (decimal_is_IsNumeral n fits).0.1
+
+hex_no_feed : (c : ℕ) → is_hex_digit c ≡ true → is_feed c ≡ false
+hex_no_feed c h = go (is_feed c) refl
+  where
+    go : (b : Bool) → is_feed c ≡ b → is_feed c ≡ false
+    go false e = e
+    go true e = let at : is_hex_digit 10 ≡ true = subst (λ (x : ℕ). is_hex_digit x ≡ true) (eq_is c 10 e) h in cc
+
+pub hex_feedless : (ds : List ℕ) → AllPass is_hex_digit ds → feedless ds ≡ true
+hex_feedless [] h = refl
+hex_feedless (c ∷ cs) h = joined (is_feed c) (feedless cs) (hex_no_feed c (h 0 0 (omega arith))) (hex_feedless cs (λ k d l. h (suc k) d (omega arith)))

@@ -1,0 +1,17 @@
+pub mod Breaking
+pub mod Sends
+pub mod Moments
+pub mod Reading
+pub mod Cutting
+pub mod Through
+pub mod Exits
+pub mod Lasts
+pub mod Worlds
+pub mod Histories
+pub mod Cases
+pub mod Fields
+pub mod Spelled
+pub mod Rows
+pub mod Feeds
+pub mod Again
+pub mod Repeating

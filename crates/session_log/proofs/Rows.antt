@@ -1,0 +1,146 @@
+-- The definitions on worked examples, by computation.
+use Rattle.std.proofs.Common.{◌≡◌, ℕ, ◌+◌, ◌-◌, ◌^◌, List, [], ◌∷◌, ◌++◌, codes, replicate, Some, None, refl}
+use Rattle.std.specs.Fmt.{digits}
+use Rattle.hex.proofs.OnLiterals.{hex_on_literals}
+use Rattle.token_session.specs.declared.input.Input.{Input as AnyInput}
+use Rattle.token_session.specs.declared.input.Input.TheVariants.{Packet, Tick}
+use Rattle.session_log.specs.declared.fault.LogFault.TheVariants.{BadLine, TooLong, TooManyLines}
+use Rattle.session_log.specs.declared.line.Line.TheVariants.{Input, Sent, Remark, Count}
+use Rattle.session_log.specs.Lines.{lines, whole_lines, last_piece}
+use Rattle.session_log.specs.Log.{fault_at, playing, log}
+use Rattle.session_log.specs.Reading.{moment, said}
+use Rattle.session_log.specs.World.{World}
+
+-- lines, with and without a last line feed
+row-lines : lines (codes "a\nb") ≡ codes "a" ∷ codes "b" ∷ []
+row-lines = refl
+
+row-last_feed : lines (codes "a\n\n") ≡ codes "a" ∷ [] ∷ []
+row-last_feed = refl
+
+row-none : lines [] ≡ []
+row-none = refl
+
+row-whole : whole_lines (codes "a\nb") ≡ codes "a" ∷ []
+row-whole = refl
+
+row-last : last_piece (codes "a\nb") ≡ codes "b"
+row-last = refl
+
+-- remarks and counts
+row-empty : said [] ≡ Some Remark
+row-empty = refl
+
+row-comment : said (codes "# any") ≡ Some Remark
+row-comment = refl
+
+row-count : said (codes "=") ≡ Some Count
+row-count = refl
+
+-- what isn't a log line: a carriage return, a space, a byte order mark, lines of other letters
+row-return : said (13 ∷ []) ≡ None
+row-return = refl
+
+row-space : said (codes " ") ≡ None
+row-space = refl
+
+row-mark : said (239 ∷ 187 ∷ 191 ∷ codes "t 5") ≡ None
+row-mark = refl
+
+row-presence : said (codes "p 0 granted") ≡ None
+row-presence = refl
+
+row-late_comment : said (codes " #") ≡ None
+row-late_comment = refl
+
+-- moments
+row-tick : said (codes "t 5") ≡ Some (Input (record { at = 5; input = Tick }))
+unfolding moment digits
+row-tick = refl
+
+row-zero : said (codes "t 0") ≡ Some (Input (record { at = 0; input = Tick }))
+unfolding moment digits
+row-zero = refl
+
+row-greatest : said (codes "t 18446744073709551615") ≡ Some (Input (record { at = 2 ^ 64 - 1; input = Tick }))
+unfolding moment digits
+row-greatest = refl
+
+row-too_great : said (codes "t 18446744073709551616") ≡ None
+unfolding moment digits
+row-too_great = refl
+
+row-leading_zero : said (codes "t 05") ≡ None
+unfolding moment digits
+row-leading_zero = refl
+
+row-plus : said (codes "t +5") ≡ None
+unfolding moment digits
+row-plus = refl
+
+row-no_moment : said (codes "t ") ≡ None
+unfolding moment digits
+row-no_moment = refl
+
+row-two_spaces : said (codes "t  5") ≡ None
+unfolding moment digits
+row-two_spaces = refl
+
+-- packets: 128 digits, in either case
+row-packet : said (codes "> 5 aB" ++ replicate 126 48) ≡ Some (Input (record { at = 5; input = Packet (record { 0 = 171 ∷ replicate 63 0 }) }))
+unfolding moment digits hex_on_literals
+row-packet = refl
+
+row-sent : said (codes "< Fe" ++ replicate 126 48) ≡ Some (Sent (record { 0 = 254 ∷ replicate 63 0 }))
+unfolding hex_on_literals
+row-sent = refl
+
+row-short : said (codes "> 5 0000") ≡ None
+unfolding moment digits hex_on_literals
+row-short = refl
+
+row-no_digit : said (codes "< " ++ replicate 127 48 ++ codes "g") ≡ None
+unfolding hex_on_literals
+row-no_digit = refl
+
+row-one_field : said (codes "> " ++ replicate 128 48) ≡ None
+unfolding moment digits hex_on_literals
+row-one_field = refl
+
+-- faults: a line of 256 bytes is too long before it is read, and line 2^32 is one too many before that
+row-longest : fault_at 7 (35 ∷ replicate 254 120) ≡ None
+row-longest = refl
+
+row-too_long : fault_at 7 (replicate 256 120) ≡ Some (TooLong 7)
+row-too_long = refl
+
+row-bad : fault_at 7 (replicate 255 120) ≡ Some (BadLine 7)
+row-bad = refl
+
+row-last_line : fault_at (2 ^ 32 - 1) [] ≡ None
+row-last_line = refl
+
+row-too_many : fault_at (2 ^ 32) (replicate 256 120) ≡ Some TooManyLines
+row-too_many = refl
+
+-- a world that sends each packet back and counts its inputs as requests
+came_back : AnyInput → List (List ℕ)
+came_back (Packet packet) = packet.0 ∷ []
+came_back Tick = []
+
+abbrev echo : World ℕ
+echo = record { turned = λ s x. s + 1; sends = λ s x. came_back x.input; counts = λ s. record { held = 0; rows = 0; pending = 0; requests = s; bytes = 0; steps = 0 } }
+
+-- the log of a log: inputs and remarks again, with what was sent, and the meters line in place of the old one
+row-log : log echo 0 (codes "#\nt 5\n= held 9\n") ≡ codes "#\nt 5\n= held 0 rows 0 pending 0 requests 1 bytes 0 steps 0\n"
+unfolding moment digits came_back
+row-log = refl
+
+row-echo : log echo 0 (codes "> 0 AB" ++ replicate 126 48) ≡ codes "> 0 AB" ++ replicate 126 48 ++ codes "\n< ab" ++ replicate 126 48 ++ codes "\n= held 0 rows 0 pending 0 requests 1 bytes 0 steps 0\n"
+unfolding moment digits came_back hex_on_literals
+row-echo = refl
+
+-- the first faulty line ends it
+row-faulty : playing echo 0 (codes "t 5\nt 05\nt 6\n") ≡ record { text = codes "t 5\n"; fault = Some (BadLine 2); state = 1 }
+unfolding moment digits came_back
+row-faulty = refl

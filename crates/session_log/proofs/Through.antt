@@ -1,0 +1,200 @@
+-- What has been played when lines were read and played one by one.
+use Rattle.std.proofs.Common.{◌≡◌, ◌≢◌, ℕ, ◌+◌, ◌≤◌, ◌<◌, ◌^◌, nat_le, nat_lt, Bool, true, false, cond, List, [], ◌∷◌, ◌++◌, length, take, position, Option, Some, None, is_some, is_none, refl, sym, ap, ◌∙◌, subst, arith, append_assoc, append-nil, length-append}
+use Rattle.std.proofs.lemmas.Bool.Decides.{nat_tests}
+use Rattle.session_log.specs.declared.fault.LogFault.{LogFault}
+use Rattle.session_log.specs.declared.fault.LogFault.TheVariants.{BadLine, TooLong, TooManyLines}
+use Rattle.session_log.specs.declared.line.Line.{Line}
+use Rattle.session_log.specs.Reading.{said}
+use Rattle.session_log.specs.World.{World}
+use Rattle.session_log.specs.Lines.{is_feed, pieces, all_but_last, last_of, lines_of_pieces, lines, whole_lines, last_piece}
+use Rattle.session_log.specs.Log.{Played, behind, played, playing, log_of, log, fault_at, text_of, after}
+use Rattle.session_log.specs.Sent.{SendsPackets, AllSend}
+use Rattle.session_log.specs.Text.{meters_line}
+use Rattle.session_log.specs.Window.{IsUnfinished}
+use Rattle.session_log.specs.Replay.{IsRefused, IsUnread, IsUnwritten, IsPlayed}
+use Rattle.session_log.proofs.Cutting.{first_piece, one_piece, pieces_some, lines_behind, front_of, last_is}
+
+-- The bytes read are whole lines, none of them faulty: this text was written for them, and the session stands at s before line n.
+pub record Through {S : Type 0} (world : World S) (s0 : S) (read text : List ℕ) (s : S) (n : ℕ) : Type 0 where
+  pub done : List (List ℕ)
+  pub cut : (tail : List ℕ) → pieces (read ++ tail) ≡ done ++ pieces tail
+  pub count : n ≡ length done + 1
+  pub plays : (more : List (List ℕ)) → played world 1 s0 (done ++ more) ≡ behind text (played world n s more)
+  pub sends : (more : List (List ℕ)) → AllSend world s more → AllSend world s0 (done ++ more)
+
+pub through_none : {S : Type 0} (world : World S) (s : S) → Through world s [] [] s 1
+through_none world s = record { done = []; cut = λ tail. refl; count = refl; plays = λ more. refl; sends = λ more h. h }
+
+-- a line that isn't faulty is played
+pub played_sound : {S : Type 0} (world : World S) (n : ℕ) (s : S) (line : List ℕ) (more : List (List ℕ)) → fault_at n line ≡ None → played world n s (line ∷ more) ≡ behind (text_of world s line) (played world (n + 1) (after world s line) more)
+played_sound world n s line more e =
+    ap (λ (o : Option LogFault). cond (is_some o) (record { text = []; fault = o; state = s }) (behind (text_of world s line) (played world (n + 1) (after world s line) more))) e
+
+-- a faulty one ends the log
+pub played_faulty : {S : Type 0} (world : World S) (n : ℕ) (s : S) (line : List ℕ) (more : List (List ℕ)) (f : LogFault) → fault_at n line ≡ Some f → played world n s (line ∷ more) ≡ record { text = []; fault = Some f; state = s }
+played_faulty world n s line more f e =
+    ap (λ (o : Option LogFault). cond (is_some o) (record { text = []; fault = o; state = s }) (behind (text_of world s line) (played world (n + 1) (after world s line) more))) e
+
+pub behind_twice : {S : Type 0} (a b : List ℕ) (p : Played S) → behind a (behind b p) ≡ behind (a ++ b) p
+behind_twice a b p = λ i. record { text = sym (append_assoc a b p.text) i; fault = p.fault; state = p.state }
+
+pub through_line : {S : Type 0} (world : World S) (s0 : S) (read text : List ℕ) (s : S) (n : ℕ) (w : List ℕ) (end : ℕ) → Through world s0 read text s n → position is_feed w ≡ Some end → fault_at n (take end w) ≡ None → SendsPackets world s (said (take end w))
+    → Through world s0 (read ++ take (end + 1) w) (text ++ text_of world s (take end w)) (after world s (take end w)) (n + 1)
+through_line world s0 read text s n w end t feed sound packets =
+    let line = take end w in
+    let front = take (end + 1) w in
+    record {
+      done = t.done ++ line ∷ [];
+      cut = λ tail. ap pieces (append_assoc read front tail) ∙ t.cut (front ++ tail) ∙ ap (λ (l : List (List ℕ)). t.done ++ l) (first_piece w end tail feed) ∙ sym (append_assoc t.done (line ∷ []) (pieces tail));
+      count = omega (arith, t.count, length-append t.done (line ∷ []));
+      plays = λ more. ap (played world 1 s0) (append_assoc t.done (line ∷ []) more) ∙ t.plays (line ∷ more) ∙ ap (behind text) (played_sound world n s line more sound) ∙ behind_twice text (text_of world s line) (played world (n + 1) (after world s line) more);
+      sends = λ more h. subst (AllSend world s0) (sym (append_assoc t.done (line ∷ []) more)) (t.sends (line ∷ more) (packets, h));
+    }
+
+-- the lines of all that was read
+pub lines_are : {S : Type 0} (world : World S) (s0 : S) (read text : List ℕ) (s : S) (n : ℕ) (w : List ℕ) → (t : Through world s0 read text s n) → lines (read ++ w) ≡ t.done ++ lines w
+lines_are world s0 read text s n w t =
+    let some = pieces_some w in
+    ap lines_of_pieces (t.cut w ∙ ap (λ (l : List (List ℕ)). t.done ++ l) some.2) ∙ lines_behind t.done some.0 some.1 ∙ ap (λ (l : List (List ℕ)). t.done ++ lines_of_pieces l) (sym some.2)
+
+pub playing_is : {S : Type 0} (world : World S) (s0 : S) (read text : List ℕ) (s : S) (n : ℕ) (w : List ℕ) → Through world s0 read text s n → playing world s0 (read ++ w) ≡ behind text (played world n s (lines w))
+playing_is world s0 read text s n w t = ap (played world 1 s0) (lines_are world s0 read text s n w t) ∙ t.plays (lines w)
+
+-- the first line of the window is faulty
+pub refused : {S : Type 0} (world : World S) (s0 : S) (read text : List ℕ) (s : S) (n : ℕ) (w : List ℕ) (line : List ℕ) (more : List (List ℕ)) (f : LogFault) → Through world s0 read text s n → lines w ≡ line ∷ more → fault_at n line ≡ Some f
+    → IsRefused world s0 s (read ++ w) text f
+refused {S} world s0 read text s n w line more f t e bad =
+    let is : playing world s0 (read ++ w) ≡ behind text (record { text = []; fault = Some f; state = s }) =
+    playing_is world s0 read text s n w t ∙ ap (λ (ls : List (List ℕ)). behind text (played world n s ls)) e ∙ ap (behind text) (played_faulty world n s line more f bad) in
+    record {
+      faulty = ap (λ (p : Played S). p.fault) is;
+      written = sym (ap (λ (p : Played S). p.text) is ∙ append-nil text);
+      stands = sym (ap (λ (p : Played S). p.state) is);
+    }
+
+-- reading failed in the window's line
+pub unread : {S : Type 0} (world : World S) (s0 : S) (read text : List ℕ) (s : S) (n : ℕ) (w : List ℕ) → Through world s0 read text s n → IsUnfinished n w → IsUnread world s0 s (read ++ w) text n
+unread {S} world s0 read text s n w t u =
+    let cut : pieces (read ++ w) ≡ t.done ++ w ∷ [] = t.cut w ∙ ap (λ (l : List (List ℕ)). t.done ++ l) (one_piece w u.no_feed) in
+    let whole : whole_lines (read ++ w) ≡ t.done = ap all_but_last cut ∙ front_of t.done w in
+    let last : last_piece (read ++ w) ≡ w = ap last_of cut ∙ last_is t.done w in
+    let is : played world 1 s0 (whole_lines (read ++ w)) ≡ behind text (played world n s []) = ap (played world 1 s0) (whole ∙ sym (append-nil t.done)) ∙ t.plays [] in
+    record {
+      faultless = ap (λ (p : Played S). p.fault) is;
+      written = sym (ap (λ (p : Played S). p.text) is ∙ append-nil text);
+      stands = sym (ap (λ (p : Played S). p.state) is);
+      named = t.count ∙ ap (λ (l : List (List ℕ)). length l + 1) (sym whole);
+      short = subst (λ (l : List ℕ). length l < 256) (sym last) u.short;
+      counted = λ many. last ∙ u.counted many;
+    }
+
+-- the text of the window's first line broke off
+pub unwritten : {S : Type 0} (world : World S) (s0 : S) (read text : List ℕ) (s : S) (n : ℕ) (w : List ℕ) (line : List ℕ) (more : List (List ℕ)) (front rest : List ℕ) → Through world s0 read text s n → lines w ≡ line ∷ more → fault_at n line ≡ None
+    → text_of world s line ≡ front ++ rest → 0 < length rest → IsUnwritten world s0 (after world s line) (read ++ w) (text ++ front)
+unwritten {S} world s0 read text s n w line more front rest t e sound broken missing =
+    let is : played world 1 s0 t.done ≡ behind text (played world n s []) = ap (played world 1 s0) (sym (append-nil t.done)) ∙ t.plays [] in
+    let stood : (played world 1 s0 t.done).state ≡ s = ap (λ (p : Played S). p.state) is in
+    let others = played world (n + 1) (after world s line) more in
+    let all : playing world s0 (read ++ w) ≡ behind text (behind (text_of world s line) others) =
+    playing_is world s0 read text s n w t ∙ ap (λ (ls : List (List ℕ)). behind text (played world n s ls)) e ∙ ap (behind text) (played_sound world n s line more sound) in
+    let tail = cond (is_none others.fault) (meters_line (world.counts others.state)) [] in
+    record {
+      first = t.done;
+      others = line ∷ more;
+      front = front;
+      rest = rest;
+      cut = lines_are world s0 read text s n w t ∙ ap (λ (l : List (List ℕ)). t.done ++ l) e;
+      faultless = ap (λ (p : Played S). p.fault) is;
+      written = ap (λ (l : List ℕ). l ++ front) (sym (ap (λ (p : Played S). p.text) is ∙ append-nil text));
+      broken = ap (λ (z : S). text_of world z line) stood ∙ broken;
+      missing = missing;
+      stands = ap (λ (z : S). after world z line) (sym stood);
+      beginning = ((rest ++ others.text) ++ tail, ap (log_of world) all ∙ regroup text (text_of world s line) front rest others.text tail broken);
+    }
+  where
+    regroup : (a t x y b c : List ℕ) → t ≡ x ++ y → (a ++ (t ++ b)) ++ c ≡ (a ++ x) ++ ((y ++ b) ++ c)
+    regroup a t x y b c e = rw e (simp append_assoc)
+
+pub log_is : {S : Type 0} (world : World S) (q : Played S) (s : S) (text : List ℕ) → q.fault ≡ None → text ≡ q.text → s ≡ q.state → log_of world q ≡ text ++ meters_line (world.counts s)
+log_is {S} world q s text faultless written stands =
+    ap (λ (o : Option LogFault). q.text ++ cond (is_none o) (meters_line (world.counts q.state)) []) faultless
+    ∙ ap (λ (l : List ℕ). l ++ meters_line (world.counts q.state)) (sym written) ∙ ap (λ (z : S). text ++ meters_line (world.counts z)) (sym stands)
+
+-- the log of what was played whole
+pub whole_log : {S : Type 0} (world : World S) (s0 s : S) (bytes text : List ℕ) → IsPlayed world s0 s bytes text → log world s0 bytes ≡ text ++ meters_line (world.counts s)
+whole_log world s0 s bytes text p = log_is world (playing world s0 bytes) s text p.faultless p.written p.stands
+
+-- all was played, and the meters line broke off
+pub unwritten_end : {S : Type 0} (world : World S) (s0 s : S) (bytes text front rest : List ℕ) → IsPlayed world s0 s bytes text → meters_line (world.counts s) ≡ front ++ rest → 0 < length rest → IsUnwritten world s0 s bytes (text ++ front)
+unwritten_end {S} world s0 s bytes text front rest p broken missing =
+    record {
+      first = lines bytes;
+      others = [];
+      front = front;
+      rest = rest;
+      cut = sym (append-nil (lines bytes));
+      faultless = p.faultless;
+      written = ap (λ (l : List ℕ). l ++ front) p.written;
+      broken = ap (λ (z : S). meters_line (world.counts z)) (sym p.stands) ∙ broken;
+      missing = missing;
+      stands = p.stands;
+      beginning = (rest, whole_log world s0 s bytes text p ∙ ap (λ (l : List ℕ). text ++ l) broken ∙ sym (append_assoc text front rest));
+    }
+
+-- the last line was played
+pub played_last : {S : Type 0} (world : World S) (s0 : S) (read text : List ℕ) (s : S) (n : ℕ) (w : List ℕ) → Through world s0 read text s n → lines w ≡ w ∷ [] → fault_at n w ≡ None → SendsPackets world s (said w) → IsPlayed world s0 (after world s w) (read ++ w) (text ++ text_of world s w)
+played_last {S} world s0 read text s n w t e sound packets =
+    let is : playing world s0 (read ++ w) ≡ behind text (behind (text_of world s w) (played world (n + 1) (after world s w) [])) =
+    playing_is world s0 read text s n w t ∙ ap (λ (ls : List (List ℕ)). behind text (played world n s ls)) e ∙ ap (behind text) (played_sound world n s w [] sound) in
+    record {
+      sends = subst (AllSend world s0) (sym (lines_are world s0 read text s n w t ∙ ap (λ (ls : List (List ℕ)). t.done ++ ls) e)) (t.sends (w ∷ []) (packets, tt));
+      faultless = ap (λ (p : Played S). p.fault) is;
+      written = sym (ap (λ (p : Played S). p.text) is ∙ ap (λ (l : List ℕ). text ++ l) (append-nil (text_of world s w)));
+      stands = sym (ap (λ (p : Played S). p.state) is);
+    }
+
+-- nothing was left to play
+pub played_none : {S : Type 0} (world : World S) (s0 : S) (read text : List ℕ) (s : S) (n : ℕ) → Through world s0 read text s n → IsPlayed world s0 s (read ++ []) text
+played_none {S} world s0 read text s n t =
+    let is : playing world s0 (read ++ []) ≡ behind text (played world n s []) = playing_is world s0 read text s n [] t in
+    record {
+      sends = subst (AllSend world s0) (sym (lines_are world s0 read text s n [] t)) (t.sends [] tt);
+      faultless = ap (λ (p : Played S). p.fault) is;
+      written = sym (ap (λ (p : Played S). p.text) is ∙ append-nil text);
+      stands = sym (ap (λ (p : Played S). p.state) is);
+    }
+
+-- which fault a line has
+abbrev chosen : ℕ → Bool → Bool → Bool → Option LogFault
+chosen n many long bad = cond many (Some TooManyLines) (cond long (Some (TooLong n)) (cond bad (Some (BadLine n)) None))
+
+tests : (n : ℕ) (line : List ℕ) (many long bad : Bool) → nat_le (2 ^ 32) n ≡ many → nat_lt 255 (length line) ≡ long → is_none (said line) ≡ bad → fault_at n line ≡ chosen n many long bad
+tests n line many long bad p q r = λ i. chosen n (p i) (q i) (r i)
+
+le_false : (a b : ℕ) → b < a → nat_le a b ≡ false
+le_false a b h = grind (arith, nat_tests)
+
+le_true : (a b : ℕ) → a ≤ b → nat_le a b ≡ true
+le_true a b h = grind (arith, nat_tests)
+
+lt_false : (a b : ℕ) → b ≤ a → nat_lt a b ≡ false
+lt_false a b h = grind (arith, nat_tests)
+
+lt_true : (a b : ℕ) → a < b → nat_lt a b ≡ true
+lt_true a b h = grind (arith, nat_tests)
+
+some_is : (o : Option Line) → o ≢ None → is_none o ≡ false
+some_is None h = absurd (h refl)
+some_is (Some l) h = refl
+
+pub no_fault : (n : ℕ) (line : List ℕ) → n < 2 ^ 32 → length line < 256 → said line ≢ None → fault_at n line ≡ None
+no_fault n line few short some = tests n line false false false (le_false (2 ^ 32) n few) (lt_false 255 (length line) (omega arith)) (some_is (said line) some)
+
+pub bad_line : (n : ℕ) (line : List ℕ) → n < 2 ^ 32 → length line < 256 → said line ≡ None → fault_at n line ≡ Some (BadLine n)
+bad_line n line few short none = tests n line false false true (le_false (2 ^ 32) n few) (lt_false 255 (length line) (omega arith)) (ap is_none none)
+
+pub too_long : (n : ℕ) (line : List ℕ) → n < 2 ^ 32 → 256 ≤ length line → fault_at n line ≡ Some (TooLong n)
+too_long n line few long = tests n line false true (is_none (said line)) (le_false (2 ^ 32) n few) (lt_true 255 (length line) (omega arith)) refl
+
+pub too_many : (n : ℕ) (line : List ℕ) → 2 ^ 32 ≤ n → fault_at n line ≡ Some TooManyLines
+too_many n line many = tests n line true (nat_lt 255 (length line)) (is_none (said line)) (le_true (2 ^ 32) n many) refl refl

@@ -1,0 +1,14 @@
+pub mod Numbers
+pub mod Streams
+pub mod Lines
+pub mod Grammar
+pub mod Reading
+pub mod Text
+pub mod World
+pub mod Log
+pub mod Sent
+pub mod Session
+pub mod Replay
+pub mod Window
+pub mod Breaking
+pub mod Command

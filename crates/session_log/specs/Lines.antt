@@ -1,0 +1,37 @@
+-- Bytes cut at line feeds.
+use Rattle.std.specs.Prelude.{ℕ, ◌==◌, Bool, List, [], ◌∷◌, length, if◌then◌else◌}
+use Rattle.std.specs.List.{slice_split}
+
+abbrev pub is_feed : ℕ → Bool
+is_feed b = b == 10
+
+-- what stands between the line feeds; the last piece is behind the last of them
+abbrev pub pieces : List ℕ → List (List ℕ)
+pieces bytes = slice_split is_feed bytes
+
+abbrev pub all_but_last : {A : Type 0} → List A → List A
+all_but_last [] = []
+all_but_last (x ∷ []) = []
+all_but_last (x ∷ y ∷ more) = x ∷ all_but_last (y ∷ more)
+
+abbrev pub last_of : List (List ℕ) → List ℕ
+last_of [] = []
+last_of (x ∷ []) = x
+last_of (x ∷ y ∷ more) = last_of (y ∷ more)
+
+-- the lines that a line feed ends
+abbrev pub whole_lines : List ℕ → List (List ℕ)
+whole_lines bytes = all_but_last (pieces bytes)
+
+-- what stands behind the last line feed
+abbrev pub last_piece : List ℕ → List ℕ
+last_piece bytes = last_of (pieces bytes)
+
+abbrev pub lines_of_pieces : List (List ℕ) → List (List ℕ)
+lines_of_pieces [] = []
+lines_of_pieces (x ∷ []) = if length x == 0 then [] else x ∷ []
+lines_of_pieces (x ∷ y ∷ more) = x ∷ lines_of_pieces (y ∷ more)
+
+-- the lines: the last piece counts where it isn't empty
+abbrev pub lines : List ℕ → List (List ℕ)
+lines bytes = lines_of_pieces (pieces bytes)

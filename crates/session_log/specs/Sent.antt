@@ -1,0 +1,38 @@
+-- What is sent while lines are played: packets of 64 bytes.
+use Rattle.std.specs.Prelude.{◌≡◌, ℕ, ◌<◌, ◌^◌, List, [], ◌∷◌, length, Option, Some, None}
+use Rattle.hex.specs.Hex.{IsBytes}
+use Rattle.token_session.specs.declared.input.Meters.{Meters}
+use Rattle.session_log.specs.declared.line.Line.{Line}
+use Rattle.session_log.specs.declared.line.Line.TheVariants.{Input, Sent, Remark, Count}
+use Rattle.session_log.specs.Log.{after}
+use Rattle.session_log.specs.Reading.{said}
+use Rattle.session_log.specs.World.{World}
+
+abbrev pub IsPacket : List ℕ → Type 0
+IsPacket packet = (length packet ≡ 64) × IsBytes packet
+
+abbrev pub ArePackets : List (List ℕ) → Type 0
+ArePackets [] = Unit {0}
+ArePackets (packet ∷ more) = IsPacket packet × ArePackets more
+
+-- for a line, by what it says
+abbrev pub SendsPackets : {S : Type 0} → World S → S → Option Line → Type 0
+SendsPackets world s None = Unit {0}
+SendsPackets world s (Some Count) = Unit {0}
+SendsPackets world s (Some (Sent packet)) = Unit {0}
+SendsPackets world s (Some Remark) = Unit {0}
+SendsPackets world s (Some (Input timed)) = ArePackets (world.sends s timed)
+
+-- for lines, one after the other
+abbrev pub AllSend : {S : Type 0} → World S → S → List (List ℕ) → Type 0
+AllSend world s [] = Unit {0}
+AllSend world s (line ∷ more) = SendsPackets world s (said line) × AllSend world (after world s line) more
+
+-- numbers of at most 64 bits
+pub record FitsMeters (m : Meters) : Type 0 where
+  pub held : m.held < 2 ^ 64
+  pub rows : m.rows < 2 ^ 64
+  pub pending : m.pending < 2 ^ 64
+  pub requests : m.requests < 2 ^ 64
+  pub bytes : m.bytes < 2 ^ 64
+  pub steps : m.steps < 2 ^ 64

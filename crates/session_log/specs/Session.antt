@@ -1,0 +1,22 @@
+-- What a log is played on: what a session holds, or a history.
+use Rattle.std.specs.Prelude.{◌≡◌, ℕ, ◌<◌, ◌^◌, List, ◌∷◌, length, Option}
+use Rattle.std.specs.Io.KnownBytes.{Appends}
+use Rattle.token_session.specs.declared.input.Timed.{Timed}
+use Rattle.token_session.specs.History.{judged}
+use Rattle.token_session.specs.Law.{sent_now}
+use Rattle.token_session.specs.Meters.{SessionState, stepped, sent_by, meters_of}
+use Rattle.session_log.specs.Lines.{lines}
+use Rattle.session_log.specs.Log.{log}
+use Rattle.session_log.specs.World.{World}
+
+-- what a session holds, moved on by inputs
+abbrev pub machine : World SessionState
+machine = record { turned = λ s x. stepped s x; sends = λ s x. sent_by s x; counts = λ s. s.meters }
+
+-- the inputs so far, the newest first, and what the history that they are sends and counts
+abbrev pub history : ℕ → World (List Timed)
+history start = record { turned = λ h x. x ∷ h; sends = λ h x. sent_now start h x; counts = λ h. meters_of start (judged start h) }
+
+-- what was written is its own log, on a session that stands at s, unless it has too many lines
+abbrev pub Repeats : Option (List ℕ) → Option (List ℕ) → SessionState → Type 0
+Repeats taken taken' s = (text : List ℕ) × Appends taken taken' text × (length (lines text) < 2 ^ 32 → log machine s text ≡ text)

@@ -1,0 +1,34 @@
+-- What stands in front in a window, as line n.
+use Rattle.std.specs.Prelude.{◌≡◌, ℕ, ◌<◌, ◌≤◌, ◌^◌, List, [], length, position, Some, None}
+use Rattle.session_log.specs.declared.fault.LogFault.{LogFault}
+use Rattle.session_log.specs.declared.fault.LogFault.TheVariants.{BadLine, TooLong, Read, Write, TooManyLines}
+use Rattle.session_log.specs.Lines.{is_feed}
+
+-- the front of a line that can still go on
+pub record IsUnfinished (n : ℕ) (window : List ℕ) : Type 0 where
+  pub no_feed : position is_feed window ≡ None
+  pub short : length window < 256
+  pub counted : 2 ^ 32 ≤ n → window ≡ []
+
+-- a line of this length and its line feed
+pub record HasLine (n : ℕ) (window : List ℕ) (end : ℕ) : Type 0 where
+  pub feed : position is_feed window ≡ Some end
+  pub within : end < length window
+  pub short : length window ≤ 256
+  pub counted : n < 2 ^ 32
+
+-- why no line can be read
+abbrev pub Stops : ℕ → List ℕ → LogFault → Type 0
+Stops n window TooManyLines = (2 ^ 32 ≤ n) × (0 < length window)
+Stops n window (TooLong m) = (m ≡ n) × (n < 2 ^ 32) × (position is_feed window ≡ None) × (length window ≡ 256)
+Stops n window (Read m) = (m ≡ n) × IsUnfinished n window
+Stops n window (BadLine m) = ⊥
+Stops n window Write = ⊥
+
+-- line n is bad, or its text broke off
+abbrev pub LineFails : ℕ → Type 0 → Type 0 → LogFault → Type 0
+LineFails n bad broken (BadLine m) = (m ≡ n) × bad
+LineFails n bad broken Write = broken
+LineFails n bad broken (TooLong m) = ⊥
+LineFails n bad broken (Read m) = ⊥
+LineFails n bad broken TooManyLines = ⊥

@@ -1,0 +1,55 @@
+//! The commands of the program `hidlog`, over any source and targets.
+ghost use Rattle.std.specs.Prelude.{◌≡◌, ◌<◌, ◌-◌, ◌+◌, ◌^◌, [], List, Result, OnOk};
+ghost use Rattle.token_session.specs.declared.input.Timed.{Timed as OneInput};
+ghost use Rattle.token_session.specs.declared.input.Meters.{Meters as Counts};
+ghost use Rattle.session_log.specs.declared.fault.LogFault.{LogFault as Fault};
+ghost use Rattle.session_log.specs.Command.{status_of};
+ghost use Rattle.session_log.specs.Replay.{Answers};
+ghost use Rattle.session_log.specs.Session.{history};
+ghost use Rattle.session_log.specs.Streams.{Moves};
+
+use crate::fault::LogFault;
+use crate::replaying::replay;
+use crate::source::Source;
+use crate::target::{Target, put_all};
+use arrayvec::ArrayVec;
+use std::io::Write;
+use token_session::Session;
+
+/// The most credential rows, and the most pending assertions, of the program's session.
+pub const CAPACITY: usize = 64;
+
+/// Writes the text of a fault and a line feed. A text that can't be written is let go.
+fn tell_fault<E: Target>(faults: &mut E, fault: &LogFault)
+    requires { E.failed faults.old < 2 ^ 64 - 1 }
+{
+    let mut text = ArrayVec::<u8, 96>::new();
+    if writeln!(text, "hidlog: {fault}").is_ok() {
+        let _ = put_all(faults, text.as_slice());
+    }
+}
+
+/// The command `replay`: replays the log on a new session, without rows, whose AAGUID is zero and whose start
+/// is 0. An error holds the exit status, 1: the fault's text was given to `faults`, if that could be.
+pub fn replay_command<S: Source, O: Target, E: Target>(
+    input: &mut S,
+    output: &mut O,
+    faults: &mut E,
+) -> Result<(), u8>
+    requires reads { S.failed input.old < 2 ^ 64 - 1 }
+    requires writes { O.failed output.old < 2 ^ 64 - 1 }
+    requires tells { E.failed faults.old < 2 ^ 64 - 1 }
+    // It is the log of the empty history that was written.
+    ensures replayed { (answer : Result Counts Fault) × (later : List OneInput) × (result ≡ status_of answer)
+        × Moves (S.left input.old) (S.left input.new) (O.taken output.old) (O.taken output.new) (λ bytes text. Answers (history 0) [] later bytes text answer) }
+    ensures silent { OnOk result (faults.new ≡ faults.old) }
+{
+    let mut session = Session::<CAPACITY>::bare([0; 16], 0);
+    match replay(input, output, &mut session) {
+        Ok(_) => Ok(()),
+        Err(fault) => {
+            tell_fault(faults, &fault);
+            Err(1)
+        }
+    }
+}

@@ -1,0 +1,44 @@
+//! What can go wrong with a log.
+ghost use Rattle.std.specs.Prelude.{◌≡◌};
+ghost use Rattle.session_log.specs.Numbers.{number_of};
+
+use thiserror::Error;
+
+/// A read or a write that did not succeed.
+#[derive(Clone, Copy, Debug, PartialEq, Eq)]
+pub struct Failed;
+
+/// Why a log was not replayed to its end. Lines count from 1.
+#[derive(Clone, Copy, Debug, PartialEq, Eq, Error)]
+pub enum LogFault {
+    /// Fault 1: the line is outside the grammar.
+    #[error("line {0}: not a log line")]
+    BadLine(u64),
+    /// Fault 2: the line has more than 255 bytes without its line feed.
+    #[error("line {0}: longer than 255 bytes")]
+    TooLong(u64),
+    /// Fault 4: the source failed while this line was read.
+    #[error("line {0}: reading failed")]
+    Read(u64),
+    /// Fault 5: the target failed.
+    #[error("writing failed")]
+    Write,
+    /// Fault 6: the log has more than 2^32-1 lines.
+    #[error("too many lines")]
+    TooManyLines,
+}
+
+impl LogFault {
+    /// The number of the fault.
+    pub fn number(&self) -> u8
+        ensures { result ≡ number_of self.now }
+    {
+        match self {
+            LogFault::BadLine(_) => 1,
+            LogFault::TooLong(_) => 2,
+            LogFault::Read(_) => 4,
+            LogFault::Write => 5,
+            LogFault::TooManyLines => 6,
+        }
+    }
+}

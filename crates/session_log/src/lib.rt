@@ -1,0 +1,22 @@
+//! Text logs of CTAPHID sessions: lines are read, their inputs are stepped on a session, and each line
+//! is written again with the packets that the session sent for it (docs/LOG_FORMAT.md).
+#![tactic(auto)]
+
+mod command;
+mod fault;
+pub mod laws;
+mod line;
+mod replaying;
+mod source;
+mod target;
+#[cfg(test)]
+mod tests;
+mod text;
+mod window;
+
+pub use command::{CAPACITY, replay_command};
+pub use fault::{Failed, LogFault};
+pub use line::{Line, read_line};
+pub use replaying::replay;
+pub use source::{FromRead, SliceIn, Source};
+pub use target::{SliceOut, Target, ToWrite, put_all};

@@ -1,0 +1,130 @@
+//! Where the bytes of a log come from.
+ghost use Rattle.std.specs.Prelude.{◌≡◌, ◌<◌, ◌≤◌, ◌+◌, ◌-◌, ◌^◌, [], ◌∷◌, ◌++◌, List, ℕ, Option, Some, length, take, drop, min, is_ok, if◌then◌else◌, ◌||◌, Bool, true, false, Ok, IsTrue, IsOk, IfOk};
+ghost use Rattle.std.specs.Io.KnownBytes.{ReadConsumes};
+ghost use Rattle.session_log.specs.Streams.{gave_nothing};
+
+use crate::fault::Failed;
+use std::io::Read;
+
+/// Where bytes come from.
+pub trait Source {
+    /// The bytes that it still holds, where they are known.
+    ghost left: { Self → Option (List ℕ) };
+
+    /// Whether it gave nothing into a buffer that had room.
+    ghost ended: { Self → Bool };
+
+    /// How many calls failed.
+    ghost failed: { Self → ℕ };
+
+    /// Gives the next bytes into the front of `out`, and how many these are: 0 into a buffer that has room
+    /// only at its end. After a failure it holds what it held.
+    fn get(&mut self, out: &mut [u8]) -> Result<usize, Failed>
+        requires { failed self.old < 2 ^ 64 - 1 }
+        ensures bound { IfOk result (λ n. n ≤ length out.new) }
+        ensures bytes { ReadConsumes (left self.old) (left self.new) result out.new }
+        ensures end { ended self.new ≡ (ended self.old || gave_nothing result (length out.new)) }
+        ensures counted { failed self.new ≡ (if is_ok result then failed self.old else failed self.old + 1) };
+
+    /// How many calls failed so far.
+    fn failures(&self) -> u64
+        ensures { result ≡ failed self.now };
+}
+
+/// A source over a slice, which never fails.
+#[derive(Drop)]
+pub struct SliceIn<'a> {
+    rest: &'a [u8],
+    ended: bool,
+}
+
+impl<'a> SliceIn<'a> {
+    /// A source that gives these bytes.
+    pub fn new(bytes: &'a [u8]) -> Self
+        ensures left { ⟦<SliceIn<'a> as Source>⟧.left result ≡ Some bytes.now }
+        ensures open { ⟦<SliceIn<'a> as Source>⟧.ended result ≡ false }
+        ensures none { ⟦<SliceIn<'a> as Source>⟧.failed result ≡ 0 }
+    {
+        SliceIn {
+            rest: bytes,
+            ended: false,
+        }
+    }
+}
+
+impl Source for SliceIn<'_> {
+    ghost left = { λ s. Some s.rest.now };
+
+    ghost ended = { λ s. s.ended };
+
+    ghost failed = { λ _. 0 };
+
+    fn get(&mut self, out: &mut [u8]) -> Result<usize, Failed>
+        requires { 0 < 2 ^ 64 - 1 }
+        ensures bound { IfOk result (λ n. n ≤ length out.new) }
+        ensures bytes { ReadConsumes (Some self.old.rest.now) (Some self.new.rest.now) result out.new }
+        ensures end { self.new.ended ≡ (self.old.ended || gave_nothing result (length out.new)) }
+        ensures counted { 0 ≡ (if is_ok result then 0 else 0 + 1) }
+        // It gives as much as fits, and writes nothing behind that.
+        ensures most { result ≡ Ok (min (length self.old.rest.now) (length out.old)) }
+        ensures rest { drop (length self.old.rest.now) out.new ≡ drop (length self.old.rest.now) out.old }
+    {
+        let n = self.rest.len().min(out.len());
+        out[..n].copy_from_slice(&self.rest[..n]);
+        self.rest = &self.rest[n..];
+        self.ended = self.ended || n == 0 && !out.is_empty();
+        Ok(n)
+    }
+
+    fn failures(&self) -> u64 {
+        0
+    }
+}
+
+/// A source over any reader. Each `get` is one read.
+#[derive(Drop)]
+pub struct FromRead<R> {
+    inner: R,
+    ended: bool,
+    failures: u64,
+}
+
+impl<R: Read> FromRead<R> {
+    /// A source that gives what the reader gives.
+    pub fn new(inner: R) -> Self
+        ensures left { ⟦<FromRead<R> as Source>⟧.left result ≡ R.remaining inner }
+        ensures open { ⟦<FromRead<R> as Source>⟧.ended result ≡ false }
+        ensures none { ⟦<FromRead<R> as Source>⟧.failed result ≡ 0 }
+    {
+        FromRead {
+            inner,
+            ended: false,
+            failures: 0,
+        }
+    }
+}
+
+impl<R: Read> Source for FromRead<R> {
+    ghost left = { λ s. R.remaining s.inner };
+
+    ghost ended = { λ s. s.ended };
+
+    ghost failed = { λ s. s.failures };
+
+    fn get(&mut self, out: &mut [u8]) -> Result<usize, Failed> {
+        match self.inner.read(out) {
+            Ok(n) => {
+                self.ended = self.ended || n == 0 && !out.is_empty();
+                Ok(n)
+            }
+            Err(_) => {
+                self.failures += 1;
+                Err(Failed)
+            }
+        }
+    }
+
+    fn failures(&self) -> u64 {
+        self.failures
+    }
+}

@@ -1,0 +1,152 @@
+//! Where the bytes of a log go.
+ghost use Rattle.std.specs.Prelude.{◌≡◌, ◌<◌, ◌≤◌, ◌+◌, ◌-◌, ◌^◌, ◌↔◌, [], ◌∷◌, ◌++◌, List, ℕ, Option, Some, length, take, drop, min, is_ok, if◌then◌else◌, IsErr, IfOk, OnOk, OnErr, MatchResult};
+ghost use Rattle.std.specs.Io.KnownBytes.{Appends, WriteAppends};
+ghost use Rattle.session_log.specs.Breaking.{BreaksOff};
+
+use crate::fault::Failed;
+use std::io::Write;
+
+/// Where bytes go.
+pub trait Target {
+    /// The bytes that it has taken, where they are known.
+    ghost taken: { Self → Option (List ℕ) };
+
+    /// How many calls failed.
+    ghost failed: { Self → ℕ };
+
+    /// Takes the front of the piece, and tells how many bytes these are: at least one of a piece that is
+    /// not empty. After a failure it has taken what it had.
+    fn put(&mut self, piece: &[u8]) -> Result<usize, Failed>
+        requires { failed self.old < 2 ^ 64 - 1 }
+        ensures bound { IfOk result (λ n. n ≤ length piece.now) }
+        ensures some { 0 < length piece.now → IfOk result (λ n. 0 < n) }
+        ensures bytes { WriteAppends (taken self.old) (taken self.new) result piece.now }
+        ensures counted { failed self.new ≡ (if is_ok result then failed self.old else failed self.old + 1) };
+
+    /// How many calls failed so far.
+    fn failures(&self) -> u64
+        ensures { result ≡ failed self.now };
+}
+
+/// Gives the whole piece to the target, in as many calls as it takes. After a failure the target took the
+/// front of the piece, and not all of it; nothing is tried again.
+pub fn put_all<T: Target>(writer: &mut T, piece: &[u8]) -> Result<(), Failed>
+    requires { T.failed writer.old < 2 ^ 64 - 1 }
+    ensures ok { OnOk result (Appends (T.taken writer.old) (T.taken writer.new) piece.now) }
+    ensures same { OnOk result (T.failed writer.new ≡ T.failed writer.old) }
+    ensures broken { OnErr result (BreaksOff (T.taken writer.old) (T.taken writer.new) piece.now) }
+    ensures counted { OnErr result (T.failed writer.new ≡ T.failed writer.old + 1) }
+{
+    let mut rest = piece;
+    while !rest.is_empty() {
+        match writer.put(rest) {
+            Ok(n) => rest = rest.split_at(n).1,
+            Err(failed) => return Err(failed),
+        }
+    }
+    Ok(())
+}
+
+/// A target over a lent buffer. It takes what fits, and fails exactly at a piece that is not empty where it
+/// is full.
+#[derive(Drop)]
+pub struct SliceOut<'a> {
+    buffer: &'a mut [u8],
+    len: usize,
+    failures: u64,
+    ghost fits: { len ≤ length buffer.now },
+}
+
+impl<'a> SliceOut<'a> {
+    /// A target that fills this buffer from its front.
+    pub fn new(buffer: &'a mut [u8]) -> Self
+        ensures none { take result.len result.buffer.now ≡ [] }
+        ensures same { drop result.len result.buffer.now ≡ buffer.entry.now }
+        ensures same_reference { result.buffer.ghost_name ≡ buffer.entry.ghost_name }
+        ensures unfailed { ⟦<SliceOut<'a> as Target>⟧.failed result ≡ 0 }
+    {
+        SliceOut {
+            buffer,
+            len: 0,
+            failures: 0,
+        }
+    }
+
+    /// What it took.
+    pub fn written(&self) -> &[u8]
+        ensures { result.now ≡ take self.now.len self.now.buffer.now }
+    {
+        &self.buffer[..self.len]
+    }
+}
+
+impl Target for SliceOut<'_> {
+    ghost taken = { λ s. Some (take s.len s.buffer.now) };
+
+    ghost failed = { λ s. s.failures };
+
+    fn put(&mut self, piece: &[u8]) -> Result<usize, Failed>
+        requires { self.old.failures < 2 ^ 64 - 1 }
+        ensures bound { IfOk result (λ n. n ≤ length piece.now) }
+        ensures some { 0 < length piece.now → IfOk result (λ n. 0 < n) }
+        ensures bytes { WriteAppends (Some (take self.old.len self.old.buffer.now)) (Some (take self.new.len self.new.buffer.now)) result piece.now }
+        ensures counted { self.new.failures ≡ (if is_ok result then self.old.failures else self.old.failures + 1) }
+        // It takes what fits, fails where nothing does, and leaves the rest of the buffer as it was.
+        ensures most { IfOk result (λ n. n ≡ min (length piece.now) (length self.old.buffer.now - self.old.len)) }
+        ensures full { IsErr result ↔ ((0 < length piece.now) × (self.old.len ≡ length self.old.buffer.now)) }
+        ensures moved { MatchResult result (λ n. self.new.len ≡ self.old.len + n) (λ _. self.new.len ≡ self.old.len) }
+        ensures rest { drop self.new.len self.new.buffer.now ≡ drop self.new.len self.old.buffer.now }
+        ensures same_reference { self.new.buffer.ghost_name ≡ self.old.buffer.ghost_name }
+    {
+        let n = piece.len().min(self.buffer.len() - self.len);
+        if n == 0 && !piece.is_empty() {
+            self.failures += 1;
+            return Err(Failed);
+        }
+        self.buffer[self.len..self.len + n].copy_from_slice(&piece[..n]);
+        self.len += n;
+        Ok(n)
+    }
+
+    fn failures(&self) -> u64 {
+        self.failures
+    }
+}
+
+/// A target over any writer. Each `put` is one write, and a write that takes nothing of a piece that is not
+/// empty is a failure.
+#[derive(Drop)]
+pub struct ToWrite<W> {
+    inner: W,
+    failures: u64,
+}
+
+impl<W: Write> ToWrite<W> {
+    /// A target that gives to the writer.
+    pub fn new(inner: W) -> Self
+        ensures taken { ⟦<ToWrite<W> as Target>⟧.taken result ≡ W.contents inner }
+        ensures none { ⟦<ToWrite<W> as Target>⟧.failed result ≡ 0 }
+    {
+        ToWrite { inner, failures: 0 }
+    }
+}
+
+impl<W: Write> Target for ToWrite<W> {
+    ghost taken = { λ s. W.contents s.inner };
+
+    ghost failed = { λ s. s.failures };
+
+    fn put(&mut self, piece: &[u8]) -> Result<usize, Failed> {
+        match self.inner.write(piece) {
+            Ok(n) if n > 0 || piece.is_empty() => Ok(n),
+            _ => {
+                self.failures += 1;
+                Err(Failed)
+            }
+        }
+    }
+
+    fn failures(&self) -> u64 {
+        self.failures
+    }
+}
