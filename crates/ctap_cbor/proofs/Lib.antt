@@ -1,0 +1,16 @@
+pub mod Rows
+pub mod Heads
+pub mod Items
+pub mod Parse
+pub mod Again
+pub mod Sound
+pub mod Uniqueness
+pub mod Finding
+pub mod Moves
+pub mod Taking
+pub mod Keys
+pub mod Skipping
+pub mod Answering
+pub mod Bounds
+pub mod Only
+pub mod Appending
