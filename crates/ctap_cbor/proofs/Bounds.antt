@@ -90,10 +90,10 @@ steps_le Truncated bytes h = omega arith
 steps_le KeyOrder bytes h = omega arith
 steps_le kind bytes h = omega arith
 
-abbrev Fault-at : List ℕ → Kind → Type 0
+abbrev pub Fault-at : List ℕ → Kind → Type 0
 Fault-at rest kind = (room : ℕ) × (due : Due) × (fault room due rest ≡ Some kind)
 
-halts_fault : (os : List Open) (room : ℕ) (due : Due) (kind : Kind) (rest : List ℕ) → HaltsIn room due os kind rest → Fault-at rest kind
+pub halts_fault : (os : List Open) (room : ℕ) (due : Due) (kind : Kind) (rest : List ℕ) → HaltsIn room due os kind rest → Fault-at rest kind
 halts_fault [] room due kind rest h = (room, due, h)
 halts_fault (o ∷ os) zero due kind rest h = absurd h
 halts_fault (o ∷ os) (suc room) due kind rest h = halts_fault os room (due_in o) kind rest h.2

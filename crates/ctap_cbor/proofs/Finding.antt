@@ -37,7 +37,7 @@ later_same true first rest = refl
 later_same false first rest = refl
 
 -- what holds of each kind of a list holds of the first whose test does
-kind_of : (P : Kind → Type 0) (ts : List (Bool × Kind)) (kind : Kind) → AllByRecursion (λ (t : Bool × Kind). P t.1) ts → first_of ts ≡ Some kind → P kind
+pub kind_of : (P : Kind → Type 0) (ts : List (Bool × Kind)) (kind : Kind) → AllByRecursion (λ (t : Bool × Kind). P t.1) ts → first_of ts ≡ Some kind → P kind
 kind_of P [] kind h e = absurd cc
 kind_of P ((true, k) ∷ ts) kind h e = let same : k ≡ kind = cc in subst P same h.0
 kind_of P ((false, k) ∷ ts) kind h e = kind_of P ts kind h.1 e

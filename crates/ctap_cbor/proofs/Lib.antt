@@ -14,3 +14,6 @@ pub mod Answering
 pub mod Bounds
 pub mod Only
 pub mod Appending
+pub mod Valuing
+pub mod Written
+pub mod Accepting

@@ -35,7 +35,7 @@ map_stops level n a b c at kind t h =
     let t' = subst (λ r. Takes r a b (OpensMap n)) e t in
     subst (λ r. Halts r a c at kind) (sym e) (elim h [ inl k ↦ key_halts (5 - (level + 1)) n a b c at kind t' k | inr k ↦ value_halts (5 - (level + 1)) n a b c at kind t' k ])
 
-one_passes : (room : ℕ) (a b : Reading) (s : Scalar) → Takes room a b (One s) → Passes room (Plain s) a b
+pub one_passes : (room : ℕ) (a b : Reading) (s : Scalar) → Takes room a b (One s) → Passes room (Plain s) a b
 one_passes room a b s t = record { lawful = t.suits; flat = omega arith; spelled = t.spelled; moved = t.moved ∙ ap (advance a (length (scalar_text s))) (let e : length (scalar_text s) ≡ length (scalar_text s) + 0 = omega arith in e) }
 
 -- what is no array and no map was passed whole

@@ -3,8 +3,8 @@ use Rattle.std.proofs.Common.{◌≡◌, ℕ, ◌+◌, ◌<◌, List, [], ◌∷
 use Rattle.std.proofs.lemmas.List.{append-nil}
 use Rattle.ctap_cbor.specs.Tree.{Tree, depth}
 use Rattle.ctap_cbor.specs.Grammar.{text, IsCanonical}
-use Rattle.ctap_cbor.specs.Outcome.{Outcome, Whole, Longer, Stopped, IsOutcome}
-use Rattle.ctap_cbor.specs.Laws.{EachTextIsOne, NoneBeginsAnother, WrittenIsReadAgain}
+use Rattle.ctap_cbor.specs.Outcome.{Outcome, Whole, Longer, Stopped, IsOutcome, result_of}
+use Rattle.ctap_cbor.specs.Laws.{EachTextIsOne, NoneBeginsAnother, WrittenIsReadAgain, EncodedIsDecoded}
 use Rattle.ctap_cbor.proofs.Parse.{Parse, Done, Halt, parse}
 use Rattle.ctap_cbor.proofs.Again.{parse_again, halt_again}
 use Rattle.ctap_cbor.proofs.Sound.{IsParse, parse_sound}
@@ -46,3 +46,9 @@ none_begins_another t u b c x y f g e =
     let same : Done t x ≡ Done u y = sym p ∙ ap (parse room) e ∙ q in
     let trees : t ≡ u = ap (tree_of t) same in
     (trees, f.spelled ∙ ap text trees ∙ sym g.spelled)
+
+pub encoded_is_decoded : EncodedIsDecoded
+encoded_is_decoded t b c = (
+  λ u d. (none_begins_another u t b b [] [] d.enc c.enc refl).0,
+  λ o is. ap result_of (written_is_read_again t b c o is),
+)

@@ -1,10 +1,11 @@
 -- What holds of the encoding and of reading it, over the definitions alone.
-use Rattle.std.specs.Prelude.{◌≡◌, ℕ, ◌+◌, ◌*◌, ◌≤◌, List, ◌++◌, length}
+use Rattle.std.specs.Prelude.{◌≡◌, ℕ, ◌+◌, ◌*◌, ◌≤◌, List, ◌++◌, length, Some, None}
 use Rattle.ctap_cbor.specs.declared.fault.Kind.{Kind}
 use Rattle.ctap_cbor.specs.Tree.{Tree, depth}
 use Rattle.ctap_cbor.specs.Head.{AreBytes}
 use Rattle.ctap_cbor.specs.Grammar.{text, IsLawful, IsEncoding, IsCanonical}
-use Rattle.ctap_cbor.specs.Outcome.{Outcome, Whole, IsOutcome, steps}
+use Rattle.ctap_cbor.specs.Outcome.{Outcome, Whole, IsOutcome, result_of, steps}
+use Rattle.ctap_cbor.specs.Refusals.{refusal}
 use Rattle.ctap_cbor.specs.Reading.{Reading, rest_of, Passes, Halts}
 
 -- each text is the text of one tree, or has one first fault, behind one list of open arrays and maps
@@ -30,3 +31,11 @@ OneTreePasses = (room : ℕ) (t u : Tree) (rest : List ℕ) (old new : Reading) 
 -- and no fault is found
 abbrev pub NothingHalts : Type 0
 NothingHalts = (room : ℕ) (t : Tree) (rest : List ℕ) (old new : Reading) (at : ℕ) (kind : Kind) → IsLawful t → depth t ≤ room → rest_of old ≡ text t ++ rest → Halts room old new at kind → ⊥
+
+-- what is encoded is decoded to the same tree, and for no fault is it refused
+abbrev pub EncodedIsDecoded : Type 0
+EncodedIsDecoded = (t : Tree) (b : List ℕ) → IsCanonical t b → ((u : Tree) → IsCanonical u b → u ≡ t) × ((o : Outcome) → IsOutcome b o → result_of o ≡ None)
+
+-- a tree that is refused has no canonical text
+abbrev pub RefusedHasNoText : Type 0
+RefusedHasNoText = (t : Tree) (kind : Kind) → refusal 4 t ≡ Some kind → (b : List ℕ) → IsCanonical t b → ⊥

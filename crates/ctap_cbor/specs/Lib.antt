@@ -8,3 +8,6 @@ pub mod Views
 pub mod Laws
 pub mod Reading
 pub mod Writing
+pub mod Values
+pub mod Refusals
+pub mod Writes

@@ -2,7 +2,7 @@
 //! law, and a caller has it by calling.
 
 ghost use Rattle.ctap_cbor.specs.Head.{AreBytes};
-ghost use Rattle.ctap_cbor.specs.Laws.{EachTextIsOne, NoneBeginsAnother, StepsAreBounded, WrittenIsReadAgain, OneTreePasses, NothingHalts};
+ghost use Rattle.ctap_cbor.specs.Laws.{EachTextIsOne, NoneBeginsAnother, StepsAreBounded, WrittenIsReadAgain, OneTreePasses, NothingHalts, EncodedIsDecoded, RefusedHasNoText};
 
 /// Each text is the encoding of one tree, or that and bytes behind it, or has one first fault, with one way to
 /// stand there.
@@ -34,6 +34,17 @@ pub fn one_tree_passes()
 /// Where a tree's encoding stands at a cursor's place, reading finds no fault there.
 pub fn nothing_halts()
     ensures { NothingHalts }
+{}
+
+/// What [`encode_value`](crate::encode_value) writes, [`decode_value`](crate::decode_value) reads as the same tree, and
+/// refuses for want of memory alone.
+pub fn encoded_is_decoded()
+    ensures { EncodedIsDecoded }
+{}
+
+/// What `encode_value` refuses, but for want of memory, has no canonical encoding.
+pub fn refused_has_no_text()
+    ensures { RefusedHasNoText }
 {}
 
 /// The items of a slice of bytes are below 256, as the laws ask.

@@ -18,6 +18,8 @@
 
 mod checking;
 mod cursor;
+mod decoding;
+mod encoding;
 mod fault;
 mod head;
 mod item;
@@ -25,9 +27,15 @@ pub mod laws;
 mod sink;
 #[cfg(test)]
 mod tests;
+mod value;
+#[cfg(test)]
+mod value_tests;
 
 pub use checking::{Checked, check, read_whole};
 pub use cursor::Cursor;
+pub use decoding::decode_value;
+pub use encoding::encode_value;
 pub use fault::{Fault, Kind};
 pub use item::{Item, Key};
 pub use sink::Sink;
+pub use value::Value;

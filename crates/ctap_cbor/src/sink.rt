@@ -1,6 +1,6 @@
 //! Writing into a lent buffer, each head in its shortest form.
 
-ghost use Rattle.std.specs.Prelude.{◌≡◌, ◌<◌, ◌≤◌, ◌<ℤ◌, ◌↔◌, pos, negsuc, IsTrue, [], ◌∷◌, length};
+ghost use Rattle.std.specs.Prelude.{◌≡◌, ◌<◌, ◌≤◌, ◌<ℤ◌, ◌↔◌, pos, negsuc, IsTrue, [], ◌∷◌, length, take};
 ghost use Rattle.ctap_cbor.specs.Head.{head, head_len};
 ghost use Rattle.ctap_cbor.specs.Tree.{Int, Bytes, Text, Flag, Null};
 ghost use Rattle.ctap_cbor.specs.Grammar.{scalar_text, Fits};
@@ -170,10 +170,22 @@ impl<'a> Sink<'a> {
 }
 
 /// The argument of a negative integer's head: -1 less the integer.
-fn negative_argument(value: i128) -> u64
+pub(crate) fn negative_argument(value: i128) -> u64
     requires negative { value <ℤ pos 0 }
     requires range { Fits (Int value) }
     ensures { value ≡ negsuc result }
 {
     (-1 - value) as u64
+}
+
+/// Writes the shortest head of a major type with an argument into a buffer that holds any head, and gives its length.
+pub(crate) fn head_into(major: u8, argument: u64, out: &mut [u8]) -> usize
+    requires low { major < 8 }
+    requires room { 9 ≤ length out.old }
+    ensures within { result ≤ 9 }
+    ensures front { take result out.new ≡ head major argument }
+{
+    let mut sink = Sink::new(out);
+    sink.head(major, argument);
+    sink.len()
 }

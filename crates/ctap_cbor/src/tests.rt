@@ -23,9 +23,9 @@ fn accepted(steps: u64) -> Checked {
     }
 }
 
-#[test]
-fn checks_rows(rt: HostRuntime) {
-    let rows: [(&[u8], Checked); 14] = [
+/// Texts with what a check answers.
+pub(crate) fn rows<'a>() -> [(&'a [u8], Checked); 29] {
+    [
         (b"", refused(0, Kind::Truncated, 1)),
         (b"\x00\x00", refused(1, Kind::Trailing, 1)),
         (b"\x18\x05", refused(0, Kind::NotShortest, 2)),
@@ -43,15 +43,6 @@ fn checks_rows(rt: HostRuntime) {
         (b"\x5f", refused(0, Kind::Reserved, 1)),
         (b"\xf9\x00\x00", refused(0, Kind::Unsupported, 1)),
         (b"\x3b\xff\xff\xff\xff\xff\xff\xff\xff", accepted(10)),
-    ];
-    for (bytes, want) in rows.iter() {
-        assert_eq!(rt; check(bytes), *want, "{bytes:?}");
-    }
-}
-
-#[test]
-fn checks_more_rows(rt: HostRuntime) {
-    let rows: [(&[u8], Checked); 15] = [
         (b"\x80", accepted(2)),
         (b"\x81\x81\x81\x81\x80", refused(4, Kind::TooDeep, 5)),
         (b"\xa1\x00", refused(2, Kind::Truncated, 3)),
@@ -73,8 +64,12 @@ fn checks_more_rows(rt: HostRuntime) {
             b"\xa2\x00\x00\x18\x05\x00",
             refused(3, Kind::NotShortest, 5),
         ),
-    ];
-    for (bytes, want) in rows.iter() {
+    ]
+}
+
+#[test]
+fn checks_rows(rt: HostRuntime) {
+    for (bytes, want) in rows().iter() {
         assert_eq!(rt; check(bytes), *want, "{bytes:?}");
     }
 }
