@@ -1,0 +1,92 @@
+-- Values that grow by one at the end, and refusals that aren't for want of memory.
+use Rattle.std.proofs.Common.{◌≡◌, ◌≢◌, ℕ, ◌+◌, List, [], ◌∷◌, ◌++◌, Option, Some, map, refl, sym, ap, subst, ◌∙◌}
+use Rattle.std.proofs.lemmas.List.{map_push}
+use Rattle.ctap_cbor.specs.declared.fault.Fault.{Fault}
+use Rattle.ctap_cbor.specs.declared.fault.Kind.{Kind}
+use Rattle.ctap_cbor.specs.declared.fault.Kind.TheVariants.{Truncated, Trailing, Memory}
+use Rattle.ctap_cbor.specs.declared.item.Item.{Item}
+use Rattle.ctap_cbor.specs.declared.item.Item.TheVariants as item
+use Rattle.ctap_cbor.specs.declared.value.Value.{Value}
+use Rattle.ctap_cbor.specs.Tree.{push, push_pair, Tree, Trees, Pairs, Plain, Scalar}
+use Rattle.ctap_cbor.specs.Faults.{Due, AnItem, first_faults, body_faults, faults, fault}
+use Rattle.ctap_cbor.specs.Outcome.{Outcome, IsOutcome, result_of}
+use Rattle.ctap_cbor.specs.Parts.{Part}
+use Rattle.ctap_cbor.specs.Reading.{Reading, Takes, Refuses, Passes, PassesAll, PassesPairs, GivesKey, Halts, GoesOn}
+use Rattle.ctap_cbor.specs.Views.{part_of}
+use Rattle.ctap_cbor.specs.Values.{trees, pairs, tree_of, pair_of, trees_of, pairs_of, IsScalarOf, UnlessMemory}
+use Rattle.ctap_cbor.proofs.Finding.{kind_of}
+use Rattle.ctap_cbor.proofs.Answering.{start, found_stopped, found_longer}
+use Rattle.ctap_cbor.proofs.Bounds.{halts_fault}
+use Rattle.ctap_cbor.proofs.Moves.{passes_more}
+use Rattle.ctap_cbor.proofs.Skipping.{given_more, one_passes}
+
+-- ---- one more at the end
+
+pub trees_push : (ts : List Tree) (t : Tree) → trees (ts ++ t ∷ []) ≡ push (trees ts) t
+unfolding push
+trees_push [] t = refl
+trees_push (u ∷ ts) t = ap (λ x. Rattle.ctap_cbor.specs.Tree.tree u x) (trees_push ts t)
+
+pub pairs_push : (ps : List (Tree × Tree)) (k v : Tree) → pairs (ps ++ (k, v) ∷ []) ≡ push_pair (pairs ps) k v
+unfolding push_pair
+pairs_push [] k v = refl
+pairs_push (p ∷ ps) k v = ap (λ x. Rattle.ctap_cbor.specs.Tree.pair p.0 p.1 x) (pairs_push ps k v)
+
+pub item_more : (room n : ℕ) (vs : List Value) (v : Value) (a b c : Reading) → PassesAll room n (trees_of vs) a b → Passes room (tree_of v) b c → PassesAll room (n + 1) (trees_of (vs ++ v ∷ [])) a c
+item_more room n vs v a b c h k =
+    let e : trees_of (vs ++ v ∷ []) ≡ push (trees_of vs) (tree_of v) = ap trees (map_push tree_of vs v) ∙ trees_push (map tree_of vs) (tree_of v) in
+    subst (λ x. PassesAll room (n + 1) x a c) (sym e) (passes_more room n (trees_of vs) (tree_of v) a b c h k)
+
+pub pair_more : (room n : ℕ) (vs : List (Value × Value)) (name value : Value) (last : Option (List ℕ)) (a b c d : Reading) (part : Part) (bytes : List ℕ) → PassesPairs room n (pairs_of vs) last a b → GivesKey last b c part bytes → IsScalarOf part (tree_of name) → Passes room (tree_of value) c d → PassesPairs room (n + 1) (pairs_of (vs ++ (name, value) ∷ [])) (Some bytes) a d
+pair_more room n vs name value last a b c d part bytes h k is p =
+    let key : tree_of name ≡ Plain k.key = is k.key k.part_is k.takes.suits.0 in
+    let e : pairs_of (vs ++ (name, value) ∷ []) ≡ push_pair (pairs_of vs) (Plain k.key) (tree_of value) =
+    ap pairs (map_push pair_of vs (name, value)) ∙ pairs_push (map pair_of vs) (tree_of name) (tree_of value) ∙ ap (λ x. push_pair (pairs_of vs) x (tree_of value)) key in
+    subst (λ x. PassesPairs room (n + 1) x (Some bytes) a d) (sym e) (given_more room n (pairs_of vs) (tree_of value) last a b c d part bytes h k p)
+
+-- what opens no array or map was passed whole
+pub scalar_passes : (room : ℕ) (a b : Reading) (i : Item) (t : Tree) → ((n : ℕ) → i ≡ item.Array n → ⊥) → ((n : ℕ) → i ≡ item.Map n → ⊥) → Takes room a b (part_of i) → IsScalarOf (part_of i) t → Passes room t a b
+scalar_passes room a b (item.Array n) t no-array no-map k is = absurd (no-array n refl)
+scalar_passes room a b (item.Map n) t no-array no-map k is = absurd (no-map n refl)
+scalar_passes room a b (item.Int i) t no-array no-map k is = subst (λ x. Passes room x a b) (sym (is _ refl k.suits)) (one_passes room a b _ k)
+scalar_passes room a b (item.Bytes s) t no-array no-map k is = subst (λ x. Passes room x a b) (sym (is _ refl k.suits)) (one_passes room a b _ k)
+scalar_passes room a b (item.Text s) t no-array no-map k is = subst (λ x. Passes room x a b) (sym (is _ refl k.suits)) (one_passes room a b _ k)
+scalar_passes room a b (item.Bool f) t no-array no-map k is = subst (λ x. Passes room x a b) (sym (is _ refl k.suits)) (one_passes room a b _ k)
+scalar_passes room a b item.Null t no-array no-map k is = subst (λ x. Passes room x a b) (sym (is _ refl k.suits)) (one_passes room a b _ k)
+
+-- ---- no item's fault is want of memory
+
+fault_not_memory : (room : ℕ) (due : Due) (bytes : List ℕ) (kind : Kind) → fault room due bytes ≡ Some kind → kind ≢ Memory
+unfolding first_faults body_faults
+fault_not_memory room due [] kind e = let same : Truncated ≡ kind = cc in subst (λ k. k ≢ Memory) same (λ (f : Truncated ≡ Memory). cc)
+fault_not_memory room due (first ∷ rest) kind e =
+    kind_of (λ k. k ≢ Memory) (faults room due first rest) kind
+    ((λ f. cc), ((λ f. cc), ((λ f. cc), ((λ f. cc), ((λ f. cc), ((λ f. cc), ((λ f. cc), ((λ f. cc), ((λ f. cc), tt))))))))) e
+
+pub halts_not_memory : (room : ℕ) (a b : Reading) (at : ℕ) (kind : Kind) → Halts room a b at kind → kind ≢ Memory
+halts_not_memory room a b at kind h =
+    let f = halts_fault h.os room AnItem kind h.tail h.halts in
+    fault_not_memory f.0 f.1 h.tail kind f.2
+
+pub refuses_not_memory : (room : ℕ) (due : Due) (a b : Reading) (at : ℕ) (kind : Kind) → Refuses room due a b at kind → kind ≢ Memory
+refuses_not_memory room due a b at kind h = fault_not_memory room due _ kind h.is
+
+-- what the text tells
+pub told : (f : Fault) (p : Type 0) → f.kind ≢ Memory → p → UnlessMemory f p
+told f p differs h = (λ _. h, λ e. absurd (differs e))
+
+-- what holds of a refusal holds of what follows from it
+pub told_by : (f : Fault) (p q : Type 0) → (p → q) → UnlessMemory f p → UnlessMemory f q
+told_by f p q go h = (λ differs. go (h.0 differs), h.1)
+
+-- ---- what a decoder's refusal says of the text
+
+pub stopped_outcome : (b : List ℕ) (old new : Reading) (f : Fault) → old ≡ start b → Halts 4 old new f.at f.kind → (o : Outcome) × IsOutcome b o × (result_of o ≡ Some (f.at, f.kind))
+stopped_outcome b old new f e h =
+    let k = found_stopped b new f (subst (λ r. Halts 4 r new f.at f.kind) e h) in
+    (k.0, k.1, k.2.0)
+
+pub longer_outcome : (b : List ℕ) (old middle new : Reading) (f : Fault) (t : Tree) → old ≡ start b → Passes 4 t old middle → GoesOn middle new f.at f.kind → UnlessMemory f ((o : Outcome) × IsOutcome b o × (result_of o ≡ Some (f.at, f.kind)))
+longer_outcome b old middle new f t e p g =
+    let k = found_longer b middle new f (t, subst (λ r. Passes 4 t r middle) e p) g in
+    told f _ (subst (λ k. k ≢ Memory) (sym g.is_trailing) (λ (h : Trailing ≡ Memory). cc)) (k.0, k.1, k.2.0)

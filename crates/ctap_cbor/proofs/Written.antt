@@ -1,0 +1,222 @@
+-- From one item or pair that is written to the next, by what is left to be written.
+use Rattle.std.proofs.Common.{◌≡◌, ℕ, zero, suc, ◌+◌, ◌-◌, ◌<◌, ◌≤◌, ◌^◌, true, false, List, [], ◌∷◌, ◌++◌, length, get_or, take, drop, Option, Some, None, refl, arith, sym, ap, subst, ◌∙◌, append_assoc, length-append, length-drop}
+use Rattle.std.specs.Prelude.{if◌then◌else◌}
+use Rattle.std.specs.Option.{ForSome}
+use Rattle.std.proofs.Math.Seq.{take-length}
+use Rattle.std.proofs.lemmas.Bool.{ne_eqb}
+use Rattle.std.proofs.lemmas.List.{append-nil, at_drop_more, drop_at, take-append-le, drop-append-le}
+use Rattle.ctap_cbor.specs.declared.encoding.Span.{Span}
+use Rattle.ctap_cbor.specs.declared.fault.Kind.{Kind}
+use Rattle.ctap_cbor.specs.declared.fault.Kind.TheVariants.{TooDeep, KeyOrder}
+use Rattle.ctap_cbor.specs.declared.value.Value.{Value}
+use Rattle.ctap_cbor.specs.Tree.{Tree, Array, Map, Trees, no_trees, tree, Pairs, no_pairs, pair, depth_all, depth_pairs, count, count_pairs}
+use Rattle.ctap_cbor.specs.Head.{head}
+use Rattle.ctap_cbor.specs.Grammar.{text, texts, pair_texts, Rises, AreLawful, AreLawfulPairs}
+use Rattle.ctap_cbor.specs.Faults.{AKey, is_above}
+use Rattle.ctap_cbor.specs.Refusals.{or_else, own_refusal, order_refusal, refusal, refusal_all, refusal_pairs}
+use Rattle.ctap_cbor.specs.Values.{tree_of, trees_of, pairs_of}
+use Rattle.ctap_cbor.specs.Writes.{Extends, Writes, WritesAll, WritesPairs, WritesKey, GivesUp, text_at, last_text}
+use Rattle.ctap_cbor.proofs.Items.{above_from}
+
+nonzero : (n : ℕ) → (n ≡ 0 → ⊥) → 0 < n
+nonzero zero h = absurd (h refl)
+nonzero (suc n) h = omega arith
+
+pub goes_on : (a b c : List ℕ) → Extends a b → Extends b c → Extends a c
+goes_on a b c h k = (h.0 ++ k.0, k.1 ∙ ap (λ x. x ++ k.0) h.1 ∙ append_assoc a h.0 k.0)
+
+pub stays : (a : List ℕ) → Extends a a
+stays a = ([], sym (append-nil a))
+
+-- ---- arrays
+
+-- these items are left of all
+pub record ItemsLeft (room : ℕ) (all rest : Trees) (start now : List ℕ) : Type 0 where
+  pub spelled : now ++ texts rest ≡ start ++ texts all
+  pub refused : refusal_all room rest ≡ refusal_all room all
+  pub lawful : AreLawful rest → AreLawful all
+  pub flat : depth_all rest ≤ room → depth_all all ≤ room
+  pub extends : Extends start now
+
+pub items_start : (room : ℕ) (all : Trees) (start : List ℕ) → ItemsLeft room all all start start
+items_start room all start = record { spelled = refl; refused = refl; lawful = λ h. h; flat = λ h. h; extends = stays start }
+
+pub items_next : (room : ℕ) (all rest : Trees) (t : Tree) (start a b : List ℕ) → ItemsLeft room all (tree t rest) start a → Writes room t a b → ItemsLeft room all rest start b
+items_next room all rest t start a b h w = record {
+  spelled = ap (λ x. x ++ texts rest) w.appended ∙ append_assoc a (text t) (texts rest) ∙ h.spelled;
+  refused = ap (λ x. or_else x (refusal_all room rest)) (sym w.accepted) ∙ h.refused;
+  lawful = λ k. h.lawful (w.lawful, k);
+  flat = λ k. h.flat (omega (arith, w.flat));
+  extends = goes_on start a b h.extends (text t, w.appended);
+}
+
+pub items_end : (room : ℕ) (all : Trees) (start now : List ℕ) → ItemsLeft room all no_trees start now → WritesAll room all start now
+items_end room all start now h = record { accepted = sym h.refused; lawful = h.lawful tt; flat = h.flat (omega arith); appended = sym (append-nil now) ∙ h.spelled }
+
+pub item_gives_up : (room : ℕ) (all rest : Trees) (t : Tree) (start a b : List ℕ) (kind : Kind) → ItemsLeft room all (tree t rest) start a → GivesUp kind (refusal room t) a b → GivesUp kind (refusal_all room all) start b
+item_gives_up room all rest t start a b kind h g = (λ no. sym h.refused ∙ ap (λ x. or_else x (refusal_all room rest)) (g.0 no), goes_on start a b h.extends g.1)
+
+-- ---- maps
+
+-- these pairs are left of all, behind the last key
+pub record PairsLeft (room : ℕ) (all rest : Pairs) (last : Option (List ℕ)) (start now : List ℕ) : Type 0 where
+  pub spelled : now ++ pair_texts rest ≡ start ++ pair_texts all
+  pub refused : refusal_pairs room last rest ≡ refusal_pairs room None all
+  pub rises : Rises last rest → Rises None all
+  pub lawful : AreLawfulPairs rest → AreLawfulPairs all
+  pub flat : depth_pairs rest ≤ room → depth_pairs all ≤ room
+  pub extends : Extends start now
+
+pub pairs_start : (room : ℕ) (all : Pairs) (start : List ℕ) → PairsLeft room all all None start start
+pairs_start room all start = record { spelled = refl; refused = refl; rises = λ h. h; lawful = λ h. h; flat = λ h. h; extends = stays start }
+
+abbrev after_key : ℕ → Option (List ℕ) → Tree → Tree → Pairs → Option Kind
+after_key room last k v rest = or_else (order_refusal last (text k)) (or_else (refusal room v) (refusal_pairs room (Some (text k)) rest))
+
+abbrev after_order : ℕ → Tree → Tree → Pairs → Option Kind
+after_order room k v rest = or_else (refusal room v) (refusal_pairs room (Some (text k)) rest)
+
+pub pairs_next : (room : ℕ) (all rest : Pairs) (k v : Tree) (last : Option (List ℕ)) (start a b c : List ℕ) → PairsLeft room all (pair k v rest) last start a → WritesKey k a b → is_above (AKey last) (text k) ≡ true → Writes room v b c → PairsLeft room all rest (Some (text k)) start c
+pairs_next room all rest k v last start a b c h w above u = record {
+  spelled = ap (λ x. x ++ pair_texts rest) (u.appended ∙ ap (λ x. x ++ text v) w.appended) ∙ append_assoc (a ++ text k) (text v) (pair_texts rest) ∙ append_assoc a (text k) (text v ++ pair_texts rest) ∙ h.spelled;
+  refused =
+      ap (λ x. or_else x (refusal_pairs room (Some (text k)) rest)) (sym u.accepted)
+      ∙ ap (λ x. or_else (if x then None else Some KeyOrder) (after_order room k v rest)) (sym above)
+      ∙ ap (λ x. or_else x (after_key room last k v rest)) (sym w.accepted)
+      ∙ h.refused;
+  rises = λ r. h.rises (w.is_key, above_from last (text k) above, r);
+  lawful = λ l. h.lawful (w.lawful, u.lawful, l);
+  flat = λ d. h.flat (omega (arith, w.flat, u.flat));
+  extends = goes_on start b c (goes_on start a b h.extends (text k, w.appended)) (text v, u.appended);
+}
+
+pub pairs_end : (room : ℕ) (all : Pairs) (last : Option (List ℕ)) (start now : List ℕ) → PairsLeft room all no_pairs last start now → WritesPairs room all start now
+pairs_end room all last start now h = record { accepted = sym h.refused; rises = h.rises tt; lawful = h.lawful tt; flat = h.flat (omega arith); appended = sym (append-nil now) ∙ h.spelled }
+
+pub key_gives_up : (room : ℕ) (all rest : Pairs) (k v : Tree) (last : Option (List ℕ)) (start a b : List ℕ) (kind : Kind) → PairsLeft room all (pair k v rest) last start a → GivesUp kind (own_refusal k) a b → GivesUp kind (refusal_pairs room None all) start b
+key_gives_up room all rest k v last start a b kind h g = (λ no. sym h.refused ∙ ap (λ x. or_else x (after_key room last k v rest)) (g.0 no), goes_on start a b h.extends g.1)
+
+pub order_gives_up : (room : ℕ) (all rest : Pairs) (k v : Tree) (last : Option (List ℕ)) (start a b : List ℕ) → PairsLeft room all (pair k v rest) last start a → WritesKey k a b → is_above (AKey last) (text k) ≡ false → GivesUp KeyOrder (refusal_pairs room None all) start b
+order_gives_up room all rest k v last start a b h w below = (
+  λ no. sym h.refused ∙ ap (λ x. or_else x (after_key room last k v rest)) w.accepted ∙ ap (λ x. or_else (if x then None else Some KeyOrder) (after_order room k v rest)) below,
+  goes_on start a b h.extends (text k, w.appended),
+)
+
+pub value_gives_up : (room : ℕ) (all rest : Pairs) (k v : Tree) (last : Option (List ℕ)) (start a b c : List ℕ) (kind : Kind) → PairsLeft room all (pair k v rest) last start a → WritesKey k a b → is_above (AKey last) (text k) ≡ true → GivesUp kind (refusal room v) b c → GivesUp kind (refusal_pairs room None all) start c
+value_gives_up room all rest k v last start a b c kind h w above g = (
+  λ no.
+      sym h.refused
+      ∙ ap (λ x. or_else x (after_key room last k v rest)) w.accepted
+      ∙ ap (λ x. or_else (if x then None else Some KeyOrder) (after_order room k v rest)) above
+      ∙ ap (λ x. or_else x (refusal_pairs room (Some (text k)) rest)) (g.0 no),
+  goes_on start b c (goes_on start a b h.extends (text k, w.appended)) g.1,
+)
+
+-- ---- at one place of a list of values
+
+drop_item : {X : Type 0} (xs : List X) (i : ℕ) (x : X) → i < length xs → x ≡ get_or xs i x → drop i xs ≡ x ∷ drop (i + 1) xs
+drop_item xs i x lt is = at_drop_more (λ l. l) xs i x lt ∙ ap (λ y. y ∷ drop (i + 1) xs) (sym is)
+
+items_here : (room : ℕ) (vs : List Value) (i : ℕ) (v : Value) (start a : List ℕ) → i < length vs → v ≡ get_or vs i v → ItemsLeft room (trees_of vs) (trees_of (drop i vs)) start a → ItemsLeft room (trees_of vs) (tree (tree_of v) (trees_of (drop (i + 1) vs))) start a
+items_here room vs i v start a lt is h = subst (λ xs. ItemsLeft room (trees_of vs) (trees_of xs) start a) (drop_item vs i v lt is) h
+
+pub item_stops_here : (room : ℕ) (vs : List Value) (i : ℕ) (v : Value) (start a b : List ℕ) (kind : Kind) → i < length vs → v ≡ get_or vs i v → ItemsLeft room (trees_of vs) (trees_of (drop i vs)) start a → GivesUp kind (refusal room (tree_of v)) a b → GivesUp kind (refusal_all room (trees_of vs)) start b
+item_stops_here room vs i v start a b kind lt is h g = item_gives_up room (trees_of vs) (trees_of (drop (i + 1) vs)) (tree_of v) start a b kind (items_here room vs i v start a lt is h) g
+
+-- what a span of a list shows stays as the list goes on
+last_stays : (out more : List ℕ) (previous : Option Span) → ForSome previous (λ s. (s.start ≤ s.end) × (s.end ≤ length out)) → last_text (out ++ more) previous ≡ last_text out previous
+last_stays out more None h = refl
+last_stays out more (Some s) h =
+    let k = h s refl in
+    let inside : s.end - s.start ≤ length (drop s.start out) = omega (arith, length-drop s.start out, k.0, k.1) in
+    let starts : s.start ≤ length out = omega (arith, k.0, k.1) in
+    ap Some (ap (take (s.end - s.start)) (drop-append-le s.start out more starts) ∙ take-append-le (s.end - s.start) (drop s.start out) more inside)
+
+-- the order that was asked is that of the two texts
+pub above_here : (a b key : List ℕ) (previous : Option Span) (n : ℕ) → ForSome previous (λ s. (s.start ≤ s.end) × (s.end ≤ length a)) → b ≡ a ++ key → n ≡ length a → is_above (AKey (last_text b previous)) (drop n b) ≡ is_above (AKey (last_text a previous)) key
+above_here a b key previous n h e len =
+    ap (λ x. is_above (AKey (last_text x previous)) (drop n x)) e
+    ∙ ap (λ x. is_above (AKey x) (drop n (a ++ key))) (last_stays a key previous h)
+    ∙ ap (is_above (AKey (last_text a previous))) (drop_at a key n (sym len))
+
+-- the span of a key that was written
+pub key_span : (a b c key more : List ℕ) (s : Span) → b ≡ a ++ key → c ≡ b ++ more → s.start ≡ length a → s.end ≡ length b → text_at c s ≡ key
+key_span a b c key more s e f first last =
+    let long : length b ≡ length a + length key = ap length e ∙ length-append a key in
+    let size : s.end - s.start ≡ length key = omega arith in
+    let whole : c ≡ a ++ (key ++ more) = f ∙ ap (λ x. x ++ more) e ∙ append_assoc a key more in
+    ap (λ x. take (s.end - s.start) (drop s.start x)) whole
+    ∙ ap (take (s.end - s.start)) (drop_at a (key ++ more) s.start (sym first))
+    ∙ ap (λ n. take n (key ++ more)) size
+    ∙ take-append-le (length key) key more (omega arith)
+    ∙ take-length key
+
+-- the span stays within what is written
+pub span_within : (a b c key more : List ℕ) (s : Span) → b ≡ a ++ key → c ≡ b ++ more → s.start ≡ length a → s.end ≡ length b → ForSome (Some s) (λ x. (x.start ≤ x.end) × (x.end ≤ length c))
+span_within a b c key more s e f first last =
+    let starts : s.start ≤ s.end = omega (arith, ap length e, length-append a key) in
+    let ends : s.end ≤ length c = omega (arith, ap length f, length-append b more) in
+    λ x is. subst (λ y. (y.start ≤ y.end) × (y.end ≤ length c)) (let same : s ≡ x = cc in same) (starts, ends)
+
+pairs_here : (room : ℕ) (vs : List (Value × Value)) (i : ℕ) (v : Value × Value) (last : Option (List ℕ)) (start a : List ℕ) → i < length vs → v ≡ get_or vs i v → PairsLeft room (pairs_of vs) (pairs_of (drop i vs)) last start a → PairsLeft room (pairs_of vs) (pair (tree_of v.0) (tree_of v.1) (pairs_of (drop (i + 1) vs))) last start a
+pairs_here room vs i v last start a lt is h = subst (λ xs. PairsLeft room (pairs_of vs) (pairs_of xs) last start a) (drop_item vs i v lt is) h
+
+pub key_stops_here : (room : ℕ) (vs : List (Value × Value)) (i : ℕ) (v : Value × Value) (last : Option (List ℕ)) (start a b : List ℕ) (kind : Kind) → i < length vs → v ≡ get_or vs i v → PairsLeft room (pairs_of vs) (pairs_of (drop i vs)) last start a → GivesUp kind (own_refusal (tree_of v.0)) a b → GivesUp kind (refusal_pairs room None (pairs_of vs)) start b
+key_stops_here room vs i v last start a b kind lt is h g = key_gives_up room (pairs_of vs) (pairs_of (drop (i + 1) vs)) (tree_of v.0) (tree_of v.1) last start a b kind (pairs_here room vs i v last start a lt is h) g
+
+pub order_stops_here : (room : ℕ) (vs : List (Value × Value)) (i : ℕ) (v : Value × Value) (last : Option (List ℕ)) (start a b : List ℕ) → i < length vs → v ≡ get_or vs i v → PairsLeft room (pairs_of vs) (pairs_of (drop i vs)) last start a → WritesKey (tree_of v.0) a b → is_above (AKey last) (text (tree_of v.0)) ≡ false → GivesUp KeyOrder (refusal_pairs room None (pairs_of vs)) start b
+order_stops_here room vs i v last start a b lt is h w below = order_gives_up room (pairs_of vs) (pairs_of (drop (i + 1) vs)) (tree_of v.0) (tree_of v.1) last start a b (pairs_here room vs i v last start a lt is h) w below
+
+pub value_stops_here : (room : ℕ) (vs : List (Value × Value)) (i : ℕ) (v : Value × Value) (last : Option (List ℕ)) (start a b c : List ℕ) (kind : Kind) → i < length vs → v ≡ get_or vs i v → PairsLeft room (pairs_of vs) (pairs_of (drop i vs)) last start a → WritesKey (tree_of v.0) a b → is_above (AKey last) (text (tree_of v.0)) ≡ true → GivesUp kind (refusal room (tree_of v.1)) b c → GivesUp kind (refusal_pairs room None (pairs_of vs)) start c
+value_stops_here room vs i v last start a b c kind lt is h w above g = value_gives_up room (pairs_of vs) (pairs_of (drop (i + 1) vs)) (tree_of v.0) (tree_of v.1) last start a b c kind (pairs_here room vs i v last start a lt is h) w above g
+
+pub pair_here : (room : ℕ) (vs : List (Value × Value)) (i : ℕ) (v : Value × Value) (last : Option (List ℕ)) (start a b c : List ℕ) (s : Span) → i < length vs → v ≡ get_or vs i v → PairsLeft room (pairs_of vs) (pairs_of (drop i vs)) last start a → WritesKey (tree_of v.0) a b → is_above (AKey last) (text (tree_of v.0)) ≡ true → Writes room (tree_of v.1) b c → s.start ≡ length a → s.end ≡ length b → PairsLeft room (pairs_of vs) (pairs_of (drop (i + 1) vs)) (last_text c (Some s)) start c
+pair_here room vs i v last start a b c s lt is h w above u first end =
+    subst (λ x. PairsLeft room (pairs_of vs) (pairs_of (drop (i + 1) vs)) x start c)
+    (ap Some (sym (key_span a b c (text (tree_of v.0)) (text (tree_of v.1)) s w.appended u.appended first end)))
+    (pairs_next room (pairs_of vs) (pairs_of (drop (i + 1) vs)) (tree_of v.0) (tree_of v.1) last start a b c (pairs_here room vs i v last start a lt is h) w above u)
+
+-- ---- behind the head of an array or a map
+
+pub count_trees : (vs : List Value) → count (trees_of vs) ≡ length vs
+count_trees [] = refl
+count_trees (v ∷ vs) = omega (arith, count_trees vs)
+
+pub count_both : (vs : List (Value × Value)) → count_pairs (pairs_of vs) ≡ length vs
+count_both [] = refl
+count_both (v ∷ vs) = omega (arith, count_both vs)
+
+-- an array was written, or what is inside it wasn't
+pub array_written : (room n : ℕ) (vs : List Value) (old middle new : List ℕ) → (room ≡ 0 → ⊥) → n ≡ length vs → n < 2 ^ 64 → middle ≡ old ++ head 4 n → WritesAll (room - 1) (trees_of vs) middle new → Writes room (Array (trees_of vs)) old new
+array_written room n vs old middle new some len fits e w =
+    let ts : Trees = trees_of vs in
+    let number : n ≡ count ts = len ∙ sym (count_trees vs) in
+    record {
+      accepted = ap (λ b. if b then Some TooDeep else refusal_all (room - 1) ts) (ne_eqb room 0 some) ∙ w.accepted;
+      lawful = (omega arith, w.lawful);
+      flat = omega (arith, w.flat, nonzero room some);
+      appended = w.appended ∙ ap (λ x. x ++ texts ts) (e ∙ ap (λ m. old ++ head 4 m) number) ∙ append_assoc old (head 4 (count ts)) (texts ts);
+    }
+
+pub array_gives_up : (room n : ℕ) (vs : List Value) (old middle new : List ℕ) (kind : Kind) → (room ≡ 0 → ⊥) → middle ≡ old ++ head 4 n → GivesUp kind (refusal_all (room - 1) (trees_of vs)) middle new → GivesUp kind (refusal room (Array (trees_of vs))) old new
+array_gives_up room n vs old middle new kind some e g = (
+  λ differs. ap (λ b. if b then Some TooDeep else refusal_all (room - 1) (trees_of vs)) (ne_eqb room 0 some) ∙ g.0 differs,
+  goes_on old middle new (head 4 n, e) g.1,
+)
+
+pub map_written : (room n : ℕ) (vs : List (Value × Value)) (old middle new : List ℕ) → (room ≡ 0 → ⊥) → n ≡ length vs → n < 2 ^ 64 → middle ≡ old ++ head 5 n → WritesPairs (room - 1) (pairs_of vs) middle new → Writes room (Map (pairs_of vs)) old new
+map_written room n vs old middle new some len fits e w =
+    let ps : Pairs = pairs_of vs in
+    let number : n ≡ count_pairs ps = len ∙ sym (count_both vs) in
+    record {
+      accepted = ap (λ b. if b then Some TooDeep else refusal_pairs (room - 1) None ps) (ne_eqb room 0 some) ∙ w.accepted;
+      lawful = (omega arith, w.rises, w.lawful);
+      flat = omega (arith, w.flat, nonzero room some);
+      appended = w.appended ∙ ap (λ x. x ++ pair_texts ps) (e ∙ ap (λ m. old ++ head 5 m) number) ∙ append_assoc old (head 5 (count_pairs ps)) (pair_texts ps);
+    }
+
+pub map_gives_up : (room n : ℕ) (vs : List (Value × Value)) (old middle new : List ℕ) (kind : Kind) → (room ≡ 0 → ⊥) → middle ≡ old ++ head 5 n → GivesUp kind (refusal_pairs (room - 1) None (pairs_of vs)) middle new → GivesUp kind (refusal room (Map (pairs_of vs))) old new
+map_gives_up room n vs old middle new kind some e g = (
+  λ differs. ap (λ b. if b then Some TooDeep else refusal_pairs (room - 1) None (pairs_of vs)) (ne_eqb room 0 some) ∙ g.0 differs,
+  goes_on old middle new (head 5 n, e) g.1,
+)

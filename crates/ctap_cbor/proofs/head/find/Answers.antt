@@ -1,0 +1,27 @@
+use Rattle.std.proofs.Common.{refl, sym, arith}
+use Rattle.std.proofs.lemmas.List.{nil_from_length}
+use Rattle.ctap_cbor.specs.Parts.{read}
+use Rattle.ctap_cbor.specs.Views.{due_of}
+use Rattle.ctap_cbor.proofs.Finding.{fault_first, info_known, passed_first, found_rest}
+use Rattle.ctap_cbor.specs.Faults.{passed}
+use Rattle.ctap_cbor.proofs.head.find.Goals as goal
+
+pub returns-in_default : goal.returns-in_default
+unfolding read passed
+returns-in_default c = rw (nil_from_length c.args.bytes.now c.in_default.ensures.cases) (refl, refl, omega arith)
+
+pub find_rest-requires : goal.find_rest-requires
+find_rest-requires c = info_known c.args.room (due_of c.args.is_key) c.in-Some.first.now (sym c.in-None.ensures)
+
+pub returns-in-Some-first_fault : goal.returns-in-Some-first_fault
+returns-in-Some-first_fault c =
+    rw c.in-Some.ensures.cases.0 (
+      fault_first c.args.room (due_of c.args.is_key) c.in-Some.first.now c.in-Some.rest.now c.in-Some-first_fault.kind (sym c.in-Some-first_fault.ensures),
+      passed_first c.args.room (due_of c.args.is_key) c.in-Some.first.now c.in-Some.rest.now c.in-Some-first_fault.kind (sym c.in-Some-first_fault.ensures),
+      omega arith,
+    )
+
+pub returns-in-None : goal.returns-in-None
+returns-in-None c =
+    rw c.in-Some.ensures.cases.0
+    (found_rest c.args.room c.args.is_key c.in-Some.first.now c.in-Some.rest.now c.find_rest.result (sym c.in-None.ensures) c.find_rest.ensures)

@@ -1,0 +1,101 @@
+-- The fault of one item: the table of docs/PROFILE.md, "Faults".
+use Rattle.std.specs.Prelude.{ℕ, ◌+◌, Bool, true, false, not, ◌&&◌, ◌||◌, List, [], ◌∷◌, ◌++◌, length, take, drop, Option, Some, None, if◌then◌else◌, nat_lt, nat_le, nat_eq}
+use Rattle.std.specs.Ordering.{is_lt, nat_cmp}
+use Rattle.std.specs.Str.{is_utf8}
+use Rattle.std.specs.Cmp.Lexicographic.{slice_cmp}
+use Rattle.ctap_cbor.specs.declared.fault.Kind.{Kind}
+use Rattle.ctap_cbor.specs.declared.fault.Kind.TheVariants.{Truncated, Reserved, NotShortest, TooDeep, KeyType, KeyOrder, NotUtf8, Unsupported, Trailing, Memory}
+use Rattle.ctap_cbor.specs.Head.{major, info, argument_len, argument, least_argument}
+
+-- the number by which programs show a kind
+abbrev pub number_of : Kind → ℕ
+number_of Truncated = 1
+number_of Reserved = 2
+number_of NotShortest = 3
+number_of TooDeep = 4
+number_of KeyType = 5
+number_of KeyOrder = 6
+number_of NotUtf8 = 7
+number_of Unsupported = 8
+number_of Trailing = 9
+number_of Memory = 10
+
+-- what is due: an item, or a key with the text of the key before it in its map
+pub data Due : Type 0 where
+  AnItem : Due
+  AKey : Option (List ℕ) → Due
+
+abbrev pub is_key : Due → Bool
+is_key AnItem = false
+is_key (AKey before) = true
+
+-- whether a key's text stands above that of the key before it, in lexical order
+abbrev pub is_above : Due → List ℕ → Bool
+is_above AnItem key = true
+is_above (AKey None) key = true
+is_above (AKey (Some before)) key = is_lt (slice_cmp nat_cmp before key)
+
+-- how many bytes of a string follow the head
+unfoldable pub string_len : ℕ → List ℕ → ℕ
+string_len first rest = if nat_eq (major first) 2 || nat_eq (major first) 3 then argument first rest else 0
+
+-- how long the item is that begins with this byte: its head, and the bytes of a string
+unfoldable pub item_len : ℕ → List ℕ → ℕ
+item_len first rest = 1 + argument_len (info first) + string_len first rest
+
+-- the first of the faults whose test holds
+abbrev pub first_of : List (Bool × Kind) → Option Kind
+first_of [] = None
+first_of (t ∷ ts) = if t.0 then Some t.1 else first_of ts
+
+-- The faults that a head's first byte shows, each with its test, in their order. So many arrays and maps may
+-- still be opened.
+unfoldable pub first_faults : ℕ → Due → ℕ → List (Bool × Kind)
+first_faults room due first =
+    let m = major first in
+    let i = info first in
+    let is_nest = nat_eq m 4 || nat_eq m 5 in
+    (nat_le 28 i, Reserved)
+    ∷ (nat_eq m 6 || (nat_eq m 7 && not (nat_le 20 i && nat_le i 22)), Unsupported)
+    ∷ (is_key due && (is_nest || nat_eq m 7), KeyType)
+    ∷ (is_nest && nat_eq room 0, TooDeep)
+    ∷ []
+
+-- the faults of the rest of the head, and of the string
+unfoldable pub body_faults : ℕ → List ℕ → List (Bool × Kind)
+body_faults first rest =
+    let i = info first in
+    let behind = drop (argument_len i) rest in
+    (nat_lt (length rest) (argument_len i), Truncated)
+    ∷ (nat_lt (argument first rest) (least_argument i), NotShortest)
+    ∷ (nat_lt (length behind) (string_len first rest), Truncated)
+    ∷ (nat_eq (major first) 3 && not (is_utf8 (take (string_len first rest) behind)), NotUtf8)
+    ∷ []
+
+-- and the fault of a key's order
+abbrev pub later_faults : Due → ℕ → List ℕ → List (Bool × Kind)
+later_faults due first rest = body_faults first rest ++ (not (is_above due (take (item_len first rest) (first ∷ rest))), KeyOrder) ∷ []
+
+abbrev pub faults : ℕ → Due → ℕ → List ℕ → List (Bool × Kind)
+faults room due first rest = first_faults room due first ++ later_faults due first rest
+
+-- the fault of the item that begins here
+abbrev pub fault : ℕ → Due → List ℕ → Option Kind
+fault room due [] = Some Truncated
+fault room due (first ∷ rest) = first_of (faults room due first rest)
+
+-- how many bytes from the item's place on count as passed
+unfoldable pub passed : Kind → List ℕ → ℕ
+passed Truncated bytes = length bytes
+passed kind [] = 0
+passed NotShortest (first ∷ rest) = 1 + argument_len (info first)
+passed NotUtf8 (first ∷ rest) = item_len first rest
+passed KeyOrder (first ∷ rest) = item_len first rest
+passed Trailing (first ∷ rest) = 0
+passed kind (first ∷ rest) = 1
+
+-- the steps that a fault takes: the bytes passed, the end where it is found, the key that is compared
+unfoldable pub fault_steps : Kind → List ℕ → ℕ
+fault_steps Truncated bytes = length bytes + 1
+fault_steps KeyOrder bytes = passed KeyOrder bytes + passed KeyOrder bytes
+fault_steps kind bytes = passed kind bytes

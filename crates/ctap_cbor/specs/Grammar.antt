@@ -1,0 +1,84 @@
+-- Which texts are canonical, and of which tree (CTAP 2.1, "Message Encoding"; RFC 8949, sections 3.1 and 4.2.1).
+use Rattle.std.specs.Prelude.{◌≡◌, ℕ, ◌^◌, ◌<◌, ◌≤◌, pos, negsuc, true, false, List, [], ◌∷◌, ◌++◌, length, Option, Some, None}
+use Rattle.std.specs.Ordering.{nat_cmp}
+use Rattle.std.specs.Str.{IsUtf8}
+use Rattle.std.specs.Cmp.Lexicographic.{slice_cmp}
+use Rattle.std.specs.declared.cmp.Ordering.TheVariants.{Less}
+use Rattle.ctap_cbor.specs.Tree.{Scalar, Int, Bytes, Text, Flag, Null, Tree, Plain, Array, Map, Trees, no_trees, tree, Pairs, no_pairs, pair, depth, count, count_pairs}
+use Rattle.ctap_cbor.specs.Head.{AreBytes, head}
+
+-- the encoding of a scalar: major types 0 to 3 and 7
+abbrev pub scalar_text : Scalar → List ℕ
+scalar_text (Int (pos n)) = head 0 n
+scalar_text (Int (negsuc n)) = head 1 n
+scalar_text (Bytes s) = head 2 (length s) ++ s
+scalar_text (Text s) = head 3 (length s) ++ s
+scalar_text (Flag false) = 0xf4 ∷ []
+scalar_text (Flag true) = 0xf5 ∷ []
+scalar_text Null = 0xf6 ∷ []
+
+-- the encoding of a tree: that of a scalar, or the head of major type 4 or 5 with the count, and what is inside
+abbrev mutual
+  pub text : Tree → List ℕ
+  text (Plain s) = scalar_text s
+  text (Array ts) = head 4 (count ts) ++ texts ts
+  text (Map ps) = head 5 (count_pairs ps) ++ pair_texts ps
+
+  pub texts : Trees → List ℕ
+  texts no_trees = []
+  texts (tree t ts) = text t ++ texts ts
+
+  pub pair_texts : Pairs → List ℕ
+  pair_texts no_pairs = []
+  pair_texts (pair k v ps) = text k ++ (text v ++ pair_texts ps)
+
+-- what can be written: numbers of 64 bits and a sign, strings of bytes, texts in UTF-8
+abbrev pub Fits : Scalar → Type 0
+Fits (Int (pos n)) = n < 2 ^ 64
+Fits (Int (negsuc n)) = n < 2 ^ 64
+Fits (Bytes s) = (length s < 2 ^ 64) × AreBytes s
+Fits (Text s) = (length s < 2 ^ 64) × IsUtf8 s
+Fits (Flag b) = Unit {0}
+Fits Null = Unit {0}
+
+-- integers, byte strings and texts
+abbrev pub IsKey : Tree → Type 0
+IsKey (Plain (Int i)) = Unit {0}
+IsKey (Plain (Bytes s)) = Unit {0}
+IsKey (Plain (Text s)) = Unit {0}
+IsKey _ = ⊥
+
+-- a key's text stands above that of the key before it, in lexical order
+abbrev pub IsAbove : Option (List ℕ) → List ℕ → Type 0
+IsAbove None key = Unit {0}
+IsAbove (Some before) key = slice_cmp nat_cmp before key ≡ Less
+
+-- all keys of a map, behind the key before, are of a key's type and rise
+abbrev pub Rises : Option (List ℕ) → Pairs → Type 0
+Rises before no_pairs = Unit {0}
+Rises before (pair k v ps) = IsKey k × IsAbove before (text k) × Rises (Some (text k)) ps
+
+-- what has an encoding, whatever its depth
+abbrev mutual
+  pub IsLawful : Tree → Type 0
+  IsLawful (Plain s) = Fits s
+  IsLawful (Array ts) = (count ts < 2 ^ 64) × AreLawful ts
+  IsLawful (Map ps) = (count_pairs ps < 2 ^ 64) × Rises None ps × AreLawfulPairs ps
+
+  pub AreLawful : Trees → Type 0
+  AreLawful no_trees = Unit {0}
+  AreLawful (tree t ts) = IsLawful t × AreLawful ts
+
+  pub AreLawfulPairs : Pairs → Type 0
+  AreLawfulPairs no_pairs = Unit {0}
+  AreLawfulPairs (pair k v ps) = IsLawful k × IsLawful v × AreLawfulPairs ps
+
+-- b is the encoding of t
+pub record IsEncoding (t : Tree) (b : List ℕ) : Type 0 where
+  pub lawful : IsLawful t
+  pub spelled : b ≡ text t
+
+-- and t has at most four levels
+pub record IsCanonical (t : Tree) (b : List ℕ) : Type 0 where
+  pub enc : IsEncoding t b
+  pub flat : depth t ≤ 4

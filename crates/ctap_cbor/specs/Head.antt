@@ -1,0 +1,51 @@
+-- Heads (RFC 8949, section 3): a first byte, which holds a major type and five bits of additional information, and
+-- up to eight bytes of an argument, the highest first.
+use Rattle.std.specs.Prelude.{ℕ, ◌+◌, ◌-◌, ◌*◌, ◌/◌, ◌%◌, ◌^◌, ◌<◌, List, [], ◌∷◌, take, if◌then◌else◌, nat_lt, nat_eq}
+use Rattle.std.specs.List.{AllByRecursion}
+use Rattle.std.specs.Int.{w16, w32, w64, to_be_bytes}
+
+abbrev pub AreBytes : List ℕ → Type 0
+AreBytes bs = AllByRecursion (λ b. b < 256) bs
+
+-- the shortest head of a major type with an argument
+unfoldable pub head : ℕ → ℕ → List ℕ
+head major n =
+    if nat_lt n 24 then (32 * major + n) ∷ []
+    else if nat_lt n 0x100 then (32 * major + 24) ∷ n ∷ []
+    else if nat_lt n 0x1_0000 then (32 * major + 25) ∷ to_be_bytes w16 n
+    else if nat_lt n 0x1_0000_0000 then (32 * major + 26) ∷ to_be_bytes w32 n
+    else (32 * major + 27) ∷ to_be_bytes w64 n
+
+-- how long that is
+abbrev pub head_len : ℕ → ℕ
+head_len n = if nat_lt n 24 then 1 else if nat_lt n 0x100 then 2 else if nat_lt n 0x1_0000 then 3 else if nat_lt n 0x1_0000_0000 then 5 else 9
+
+-- the fields of a head's first byte: the major type, and the additional information
+abbrev pub major : ℕ → ℕ
+major first = first / 32
+
+abbrev pub info : ℕ → ℕ
+info first = first % 32
+
+-- how many bytes of an argument follow
+unfoldable pub argument_len : ℕ → ℕ
+argument_len i = if nat_lt i 24 then 0 else 2 ^ (i - 24)
+
+-- the number that bytes scalar_text, the highest first
+abbrev pub number_after : ℕ → List ℕ → ℕ
+number_after n [] = n
+number_after n (b ∷ bs) = number_after (n * 256 + b) bs
+
+-- the argument of a head, from its first byte and what follows
+unfoldable pub argument : ℕ → List ℕ → ℕ
+argument first rest =
+    if nat_lt (info first) 24 then info first else number_after 0 (take (argument_len (info first)) rest)
+
+-- the least argument that needs this additional information, so that a lower one isn't in its shortest head
+unfoldable pub least_argument : ℕ → ℕ
+least_argument i =
+    if nat_lt i 24 then 0
+    else if nat_eq i 24 then 24
+    else if nat_eq i 25 then 0x100
+    else if nat_eq i 26 then 0x1_0000
+    else 0x1_0000_0000

@@ -1,0 +1,13 @@
+pub mod Tree
+pub mod Head
+pub mod Grammar
+pub mod Faults
+pub mod Parts
+pub mod Outcome
+pub mod Views
+pub mod Laws
+pub mod Reading
+pub mod Writing
+pub mod Values
+pub mod Refusals
+pub mod Writes

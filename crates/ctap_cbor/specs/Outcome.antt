@@ -1,0 +1,122 @@
+-- What a text is: the encoding of one tree, or a text with one first fault, of the first item that has any.
+use Rattle.std.specs.Prelude.{◌≡◌, ℕ, zero, suc, ◌+◌, ◌^◌, ◌<◌, ◌≤◌, List, [], ◌∷◌, ◌++◌, length, drop, min, Option, Some, None, Result, Ok, Err}
+use Rattle.ctap_cbor.specs.declared.fault.Fault.{Fault}
+use Rattle.ctap_cbor.specs.declared.fault.Kind.{Kind}
+use Rattle.ctap_cbor.specs.declared.fault.Kind.TheVariants.{Trailing}
+use Rattle.ctap_cbor.specs.Tree.{Tree, Plain, Array, Map, Trees, no_trees, tree, Pairs, no_pairs, pair, depth_all, depth_pairs, count, count_pairs}
+use Rattle.ctap_cbor.specs.Head.{head}
+use Rattle.ctap_cbor.specs.Grammar.{text, texts, pair_texts, IsKey, IsAbove, Rises, IsLawful, AreLawful, AreLawfulPairs, IsCanonical}
+use Rattle.ctap_cbor.specs.Faults.{Due, AnItem, AKey, fault, fault_steps}
+
+-- An array or a map that is open: what its head counts, and the whole items behind the head.
+pub data Open : Type 0 where
+  InArray : (total : ℕ) (done : Trees) → Open
+  AtKey : (total : ℕ) (done : Pairs) → Open
+  AtValue : (total : ℕ) (done : Pairs) (key : Tree) → Open
+
+-- the text up to where the next item is due
+abbrev pub front : Open → List ℕ
+front (InArray total done) = head 4 total ++ texts done
+front (AtKey total done) = head 5 total ++ pair_texts done
+front (AtValue total done key) = head 5 total ++ (pair_texts done ++ text key)
+
+abbrev pub fronts : List Open → List ℕ
+fronts [] = []
+fronts (o ∷ os) = front o ++ fronts os
+
+-- the text of the last key, or of the key before where there is none
+abbrev pub last_key : Option (List ℕ) → Pairs → Option (List ℕ)
+last_key before no_pairs = before
+last_key before (pair k v ps) = last_key (Some (text k)) ps
+
+-- It may be open where so many more may be opened inside of it.
+abbrev pub IsOpen : ℕ → Open → Type 0
+IsOpen room (InArray total done) = (total < 2 ^ 64) × (count done < total) × AreLawful done × (depth_all done ≤ room)
+IsOpen room (AtKey total done) = (total < 2 ^ 64) × (count_pairs done < total) × Rises None done × AreLawfulPairs done × (depth_pairs done ≤ room)
+IsOpen room (AtValue total done key) = (total < 2 ^ 64) × (count_pairs done < total) × Rises None done × AreLawfulPairs done × (depth_pairs done ≤ room) × IsKey key × IsLawful key × IsAbove (last_key None done) (text key)
+
+-- an array or a map stands inside one, and a key is no array or map
+abbrev pub CanHold : Open → List Open → Type 0
+CanHold (AtKey total done) (o ∷ os) = ⊥
+CanHold _ _ = Unit {0}
+
+-- what is due behind the open arrays and maps, from the outermost inward
+abbrev pub due_in : Open → Due
+due_in (InArray total done) = AnItem
+due_in (AtKey total done) = AKey (last_key None done)
+due_in (AtValue total done key) = AnItem
+
+abbrev pub due_after : Due → List Open → Due
+due_after due [] = due
+due_after due (o ∷ os) = due_after (due_in o) os
+
+-- the arrays and maps that are open, where so many may be, and the fault of the item behind them
+abbrev pub HaltsIn : ℕ → Due → List Open → Kind → List ℕ → Type 0
+HaltsIn room due [] kind rest = fault room due rest ≡ Some kind
+HaltsIn zero due (o ∷ os) kind rest = ⊥
+HaltsIn (suc room) due (o ∷ os) kind rest = IsOpen room o × CanHold o os × HaltsIn room (due_in o) os kind rest
+
+-- What a text is.
+pub data Outcome : Type 0 where
+  -- the text of a tree
+  Whole : Tree → Outcome
+  -- such a text, and bytes behind it
+  Longer : Tree → Outcome
+  -- an item behind these open arrays and maps has a fault
+  Stopped : List Open → Kind → Outcome
+
+abbrev pub IsOutcome : List ℕ → Outcome → Type 0
+IsOutcome b (Whole t) = IsCanonical t b
+IsOutcome b (Longer t) = (whole rest : List ℕ) × IsCanonical t whole × (0 < length rest) × (b ≡ whole ++ rest)
+IsOutcome b (Stopped os kind) = (rest : List ℕ) × HaltsIn 4 AnItem os kind rest × (b ≡ fronts os ++ rest)
+
+-- the lengths of all keys' texts in a tree, but for the first of each map
+abbrev mutual
+  pub later_keys : Tree → ℕ
+  later_keys (Plain s) = 0
+  later_keys (Array ts) = later_in_all ts
+  later_keys (Map ps) = later_in_map ps
+
+  pub later_in_all : Trees → ℕ
+  later_in_all no_trees = 0
+  later_in_all (tree t ts) = later_keys t + later_in_all ts
+
+  pub later_in_map : Pairs → ℕ
+  later_in_map no_pairs = 0
+  later_in_map (pair k v ps) = later_keys v + later_in_pairs ps
+
+  pub later_in_pairs : Pairs → ℕ
+  later_in_pairs no_pairs = 0
+  later_in_pairs (pair k v ps) = length (text k) + (later_keys v + later_in_pairs ps)
+
+-- the length of a key's text, unless it is the first of its map
+abbrev pub later_key : Pairs → Tree → ℕ
+later_key no_pairs key = 0
+later_key (pair k v ps) key = length (text key)
+
+abbrev pub later_in : Open → ℕ
+later_in (InArray total done) = later_in_all done
+later_in (AtKey total done) = later_in_map done
+later_in (AtValue total done key) = later_in_map done + later_key done key
+
+abbrev pub later_in_open : List Open → ℕ
+later_in_open [] = 0
+later_in_open (o ∷ os) = later_in o + later_in_open os
+
+-- the steps of reading a text that is so: one for each byte that is passed, those of each key but the
+-- first of its map once more, and one for finding the end
+abbrev pub steps : List ℕ → Outcome → ℕ
+steps b (Whole t) = length b + later_keys t + 1
+steps b (Longer t) = length (text t) + later_keys t
+steps b (Stopped os kind) = length (fronts os) + later_in_open os + fault_steps kind (drop (length (fronts os)) b)
+
+-- the place and the kind of the fault
+abbrev pub result_of : Outcome → Option (ℕ × Kind)
+result_of (Whole t) = None
+result_of (Longer t) = Some (length (text t), Trailing)
+result_of (Stopped os kind) = Some (length (fronts os), kind)
+
+-- what a check answers of a text that is so; the count of steps stops at 2^64-1
+abbrev pub Answers : List ℕ → Outcome → Result (Unit {0}) Fault → ℕ → Type 0
+Answers b o (Ok _) n = (result_of o ≡ None) × (n ≡ min (steps b o) 18446744073709551615)
+Answers b o (Err f) n = (result_of o ≡ Some (f.at, f.kind)) × (n ≡ min (steps b o) 18446744073709551615)

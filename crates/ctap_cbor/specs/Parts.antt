@@ -1,0 +1,52 @@
+-- One item: its head, and the bytes of a string. Reading it gives its fault, or the item and what follows.
+use Rattle.std.specs.Prelude.{ℕ, zero, suc, ◌<◌, ◌^◌, pos, negsuc, true, false, List, [], ◌∷◌, take, drop, Option, Some, None, Result, Ok, Err, if◌then◌else◌, nat_eq}
+use Rattle.ctap_cbor.specs.declared.fault.Kind.{Kind}
+use Rattle.ctap_cbor.specs.declared.fault.Kind.TheVariants.{Truncated}
+use Rattle.ctap_cbor.specs.Tree.{Scalar, Int, Bytes, Text, Flag, Null, Plain}
+use Rattle.ctap_cbor.specs.Head.{head, major, info, argument_len, argument}
+use Rattle.ctap_cbor.specs.Grammar.{scalar_text, Fits, IsKey, IsAbove}
+use Rattle.ctap_cbor.specs.Faults.{Due, AnItem, AKey, fault, item_len}
+
+-- an item without what is inside it
+pub data Part : Type 0 where
+  One : Scalar → Part
+  OpensArray : ℕ → Part
+  OpensMap : ℕ → Part
+
+abbrev pub item_text : Part → List ℕ
+item_text (One s) = scalar_text s
+item_text (OpensArray n) = head 4 n
+item_text (OpensMap n) = head 5 n
+
+abbrev pub string_at : ℕ → List ℕ → List ℕ
+string_at first rest = take (argument first rest) (drop (argument_len (info first)) rest)
+
+-- the item that begins with this byte, by its major type
+abbrev pub item_of : ℕ → ℕ → List ℕ → Part
+item_of zero first rest = One (Int (pos (argument first rest)))
+item_of (suc zero) first rest = One (Int (negsuc (argument first rest)))
+item_of (suc (suc zero)) first rest = One (Bytes (string_at first rest))
+item_of (suc (suc (suc zero))) first rest = One (Text (string_at first rest))
+item_of (suc (suc (suc (suc zero)))) first rest = OpensArray (argument first rest)
+item_of (suc (suc (suc (suc (suc zero))))) first rest = OpensMap (argument first rest)
+item_of m first rest = One (if nat_eq (info first) 20 then Flag false else if nat_eq (info first) 21 then Flag true else Null)
+
+-- a fault, or an item and what follows it
+abbrev pub unless : Option Kind → Part → List ℕ → Result (Part × List ℕ) Kind
+unless None i rest = Ok (i, rest)
+unless (Some kind) i rest = Err kind
+
+unfoldable pub read : ℕ → Due → List ℕ → Result (Part × List ℕ) Kind
+read room due [] = Err Truncated
+read room due (first ∷ rest) = unless (fault room due (first ∷ rest)) (item_of (major first) first rest) (drop (item_len first rest) (first ∷ rest))
+
+abbrev pub Nests : ℕ → Due → Type 0
+Nests room AnItem = 0 < room
+Nests room (AKey before) = ⊥
+
+-- the item may stand there
+abbrev pub Suits : ℕ → Due → Part → Type 0
+Suits room AnItem (One s) = Fits s
+Suits room (AKey before) (One s) = Fits s × IsKey (Plain s) × IsAbove before (scalar_text s)
+Suits room due (OpensArray n) = Nests room due × (n < 2 ^ 64)
+Suits room due (OpensMap n) = Nests room due × (n < 2 ^ 64)

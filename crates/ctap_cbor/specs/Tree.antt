@@ -1,0 +1,55 @@
+-- Data items as trees (RFC 8949, section 2), and how deep they are.
+use Rattle.std.specs.Prelude.{ℕ, ◌+◌, ℤ, Bool, List, max}
+
+-- what is no array and no map; byte strings and texts by their bytes
+pub data Scalar : Type 0 where
+  Int : ℤ → Scalar
+  Bytes : List ℕ → Scalar
+  Text : List ℕ → Scalar
+  Flag : Bool → Scalar
+  Null : Scalar
+
+mutual
+  pub data Tree : Type 0 where
+    Plain : Scalar → Tree
+    Array : Trees → Tree
+    Map : Pairs → Tree
+
+  pub data Trees : Type 0 where
+    no_trees : Trees
+    tree : Tree → Trees → Trees
+
+  pub data Pairs : Type 0 where
+    no_pairs : Pairs
+    pair : Tree → Tree → Pairs → Pairs
+
+abbrev mutual
+  pub depth : Tree → ℕ
+  depth (Plain s) = 0
+  depth (Array ts) = 1 + depth_all ts
+  depth (Map ps) = 1 + depth_pairs ps
+
+  pub depth_all : Trees → ℕ
+  depth_all no_trees = 0
+  depth_all (tree t ts) = max (depth t) (depth_all ts)
+
+  pub depth_pairs : Pairs → ℕ
+  depth_pairs no_pairs = 0
+  depth_pairs (pair k v ps) = max (max (depth k) (depth v)) (depth_pairs ps)
+
+abbrev pub count : Trees → ℕ
+count no_trees = 0
+count (tree t ts) = count ts + 1
+
+abbrev pub count_pairs : Pairs → ℕ
+count_pairs no_pairs = 0
+count_pairs (pair k v ps) = count_pairs ps + 1
+
+-- one more at the end
+unfoldable pub push : Trees → Tree → Trees
+push no_trees u = tree u no_trees
+push (tree t ts) u = tree t (push ts u)
+
+unfoldable pub push_pair : Pairs → Tree → Tree → Pairs
+push_pair no_pairs k v = pair k v no_pairs
+push_pair (pair j u ps) k v = pair j u (push_pair ps k v)

@@ -1,0 +1,47 @@
+-- What a lent item is, without where it lies in memory.
+use Rattle.std.specs.Prelude.{zero, suc, true, false, None, Some, nat_eq, pos, negsuc, if◌then◌else◌, ◌≡◌, ℕ, List, ◌∷◌, drop, Result, Ok, Err, ◌≤◌, length}
+use Rattle.ctap_cbor.specs.declared.fault.Kind.{Kind}
+use Rattle.ctap_cbor.specs.declared.fault.Kind.TheVariants.{Truncated, KeyOrder}
+use Rattle.ctap_cbor.specs.declared.item.Item.{Item}
+use Rattle.ctap_cbor.specs.declared.item.Item.TheVariants.{Int, Bytes, Text, Array, Map, Bool as Logical, Null}
+use Rattle.std.specs.Prelude.{Bool}
+use Rattle.ctap_cbor.specs.Faults.{Due, AnItem, AKey, first_of, later_faults, item_len, passed}
+use Rattle.ctap_cbor.specs.Head.{major}
+use Rattle.ctap_cbor.specs.Tree as tree
+use Rattle.ctap_cbor.specs.Parts.{Part, One, OpensArray, OpensMap, item_of}
+
+-- the item that a lent item shows
+abbrev pub part_of : Item → Part
+part_of (Int i) = One (tree.Int i)
+part_of (Bytes s) = One (tree.Bytes s.now)
+part_of (Text s) = One (tree.Text s.now)
+part_of (Array n) = OpensArray n
+part_of (Map n) = OpensMap n
+part_of (Logical b) = One (tree.Flag b)
+part_of Null = One tree.Null
+
+-- what a function found is what reading gives
+abbrev pub Finds : List ℕ → Result (Item × ℕ) (Kind × ℕ) → Result (Part × List ℕ) Kind → Type 0
+Finds bytes (Ok (i, len)) read = (read ≡ Ok (part_of i, drop len bytes)) × (len ≤ length bytes) × (len ≡ passed KeyOrder bytes)
+Finds bytes (Err (kind, n)) read = (read ≡ Err kind) × (n ≡ passed kind bytes) × (n ≤ length bytes)
+
+abbrev pub due_of : Bool → Due
+due_of true = AKey None
+due_of false = AnItem
+
+-- what a head opens or is, unless it is a string
+abbrev pub headed : ℕ → ℕ → ℕ → Part
+headed zero i n = One (tree.Int (pos n))
+headed (suc zero) i n = One (tree.Int (negsuc n))
+headed (suc (suc (suc (suc zero)))) i n = OpensArray n
+headed (suc (suc (suc (suc (suc zero))))) i n = OpensMap n
+headed m i n = One (if nat_eq i 20 then tree.Flag false else if nat_eq i 21 then tree.Flag true else tree.Null)
+
+-- the tests behind those of a head's first byte, and the item
+abbrev pub FindsRest : ℕ → List ℕ → Result (Item × ℕ) (Kind × ℕ) → Type 0
+FindsRest first rest (Ok (i, len)) = (first_of (later_faults AnItem first rest) ≡ None) × (part_of i ≡ item_of (major first) first rest) × (len ≡ item_len first rest) × (len ≤ suc (length rest))
+FindsRest first rest (Err (kind, n)) = (first_of (later_faults AnItem first rest) ≡ Some kind) × (n ≡ passed kind (first ∷ rest)) × (n ≤ suc (length rest))
+
+abbrev pub end_steps_of : Kind → ℕ
+end_steps_of Truncated = 1
+end_steps_of _ = 0

@@ -1,0 +1,59 @@
+-- What an encoder does with its vector.
+use Rattle.std.specs.Prelude.{◌≡◌, ◌≢◌, ℕ, ◌-◌, ◌≤◌, List, ◌++◌, take, drop, Option, Some, None}
+use Rattle.ctap_cbor.specs.declared.fault.Kind.{Kind}
+use Rattle.ctap_cbor.specs.declared.fault.Kind.TheVariants.{Memory}
+use Rattle.ctap_cbor.specs.declared.encoding.Span.{Span}
+use Rattle.ctap_cbor.specs.Tree.{Scalar, Tree, Trees, Pairs, depth, depth_all, depth_pairs}
+use Rattle.ctap_cbor.specs.Grammar.{text, texts, pair_texts, scalar_text, Fits, Rises, IsKey, IsLawful, AreLawful, AreLawfulPairs}
+use Rattle.ctap_cbor.specs.Refusals.{refusal, refusal_all, refusal_pairs, own_refusal}
+
+-- a list goes on
+abbrev pub Extends : List ℕ → List ℕ → Type 0
+Extends old new = (more : List ℕ) × (new ≡ old ++ more)
+
+-- a scalar was written
+pub record WritesScalar (s : Scalar) (old new : List ℕ) : Type 0 where
+  pub fits : Fits s
+  pub appended : new ≡ old ++ scalar_text s
+
+-- a tree was written
+pub record Writes (room : ℕ) (t : Tree) (old new : List ℕ) : Type 0 where
+  pub accepted : refusal room t ≡ None
+  pub lawful : IsLawful t
+  pub flat : depth t ≤ room
+  pub appended : new ≡ old ++ text t
+
+-- items were
+pub record WritesAll (room : ℕ) (ts : Trees) (old new : List ℕ) : Type 0 where
+  pub accepted : refusal_all room ts ≡ None
+  pub lawful : AreLawful ts
+  pub flat : depth_all ts ≤ room
+  pub appended : new ≡ old ++ texts ts
+
+-- pairs were
+pub record WritesPairs (room : ℕ) (ps : Pairs) (old new : List ℕ) : Type 0 where
+  pub accepted : refusal_pairs room None ps ≡ None
+  pub rises : Rises None ps
+  pub lawful : AreLawfulPairs ps
+  pub flat : depth_pairs ps ≤ room
+  pub appended : new ≡ old ++ pair_texts ps
+
+-- a key was
+pub record WritesKey (t : Tree) (old new : List ℕ) : Type 0 where
+  pub accepted : own_refusal t ≡ None
+  pub is_key : IsKey t
+  pub lawful : IsLawful t
+  pub flat : depth t ≤ 0
+  pub appended : new ≡ old ++ text t
+
+-- nothing was written whole: for want of memory, or for this refusal
+abbrev pub GivesUp : Kind → Option Kind → List ℕ → List ℕ → Type 0
+GivesUp kind refusal old new = (kind ≢ Memory → refusal ≡ Some kind) × Extends old new
+
+-- the text of the key before, which was written there
+abbrev pub text_at : List ℕ → Span → List ℕ
+text_at out span = take (span.end - span.start) (drop span.start out)
+
+abbrev pub last_text : List ℕ → Option Span → Option (List ℕ)
+last_text out None = None
+last_text out (Some span) = Some (text_at out span)

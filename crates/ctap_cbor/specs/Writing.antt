@@ -1,0 +1,37 @@
+-- What a sink does with the buffer that it was lent.
+use Rattle.std.specs.Prelude.{◌≡◌, ℕ, ◌+◌, ◌-◌, pos, negsuc, List, ◌++◌, length, take, drop}
+use Rattle.ctap_cbor.specs.Tree.{Scalar, Int, Bytes, Text, Flag, Null}
+use Rattle.ctap_cbor.specs.Head.{head_len}
+use Rattle.ctap_cbor.specs.declared.sink.Sink.{Sink}
+
+-- what is written
+abbrev pub written : Sink → List ℕ
+written s = take s.len s.buffer.now
+
+-- what the buffer holds behind that
+abbrev pub behind : Sink → List ℕ
+behind s = drop s.len s.buffer.now
+
+-- how long a scalar's text is
+abbrev pub scalar_len : Scalar → ℕ
+scalar_len (Int (pos n)) = head_len n
+scalar_len (Int (negsuc n)) = head_len n
+scalar_len (Bytes s) = head_len (length s) + length s
+scalar_len (Text s) = head_len (length s) + length s
+scalar_len (Flag b) = 1
+scalar_len Null = 1
+
+-- how many bytes may still be written
+abbrev pub room_of : Sink → ℕ
+room_of s = length s.buffer.now - s.len
+
+-- so many bytes were written at the end, these, and the buffer keeps its length and what stands behind them
+pub record Appends (old new : Sink) (bytes : List ℕ) (len : ℕ) : Type 0 where
+  pub grows : written new ≡ written old ++ bytes
+  pub len_is : length (written new) ≡ length (written old) + len
+  pub room_is : room_of old ≡ room_of new + len
+  pub keeps : behind new ≡ drop len (behind old)
+
+-- the buffer that was lent is the same, so what is written in the end is found in it
+abbrev pub SameBuffer : Sink → Sink → Type 0
+SameBuffer old new = new.buffer.ghost_name ≡ old.buffer.ghost_name

@@ -1,0 +1,287 @@
+//! The cursor: the only way to the bytes of a message, with a count of the steps.
+
+ghost use Rattle.std.specs.Prelude.{◌≡◌, ◌-◌, ◌+◌, ◌≤◌, length, take, drop, MatchResult, Ok, Err};
+ghost use Rattle.std.specs.Option.{option_copied};
+ghost use Rattle.ctap_cbor.specs.Head.{AreBytes};
+ghost use Rattle.ctap_cbor.specs.Faults.{AnItem, AKey, is_above};
+ghost use Rattle.ctap_cbor.specs.Parts.{read, Suits};
+ghost use Rattle.ctap_cbor.specs.Views.{part_of, end_steps_of};
+ghost use Rattle.ctap_cbor.specs.Reading.{Reading, rest_of, advance, compared, Takes, Refuses, GivesKey, Ends, GoesOn};
+ghost use Rattle.ctap_cbor.specs.Reading.{PassesOne, PassesAs, PassesSome, PassesSomePairs, Halts, HaltsInAll, HaltsInPairs, Only};
+
+use crate::fault::{Fault, Kind};
+use crate::head::find;
+use crate::item::{Item, Key};
+use crate::laws::known_bytes;
+use std::marker::Model;
+
+/// Reads a message item by item, in place.
+///
+/// In contracts a cursor is its message, the place of the next byte, and the steps so far. A step is a byte that
+/// was passed, a byte of a key that was compared with the key before it, or the finding of the message's end.
+///
+/// Levels count from 1, at which a message's one item stands; what stands within an array or a map of level n is at
+/// level n + 1. At level 5 no array or map may stand.
+///
+/// After a fault the cursor stands behind the bytes that count as passed: all of them where the text is truncated,
+/// the faulty first byte, the head that isn't the shortest, or the item whose text isn't UTF-8 or whose order is
+/// wrong.
+#[derive(Drop)]
+pub struct Cursor<'a> {
+    bytes: &'a [u8],
+    place: usize,
+    steps: u64,
+}
+
+impl<'a> Model for Cursor<'a> {
+    ghost Value = { Reading };
+
+    ghost view = { λ c. record { bytes = c.bytes.now; place = c.place; steps = c.steps } };
+
+    ghost invariant = { λ c. c.place ≤ length c.bytes.now };
+}
+
+impl<'a> Cursor<'a> {
+    /// A cursor at the message's first byte.
+    pub fn new(bytes: &'a [u8]) -> Self
+        ensures { result ≡ record { bytes = bytes.now; place = 0; steps = 0 } }
+    {
+        Cursor {
+            bytes,
+            place: 0,
+            steps: 0,
+        }
+    }
+
+    /// The place of the next byte, counted from 0.
+    pub fn place(&self) -> usize
+        ensures { result ≡ self.now.place }
+    {
+        self.place
+    }
+
+    /// The steps so far. The count stops at 2^64-1.
+    pub fn steps(&self) -> u64
+        ensures { result ≡ self.now.steps }
+    {
+        self.steps
+    }
+
+    /// Takes one item: a head, and the bytes of a string. What an array or a map holds stands next.
+    pub fn item(&mut self, level: u8) -> Result<Item<'a>, Fault>
+        requires low { 1 ≤ level }
+        requires high { level ≤ 5 }
+        ensures takes { MatchResult result
+            (λ i. Takes (5 - level) self.old self.new (part_of i))
+            (λ f. Refuses (5 - level) AnItem self.old self.new f.at f.kind) }
+        ensures exact { MatchResult result
+            (λ i. read (5 - level) AnItem (rest_of self.old) ≡ Ok (part_of i, rest_of self.new))
+            (λ f. read (5 - level) AnItem (rest_of self.old) ≡ Err f.kind) }
+    {
+        let at = self.place();
+        let rest = self.rest();
+        match find(rest, 5 - level, false) {
+            Ok((item, len)) => {
+                self.pass(len, 0);
+                Ok(item)
+            }
+            Err((kind, len)) => {
+                self.pass(len, end_steps(kind));
+                Err(Fault { at, kind })
+            }
+        }
+    }
+
+    /// Takes a key of a map, with its encoded bytes. `previous` has those of the key before it in the same map, and
+    /// is None for the first; a key has to stand above it in lexical order.
+    pub fn key(&mut self, previous: Option<&'a [u8]>) -> Result<Key<'a>, Fault>
+        ensures gives { MatchResult result
+            (λ k. GivesKey (option_copied previous.entry) self.old self.new (part_of k.item) k.bytes.now)
+            (λ f. Refuses 0 (AKey (option_copied previous.entry)) self.old self.new f.at f.kind) }
+        ensures exact { MatchResult result
+            (λ k. read 0 (AKey (option_copied previous.entry)) (rest_of self.old) ≡ Ok (part_of k.item, rest_of self.new))
+            (λ f. read 0 (AKey (option_copied previous.entry)) (rest_of self.old) ≡ Err f.kind) }
+    {
+        let at = self.place();
+        let rest = self.rest();
+        match find(rest, 0, true) {
+            Ok((item, len)) => {
+                let bytes = &rest[..len];
+                self.pass(len, steps_to_compare(previous, len));
+                if is_key_above(previous, bytes) {
+                    Ok(Key { item, bytes })
+                } else {
+                    Err(Fault {
+                        at,
+                        kind: Kind::KeyOrder,
+                    })
+                }
+            }
+            Err((kind, len)) => {
+                self.pass(len, end_steps(kind));
+                Err(Fault { at, kind })
+            }
+        }
+    }
+
+    /// Passes a whole item, with all that is inside.
+    #[cycle(skip)]
+    pub fn skip(&mut self, level: u8) -> Result<(), Fault>
+        requires low { 1 ≤ level }
+        requires high { level ≤ 5 }
+        ensures passes { MatchResult result
+            (λ _. PassesOne (5 - level) self.old self.new)
+            (λ f. Halts (5 - level) self.old self.new f.at f.kind) }
+        ensures only { Only (5 - level) self.old self.new result }
+    {
+        let item = self.item(level)?;
+        self.inside(item, level)
+    }
+
+    /// Passes a whole item, with all that is inside, and gives its head.
+    pub fn whole(&mut self, level: u8) -> Result<Item<'a>, Fault>
+        requires low { 1 ≤ level }
+        requires high { level ≤ 5 }
+        ensures { MatchResult result
+            (λ i. PassesAs (5 - level) (part_of i) self.old self.new)
+            (λ f. Halts (5 - level) self.old self.new f.at f.kind) }
+    {
+        let item = self.item(level)?;
+        self.inside(item, level)?;
+        Ok(item)
+    }
+
+    /// Passes what is inside an item whose head was taken just now, at this level.
+    #[cycle(skip)]
+    pub fn inside(&mut self, item: Item<'a>, level: u8) -> Result<(), Fault>
+        requires low { 1 ≤ level }
+        requires high { level ≤ 5 }
+        requires suits { Suits (5 - level) AnItem (part_of item) }
+        ensures { (start : Reading) → Takes (5 - level) start self.old (part_of item.entry) → MatchResult result
+            (λ _. PassesAs (5 - level) (part_of item.entry) start self.new)
+            (λ f. Halts (5 - level) start self.new f.at f.kind) }
+    {
+        match item {
+            Item::Array(count) => self.skip_items(level + 1, count),
+            Item::Map(count) => self.skip_pairs(level + 1, count),
+            _ => Ok(()),
+        }
+    }
+
+    /// Passes so many whole items.
+    #[cycle(skip)]
+    fn skip_items(&mut self, level: u8, count: u64) -> Result<(), Fault>
+        requires low { 1 ≤ level }
+        requires high { level ≤ 5 }
+        ensures { MatchResult result
+            (λ _. PassesSome (5 - level) count self.old self.new)
+            (λ f. HaltsInAll (5 - level) count self.old self.new f.at f.kind) }
+    {
+        for done in 0..count {
+            self.skip(level)?;
+        }
+        Ok(())
+    }
+
+    /// Passes so many keys, each with its value.
+    #[cycle(skip)]
+    fn skip_pairs(&mut self, level: u8, count: u64) -> Result<(), Fault>
+        requires low { 1 ≤ level }
+        requires high { level ≤ 5 }
+        ensures { MatchResult result
+            (λ _. PassesSomePairs (5 - level) count self.old self.new)
+            (λ f. HaltsInPairs (5 - level) count self.old self.new f.at f.kind) }
+    {
+        let mut previous = None;
+        for done in 0..count {
+            let key = self.key(previous)?;
+            previous = Some(key.bytes);
+            self.skip(level)?;
+        }
+        Ok(())
+    }
+
+    /// Ends the reading, where no byte is left. Otherwise the fault is [`Kind::Trailing`], and the cursor stays where
+    /// it is.
+    pub fn end(&mut self) -> Result<(), Fault>
+        ensures { MatchResult result (λ _. Ends self.old self.new) (λ f. GoesOn self.old self.new f.at f.kind) }
+    {
+        let at = self.place();
+        if self.rest().is_empty() {
+            self.pass(0, 1);
+            Ok(())
+        } else {
+            Err(Fault {
+                at,
+                kind: Kind::Trailing,
+            })
+        }
+    }
+
+    /// Goes back to the first byte. The steps stay.
+    pub fn rewind(&mut self)
+        ensures { self.new ≡ record { bytes = self.old.bytes; place = 0; steps = self.old.steps } }
+    {
+        self.place = 0;
+    }
+
+    /// The bytes that were passed from this place on, as the text of a whole list.
+    pub fn since(&self, place: usize) -> &'a [u8]
+        requires { place ≤ self.now.place }
+        ensures { result.now ≡ take (self.now.place - place) (drop place self.now.bytes) }
+    {
+        &self.bytes[place..self.place]
+    }
+
+    /// The bytes from the place on.
+    fn rest(&self) -> &'a [u8]
+        ensures rest { result.now ≡ rest_of self.now }
+        ensures bytes { AreBytes result.now }
+    {
+        let rest = &self.bytes[self.place..];
+        known_bytes(rest);
+        rest
+    }
+
+    /// Passes bytes, with so many steps more than these.
+    fn pass(&mut self, len: usize, more: usize)
+        requires { len ≤ length (rest_of self.old) }
+        ensures { self.new ≡ advance self.old len (len + more) }
+    {
+        self.place += len;
+        self.steps = self
+            .steps
+            .saturating_add(len as u64)
+            .saturating_add(more as u64);
+    }
+}
+
+/// The steps of comparing a key with the one before it: one for each of its bytes.
+fn steps_to_compare(previous: Option<&[u8]>, len: usize) -> usize
+    ensures { result ≡ compared (option_copied previous.entry) len }
+{
+    match previous {
+        None => 0,
+        Some(_) => len,
+    }
+}
+
+/// Whether the key stands above the one before it, in lexical order.
+fn is_key_above(previous: Option<&[u8]>, key: &[u8]) -> bool
+    ensures { result ≡ is_above (AKey (option_copied previous.entry)) key.now }
+{
+    match previous {
+        None => true,
+        Some(before) => before.cmp(key).is_lt(),
+    }
+}
+
+/// The step of finding the end, where a fault is that.
+fn end_steps(kind: Kind) -> usize
+    ensures { result ≡ end_steps_of kind }
+{
+    match kind {
+        Kind::Truncated => 1,
+        _ => 0,
+    }
+}

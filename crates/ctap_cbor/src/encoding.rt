@@ -1,0 +1,233 @@
+//! From an owned value to its canonical text.
+
+ghost use Rattle.std.specs.Prelude.{◌≡◌, ◌≢◌, ◌++◌, ◌∷◌, [], ◌<◌, ◌≤◌, length, drop, Some, OnOk, OnErr, IfErr, MatchResult};
+ghost use Rattle.std.specs.Option.{ForSome};
+ghost use Rattle.ctap_cbor.specs.Head.{head};
+ghost use Rattle.ctap_cbor.specs.Tree as tree;
+ghost use Rattle.ctap_cbor.specs.Grammar.{text, IsCanonical};
+ghost use Rattle.ctap_cbor.specs.Faults.{AKey, is_above};
+ghost use Rattle.ctap_cbor.specs.Values.{tree_of, trees_of, pairs_of};
+ghost use Rattle.ctap_cbor.specs.Refusals.{refusal, refusal_all, refusal_pairs, own_refusal, range_refusal};
+ghost use Rattle.ctap_cbor.specs.Writes.{Writes, WritesAll, WritesPairs, WritesKey, WritesScalar, GivesUp, Extends, last_text};
+
+use crate::fault::Kind;
+use crate::laws::known_bytes;
+use crate::sink::{head_into, negative_argument};
+use crate::value::Value;
+use std::alloc::{AllocError, AllocFailed};
+
+/// Where a key's text stands in what is written.
+#[derive(Clone, Copy)]
+struct Span {
+    start: usize,
+    end: usize,
+}
+
+impl From<AllocError> for Kind {
+    ghost use Rattle.ctap_cbor.specs.declared.fault.Kind.TheVariants.{Memory};
+
+    ghost from_gives = { λ _ k. k ≡ Memory };
+
+    fn from(_error: AllocError) -> Self {
+        Kind::Memory
+    }
+}
+
+impl<T: Drop> From<AllocFailed<T>> for Kind {
+    ghost use Rattle.ctap_cbor.specs.declared.fault.Kind.TheVariants.{Memory};
+
+    ghost from_gives = { λ _ k. k ≡ Memory };
+
+    fn from(_error: AllocFailed<T>) -> Self {
+        Kind::Memory
+    }
+}
+
+/// Appends a value's canonical encoding, with the vector's own allocator.
+///
+/// A value that has none is refused with the kind that is met first as it is written: for a key its type (5), then an
+/// integer out of range (8), then its order in the map (6), and then its value; for an array or a map a fifth level
+/// (4), and then what is inside; for another integer its range (8). Where memory is refused the kind is 10. After a
+/// refusal the vector holds what it held before.
+pub fn encode_value(value: &Value, out: &mut Vec<u8>) -> Result<(), Kind>
+    ensures ok { OnOk result (IsCanonical (tree_of value.now) (text (tree_of value.now))) }
+    ensures appends { OnOk result (out.new.items ≡ out.old.items ++ text (tree_of value.now)) }
+    ensures err { IfErr result (λ k. k ≢ Kind.Memory → refusal 4 (tree_of value.now) ≡ Some k) }
+    ensures unchanged { OnErr result (out.new.items ≡ out.old.items) }
+{
+    let len = out.len();
+    let written = write_value(value, out, 4);
+    if written.is_err() {
+        out.truncate(len);
+    }
+    written
+}
+
+/// Writes a value that may hold so many levels of arrays and maps.
+#[cycle(write)]
+fn write_value(value: &Value, out: &mut Vec<u8>, room: u8) -> Result<(), Kind>
+    ensures { MatchResult result
+        (λ _. Writes room (tree_of value.now) out.old.items out.new.items)
+        (λ k. GivesUp k (refusal room (tree_of value.now)) out.old.items out.new.items) }
+{
+    match value {
+        Value::Int(i) => write_int(*i, out),
+        Value::Bytes(bytes) => write_bytes(bytes, out),
+        Value::Text(text) => write_text(text, out),
+        Value::Array(items) => write_array(items, out, room),
+        Value::Map(pairs) => write_map(pairs, out, room),
+        Value::Bool(flag) => write_byte(if *flag { 0xf5 } else { 0xf4 }, out),
+        Value::Null => write_byte(0xf6, out),
+    }
+}
+
+/// Writes an array: its head and its items.
+#[cycle(write)]
+fn write_array(items: &[Value], out: &mut Vec<u8>, room: u8) -> Result<(), Kind>
+    ensures { MatchResult result
+        (λ _. Writes room (tree.Array (trees_of items.now)) out.old.items out.new.items)
+        (λ k. GivesUp k (refusal room (tree.Array (trees_of items.now))) out.old.items out.new.items) }
+{
+    if room == 0 {
+        return Err(Kind::TooDeep);
+    }
+    write_head(4, items.len() as u64, out)?;
+    write_items(items, out, room - 1)
+}
+
+/// Writes a map: its head and its pairs.
+#[cycle(write)]
+fn write_map(pairs: &[(Value, Value)], out: &mut Vec<u8>, room: u8) -> Result<(), Kind>
+    ensures { MatchResult result
+        (λ _. Writes room (tree.Map (pairs_of pairs.now)) out.old.items out.new.items)
+        (λ k. GivesUp k (refusal room (tree.Map (pairs_of pairs.now))) out.old.items out.new.items) }
+{
+    if room == 0 {
+        return Err(Kind::TooDeep);
+    }
+    write_head(5, pairs.len() as u64, out)?;
+    write_pairs(pairs, out, room - 1)
+}
+
+/// Writes the items of an array.
+#[cycle(write)]
+fn write_items(items: &[Value], out: &mut Vec<u8>, room: u8) -> Result<(), Kind>
+    ensures { MatchResult result
+        (λ _. WritesAll room (trees_of items.now) out.old.items out.new.items)
+        (λ k. GivesUp k (refusal_all room (trees_of items.now)) out.old.items out.new.items) }
+{
+    for item in items {
+        write_value(item, out, room)?;
+    }
+    Ok(())
+}
+
+/// Writes the pairs of a map, whose keys have to rise.
+#[cycle(write)]
+fn write_pairs(pairs: &[(Value, Value)], out: &mut Vec<u8>, room: u8) -> Result<(), Kind>
+    ensures { MatchResult result
+        (λ _. WritesPairs room (pairs_of pairs.now) out.old.items out.new.items)
+        (λ k. GivesUp k (refusal_pairs room None (pairs_of pairs.now)) out.old.items out.new.items) }
+{
+    let mut previous = None;
+    for pair in pairs {
+        let start = out.len();
+        write_key(&pair.0, out)?;
+        if !is_above_last(previous, out, start) {
+            return Err(Kind::KeyOrder);
+        }
+        previous = Some(Span {
+            start,
+            end: out.len(),
+        });
+        write_value(&pair.1, out, room)?;
+    }
+    Ok(())
+}
+
+/// Writes a key of a map, whose order is left out.
+fn write_key(key: &Value, out: &mut Vec<u8>) -> Result<(), Kind>
+    ensures { MatchResult result
+        (λ _. WritesKey (tree_of key.now) out.old.items out.new.items)
+        (λ k. GivesUp k (own_refusal (tree_of key.now)) out.old.items out.new.items) }
+{
+    match key {
+        Value::Int(i) => write_int(*i, out),
+        Value::Bytes(bytes) => write_bytes(bytes, out),
+        Value::Text(text) => write_text(text, out),
+        _ => Err(Kind::KeyType),
+    }
+}
+
+/// Whether the key that was written from `start` on stands above the one before it.
+fn is_above_last(previous: Option<Span>, out: &[u8], start: usize) -> bool
+    requires span { ForSome previous (λ s. (s.start ≤ s.end) × (s.end ≤ length out.now)) }
+    requires start { start ≤ length out.now }
+    ensures { result ≡ is_above (AKey (last_text out.now previous)) (drop start out.now) }
+{
+    match previous {
+        None => true,
+        Some(span) => out[span.start..span.end].cmp(&out[start..]).is_lt(),
+    }
+}
+
+/// Writes an integer.
+fn write_int(value: i128, out: &mut Vec<u8>) -> Result<(), Kind>
+    ensures { MatchResult result
+        (λ _. WritesScalar (tree.Int value) out.old.items out.new.items)
+        (λ k. GivesUp k (range_refusal (tree.Int value)) out.old.items out.new.items) }
+{
+    if !(-0x1_0000_0000_0000_0000 <= value && value <= 0xffff_ffff_ffff_ffff) {
+        return Err(Kind::Unsupported);
+    }
+    if value >= 0 {
+        write_head(0, value as u64, out)?;
+    } else {
+        write_head(1, negative_argument(value), out)?;
+    }
+    Ok(())
+}
+
+/// Writes a byte string.
+fn write_bytes(bytes: &[u8], out: &mut Vec<u8>) -> Result<(), Kind>
+    ensures { MatchResult result
+        (λ _. WritesScalar (tree.Bytes bytes.now) out.old.items out.new.items)
+        (λ k. (k ≡ Kind.Memory) × Extends out.old.items out.new.items) }
+{
+    known_bytes(bytes);
+    write_head(2, bytes.len() as u64, out)?;
+    out.extend_from_slice(bytes)?;
+    Ok(())
+}
+
+/// Writes a text.
+fn write_text(text: &str, out: &mut Vec<u8>) -> Result<(), Kind>
+    ensures { MatchResult result
+        (λ _. WritesScalar (tree.Text text.now) out.old.items out.new.items)
+        (λ k. (k ≡ Kind.Memory) × Extends out.old.items out.new.items) }
+{
+    write_head(3, text.len() as u64, out)?;
+    out.extend_from_slice(text.as_bytes())?;
+    Ok(())
+}
+
+/// Writes the shortest head of a major type with an argument.
+fn write_head(major: u8, argument: u64, out: &mut Vec<u8>) -> Result<(), AllocError>
+    requires { major < 8 }
+    ensures ok { OnOk result (out.new.items ≡ out.old.items ++ head major argument) }
+    ensures err { OnErr result (out.new.items ≡ out.old.items) }
+{
+    let mut buffer = [0u8; 9];
+    let len = head_into(major, argument, &mut buffer);
+    out.extend_from_slice(&buffer[..len])
+}
+
+/// Writes one byte.
+fn write_byte(byte: u8, out: &mut Vec<u8>) -> Result<(), Kind>
+    ensures { MatchResult result
+        (λ _. out.new.items ≡ out.old.items ++ byte ∷ [])
+        (λ k. (k ≡ Kind.Memory) × Extends out.old.items out.new.items) }
+{
+    out.push(byte)?;
+    Ok(())
+}

@@ -1,0 +1,171 @@
+//! One item at the front of a text: its head, and the bytes of a string (RFC 8949, section 3).
+
+ghost use Rattle.std.specs.Prelude.{◌≡◌, ◌≢◌, ◌<◌, ◌≤◌, length, MatchOption, true, false};
+ghost use Rattle.std.specs.Str.{is_utf8};
+ghost use Rattle.ctap_cbor.specs.Head.{info, argument_len, argument, least_argument, number_after};
+ghost use Rattle.ctap_cbor.specs.Faults.{first_of, first_faults};
+ghost use Rattle.ctap_cbor.specs.Parts.{read};
+ghost use Rattle.ctap_cbor.specs.Views.{Finds, FindsRest, part_of, due_of, headed};
+
+use crate::fault::Kind;
+use crate::item::Item;
+
+/// The item or the key that begins a text, with its length, or its fault and how many bytes count as passed
+/// then. The order of keys is left out.
+#[inline(always)]
+pub(crate) fn find<'a>(
+    bytes: &'a [u8],
+    room: u8,
+    is_key: bool,
+) -> Result<(Item<'a>, usize), (Kind, usize)>
+    ensures { Finds bytes.now result (read room (due_of is_key) bytes.now) }
+{
+    let Some((first, rest)) = bytes.split_first() else {
+        return Err((Kind::Truncated, 0));
+    };
+    match first_fault(*first, room, is_key) {
+        Some(kind) => Err((kind, 1)),
+        None => find_rest(*first, rest),
+    }
+}
+
+/// The fault that a head's first byte shows.
+#[tactic(auto, unfolding(crate::specs::Faults::first_faults))]
+fn first_fault(first: u8, room: u8, is_key: bool) -> Option<Kind>
+    ensures { result ≡ first_of (first_faults room (due_of is_key) first) }
+{
+    let major = first / 32;
+    let info = first % 32;
+    if info >= 28 {
+        return Some(Kind::Reserved);
+    }
+    match major {
+        0..=3 => None,
+        4 | 5 if is_key => Some(Kind::KeyType),
+        4 | 5 if room == 0 => Some(Kind::TooDeep),
+        4 | 5 => None,
+        7 if 20 <= info && info <= 22 && is_key => Some(Kind::KeyType),
+        7 if 20 <= info && info <= 22 => None,
+        _ => Some(Kind::Unsupported),
+    }
+}
+
+/// The item behind a head's first byte that shows no fault, with its length, or its fault.
+#[tactic(auto, unfolding(crate::specs::Faults::body_faults, crate::specs::Faults::string_len, crate::specs::Faults::item_len, crate::specs::Faults::passed))]
+#[inline(always)]
+fn find_rest<'a>(first: u8, rest: &'a [u8]) -> Result<(Item<'a>, usize), (Kind, usize)>
+    requires { info first < 28 }
+    ensures { FindsRest first rest.now result }
+{
+    let major = first / 32;
+    let info = first % 32;
+    let len = len_of_argument(info);
+    if rest.len() < len {
+        return Err((Kind::Truncated, 1 + rest.len()));
+    }
+    let argument = argument_of(first, rest);
+    if argument < least(info) {
+        return Err((Kind::NotShortest, 1 + len));
+    }
+    if major != 2 && major != 3 {
+        return Ok((without_string(major, info, argument), 1 + len));
+    }
+    let behind = &rest[len..];
+    if (behind.len() as u64) < argument {
+        return Err((Kind::Truncated, 1 + rest.len()));
+    }
+    let string = &behind[..argument as usize];
+    if major == 2 {
+        return Ok((Item::Bytes(string), 1 + len + string.len()));
+    }
+    match text_of(string) {
+        Some(text) => Ok((Item::Text(text), 1 + len + string.len())),
+        None => Err((Kind::NotUtf8, 1 + len + string.len())),
+    }
+}
+
+/// How many bytes of an argument follow a first byte with this additional information.
+#[tactic(auto, unfolding(crate::specs::Head::argument_len))]
+fn len_of_argument(info: u8) -> usize
+    requires { info < 28 }
+    ensures len { result ≡ argument_len info }
+    ensures small { result ≤ 8 }
+{
+    match info {
+        24 => 1,
+        25 => 2,
+        26 => 4,
+        27 => 8,
+        _ => 0,
+    }
+}
+
+/// The least argument that needs this additional information.
+#[tactic(auto, unfolding(crate::specs::Head::least_argument))]
+fn least(info: u8) -> u64
+    requires { info < 28 }
+    ensures { result ≡ least_argument info }
+{
+    match info {
+        24 => 24,
+        25 => 0x100,
+        26 => 0x1_0000,
+        27 => 0x1_0000_0000,
+        _ => 0,
+    }
+}
+
+/// The argument of a head.
+#[tactic(auto, unfolding(crate::specs::Head::argument, crate::specs::Head::argument_len))]
+fn argument_of(first: u8, rest: &[u8]) -> u64
+    requires known { info first < 28 }
+    requires room { argument_len (info first) ≤ length rest.now }
+    ensures { result ≡ argument first rest.now }
+{
+    let info = first % 32;
+    if info < 24 {
+        u64::from(info)
+    } else {
+        number(&rest[..len_of_argument(info)])
+    }
+}
+
+/// The number that at most eight bytes spell, the highest first.
+fn number(bytes: &[u8]) -> u64
+    requires { length bytes.now ≤ 8 }
+    ensures { result ≡ number_after 0 bytes.now }
+{
+    let mut n: u64 = 0;
+    for b in bytes {
+        n = n * 256 + u64::from(*b);
+    }
+    n
+}
+
+/// What a head with this major type and additional information opens or is, unless it is a string.
+fn without_string<'a>(major: u8, info: u8, argument: u64) -> Item<'a>
+    requires { major ≢ 2 × major ≢ 3 }
+    ensures { part_of result ≡ headed major info argument }
+{
+    match major {
+        0 => Item::Int(i128::from(argument)),
+        1 => Item::Int(-1 - i128::from(argument)),
+        4 => Item::Array(argument),
+        5 => Item::Map(argument),
+        _ => match info {
+            20 => Item::Bool(false),
+            21 => Item::Bool(true),
+            _ => Item::Null,
+        },
+    }
+}
+
+/// The bytes as text, where they are UTF-8.
+fn text_of(bytes: &[u8]) -> Option<&str>
+    ensures { MatchOption result (is_utf8 bytes.now ≡ false) (λ t. (t.now ≡ bytes.now) × (is_utf8 bytes.now ≡ true)) }
+{
+    match str::from_utf8(bytes) {
+        Ok(text) => Some(text),
+        Err(_) => None,
+    }
+}

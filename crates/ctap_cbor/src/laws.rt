@@ -1,0 +1,53 @@
+//! What holds of the encoding itself, over the definitions alone. Each function does nothing: its contract is a
+//! law, and a caller has it by calling.
+
+ghost use Rattle.ctap_cbor.specs.Head.{AreBytes};
+ghost use Rattle.ctap_cbor.specs.Laws.{EachTextIsOne, NoneBeginsAnother, StepsAreBounded, WrittenIsReadAgain, OneTreePasses, NothingHalts, EncodedIsDecoded, RefusedHasNoText};
+
+/// Each text is the encoding of one tree, or that and bytes behind it, or has one first fault, with one way to
+/// stand there.
+pub fn each_text_is_one()
+    ensures { EachTextIsOne }
+{}
+
+/// What is written is read again, as the same tree.
+pub fn written_is_read_again()
+    ensures { WrittenIsReadAgain }
+{}
+
+/// No tree's encoding begins another's, and none is that of two trees. So what was written is read again whatever
+/// follows it.
+pub fn none_begins_another()
+    ensures { NoneBeginsAnother }
+{}
+
+/// Reading n bytes takes at most 2 * n + 1 steps.
+pub fn steps_are_bounded()
+    ensures { StepsAreBounded }
+{}
+
+/// Where a tree's encoding stands at a cursor's place, that tree alone can be passed there.
+pub fn one_tree_passes()
+    ensures { OneTreePasses }
+{}
+
+/// Where a tree's encoding stands at a cursor's place, reading finds no fault there.
+pub fn nothing_halts()
+    ensures { NothingHalts }
+{}
+
+/// What [`encode_value`](crate::encode_value) writes, [`decode_value`](crate::decode_value) reads as the same tree, and
+/// refuses for want of memory alone.
+pub fn encoded_is_decoded()
+    ensures { EncodedIsDecoded }
+{}
+
+/// What `encode_value` refuses, but for want of memory, has no canonical encoding.
+pub fn refused_has_no_text()
+    ensures { RefusedHasNoText }
+{}
+
+/// The items of a slice of bytes are below 256, as the laws ask.
+pub fn known_bytes(bytes: &[u8])
+    ensures { AreBytes bytes.now }
+{}

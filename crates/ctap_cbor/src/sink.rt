@@ -1,0 +1,191 @@
+//! Writing into a lent buffer, each head in its shortest form.
+
+ghost use Rattle.std.specs.Prelude.{◌≡◌, ◌<◌, ◌≤◌, ◌<ℤ◌, ◌↔◌, pos, negsuc, IsTrue, [], ◌∷◌, length, take};
+ghost use Rattle.ctap_cbor.specs.Head.{head, head_len};
+ghost use Rattle.ctap_cbor.specs.Tree.{Int, Bytes, Text, Flag, Null};
+ghost use Rattle.ctap_cbor.specs.Grammar.{scalar_text, Fits};
+
+/// Writes CBOR into a lent buffer, from its front.
+///
+/// A scalar is written whole; of an array or a map its head, and what it holds is written next by the caller: so
+/// many items, or so many keys each with its value, in rising order of the keys' encodings. Each call needs room for
+/// what it writes.
+#[derive(Drop)]
+pub struct Sink<'a> {
+    buffer: &'a mut [u8],
+    len: usize,
+    ghost within: { len ≤ length buffer.now },
+}
+
+impl<'a> Sink<'a> {
+    ghost use Rattle.ctap_cbor.specs.Writing.{written, behind, room_of, scalar_len, Appends, SameBuffer};
+
+    /// A sink over the whole buffer, with nothing written.
+    pub fn new(buffer: &'a mut [u8]) -> Self
+        ensures empty { written result ≡ [] }
+        ensures behind { behind result ≡ buffer.old }
+        ensures room { room_of result ≡ length buffer.old }
+        ensures same { result.buffer.ghost_name ≡ buffer.entry.ghost_name }
+    {
+        Sink { buffer, len: 0 }
+    }
+
+    /// How many bytes are written.
+    pub fn len(&self) -> usize
+        ensures { result ≡ length (written self.now) }
+    {
+        self.len
+    }
+
+    /// Whether nothing is written.
+    pub fn is_empty(&self) -> bool
+        ensures { IsTrue result ↔ (written self.now ≡ []) }
+    {
+        self.len == 0
+    }
+
+    /// Writes an integer of at least 0.
+    pub fn uint(&mut self, value: u64)
+        requires { head_len value ≤ room_of self.old }
+        ensures appends { Appends self.old self.new (head 0 value) (head_len value) }
+        ensures same { SameBuffer self.old self.new }
+    {
+        self.head(0, value);
+    }
+
+    /// Writes an integer from -2^64 to 2^64-1.
+    pub fn int(&mut self, value: i128)
+        requires range { Fits (Int value) }
+        requires room { scalar_len (Int value) ≤ room_of self.old }
+        ensures appends { Appends self.old self.new (scalar_text (Int value)) (scalar_len (Int value)) }
+        ensures same { SameBuffer self.old self.new }
+    {
+        if value >= 0 {
+            self.head(0, value as u64);
+        } else {
+            self.head(1, negative_argument(value));
+        }
+    }
+
+    /// Writes a byte string.
+    pub fn bytes(&mut self, value: &[u8])
+        requires { scalar_len (Bytes value.now) ≤ room_of self.old }
+        ensures appends { Appends self.old self.new (scalar_text (Bytes value.now)) (scalar_len (Bytes value.now)) }
+        ensures same { SameBuffer self.old self.new }
+    {
+        self.head(2, value.len() as u64);
+        self.extend(value);
+    }
+
+    /// Writes a text.
+    pub fn text(&mut self, value: &str)
+        requires { scalar_len (Text value.now) ≤ room_of self.old }
+        ensures appends { Appends self.old self.new (scalar_text (Text value.now)) (scalar_len (Text value.now)) }
+        ensures same { SameBuffer self.old self.new }
+    {
+        self.head(3, value.len() as u64);
+        self.extend(value.as_bytes());
+    }
+
+    /// Writes the head of an array of so many items.
+    pub fn array(&mut self, count: u64)
+        requires { head_len count ≤ room_of self.old }
+        ensures appends { Appends self.old self.new (head 4 count) (head_len count) }
+        ensures same { SameBuffer self.old self.new }
+    {
+        self.head(4, count);
+    }
+
+    /// Writes the head of a map of so many pairs.
+    pub fn map(&mut self, count: u64)
+        requires { head_len count ≤ room_of self.old }
+        ensures appends { Appends self.old self.new (head 5 count) (head_len count) }
+        ensures same { SameBuffer self.old self.new }
+    {
+        self.head(5, count);
+    }
+
+    /// Writes false or true.
+    pub fn flag(&mut self, value: bool)
+        requires { 1 ≤ room_of self.old }
+        ensures appends { Appends self.old self.new (scalar_text (Flag value)) 1 }
+        ensures same { SameBuffer self.old self.new }
+    {
+        self.push(if value { 0xf5 } else { 0xf4 });
+    }
+
+    /// Writes null.
+    pub fn null(&mut self)
+        requires { 1 ≤ room_of self.old }
+        ensures appends { Appends self.old self.new (scalar_text Null) 1 }
+        ensures same { SameBuffer self.old self.new }
+    {
+        self.push(0xf6);
+    }
+
+    /// Writes the shortest head of a major type with an argument.
+    #[tactic(auto, unfolding(crate::specs::Head::head))]
+    fn head(&mut self, major: u8, argument: u64)
+        requires low { major < 8 }
+        requires room { head_len argument ≤ room_of self.old }
+        ensures appends { Appends self.old self.new (head major argument) (head_len argument) }
+        ensures same { SameBuffer self.old self.new }
+    {
+        let first = 32 * major;
+        if argument < 24 {
+            self.push(first + argument as u8);
+        } else if argument < 0x100 {
+            self.extend(&[first + 24, argument as u8]);
+        } else if argument < 0x1_0000 {
+            self.push(first + 25);
+            self.extend(&(argument as u16).to_be_bytes());
+        } else if argument < 0x1_0000_0000 {
+            self.push(first + 26);
+            self.extend(&(argument as u32).to_be_bytes());
+        } else {
+            self.push(first + 27);
+            self.extend(&argument.to_be_bytes());
+        }
+    }
+
+    /// Writes one byte.
+    fn push(&mut self, byte: u8)
+        requires { 1 ≤ room_of self.old }
+        ensures appends { Appends self.old self.new (byte ∷ []) 1 }
+        ensures same { SameBuffer self.old self.new }
+    {
+        self.extend(&[byte]);
+    }
+
+    /// Writes bytes.
+    fn extend(&mut self, bytes: &[u8])
+        requires { length bytes.now ≤ room_of self.old }
+        ensures appends { Appends self.old self.new bytes.now (length bytes.now) }
+        ensures same { SameBuffer self.old self.new }
+    {
+        let end = self.len + bytes.len();
+        self.buffer[self.len..end].copy_from_slice(bytes);
+        self.len = end;
+    }
+}
+
+/// The argument of a negative integer's head: -1 less the integer.
+pub(crate) fn negative_argument(value: i128) -> u64
+    requires negative { value <ℤ pos 0 }
+    requires range { Fits (Int value) }
+    ensures { value ≡ negsuc result }
+{
+    (-1 - value) as u64
+}
+
+/// Writes the shortest head of a major type with an argument into a buffer that holds any head, and gives its length.
+pub(crate) fn head_into(major: u8, argument: u64, out: &mut [u8]) -> usize
+    requires low { major < 8 }
+    requires room { 9 ≤ length out.old }
+    ensures within { result ≤ 9 }
+    ensures front { take result out.new ≡ head major argument }
+{
+    let mut sink = Sink::new(out);
+    sink.head(major, argument);
+    sink.len()
+}

@@ -1,0 +1,133 @@
+//! Values: the rows again, refusals, and want of memory.
+//!
+//! `rt try --test --fail-alloc N` refuses the Nth allocation of each test. Whichever it is, the tests of `decoded` and
+//! `appends` hold: the answer is Memory, nothing else changes, and the same call with memory succeeds.
+
+use crate::tests::rows;
+use crate::*;
+use std::alloc::{AllocError, Global};
+use std::process::Abort;
+use std::test::Fail;
+
+/// Decodes, once more where memory was refused.
+fn decoded(rt: &impl Abort, alloc: Global, bytes: &[u8]) -> Result<Value, Fault> {
+    let first = decode_value(alloc, bytes);
+    match first {
+        Err(fault) if fault.kind == Kind::Memory => {
+            assert_eq!(rt; fault.at, 0);
+            decode_value(alloc, bytes)
+        }
+        _ => first,
+    }
+}
+
+/// Encodes behind one byte, once more where memory was refused, and gives the bytes behind that one.
+fn appends(rt: &impl Abort, value: &Value, out: &mut Vec<u8>) -> Result<(), Kind> {
+    let first = encode_value(value, out);
+    match first {
+        Err(Kind::Memory) => {
+            assert_eq!(rt; out.as_slice(), b"\xee".as_slice());
+            encode_value(value, out)
+        }
+        _ => first,
+    }
+}
+
+fn one_byte(alloc: Global) -> Result<Vec<u8>, AllocError> {
+    let mut out = Vec::new(alloc);
+    if out.push(0xee).is_err() {
+        out.push(0xee)?;
+    }
+    Ok(out)
+}
+
+#[test]
+fn decodes_rows(rt: HostRuntime) {
+    for (bytes, want) in rows().iter() {
+        let got = match decoded(&rt, rt.alloc(), bytes) {
+            Ok(_) => Ok(()),
+            Err(fault) => Err(fault),
+        };
+        assert_eq!(rt; got, want.result, "{bytes:?}");
+    }
+}
+
+#[test]
+fn decodes_and_encodes(rt: HostRuntime) -> Result<(), Fail> {
+    let bytes = *b"\xa3\x01\x82\x41\x07\x61\x61\x20\xa1\x61\x62\xf5\x61\x63\xf6";
+    let value = decoded(&rt, rt.alloc(), &bytes)?;
+    let mut out = one_byte(rt.alloc())?;
+    appends(&rt, &value, &mut out)?;
+    assert_eq!(rt; out.get(1..), Some(bytes.as_slice()));
+    Ok(())
+}
+
+#[test]
+fn takes_lowest_integer(rt: HostRuntime) -> Result<(), Fail> {
+    let bytes = b"\x3b\xff\xff\xff\xff\xff\xff\xff\xff";
+    let lowest = Value::Int(-18446744073709551616);
+    assert_eq!(rt; decoded(&rt, rt.alloc(), bytes)?, lowest);
+    let mut out = one_byte(rt.alloc())?;
+    appends(&rt, &lowest, &mut out)?;
+    assert_eq!(rt; out.get(1..), Some(bytes.as_slice()));
+    Ok(())
+}
+
+fn pair_of(alloc: Global, first: Value, second: Value) -> Result<Value, Fail> {
+    let mut pairs = Vec::new(alloc);
+    pairs.push((first, Value::Null))?;
+    pairs.push((second, Value::Null))?;
+    Ok(Value::Map(pairs))
+}
+
+fn nested(alloc: Global, levels: usize) -> Result<Value, Fail> {
+    let mut value = Value::Array(Vec::new(alloc));
+    for _ in 1..levels {
+        let mut items = Vec::new(alloc);
+        items.push(value)?;
+        value = Value::Array(items);
+    }
+    Ok(value)
+}
+
+#[test]
+fn refuses_what_has_no_encoding(rt: HostRuntime) -> Result<(), Fail> {
+    let alloc = rt.alloc();
+    let mut out = one_byte(alloc)?;
+    let high = Value::Int(18446744073709551616);
+    assert_eq!(rt; appends(&rt, &high, &mut out), Err(Kind::Unsupported));
+    let low = Value::Int(-18446744073709551617);
+    assert_eq!(rt; appends(&rt, &low, &mut out), Err(Kind::Unsupported));
+    let falling = pair_of(alloc, Value::Int(1), Value::Int(0))?;
+    assert_eq!(rt; appends(&rt, &falling, &mut out), Err(Kind::KeyOrder));
+    let repeated = pair_of(alloc, Value::Int(1), Value::Int(1))?;
+    assert_eq!(rt; appends(&rt, &repeated, &mut out), Err(Kind::KeyOrder));
+    let flags = pair_of(alloc, Value::Int(1), Value::Bool(true))?;
+    assert_eq!(rt; appends(&rt, &flags, &mut out), Err(Kind::KeyType));
+    let deep = nested(alloc, 5)?;
+    assert_eq!(rt; appends(&rt, &deep, &mut out), Err(Kind::TooDeep));
+    assert_eq!(rt; out.as_slice(), b"\xee".as_slice());
+    let deepest = nested(alloc, 4)?;
+    assert_eq!(rt; appends(&rt, &deepest, &mut out), Ok(()));
+    assert_eq!(rt; out.as_slice(), b"\xee\x81\x81\x81\x80".as_slice());
+    Ok(())
+}
+
+/// An array of 1,000 arrays of one map each.
+#[test]
+fn takes_many_siblings(rt: HostRuntime) -> Result<(), Fail> {
+    let mut bytes = [0u8; 4003];
+    bytes[0] = 0x99;
+    bytes[1] = 0x03;
+    bytes[2] = 0xe8;
+    for i in 0..1000 {
+        bytes[4 * i + 3] = 0x81;
+        bytes[4 * i + 4] = 0xa1;
+        bytes[4 * i + 6] = 0xf6;
+    }
+    let value = decoded(&rt, rt.alloc(), &bytes)?;
+    let mut out = one_byte(rt.alloc())?;
+    appends(&rt, &value, &mut out)?;
+    assert_eq!(rt; out.get(1..), Some(bytes.as_slice()));
+    Ok(())
+}
