@@ -1,5 +1,5 @@
 -- All that the transport needs to know of the authenticator.
-use Rattle.std.proofs.Common.{◌≡◌, ℕ, ◌≤◌, List, [], ◌∷◌, length, Option, Some, None, refl, arith}
+use Rattle.std.proofs.Common.{◌≡◌, ℕ, ◌≤◌, length, Option, Some, None, refl}
 use Rattle.authn_core.specs.Turn.{CoreState, working, Event, Answer, Answered, Nothing, Request, Cancel, Drop, core_turn}
 
 -- a channel that was given out, where something is on one

@@ -1,5 +1,4 @@
 -- A turn as the definitions see it.
-use Rattle.std.specs.Prelude.{ℕ}
 use Rattle.authn_core.specs.Turn.{Answer, Answered, Waits}
 use Rattle.authn_core.specs.Status.{status_number}
 use Rattle.authn_core.specs.declared.authenticator.Turn.{Turn}

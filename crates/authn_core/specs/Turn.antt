@@ -1,7 +1,7 @@
 -- The authenticator's turns: what each event makes of its state, and what it answers (CTAP 2.1, section 6). No command is
 -- served yet, so every request is answered by status 0x01 (CTAP1_ERR_INVALID_COMMAND) at once and no work ever begins.
 -- What becomes of waiting work stands here already.
-use Rattle.std.specs.Prelude.{ℕ, List, [], ◌∷◌, Option, Some, None, option_map}
+use Rattle.std.specs.Prelude.{ℕ, List, [], ◌∷◌, Option, None, option_map}
 
 -- Waiting work: the channel that asked, and its status, 1 while the authenticator is processing and 2 while it waits for the
 -- user's presence (CTAP 2.1, section 11.2.9.1.7).

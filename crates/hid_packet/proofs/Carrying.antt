@@ -1,9 +1,9 @@
 -- The written packets carry their message.
-use Rattle.std.proofs.Common.{◌≡◌, ℕ, ◌+◌, ◌-◌, ◌*◌, ◌/◌, ◌^◌, ◌<◌, ◌≤◌, ◌⊎◌, Bool, true, false, inl, inr, suc, zero, List, [], ◌∷◌, ◌++◌, length, take, drop, replicate, flat_map, append_assoc, append-nil, refl, sym, ◌∙◌, ap, subst, arith, nat_le, length-append, length-drop}
+use Rattle.std.proofs.Common.{◌≡◌, ℕ, ◌+◌, ◌-◌, ◌*◌, ◌/◌, ◌^◌, ◌<◌, ◌≤◌, true, false, inl, inr, suc, zero, List, [], ◌∷◌, ◌++◌, length, take, drop, replicate, flat_map, append_assoc, append-nil, refl, sym, ◌∙◌, ap, subst, arith, nat_le, length-append, length-drop}
 use Rattle.std.proofs.lemmas.Bool.Decides.{nat_tests}
 use Rattle.std.proofs.lemmas.Bool.{cases_lt}
-use Rattle.std.proofs.lemmas.List.{take-append-le, take-append-drop, take_all, drop_all, length-take, length-replicate}
-use Rattle.std.proofs.Math.Seq.{take-append-add, take-append_seam, take-length}
+use Rattle.std.proofs.lemmas.List.{take-append-drop, take_all, length-take, length-replicate}
+use Rattle.std.proofs.Math.Seq.{take-append-add, take-append_seam}
 use Rattle.byteorder.specs.Endian.{big_bytes}
 use Rattle.byteorder.specs.Numbers.{big_number-reads_back}
 use Rattle.hid_packet.specs.Packet.{channel, is_initialization, command, message_length, initialization_data, sequence, continuation_data}

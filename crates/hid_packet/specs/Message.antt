@@ -1,5 +1,5 @@
 -- The packets that are written for a message (CTAP 2.1, section 11.2.4, "Message and packet structure").
-use Rattle.std.specs.Prelude.{ℕ, ◌+◌, ◌-◌, ◌*◌, List, [], ◌∷◌, zero, suc, ◌++◌, length, take, drop, replicate}
+use Rattle.std.specs.Prelude.{ℕ, ◌+◌, ◌-◌, List, [], ◌∷◌, zero, suc, ◌++◌, length, take, drop, replicate}
 use Rattle.byteorder.specs.Endian.{big_bytes}
 
 -- the bytes, and zero bytes behind them up to 64

@@ -1,4 +1,4 @@
-use Rattle.std.proofs.Common.{sym, ◌∙◌, ap, arith, rules, length}
+use Rattle.std.proofs.Common.{ap, arith, rules, length}
 use Rattle.std.proofs.lemmas.Bool.Decides.{nat_tests}
 use Rattle.hid_packet.proofs.Writing.{first_taken, next_taken, none_taken}
 use Rattle.hid_packet.proofs.fragments.FragmentsIterator.next.Goals as goal

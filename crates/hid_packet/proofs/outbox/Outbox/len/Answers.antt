@@ -1,4 +1,4 @@
-use Rattle.std.proofs.Common.{length, ap, sym, ◌∙◌, arith, rules}
+use Rattle.std.proofs.Common.{length, ap, sym, ◌∙◌, arith}
 use Rattle.hid_packet.proofs.Ring.{length-waiting}
 use Rattle.hid_packet.proofs.outbox.Outbox.len.Goals as goal
 

@@ -1,5 +1,4 @@
-use Rattle.std.proofs.Common.{sym, ◌∙◌, arith, rules}
-use Rattle.std.proofs.lemmas.Bool.Decides.{nat_tests}
+use Rattle.std.proofs.Common.{sym, ◌∙◌, arith}
 use Rattle.hid_packet.proofs.Ring.{waiting-pop, none_waits}
 use Rattle.hid_packet.proofs.outbox.Outbox.pop.Goals as goal
 

@@ -1,4 +1,4 @@
-use Rattle.std.proofs.Common.{ℕ, List, ◌≡◌, ◌+◌, ◌++◌, ap, length, arith, length-append}
+use Rattle.std.proofs.Common.{ℕ, List, ◌≡◌, ◌++◌, ap, length, arith, length-append}
 use Rattle.hid_packet.specs.Message.{written}
 use Rattle.hid_packet.proofs.outbox.Outbox.put_message.Goals as goal
 

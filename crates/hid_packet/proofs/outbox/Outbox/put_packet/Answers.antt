@@ -1,4 +1,4 @@
-use Rattle.std.proofs.Common.{ℕ, ◌<◌, List, [], ◌∷◌, ◌++◌, length, ap, ◌∙◌, arith, length-set}
+use Rattle.std.proofs.Common.{ℕ, List, [], ◌∷◌, ◌++◌, length, ap, ◌∙◌, arith, length-set}
 use Rattle.hid_packet.proofs.Ring.{length-waiting, waiting-push}
 use Rattle.hid_packet.proofs.outbox.Outbox.put_packet.Goals as goal
 
