@@ -1,5 +1,5 @@
 -- A verdict sends what its row sends, and is its event.
-use Rattle.std.proofs.Common.{◌≡◌, ℕ, ◌==◌, Bool, true, false, cond, List, [], ◌++◌, append-nil, take, Option, Some, None, option_map, refl}
+use Rattle.std.proofs.Common.{◌≡◌, ℕ, Bool, true, false, cond, List, [], ◌++◌, append-nil, take, Option, Some, None, refl}
 use Rattle.hid_packet.specs.Packet.{Fields, channel_of, data_of}
 use Rattle.hid_assemble.specs.declared.table.Row.{Row}
 use Rattle.hid_assemble.specs.declared.table.Row.TheVariants.{CancelsWork, CancelsNothing, NoSuchChannel, InitLength, InitFull, InitNew, InitAgain, BusyElsewhere, BusyHere, BrokenOff, NoSuchCommand, BadLength, Short, Long, Kept, Whole, WrongNumber, Stray}

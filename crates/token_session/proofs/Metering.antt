@@ -1,5 +1,5 @@
 -- The meters that a history names go on by one input.
-use Rattle.std.proofs.Common.{◌≡◌, ℕ, ◌+◌, ◌-◌, ◌*◌, ◌≤◌, List, [], ◌∷◌, ◌++◌, length, max, min, sum_by, Option, Some, None, option_map, refl, sym, ◌∙◌, ap, arith, length-append}
+use Rattle.std.proofs.Common.{◌≡◌, ℕ, ◌+◌, ◌-◌, ◌*◌, List, [], ◌∷◌, ◌++◌, length, max, min, sum_by, Option, Some, None, option_map, refl, sym, ◌∙◌, ap, arith}
 use Rattle.std.proofs.lemmas.List.Sums.{sum_by-cons}
 use Rattle.hid_assemble.specs.Assembly.{held_bytes}
 use Rattle.authn_core.specs.Turn.{Event, Request, Cancel, Drop}

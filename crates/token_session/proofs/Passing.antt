@@ -1,5 +1,5 @@
 -- Time passes: the three cases.
-use Rattle.std.proofs.Common.{◌≡◌, ℕ, ◌+◌, ◌≤◌, ◌<◌, Bool, true, false, cond, List, [], ◌∷◌, Option, Some, None, option_map, refl, ap, arith, nat_le}
+use Rattle.std.proofs.Common.{◌≡◌, ℕ, ◌+◌, ◌≤◌, ◌<◌, Bool, true, false, cond, [], Option, Some, None, option_map, refl, ap, arith, nat_le}
 use Rattle.std.proofs.lemmas.Bool.Decides.{nat_tests}
 use Rattle.hid_assemble.specs.Assembly.{Open, Assembly, is_overdue, still_open}
 use Rattle.authn_core.specs.Turn.{CoreState, Work}

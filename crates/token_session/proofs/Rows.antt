@@ -1,6 +1,6 @@
 -- Worked histories, by computation: a reader's check that the definitions say what is meant. Code and definitions share the
 -- fields, the error codes, the greeting and the authenticator's turns, and only these rows look at them from outside.
-use Rattle.std.specs.Prelude.{◌≡◌, ℕ, ◌+◌, ◌-◌, List, [], ◌∷◌, ◌++◌, length, refl, replicate, reverse, zero, suc, Option, Some, None}
+use Rattle.std.specs.Prelude.{◌≡◌, ℕ, ◌+◌, ◌-◌, List, [], ◌∷◌, ◌++◌, length, refl, replicate, reverse, zero, suc, Some, None}
 use Rattle.authn_core.specs.Turn.{core_turn}
 use Rattle.hid_assemble.specs.Assembly.{is_overdue, message_after, open_after}
 use Rattle.hid_assemble.specs.Table.{begin_row, continuation_row, init_row, initialization_row, row_of}

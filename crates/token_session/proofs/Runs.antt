@@ -1,7 +1,7 @@
 -- From one input to runs.
 use Rattle.std.proofs.Common.{◌≡◌, ℕ, ◌+◌, List, [], ◌∷◌, ◌++◌, refl, ◌∙◌, ap}
 use Rattle.token_session.proofs.Follows.{follows, good_judged}
-use Rattle.token_session.specs.History.{event, judge, judged}
+use Rattle.token_session.specs.History.{judge, judged}
 use Rattle.token_session.specs.Law.{Behind, event_at, named, numbered, onto, run_sent, run_state, sent_from, sent_now}
 use Rattle.token_session.specs.Machine.{State, Turn, turn}
 use Rattle.token_session.specs.declared.input.Timed.{Timed}

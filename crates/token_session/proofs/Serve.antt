@@ -12,7 +12,7 @@ use Rattle.hid_assemble.specs.declared.table.Row.{Row}
 use Rattle.hid_assemble.specs.declared.table.Row.TheVariants.{BadLength, BrokenOff, BusyElsewhere, BusyHere, CancelsNothing, CancelsWork, InitAgain, InitFull, InitLength, InitNew, Kept, Long, NoSuchChannel, NoSuchCommand, Short, Stray, Whole, WrongNumber}
 use Rattle.hid_packet.specs.Commands.{BROADCAST, CANCEL, CBOR, INIT, PING}
 use Rattle.hid_packet.specs.Packet.{Fields, channel, command, continuation, continuation_data, fields, initialization, initialization_data, is_initialization, message_length, sequence}
-use Rattle.token_session.specs.History.{Begun, Judged, admits, asks_channel, finished, finished_long, is_last, is_long, is_next, is_own, own, packet, packet_event, packets_of}
+use Rattle.token_session.specs.History.{Begun, Judged, admits, asks_channel, finished, finished_long, is_last, is_long, is_next, is_own, packet, packet_event, packets_of}
 use Rattle.token_session.specs.Law.{as_open, last_at}
 use Rattle.token_session.specs.Machine.{event_after}
 use Rattle.token_session.specs.Replies.{request_of}

@@ -1,10 +1,10 @@
 -- A packet that is served by its verdict is the composed turn.
-use Rattle.std.proofs.Common.{◌≡◌, ℕ, List, [], ◌++◌, max, Option, option_map, refl, sym, ◌∙◌, ap}
+use Rattle.std.proofs.Common.{◌≡◌, ℕ, List, max, Option, option_map, refl, sym}
 use Rattle.hid_packet.specs.declared.packet.Packet.{Packet as Packet64}
 use Rattle.hid_packet.specs.Packet.{fields}
 use Rattle.hid_assemble.specs.declared.verdict.Verdict.{Verdict}
 use Rattle.hid_assemble.specs.Table.{row_of}
-use Rattle.hid_assemble.specs.Assembly.{Assembly, seen, given_after, open_after, message_after, accepted}
+use Rattle.hid_assemble.specs.Assembly.{Assembly, seen, given_after, open_after, accepted}
 use Rattle.hid_assemble.specs.Verdicts.{verdict}
 use Rattle.authn_core.specs.Turn.{CoreState, working}
 use Rattle.token_session.specs.declared.input.Input.TheVariants.{Packet}

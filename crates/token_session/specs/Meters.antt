@@ -1,7 +1,6 @@
 -- The meters of a session: what a history names, and what one turn adds.
 use Rattle.std.specs.Prelude.{◌≡◌, ℕ, ◌+◌, ◌-◌, ◌^◌, List, [], ◌∷◌, ◌++◌, length, max, min, sum_by, Option, Some, None}
 use Rattle.hid_assemble.specs.Assembly.{held_bytes}
-use Rattle.authn_core.specs.Turn.{Event}
 use Rattle.token_session.specs.declared.input.Timed.{Timed}
 use Rattle.token_session.specs.declared.input.Meters.{Meters}
 use Rattle.token_session.specs.Effects.{request_in, request_size}

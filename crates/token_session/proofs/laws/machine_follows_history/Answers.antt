@@ -1,5 +1,3 @@
-use Rattle.std.proofs.Common.{◌∙◌, ap}
-use Rattle.token_session.specs.Machine.{Turn, turn}
 use Rattle.token_session.proofs.Follows.{machine_follows}
 use Rattle.token_session.proofs.Runs.{step_sends}
 use Rattle.token_session.proofs.laws.machine_follows_history.Goals as goal

@@ -1,6 +1,5 @@
-use Rattle.std.proofs.Common.{◌≡◌, ℕ, ◌+◌, ◌≤◌, ◌++◌, List, [], length, append-nil, cond, refl, sym, ◌∙◌, ap, arith}
+use Rattle.std.proofs.Common.{◌++◌, append-nil, cond, sym, ◌∙◌, ap, arith}
 use Rattle.hid_packet.proofs.Carrying.{few_written}
-use Rattle.authn_core.specs.Turn.{Drop}
 use Rattle.token_session.specs.Replies.{greeting}
 use Rattle.token_session.specs.Effects.{verdict_packets, verdict_event}
 use Rattle.token_session.specs.Machine.{event_packets, event_keeps_alive}

@@ -1,4 +1,4 @@
-use Rattle.std.proofs.Common.{◌≡◌, ℕ, ◌+◌, ◌≤◌, ◌<◌, ◌++◌, [], List, sym, ◌∙◌, ap, arith}
+use Rattle.std.proofs.Common.{ℕ, ◌+◌, ◌≤◌, ◌<◌, ◌++◌, List, sym, ◌∙◌, ap, arith}
 use Rattle.authn_core.specs.Status.{status_number}
 use Rattle.token_session.specs.Replies.{error, keepalive}
 use Rattle.token_session.specs.Machine.{Turn}

@@ -1,5 +1,5 @@
-use Rattle.std.proofs.Common.{◌≡◌, ℕ, ◌∙◌, ap}
-use Rattle.token_session.specs.Machine.{Turn, State}
+use Rattle.std.proofs.Common.{◌≡◌, ◌∙◌, ap}
+use Rattle.token_session.specs.Machine.{Turn}
 use Rattle.token_session.specs.Effects.{request_size}
 use Rattle.token_session.proofs.Serving.{packet_turn}
 use Rattle.token_session.proofs.machine.Machine.serve_packet.Goals as goal

@@ -1,7 +1,4 @@
-use Rattle.std.proofs.Common.{◌≡◌, ℕ, ◌≤◌, List, length, subst, sym, ◌∙◌, ap}
-use Rattle.token_session.specs.declared.input.Timed.{Timed}
-use Rattle.token_session.specs.Machine.{turn}
-use Rattle.token_session.specs.Meters.{SessionState, StandsBehind, stepped}
+use Rattle.std.proofs.Common.{ℕ, ◌≤◌, List, length, subst, sym, ◌∙◌}
 use Rattle.token_session.proofs.Few.{turn_few}
 use Rattle.token_session.proofs.Runs.{step_sends}
 use Rattle.token_session.proofs.Metering.{stepped_is, stands_longer, machine_behind}
