@@ -1,0 +1,65 @@
+-- The definitions at a worked example: of two rows of one RP the first is replaced, the second one's counter is raised.
+use Rattle.std.proofs.Common.{◌≡◌, ℕ, List, [], ◌∷◌, length, replicate, Bool, true, false, Some, None, option_map, refl}
+use Rattle.std.specs.List.{find}
+use Rattle.cred_table.specs.declared.row.Row.{Row}
+use Rattle.cred_table.specs.Rows.{has_id, is_named, is_user, stored, raised, listed, ids, counter_of}
+
+rp : List ℕ
+rp = replicate 32 0xA3
+
+made : (id user counter : ℕ) → Bool → Row
+made id user counter discoverable = record { rp = replicate 32 0xA3; id = replicate 32 id; x = replicate 32 0; y = replicate 32 0; user = record { items = user ∷ [] }; discoverable = discoverable; counter = counter }
+
+-- both rows are discoverable, or the second one isn't
+rows : Bool → List Row
+unfolding made
+rows discoverable = made 0xAA 1 0 true ∷ made 0xAB 2 0 discoverable ∷ []
+
+after : Bool → List Row
+unfolding made
+after discoverable = made 0xAB 2 0 discoverable ∷ made 0xAC 1 0 true ∷ []
+
+same_user_is : option_map (λ (row : Row). row.id) (find (is_user rp (1 ∷ [])) (rows true)) ≡ Some (replicate 32 0xAA)
+unfolding rp made rows
+same_user_is = refl
+
+hidden_user_is : find (is_user rp (2 ∷ [])) (rows false) ≡ None
+unfolding rp made rows
+hidden_user_is = refl
+
+stored_is : stored (made 0xAC 1 0 true) (rows true) ≡ after true
+unfolding made rows after
+stored_is = refl
+
+-- a row that isn't discoverable replaces nothing
+kept_is : length (stored (made 0xAC 1 0 false) (rows true)) ≡ 3
+unfolding made rows
+kept_is = refl
+
+listed_is : ids (listed rp (after true)) ≡ replicate 32 0xAC ∷ replicate 32 0xAB ∷ []
+unfolding rp made after
+listed_is = refl
+
+hidden_is : ids (listed rp (after false)) ≡ replicate 32 0xAC ∷ []
+unfolding rp made after
+hidden_is = refl
+
+gone_is : find (has_id (replicate 32 0xAA)) (after true) ≡ None
+unfolding made after
+gone_is = refl
+
+raised_is : raised (replicate 32 0xAB) (after true) ≡ made 0xAB 2 1 true ∷ made 0xAC 1 0 true ∷ []
+unfolding made after
+raised_is = refl
+
+counter_is : counter_of (replicate 32 0xAB) (raised (replicate 32 0xAB) (after true)) ≡ 1
+unfolding made after
+counter_is = refl
+
+short_is : find (is_named rp (replicate 31 0xAB)) (after true) ≡ None
+unfolding rp made after
+short_is = refl
+
+other_is : find (is_named (replicate 32 0) (replicate 32 0xAB)) (after true) ≡ None
+unfolding made after
+other_is = refl

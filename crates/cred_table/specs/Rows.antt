@@ -1,0 +1,74 @@
+-- A credential table as the list of its rows, in order of making: the credentials map of WebAuthn Level 2, section 6.
+use Rattle.std.specs.Prelude.{ℕ, ◌+◌, ◌≤◌, ◌≡◌, List, [], ◌∷◌, ◌++◌, length, map, reverse, Bool, true, ◌&&◌, not, if◌then◌else◌, Option, Some, None}
+use Rattle.std.specs.List.{find, filter, list_any}
+use Rattle.std.specs.Str.{bytes_eq}
+use Rattle.cred_table.specs.declared.row.Row.{Row}
+
+-- The row has the id.
+abbrev pub has_id : (id : List ℕ) → Row → Bool
+has_id id row = bytes_eq row.id id
+
+-- The row has the id and belongs to the RP.
+abbrev pub is_named : (rp id : List ℕ) → Row → Bool
+is_named rp id row = bytes_eq row.id id && bytes_eq row.rp rp
+
+-- The row is discoverable and belongs to the RP.
+abbrev pub is_listed : (rp : List ℕ) → Row → Bool
+is_listed rp row = row.discoverable && bytes_eq row.rp rp
+
+-- The row is the RP's discoverable one for the user.
+abbrev pub is_user : (rp user : List ℕ) → Row → Bool
+is_user rp user row = is_listed rp row && bytes_eq row.user.items user
+
+-- A new row takes the place of an old one where both are discoverable, of one RP and one user handle (CTAP 2.1,
+-- section 6.1.2; WebAuthn Level 2, section 6.3.2).
+abbrev pub replaces : (new old : Row) → Bool
+replaces new old = new.discoverable && is_user new.rp new.user.items old
+
+-- The two rows have one id.
+abbrev pub same_id : (a b : Row) → Bool
+same_id a b = bytes_eq a.id b.id
+
+-- No two of the rows clash.
+abbrev pub no_two : (clash : Row → Row → Bool) → List Row → Bool
+no_two clash [] = true
+no_two clash (row ∷ rows) = not (list_any (clash row) rows) && no_two clash rows
+
+-- Lawful rows: their ids are distinct, at most one discoverable row has a given RP and user, and there are
+-- no more of them than the table has room for.
+pub record Lawful (room : ℕ) (rows : List Row) : Type 0 where
+  pub distinct : no_two same_id rows ≡ true
+  pub one_each : no_two replaces rows ≡ true
+  pub few : length rows ≤ room
+
+-- The rows but the one with the id.
+abbrev pub without : (id : List ℕ) → List Row → List Row
+without id rows = filter (λ row. not (has_id id row)) rows
+
+-- The rows behind the making of a new one: it stands last, and what it replaces is gone.
+abbrev pub stored : (new : Row) → List Row → List Row
+stored new rows = filter (λ old. not (replaces new old)) rows ++ new ∷ []
+
+-- The row, with its counter raised by one if it has the id.
+abbrev pub raised_row : (id : List ℕ) → Row → Row
+raised_row id row = if has_id id row then record row { counter = row.counter + 1 } else row
+
+-- The rows with the counter of one raised, each in its place (WebAuthn Level 2, section 6.3.3).
+abbrev pub raised : (id : List ℕ) → List Row → List Row
+raised id rows = map (raised_row id) rows
+
+-- The discoverable rows of the RP, newest first (CTAP 2.1, section 6.2.2).
+abbrev pub listed : (rp : List ℕ) → List Row → List Row
+listed rp rows = reverse (filter (is_listed rp) rows)
+
+-- The ids of the rows.
+abbrev pub ids : List Row → List (List ℕ)
+ids rows = map (λ row. row.id) rows
+
+-- The counter of the row with the id, 0 where there is none.
+abbrev pub counter_in : Option Row → ℕ
+counter_in None = 0
+counter_in (Some row) = row.counter
+
+abbrev pub counter_of : (id : List ℕ) → List Row → ℕ
+counter_of id rows = counter_in (find (has_id id) rows)

@@ -1,0 +1,159 @@
+//! Authenticator data and the bytes to sign.
+
+ghost use Rattle.std.specs.Prelude.{◌≡◌, ◌⊎◌, ◌+◌, ◌++◌, length};
+ghost use Rattle.fido_authdata.specs.AuthData.{assertion_bytes, created_bytes, attested_bytes, flags_byte};
+
+use crate::cose::{COSE_KEY_LEN, cose_key};
+use arrayvec::ArrayVec;
+use byteorder::{BigEndian, ByteOrder};
+use std::marker::Model;
+
+/// How many bytes the authenticator data of an assertion has.
+pub const ASSERTION_LEN: usize = 37;
+
+/// How many bytes attested credential data has: AAGUID, length of the id, id, COSE key.
+const ATTESTED_LEN: usize = 16 + 2 + 32 + COSE_KEY_LEN;
+
+/// How many bytes the authenticator data of a new credential has.
+pub const CREATED_LEN: usize = ASSERTION_LEN + ATTESTED_LEN;
+
+/// How many bytes at most are signed: authenticator data and a hash of 32 bytes.
+pub const TO_SIGN_MAX: usize = CREATED_LEN + 32;
+
+/// Flag: the user was present (UP, bit 0).
+const USER_PRESENT: u8 = 0x01;
+
+/// Flag: attested credential data is included (AT, bit 6).
+const ATTESTED: u8 = 0x40;
+
+/// Attested credential data (WebAuthn Level 2, section 6.5.1), the public key by its coordinates.
+#[derive(Clone, Copy, Debug)]
+struct AttestedCredential {
+    aaguid: [u8; 16],
+    id: [u8; 32],
+    x: [u8; 32],
+    y: [u8; 32],
+}
+
+impl AttestedCredential {
+    /// The AAGUID, the id's length, the id and the COSE key.
+    fn bytes(&self) -> ArrayVec<u8, ATTESTED_LEN>
+        ensures value { result.items ≡ attested_bytes self.now.aaguid self.now.id self.now.x self.now.y }
+        ensures len { length result.items ≡ ATTESTED_LEN }
+    {
+        let mut id_length = [0; 2];
+        BigEndian::write_u16(&mut id_length, self.id.len() as u16);
+        let mut bytes = ArrayVec::new();
+        bytes.try_extend_from_slice(&self.aaguid).unwrap();
+        bytes.try_extend_from_slice(&id_length).unwrap();
+        bytes.try_extend_from_slice(&self.id).unwrap();
+        bytes
+            .try_extend_from_slice(&cose_key(&self.x, &self.y))
+            .unwrap();
+        bytes
+    }
+}
+
+/// The flags byte.
+fn flags(user_present: bool, attested: bool) -> u8
+    ensures { result ≡ flags_byte user_present attested }
+{
+    let present = if user_present { USER_PRESENT } else { 0 };
+    let included = if attested { ATTESTED } else { 0 };
+    present | included
+}
+
+/// Authenticator data (WebAuthn Level 2, section 6.1). A contract sees its bytes.
+#[derive(Clone, Debug, Drop)]
+pub struct AuthData {
+    rp_hash: [u8; 32],
+    user_present: bool,
+    counter: u32,
+    attested: Option<AttestedCredential>,
+}
+
+impl Model for AuthData {
+    ghost use Rattle.std.specs.Prelude.{ℕ, List};
+    ghost use Rattle.fido_authdata.specs.AuthData.{kept_bytes};
+
+    ghost Value = { List ℕ };
+
+    ghost view = { λ d. kept_bytes d.rp_hash d.user_present d.counter d.attested };
+}
+
+impl AuthData {
+    /// The authenticator data of an assertion: the SHA-256 hash of the RP id, whether the user was present (UP),
+    /// and the signature counter, already raised.
+    pub fn assertion(rp_hash: &[u8; 32], up: bool, counter: u32) -> Self
+        ensures value { result ≡ assertion_bytes rp_hash.now up counter }
+        ensures len { length result ≡ ASSERTION_LEN }
+    {
+        AuthData {
+            rp_hash: *rp_hash,
+            user_present: up,
+            counter,
+            attested: None,
+        }
+    }
+
+    /// The authenticator data of a new credential: its id, its public key's coordinates, and the AAGUID of the
+    /// authenticator's model. The user was present and the counter is 0 (flags 0x41).
+    pub fn created(
+        rp_hash: &[u8; 32],
+        aaguid: &[u8; 16],
+        id: &[u8; 32],
+        x: &[u8; 32],
+        y: &[u8; 32],
+    ) -> Self
+        ensures value { result ≡ created_bytes rp_hash.now aaguid.now id.now x.now y.now }
+        ensures len { length result ≡ CREATED_LEN }
+    {
+        AuthData {
+            rp_hash: *rp_hash,
+            user_present: true,
+            counter: 0,
+            attested: Some(AttestedCredential {
+                aaguid: *aaguid,
+                id: *id,
+                x: *x,
+                y: *y,
+            }),
+        }
+    }
+
+    /// The bytes that a relying party verifies: 37 for an assertion, 164 for a new credential.
+    pub fn bytes(&self) -> ArrayVec<u8, CREATED_LEN>
+        ensures value { result.items ≡ self.now }
+        ensures len { (length result.items ≡ ASSERTION_LEN) ⊎ (length result.items ≡ CREATED_LEN) }
+    {
+        let mut counter = [0; 4];
+        BigEndian::write_u32(&mut counter, self.counter);
+        let mut bytes = ArrayVec::new();
+        bytes.try_extend_from_slice(&self.rp_hash).unwrap();
+        bytes.push(flags(self.user_present, self.attested.is_some()));
+        bytes.try_extend_from_slice(&counter).unwrap();
+        if let Some(attested) = &self.attested {
+            bytes
+                .try_extend_from_slice(attested.bytes().as_slice())
+                .unwrap();
+        }
+        bytes
+    }
+}
+
+/// What an authenticator signs: authenticator data and behind it the SHA-256 hash of the client data, for an assertion
+/// (WebAuthn Level 2, section 6.3.3) as for packed self attestation (section 8.2). It has 69 bytes for an assertion,
+/// 196 for a new credential.
+pub fn to_sign(auth_data: &AuthData, hash: &[u8; 32]) -> ArrayVec<u8, TO_SIGN_MAX>
+    ensures value { result.items ≡ auth_data.now ++ hash.now }
+    ensures len { (length result.items ≡ ASSERTION_LEN + 32) ⊎ (length result.items ≡ TO_SIGN_MAX) }
+{
+    let bytes = auth_data.bytes();
+    let mut signed = ArrayVec::new();
+    signed.try_extend_from_slice(bytes.as_slice()).unwrap();
+    signed.try_extend_from_slice(hash).unwrap();
+    signed
+}
+
+#[cfg(test)]
+mod tests;

@@ -1,0 +1,11 @@
+//! Authenticator data, the COSE public key and the bytes that an authenticator signs, for ES256 credentials
+//! (WebAuthn Level 2, sections 6.1, 6.5.1 and 8.2; RFC 8152, section 13.1.1).
+//!
+//! Nothing is hashed or signed here: the SHA-256 hash of the RP id comes in as 32 bytes. Nothing takes memory.
+#![tactic(auto)]
+
+mod auth_data;
+mod cose;
+
+pub use auth_data::{ASSERTION_LEN, AuthData, CREATED_LEN, TO_SIGN_MAX, to_sign};
+pub use cose::{COSE_KEY_LEN, cose_key};
