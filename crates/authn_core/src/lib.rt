@@ -7,3 +7,6 @@ mod work;
 
 pub use authenticator::{Answer, Core, Need, Turn};
 pub use work::{KeepaliveStatus, Work};
+
+#[cfg(test)]
+mod tests;
