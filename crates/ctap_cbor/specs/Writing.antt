@@ -1,5 +1,6 @@
 -- What a sink does with the buffer that it was lent.
 use Rattle.std.specs.Prelude.{◌≡◌, ℕ, ◌+◌, ◌-◌, pos, negsuc, List, ◌++◌, length, take, drop}
+use Rattle.std.specs.Borrow.{MutBor}
 use Rattle.ctap_cbor.specs.Tree.{Scalar, Int, Bytes, Text, Flag, Null}
 use Rattle.ctap_cbor.specs.Head.{head_len}
 use Rattle.ctap_cbor.specs.declared.sink.Sink.{Sink}
@@ -32,6 +33,10 @@ pub record Appends (old new : Sink) (bytes : List ℕ) (len : ℕ) : Type 0 wher
   pub room_is : room_of old ≡ room_of new + len
   pub keeps : behind new ≡ drop len (behind old)
 
--- the buffer that was lent is the same, so what is written in the end is found in it
+-- the sink writes into this buffer, so what is written in the end is found in it
+abbrev pub IsOver : MutBor (List ℕ) → Sink → Type 0
+IsOver buffer s = s.buffer.ghost_name ≡ buffer.ghost_name
+
+-- and goes on to
 abbrev pub SameBuffer : Sink → Sink → Type 0
 SameBuffer old new = new.buffer.ghost_name ≡ old.buffer.ghost_name

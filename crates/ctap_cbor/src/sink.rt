@@ -18,14 +18,14 @@ pub struct Sink<'a> {
 }
 
 impl<'a> Sink<'a> {
-    ghost use Rattle.ctap_cbor.specs.Writing.{written, behind, room_of, scalar_len, Appends, SameBuffer};
+    ghost use Rattle.ctap_cbor.specs.Writing.{written, behind, room_of, scalar_len, Appends, IsOver, SameBuffer};
 
     /// A sink over the whole buffer, with nothing written.
     pub fn new(buffer: &'a mut [u8]) -> Self
         ensures empty { written result ≡ [] }
         ensures behind { behind result ≡ buffer.old }
         ensures room { room_of result ≡ length buffer.old }
-        ensures same { result.buffer.ghost_name ≡ buffer.entry.ghost_name }
+        ensures same { IsOver buffer.entry result }
     {
         Sink { buffer, len: 0 }
     }
