@@ -6,7 +6,7 @@ use Rattle.hid_packet.specs.Packet.{Fields, initialization, continuation, channe
 use Rattle.hid_assemble.specs.declared.table.Row.{Row}
 use Rattle.hid_assemble.specs.Table.{LAST_CHANNEL, is_given, is_on, is_elsewhere, init_row, begin_row, initialization_row, continuation_row, row_of}
 use Rattle.hid_assemble.specs.Assembly.{Open, Assembly, seen, open_after, accepted}
-use Rattle.hid_assemble.proofs.Tests.{cond_case}
+use Rattle.hid_assemble.proofs.Comparing.{cond_case}
 
 apart : (a b : ℕ) → (a ≡ b → ⊥) → (a == b) ≡ false
 apart a b never = go (a == b) refl

@@ -1,4 +1,4 @@
-pub mod Tests
+pub mod Comparing
 pub mod Says
 pub mod Keeping
 pub mod Lawful

@@ -6,7 +6,7 @@ use Rattle.hid_assemble.specs.declared.table.Row.{Row}
 use Rattle.hid_assemble.specs.declared.table.Opened.{Opened}
 use Rattle.hid_assemble.specs.Table.{LAST_CHANNEL, is_given, is_on, is_elsewhere, init_row, begin_row, initialization_row, continuation_row}
 use Rattle.hid_assemble.specs.Says.{Opens, BeginsWith, InitializationSays, ContinuationSays, ContinuesSays}
-use Rattle.hid_assemble.proofs.Tests.{cond_case, unequal, at_most, above, below, no_less}
+use Rattle.hid_assemble.proofs.Comparing.{cond_case, unequal, at_most, above, below, no_less}
 
 -- what is said of both kinds of caller
 abbrev Both : (given : ℕ) → Option ℕ → (cid cmd len : ℕ) → Row → Type 0
