@@ -41,7 +41,9 @@ pub fn replay_command<S: Source, O: Target, E: Target>(
     requires tells { E.failed faults.old < 2 ^ 64 - 1 }
     // It is the log of the empty history that was written.
     ensures replayed { (answer : Result Counts Fault) × (later : List OneInput) × (result ≡ status_of answer)
-        × Moves (S.left input.old) (S.left input.new) (O.taken output.old) (O.taken output.new) (λ bytes text. Answers (history 0) [] later bytes text answer) }
+        × Moves (S.left input.old) (S.left input.new) (O.taken output.old) (O.taken output.new)
+        (λ bytes text. Answers (history 0) [] later bytes text answer) }
+    // Without a fault nothing is told.
     ensures silent { OnOk result (faults.new ≡ faults.old) }
 {
     let mut session = Session::<CAPACITY>::bare([0; 16], 0);

@@ -7,7 +7,7 @@ use itoa::Buffer;
 use token_session::{Input, Timed};
 
 /// What one line of a log says.
-#[derive(Clone, Copy)]
+#[derive(Clone, Copy, Debug, PartialEq, Eq)]
 pub enum Line {
     /// `> M P` or `t M`: an input for the session.
     Input(Timed),
@@ -41,7 +41,8 @@ fn read_moment(digits: &[u8]) -> Option<u64>
 
 /// The packet that 128 hexadecimal digits write, in either case.
 fn read_packet(digits: &[u8]) -> Option<Packet>
-    ensures { MatchOption result (packet_of digits.now ≡ None) (λ packet. packet_of digits.now ≡ Some packet.0) }
+    ensures { MatchOption result
+        (packet_of digits.now ≡ None) (λ packet. packet_of digits.now ≡ Some packet.0) }
 {
     let mut bytes = [0; 64];
     match hex::decode_to_slice(digits, &mut bytes) {
@@ -60,7 +61,8 @@ fn first_space(fields: &[u8]) -> Option<usize>
 
 /// The parts before and behind the first space.
 fn split_field(fields: &[u8]) -> Option<(&[u8], &[u8])>
-    ensures { MatchOption result (first_field fields.now ≡ None) (λ parts. first_field fields.now ≡ Some record { 0 = parts.0.now; 1 = parts.1.now }) }
+    ensures { MatchOption result (first_field fields.now ≡ None) (λ parts.
+        first_field fields.now ≡ Some record { 0 = parts.0.now; 1 = parts.1.now }) }
 {
     let end = first_space(fields)?;
     Some((fields.split_at(end).0, fields.split_at(end + 1).1))

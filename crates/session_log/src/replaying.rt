@@ -26,7 +26,9 @@ const MOST_LINES: u64 = 0xFFFF_FFFF;
 
 /// Whether something stands in the window as a line too many.
 fn is_too_many(window: &Window, number: u64) -> bool
-    ensures value { MatchBool result ((2 ^ 32 ≤ number) × (0 < length window.now)) (2 ^ 32 ≤ number → window.now ≡ []) }
+    ensures value { MatchBool result
+        ((2 ^ 32 ≤ number) × (0 < length window.now))
+        (2 ^ 32 ≤ number → window.now ≡ []) }
     ensures fits { length window.now ≤ 256 }
 {
     let held = window.len();
@@ -40,12 +42,14 @@ fn next_line<S: Source>(
     number: u64,
 ) -> Result<Option<usize>, LogFault>
     requires { S.failed reader.old < 2 ^ 64 - 1 }
-    ensures bytes { (more : List ℕ) × (window.new ≡ window.old ++ more) × Consumes (S.left reader.old) (S.left reader.new) more }
+    ensures bytes { (more : List ℕ) × (window.new ≡ window.old ++ more)
+        × Consumes (S.left reader.old) (S.left reader.new) more }
     ensures front { IfOk result (λ found. MatchOption found
         (IsUnfinished number window.new × (S.ended reader.new ≡ true) × IsAtEnd (S.left reader.new))
         (λ end. HasLine number window.new end)) }
     ensures stopped { IfErr result (λ e. Stops number window.new e) }
-    ensures reads { S.failed reader.new ≡ (if read_fails result then S.failed reader.old + 1 else S.failed reader.old) }
+    ensures reads { S.failed reader.new
+        ≡ (if read_fails result then S.failed reader.old + 1 else S.failed reader.old) }
 {
     'reading: loop {
         if is_too_many(window, number) {
@@ -77,14 +81,18 @@ fn play_line<T: Target, const C: usize>(
     requires short { length line.now < 256 }
     requires empty { outbox.old ≡ [] }
     ensures said { OnOk result (said line.now ≢ None) }
-    ensures ok { OnOk result (Appends (T.taken writer.old) (T.taken writer.new) (text_of machine session.old line.now)) }
+    ensures ok { OnOk result (Appends (T.taken writer.old) (T.taken writer.new)
+        (text_of machine session.old line.now)) }
     ensures same { OnOk result (T.failed writer.new ≡ T.failed writer.old) }
     ensures emptied { OnOk result (outbox.new ≡ []) }
     ensures packets { OnOk result (SendsPackets machine session.old (said line.now)) }
     ensures state { session.new ≡ after machine session.old line.now }
     ensures fault { IfErr result (LineFails number
-        ((said line.now ≡ None) × Keeps (T.taken writer.old) (T.taken writer.new) × (T.failed writer.new ≡ T.failed writer.old))
-        ((said line.now ≢ None) × BreaksOff (T.taken writer.old) (T.taken writer.new) (text_of machine session.old line.now) × (T.failed writer.new ≡ T.failed writer.old + 1))) }
+        ((said line.now ≡ None) × Keeps (T.taken writer.old) (T.taken writer.new)
+        × (T.failed writer.new ≡ T.failed writer.old))
+        ((said line.now ≢ None)
+        × BreaksOff (T.taken writer.old) (T.taken writer.new) (text_of machine session.old line.now)
+        × (T.failed writer.new ≡ T.failed writer.old + 1))) }
 {
     match read_line(line) {
         None => Err(LogFault::BadLine(number)),
@@ -105,12 +113,18 @@ fn play_all<S: Source, T: Target, const C: usize>(
 ) -> Result<(), LogFault>
     requires read { S.failed reader.old < 2 ^ 64 - 1 }
     requires write { T.failed writer.old < 2 ^ 64 - 1 }
-    ensures played { Moves (S.left reader.old) (S.left reader.new) (T.taken writer.old) (T.taken writer.new)
-        (λ bytes text. MatchResult result (λ _. IsPlayed machine session.old session.new bytes text) (λ e. Means machine session.old session.new bytes text e)) }
+    ensures played { Moves (S.left reader.old) (S.left reader.new)
+        (T.taken writer.old) (T.taken writer.new)
+        (λ bytes text. MatchResult result
+        (λ _. IsPlayed machine session.old session.new bytes text)
+        (λ e. Means machine session.old session.new bytes text e)) }
     ensures end { OnOk result ((S.ended reader.new ≡ true) × IsAtEnd (S.left reader.new)) }
-    ensures last { IfErr result (ReadsTo (S.left reader.old) (S.left reader.new) ((S.ended reader.new ≡ true) × IsAtEnd (S.left reader.new))) }
-    ensures reads { S.failed reader.new ≡ (if read_fails result then S.failed reader.old + 1 else S.failed reader.old) }
-    ensures writes { T.failed writer.new ≡ (if write_fails result then T.failed writer.old + 1 else T.failed writer.old) }
+    ensures last { IfErr result (ReadsTo (S.left reader.old) (S.left reader.new)
+        ((S.ended reader.new ≡ true) × IsAtEnd (S.left reader.new))) }
+    ensures reads { S.failed reader.new
+        ≡ (if read_fails result then S.failed reader.old + 1 else S.failed reader.old) }
+    ensures writes { T.failed writer.new
+        ≡ (if write_fails result then T.failed writer.old + 1 else T.failed writer.old) }
 {
     let mut window = Window::new();
     let mut outbox = Outbox::new();
@@ -135,13 +149,17 @@ fn replay_all<S: Source, T: Target, const C: usize>(
 ) -> Result<Meters, LogFault>
     requires read { S.failed reader.old < 2 ^ 64 - 1 }
     requires write { T.failed writer.old < 2 ^ 64 - 1 }
-    ensures replayed { Moves (S.left reader.old) (S.left reader.new) (T.taken writer.old) (T.taken writer.new)
+    ensures replayed { Moves (S.left reader.old) (S.left reader.new)
+        (T.taken writer.old) (T.taken writer.new)
         (λ bytes text. Answers machine session.old session.new bytes text result) }
     ensures again { OnOk result (Repeats (T.taken writer.old) (T.taken writer.new) session.old) }
     ensures end { OnOk result ((S.ended reader.new ≡ true) × IsAtEnd (S.left reader.new)) }
-    ensures last { IfErr result (ReadsTo (S.left reader.old) (S.left reader.new) ((S.ended reader.new ≡ true) × IsAtEnd (S.left reader.new))) }
-    ensures reads { S.failed reader.new ≡ (if read_fails result then S.failed reader.old + 1 else S.failed reader.old) }
-    ensures writes { T.failed writer.new ≡ (if write_fails result then T.failed writer.old + 1 else T.failed writer.old) }
+    ensures last { IfErr result (ReadsTo (S.left reader.old) (S.left reader.new)
+        ((S.ended reader.new ≡ true) × IsAtEnd (S.left reader.new))) }
+    ensures reads { S.failed reader.new
+        ≡ (if read_fails result then S.failed reader.old + 1 else S.failed reader.old) }
+    ensures writes { T.failed writer.new
+        ≡ (if write_fails result then T.failed writer.old + 1 else T.failed writer.old) }
 {
     play_all(reader, writer, session)?;
     let meters = session.meters();
@@ -166,28 +184,38 @@ pub fn replay<S: Source, T: Target, const C: usize>(
     requires read { S.failed reader.old < 2 ^ 64 - 1 }
     requires write { T.failed writer.old < 2 ^ 64 - 1 }
     // No line is faulty, and the whole log was written.
-    ensures done { IfOk result (λ meters. Moves (S.left reader.old) (S.left reader.new) (T.taken writer.old) (T.taken writer.new)
+    ensures done { IfOk result (λ meters. Moves (S.left reader.old) (S.left reader.new)
+        (T.taken writer.old) (T.taken writer.new)
         (λ bytes text. IsDone machine session.old session.new bytes text meters)) }
     // It was all that the reader held.
     ensures end { OnOk result ((S.ended reader.new ≡ true) × IsAtEnd (S.left reader.new)) }
     // Replayed again on an equal session, what was written gives the same bytes.
     ensures again { OnOk result (Repeats (T.taken writer.old) (T.taken writer.new) session.old) }
     // The fault is that of the first faulty line, and the lines before it were written.
-    ensures refused { IfLineFault result (λ fault. Moves (S.left reader.old) (S.left reader.new) (T.taken writer.old) (T.taken writer.new)
+    ensures refused { IfLineFault result (λ fault. Moves (S.left reader.old) (S.left reader.new)
+        (T.taken writer.old) (T.taken writer.new)
         (λ bytes text. IsRefused machine session.old session.new bytes text fault)) }
-    ensures reach { IfErr result (ReadsTo (S.left reader.old) (S.left reader.new) ((S.ended reader.new ≡ true) × IsAtEnd (S.left reader.new))) }
+    // How far was read: to the faulty line, and no further than 256 bytes of it.
+    ensures reach { IfErr result (ReadsTo (S.left reader.old) (S.left reader.new)
+        ((S.ended reader.new ≡ true) × IsAtEnd (S.left reader.new))) }
     // The line that was being read is named, and the lines before it were written.
-    ensures unread { IfRead result (λ line. Moves (S.left reader.old) (S.left reader.new) (T.taken writer.old) (T.taken writer.new)
+    ensures unread { IfRead result (λ line. Moves (S.left reader.old) (S.left reader.new)
+        (T.taken writer.old) (T.taken writer.new)
         (λ bytes text. IsUnread machine session.old session.new bytes text line)) }
     // A beginning of the log was written.
-    ensures unwritten { OnWrite result (Moves (S.left reader.old) (S.left reader.new) (T.taken writer.old) (T.taken writer.new)
+    ensures unwritten { OnWrite result (Moves (S.left reader.old) (S.left reader.new)
+        (T.taken writer.old) (T.taken writer.new)
         (λ bytes text. IsUnwritten machine session.old session.new bytes text)) }
-    // StandsBehind any history, all this holds of what the history names in place of what the session holds.
-    ensures history { (start : ℕ) (h : List OneInput) → StandsBehind session.old start h → (later : List OneInput) × StandsBehind session.new start later
-        × Moves (S.left reader.old) (S.left reader.new) (T.taken writer.old) (T.taken writer.new) (λ bytes text. Answers (history start) h later bytes text result) }
+    // Behind any history, all this holds of what the history names in place of what the session holds.
+    ensures history { (start : ℕ) (h : List OneInput) → StandsBehind session.old start h
+        → (later : List OneInput) × StandsBehind session.new start later
+        × Moves (S.left reader.old) (S.left reader.new) (T.taken writer.old) (T.taken writer.new)
+        (λ bytes text. Answers (history start) h later bytes text result) }
     // A failure was counted exactly at Read, and exactly at Write.
-    ensures reads { S.failed reader.new ≡ (if read_fails result then S.failed reader.old + 1 else S.failed reader.old) }
-    ensures writes { T.failed writer.new ≡ (if write_fails result then T.failed writer.old + 1 else T.failed writer.old) }
+    ensures reads { S.failed reader.new
+        ≡ (if read_fails result then S.failed reader.old + 1 else S.failed reader.old) }
+    ensures writes { T.failed writer.new
+        ≡ (if write_fails result then T.failed writer.old + 1 else T.failed writer.old) }
 {
     replay_all(reader, writer, session)
 }

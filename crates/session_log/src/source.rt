@@ -62,7 +62,8 @@ impl Source for SliceIn<'_> {
     fn get(&mut self, out: &mut [u8]) -> Result<usize, Failed>
         requires { 0 < 2 ^ 64 - 1 }
         ensures bound { IfOk result (λ n. n ≤ length out.new) }
-        ensures bytes { ReadConsumes (Some self.old.rest.now) (Some self.new.rest.now) result out.new }
+        ensures bytes { ReadConsumes (Some self.old.rest.now) (Some self.new.rest.now)
+            result out.new }
         ensures end { self.new.ended ≡ (self.old.ended || gave_nothing result (length out.new)) }
         ensures counted { 0 ≡ (if is_ok result then 0 else 0 + 1) }
         // It gives as much as fits, and writes nothing behind that.

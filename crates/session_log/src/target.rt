@@ -89,12 +89,17 @@ impl Target for SliceOut<'_> {
         requires { self.old.failures < 2 ^ 64 - 1 }
         ensures bound { IfOk result (λ n. n ≤ length piece.now) }
         ensures some { 0 < length piece.now → IfOk result (λ n. 0 < n) }
-        ensures bytes { WriteAppends (Some (take self.old.len self.old.buffer.now)) (Some (take self.new.len self.new.buffer.now)) result piece.now }
-        ensures counted { self.new.failures ≡ (if is_ok result then self.old.failures else self.old.failures + 1) }
+        ensures bytes { WriteAppends (Some (take self.old.len self.old.buffer.now))
+            (Some (take self.new.len self.new.buffer.now)) result piece.now }
+        ensures counted { self.new.failures
+            ≡ (if is_ok result then self.old.failures else self.old.failures + 1) }
         // It takes what fits, fails where nothing does, and leaves the rest of the buffer as it was.
-        ensures most { IfOk result (λ n. n ≡ min (length piece.now) (length self.old.buffer.now - self.old.len)) }
-        ensures full { IsErr result ↔ ((0 < length piece.now) × (self.old.len ≡ length self.old.buffer.now)) }
-        ensures moved { MatchResult result (λ n. self.new.len ≡ self.old.len + n) (λ _. self.new.len ≡ self.old.len) }
+        ensures most { IfOk result (λ n.
+            n ≡ min (length piece.now) (length self.old.buffer.now - self.old.len)) }
+        ensures full { IsErr result
+            ↔ ((0 < length piece.now) × (self.old.len ≡ length self.old.buffer.now)) }
+        ensures moved { MatchResult result
+            (λ n. self.new.len ≡ self.old.len + n) (λ _. self.new.len ≡ self.old.len) }
         ensures rest { drop self.new.len self.new.buffer.now ≡ drop self.new.len self.old.buffer.now }
         ensures same_reference { self.new.buffer.ghost_name ≡ self.old.buffer.ghost_name }
     {

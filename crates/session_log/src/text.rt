@@ -81,9 +81,11 @@ fn put_text<T: Target>(writer: &mut T, text: &[u8]) -> Result<(), LogFault>
 pub fn put_line<T: Target>(writer: &mut T, line: &[u8]) -> Result<(), LogFault>
     requires write { T.failed writer.old < 2 ^ 64 - 1 }
     requires short { length line.now < 256 }
-    ensures ok { OnOk result (Appends (T.taken writer.old) (T.taken writer.new) (ended line.now)) }
+    ensures ok { OnOk result (Appends (T.taken writer.old) (T.taken writer.new)
+        (ended line.now)) }
     ensures same { OnOk result (T.failed writer.new ≡ T.failed writer.old) }
-    ensures broken { OnErr result (BreaksOff (T.taken writer.old) (T.taken writer.new) (ended line.now)) }
+    ensures broken { OnErr result (BreaksOff (T.taken writer.old) (T.taken writer.new)
+        (ended line.now)) }
     ensures fault { IfErr result (λ e. e ≡ LogFault.Write) }
     ensures counted { OnErr result (T.failed writer.new ≡ T.failed writer.old + 1) }
 {
@@ -93,11 +95,13 @@ pub fn put_line<T: Target>(writer: &mut T, line: &[u8]) -> Result<(), LogFault>
 /// Writes the packets that were sent, and empties the outbox.
 pub fn put_packets<T: Target>(writer: &mut T, outbox: &mut Outbox) -> Result<(), LogFault>
     requires { T.failed writer.old < 2 ^ 64 - 1 }
-    ensures ok { OnOk result (Appends (T.taken writer.old) (T.taken writer.new) (flat_map sent_text outbox.old)) }
+    ensures ok { OnOk result (Appends (T.taken writer.old) (T.taken writer.new)
+        (flat_map sent_text outbox.old)) }
     ensures empty { OnOk result (outbox.new ≡ []) }
     ensures packets { OnOk result (ArePackets outbox.old) }
     ensures same { OnOk result (T.failed writer.new ≡ T.failed writer.old) }
-    ensures broken { OnErr result (BreaksOff (T.taken writer.old) (T.taken writer.new) (flat_map sent_text outbox.old)) }
+    ensures broken { OnErr result (BreaksOff (T.taken writer.old) (T.taken writer.new)
+        (flat_map sent_text outbox.old)) }
     ensures fault { IfErr result (λ e. e ≡ LogFault.Write) }
     ensures counted { OnErr result (T.failed writer.new ≡ T.failed writer.old + 1) }
 {
@@ -115,11 +119,13 @@ pub fn put_input<T: Target>(
 ) -> Result<(), LogFault>
     requires write { T.failed writer.old < 2 ^ 64 - 1 }
     requires short { length line.now < 256 }
-    ensures ok { OnOk result (Appends (T.taken writer.old) (T.taken writer.new) (ended line.now ++ flat_map sent_text outbox.old)) }
+    ensures ok { OnOk result (Appends (T.taken writer.old) (T.taken writer.new)
+        (ended line.now ++ flat_map sent_text outbox.old)) }
     ensures empty { OnOk result (outbox.new ≡ []) }
     ensures packets { OnOk result (ArePackets outbox.old) }
     ensures same { OnOk result (T.failed writer.new ≡ T.failed writer.old) }
-    ensures broken { OnErr result (BreaksOff (T.taken writer.old) (T.taken writer.new) (ended line.now ++ flat_map sent_text outbox.old)) }
+    ensures broken { OnErr result (BreaksOff (T.taken writer.old) (T.taken writer.new)
+        (ended line.now ++ flat_map sent_text outbox.old)) }
     ensures fault { IfErr result (λ e. e ≡ LogFault.Write) }
     ensures counted { OnErr result (T.failed writer.new ≡ T.failed writer.old + 1) }
 {
@@ -130,10 +136,12 @@ pub fn put_input<T: Target>(
 /// Writes the last line of a log.
 pub fn put_meters<T: Target>(writer: &mut T, meters: Meters) -> Result<(), LogFault>
     requires { T.failed writer.old < 2 ^ 64 - 1 }
-    ensures ok { OnOk result (Appends (T.taken writer.old) (T.taken writer.new) (meters_line meters)) }
+    ensures ok { OnOk result (Appends (T.taken writer.old) (T.taken writer.new)
+        (meters_line meters)) }
     ensures fits { FitsMeters meters }
     ensures same { OnOk result (T.failed writer.new ≡ T.failed writer.old) }
-    ensures broken { OnErr result (BreaksOff (T.taken writer.old) (T.taken writer.new) (meters_line meters)) }
+    ensures broken { OnErr result (BreaksOff (T.taken writer.old) (T.taken writer.new)
+        (meters_line meters)) }
     ensures fault { IfErr result (λ e. e ≡ LogFault.Write) }
     ensures counted { OnErr result (T.failed writer.new ≡ T.failed writer.old + 1) }
 {

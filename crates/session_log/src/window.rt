@@ -32,7 +32,8 @@ fn get_behind<S: Source>(bytes: &mut [u8], len: usize, reader: &mut S) -> Result
     ensures bytes { ReadConsumes (S.left reader.old) (S.left reader.new) result (drop len bytes.new) }
     ensures fits { IfOk result (λ n. len + n ≤ length bytes.new) }
     ensures end { IfOk result (λ n. n ≡ 0 → S.ended reader.new ≡ true) }
-    ensures counted { S.failed reader.new ≡ (if is_ok result then S.failed reader.old else S.failed reader.old + 1) }
+    ensures counted { S.failed reader.new
+        ≡ (if is_ok result then S.failed reader.old else S.failed reader.old + 1) }
 {
     reader.get(bytes.split_at_mut(len).1)
 }
@@ -88,10 +89,14 @@ impl Window {
     pub fn fill<S: Source>(&mut self, reader: &mut S) -> Result<bool, Failed>
         requires read { S.failed reader.old < 2 ^ 64 - 1 }
         requires room { length self.old < 256 }
-        ensures bytes { (more : List ℕ) × (self.new ≡ self.old ++ more) × Consumes (S.left reader.old) (S.left reader.new) more }
-        ensures grown { IfOk result (λ more. MatchBool more (length self.old < length self.new) ((self.new ≡ self.old) × (S.ended reader.new ≡ true) × IsAtEnd (S.left reader.new))) }
+        ensures bytes { (more : List ℕ) × (self.new ≡ self.old ++ more)
+            × Consumes (S.left reader.old) (S.left reader.new) more }
+        ensures grown { IfOk result (λ more. MatchBool more
+            (length self.old < length self.new)
+            ((self.new ≡ self.old) × (S.ended reader.new ≡ true) × IsAtEnd (S.left reader.new))) }
         ensures err { OnErr result (self.new ≡ self.old) }
-        ensures counted { S.failed reader.new ≡ (if is_ok result then S.failed reader.old else S.failed reader.old + 1) }
+        ensures counted { S.failed reader.new
+            ≡ (if is_ok result then S.failed reader.old else S.failed reader.old + 1) }
     {
         let n = get_behind(&mut self.bytes, self.len, reader)?;
         self.len += n;
