@@ -1,7 +1,7 @@
 -- Worked histories, by computation: a reader's check that the definitions say what is meant. Code and definitions share the
 -- fields, the error codes, the greeting and the authenticator's turns, and only these rows look at them from outside.
 use Rattle.std.specs.Prelude.{◌≡◌, ℕ, ◌+◌, ◌-◌, List, [], ◌∷◌, ◌++◌, length, refl, replicate, reverse, zero, suc, Some, None}
-use Rattle.authn_core.specs.Turn.{core_turn}
+use Rattle.authn_core.specs.Turn.{Waits, core_turn}
 use Rattle.hid_assemble.specs.Assembly.{is_overdue, message_after, open_after}
 use Rattle.hid_assemble.specs.Table.{begin_row, continuation_row, init_row, initialization_row, row_of}
 use Rattle.hid_packet.specs.Message.{continuation_packet, continuation_packets, initialization_packet, padded, written}
@@ -179,3 +179,12 @@ drops = refl
 cancel_in_time : runs (came 100 (one (145 ∷ 0 ∷ 0 ∷ [])) ∷ []) ≡ (0, pad (one (187 ∷ 0 ∷ 1 ∷ 2 ∷ []))) ∷ (0, pad (one (144 ∷ 0 ∷ 1 ∷ 45 ∷ []))) ∷ []
 unfolding runs
 cancel_in_time = refl
+
+-- A KEEPALIVE is sent as work begins and as its status changes, and not where it stays.
+keepalives : List (List (List ℕ))
+unfolding answer_packets written initialization_packet continuation_packets padded
+keepalives = answer_packets 1 0 (Waits 2) ∷ answer_packets 1 2 (Waits 1) ∷ answer_packets 1 2 (Waits 2) ∷ []
+
+begins_and_changes : keepalives ≡ (pad (one (187 ∷ 0 ∷ 1 ∷ 2 ∷ [])) ∷ []) ∷ (pad (one (187 ∷ 0 ∷ 1 ∷ 1 ∷ [])) ∷ []) ∷ [] ∷ []
+unfolding keepalives
+begins_and_changes = refl
