@@ -19,10 +19,11 @@ spelled x y ex ey =
 
 lawful : (x y : List ℕ) → length x ≡ 32 → length y ≡ 32 → AreBytes x → AreBytes y → IsLawful (cose_key_tree x y)
 unfolding head
-lawful x y ex ey bx by =
-    (omega arith,
-     (tt, tt, (tt, refl, (tt, refl, (tt, refl, (tt, refl, tt))))),
-     (omega arith, omega arith, (omega arith, omega arith, (omega arith, omega arith, (omega arith, (omega arith, bx), (omega arith, (omega arith, by), tt))))))
+lawful x y ex ey bx by = (
+  omega arith,
+  (tt, tt, (tt, refl, (tt, refl, (tt, refl, (tt, refl, tt))))),
+  (omega arith, omega arith, (omega arith, omega arith, (omega arith, omega arith, (omega arith, (omega arith, bx), (omega arith, (omega arith, by), tt))))),
+)
 
 pub canonical : (x y : List ℕ) → length x ≡ 32 → length y ≡ 32 → AreBytes x → AreBytes y → IsCanonical (cose_key_tree x y) (cose_key_bytes x y)
 canonical x y ex ey bx by = record { enc = record { lawful = lawful x y ex ey bx by; spelled = spelled x y ex ey }; flat = omega arith }

@@ -13,5 +13,4 @@ ghost use Rattle.encoding_laws.specs.CoseTree.{cose_key_tree};
 pub fn cose_keys_are_canonical()
     ensures { (x y : List ℕ) → length x ≡ 32 → length y ≡ 32 → AreBytes x → AreBytes y
         → IsCanonical (cose_key_tree x y) (cose_key_bytes x y) }
-{
-}
+{}
