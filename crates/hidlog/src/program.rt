@@ -1,5 +1,9 @@
 //! The program over any source and targets.
-ghost use Rattle.std.specs.Prelude.{◌≡◌, ◌<◌, ◌-◌, ◌^◌, ◌⊎◌, IfErr};
+ghost use Rattle.std.specs.Prelude.{◌≡◌, ◌<◌, ◌-◌, ◌^◌, ◌⊎◌, ◌∷◌, [], IfErr, codes, drop};
+ghost use Rattle.clap.specs.Words.{IsAmong, kind_of};
+ghost use Rattle.clap.specs.declared.error.kind.ErrorKind.{ErrorKind as Kind};
+ghost use Rattle.hidlog.specs.CommandLine.{AskFor, answers_to, texts_of};
+ghost use Rattle.hidlog.specs.Program.{Explains, LacksMemory, Replays};
 
 use crate::command_line::{Task, task_of};
 use clap::Error;
@@ -18,7 +22,7 @@ fn explain<O: Target, E: Target>(
 ) -> Result<(), u8>
     requires writes { O.failed output.old < 2 ^ 64 - 1 }
     requires tells { E.failed faults.old < 2 ^ 64 - 1 }
-    ensures status { IfErr result (λ code. code ≡ 2) }
+    ensures { Explains (kind_of error.now) O.taken O.failed E.taken E.failed result (output.old, output.new) (faults.old, faults.new) }
 {
     let text = match error.to_string(alloc) {
         Ok(text) if error.kind() != ErrorKind::OutOfMemory => text,
@@ -54,6 +58,15 @@ where
     requires writes { O.failed output.old < 2 ^ 64 - 1 }
     requires tells { E.failed faults.old < 2 ^ 64 - 1 }
     ensures status { IfErr result (λ code. (code ≡ 1) ⊎ (code ≡ 2)) }
+    // The log is replayed where the words are that command; else the input is left as it is.
+    ensures answered { (AskFor (texts_of words.now) Task.Replay
+        × Replays S.left O.taken result (input.old, input.new) (output.old, output.new) (faults.old, faults.new))
+        ⊎ ((input.new ≡ input.old) × ((kind : Kind) × IsAmong kind (ErrorKind.OutOfMemory ∷ answers_to (texts_of words.now))
+        × Explains kind O.taken O.failed E.taken E.failed result (output.old, output.new) (faults.old, faults.new))) }
+    // `replay` alone is that command.
+    ensures replayed { drop 1 (texts_of words.now) ≡ codes "replay" ∷ []
+        → Replays S.left O.taken result (input.old, input.new) (output.old, output.new) (faults.old, faults.new)
+        ⊎ ((input.new ≡ input.old) × LacksMemory E.taken E.failed result (output.old, output.new) (faults.old, faults.new)) }
 {
     match task_of(alloc, words) {
         Ok(Task::Replay) => replay_command(input, output, faults),

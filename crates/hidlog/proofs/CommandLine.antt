@@ -1,0 +1,180 @@
+-- What follows from the rules of `clap` for the words of the program.
+use Rattle.std.proofs.Common.{◌≡◌, ℕ, Bool, true, false, not, ◌&&◌, List, [], ◌∷◌, Option, Some, None, is_some, codes, option_map, refl, sym, ◌∙◌, ap, subst, cond, if◌then◌else◌, ◌||◌}
+use Rattle.std.specs.List.{fold, slice_index_or}
+use Rattle.std.specs.Str.{bytes_eq}
+use Rattle.std.proofs.lemmas.Slice.Eq.{bytes_eq-Decides}
+use Rattle.clap.proofs.OnLiterals.{clap_on_literals}
+use Rattle.clap.specs.Walk.{Held, Names, Outcome, done, waits, plain, refused, Row, Rule, Step, next, trailing, subcommand, value, Text, Waiting, idle, option, positional, Walk, after_flag, after_step, arg_by_index, arg_by_long, bundle, finished, long_met, long_or_other, plain_word, settled, short_or_plain, subcommand_met, subcommand_or_other, to_positional, walk, walk_from, walked, word_met, nothing_held}
+use Rattle.clap.specs.Lexer.{long_of, short_of}
+use Rattle.clap.specs.Kinds.{Kinds, or_else, check_kinds}
+use Rattle.clap.specs.Faults.{fault_of, check_fault, defaults_fault, entered_fault, level_fault, other_fault, settle_fault, step_fault, turn_fault, walk_fault, word_fault, is_simple_and_free}
+use Rattle.clap.specs.Simple.{App, HasMatchesOf, Shape, is_simple, subcommand_of, argument_words, built, entered, help_shape, names_of, rows_at}
+use Rattle.clap.specs.Matches.{subcommand_name_of}
+use Rattle.clap.specs.declared.parser.matches.ArgMatches.{ArgMatches}
+use Rattle.clap.specs.declared.error.kind.ErrorKind.TheVariants as kind
+use Rattle.hidlog.specs.CommandLine.{grammar, answers_to, named_by}
+
+-- the rules of which clap's clauses speak
+is_simple_grammar : is_simple_and_free grammar ≡ true
+unfolding clap_on_literals
+is_simple_grammar = refl
+
+or_else_none : (a b : Kinds) → or_else a b ≡ [] → (a ≡ []) × (b ≡ [])
+or_else_none [] b e = (refl, e)
+or_else_none (k ∷ ks) b e = cc
+
+-- A fault is found in the command `help`, so that a walk over words without fault stops at none.
+abbrev NoHelp : Option (Text × List Text) → Type 0
+NoHelp None = Unit {0}
+NoHelp (Some stop) = stop.0 ≡ codes "help" → ⊥
+
+abbrev NamesNothing : Step → Type 0
+NamesNothing (next waiting) = Unit {0}
+NamesNothing (trailing position) = Unit {0}
+NamesNothing (subcommand name) = ⊥
+NamesNothing value = Unit {0}
+
+-- A word that is no command names none.
+plain_names : (c : List Rule) (waiting : Waiting) (word : Text) (h : Held) → NamesNothing (plain_word c waiting word h).1
+plain_names c idle word h = tt
+plain_names c (option id) word h = tt
+plain_names c positional word h = tt
+
+flag_names : (c : List Rule) (waiting : Waiting) (word : Text) (h : Held) (met : Outcome) → NamesNothing (after_flag c waiting word h met).1
+flag_names c waiting word h done = tt
+flag_names c waiting word h (waits id) = tt
+flag_names c waiting word h plain = plain_names c waiting word h
+flag_names c waiting word h refused = plain_names c waiting word h
+
+short_names : (c : List Rule) (waiting : Waiting) (word : Text) (flags : Option Text) (h : Held) → NamesNothing (short_or_plain c waiting word flags h).1
+short_names c waiting word None h = plain_names c waiting word h
+short_names c waiting word (Some flags) h = flag_names c waiting word (bundle c flags h).0 (bundle c flags h).1
+
+long_names : (c : List Rule) (waiting : Waiting) (word : Text) (long : Option (Text × Option Text)) (h : Held) → NamesNothing (long_or_other c waiting word long h).1
+long_names c waiting word None h = short_names c waiting word (short_of word) h
+long_names c waiting word (Some p) h =
+    flag_names c waiting word (long_met c (arg_by_long c p.0) p.1 h).0 (long_met c (arg_by_long c p.0) p.1 h).1
+
+other_names : (c : List Rule) (waiting : Waiting) (position : ℕ) (word : Text) (h : Held) → NamesNothing (subcommand_or_other c None waiting position word h).1
+other_names c waiting position word h = go (bytes_eq word (45 ∷ 45 ∷ []))
+  where
+    go : (b : Bool) → NamesNothing (if b then (h, trailing position) else long_or_other c waiting word (long_of word) h).1
+    go true = tt
+    go false = long_names c waiting word (long_of word) h
+
+-- Where no fault is found in a word, the walk doesn't stop at `help`.
+positional_goes_on : (c : List Rule) (a : Option Rule) (word : Text) (w : Walk) (h : Held) → NoHelp w.stopped → NoHelp (to_positional c a word w h).stopped
+positional_goes_on c None word w h so_far = so_far
+positional_goes_on c (Some a) word w h so_far = tt
+
+step_goes_on : (c : List Rule) (word : Text) (w : Walk) (h : Held) (step : Step) → NamesNothing step → NoHelp w.stopped → NoHelp (after_step c word w h step).stopped
+step_goes_on c word w h (next waiting) none so_far = so_far
+step_goes_on c word w h (trailing position) none so_far = so_far
+step_goes_on c word w h (subcommand name) none so_far = absurd none
+step_goes_on c word w h value none so_far = positional_goes_on c (arg_by_index c w.position) word w h so_far
+
+no_help_named : (k : Kinds) (disabled is_help : Bool) → disabled ≡ false → (if is_help && not disabled then kind.DisplayHelp ∷ k else []) ≡ [] → is_help ≡ false
+no_help_named k disabled false enabled none = refl
+no_help_named k false true enabled none = cc
+no_help_named k true true enabled none = cc
+
+command_goes_on : (s : Shape) (met : Option Text) (word : Text) (w : Walk) → s.disable_help_subcommand ≡ false → NoHelp w.stopped
+    → other_fault s met word w.held ≡ []
+    → NoHelp (after_step s.rules word w (subcommand_or_other s.rules met w.waiting w.position word w.held).0 (subcommand_or_other s.rules met w.waiting w.position word w.held).1).stopped
+command_goes_on s (Some name) word w enabled so_far faultless =
+    let other = no_help_named _ s.disable_help_subcommand (bytes_eq name (codes "help")) enabled faultless in
+    λ same. let is : bytes_eq name (codes "help") ≡ true = (bytes_eq-Decides name (codes "help")).1 same in cc
+command_goes_on s None word w enabled so_far faultless =
+    step_goes_on s.rules word w _ _ (other_names s.rules w.waiting w.position word w.held) so_far
+
+turn_goes_on : (s : Shape) (names : Names) (held : Held) (waiting : Waiting) (position : ℕ) (is_trailing : Bool) (stopped : Option (Text × List Text)) (word : Text)
+    → s.disable_help_subcommand ≡ false → NoHelp stopped
+    → turn_fault s names (record { held = held; waiting = waiting; position = position; is_trailing = is_trailing; stopped = stopped }) word ≡ []
+    → NoHelp (walked s.rules names (record { held = held; waiting = waiting; position = position; is_trailing = is_trailing; stopped = stopped }) word).stopped
+unfolding walked
+turn_goes_on s names held waiting position is_trailing (Some stop) word enabled so_far faultless = so_far
+turn_goes_on s names held waiting position true None word enabled so_far faultless =
+    positional_goes_on s.rules (arg_by_index s.rules position) word _ held tt
+turn_goes_on s names held waiting position false None word enabled so_far faultless =
+    command_goes_on s (subcommand_met names waiting word) word
+    (record { held = held; waiting = waiting; position = position; is_trailing = false; stopped = None }) enabled tt
+    (or_else_none (word_fault s names false waiting word held)
+    (step_fault s position (word_met s.rules names false waiting position word held).0 (word_met s.rules names false waiting position word held).1) faultless).0
+
+walk_goes_on : (s : Shape) (names : Names) (words : List Text) (w : Walk) → s.disable_help_subcommand ≡ false → NoHelp w.stopped
+    → walk_fault s names w words ≡ [] → NoHelp (fold (walked s.rules names) w words).stopped
+unfolding walk_fault
+walk_goes_on s names [] w enabled so_far faultless = so_far
+walk_goes_on s names (word ∷ words) w enabled so_far faultless =
+    let parts = or_else_none (turn_fault s names w word) (walk_fault s names (walked s.rules names w word) words) faultless in
+    walk_goes_on s names words (walked s.rules names w word) enabled
+    (turn_goes_on s names w.held w.waiting w.position w.is_trailing w.stopped word enabled so_far parts.0) parts.1
+
+-- the parts of a parse of which none has a fault
+level_parts : (s : Shape) (names : Names) (h : Held) (words : List Text) (has : Bool) (below : Kinds) → level_fault s names h words has below ≡ []
+    → (walk_fault s names (walk_from h) words ≡ []) × (check_fault s (finished s.rules (walk s.rules names h words).held) has ≡ [])
+level_parts s names h words has below faultless =
+    let end = (walk s.rules names h words).held in
+    let settle = settle_fault s.rules s.args_override_self end in
+    let defaults = defaults_fault (settled s.rules end).rows s.rules in
+    let last = check_fault s (finished s.rules end) has in
+    let one = or_else_none (walk_fault s names (walk_from h) words) (or_else below (or_else settle (or_else defaults last))) faultless in
+    let two = or_else_none below (or_else settle (or_else defaults last)) one.1 in
+    let three = or_else_none settle (or_else defaults last) two.1 in
+    (one.0, (or_else_none defaults last three.1).1)
+
+-- A command is required, so one was met; and there is one alone.
+command_given : (has a b : Bool) → check_kinds (not has && a) (not has && true) b ≡ [] → has ≡ true
+command_given true a b faultless = refl
+command_given false true b faultless = cc
+command_given false false b faultless = cc
+
+one_command : (replay help : Shape) (words : List Text) (is_replay is_help : Bool) → replay.name ≡ codes "replay" → (is_help ≡ true → ⊥)
+    → is_some (option_map (λ (s : Shape). rows_at s words) (cond (is_replay || false) (Some replay) (cond (is_help || false) (Some help) None))) ≡ true
+    → option_map (λ (c : Text × List Row). c.0) (option_map (λ (s : Shape). rows_at s words) (cond (is_replay || false) (Some replay) (cond (is_help || false) (Some help) None))) ≡ Some (codes "replay")
+one_command replay help words true is_help name no_help some = ap Some name
+one_command replay help words false true name no_help some = absurd (no_help refl)
+one_command replay help words false false name no_help some = cc
+
+entered_replay : (stop : Option (Text × List Text)) → NoHelp stop → is_some (entered (built grammar) stop) ≡ true
+    → option_map (λ command. command.0) (entered (built grammar) stop) ≡ Some (codes "replay")
+entered_replay None no_help some = cc
+entered_replay (Some stop) no_help some =
+    let subs = (built grammar).subs in
+    one_command (slice_index_or subs 0 help_shape) (slice_index_or subs 1 help_shape) stop.1
+    (bytes_eq (codes "replay") stop.0) (bytes_eq (codes "help") stop.0) refl
+    (λ same. no_help (sym ((bytes_eq-Decides (codes "help") stop.0).0 same))) some
+
+-- Words without fault name `replay`.
+pub only_replay : (words : List Text) → answers_to words ≡ [] → named_by words ≡ Some (codes "replay")
+unfolding answers_to named_by
+only_replay words faultless =
+    let app = built grammar in
+    let args = argument_words grammar words in
+    let stop = (walk app.top.rules (names_of app) nothing_held args).stopped in
+    let parts = level_parts app.top (names_of app) nothing_held args (is_some (entered app stop)) (entered_fault app stop) faultless in
+    entered_replay stop (walk_goes_on app.top (names_of app) args (walk_from nothing_held) refl tt parts.0)
+    (command_given (is_some (entered app stop)) false false parts.1)
+
+-- What a parse of these words says, where its command has this grammar.
+pub faults_are : (app : App) (words : List Text) (P : Kinds → Type 0) → app ≡ grammar → (is_simple_and_free app ≡ true → P (fault_of app words)) → P (answers_to words)
+unfolding answers_to
+faults_are app words P is says = subst (λ a. P (fault_of a words)) is (says (ap is_simple_and_free is ∙ is_simple_grammar))
+
+-- The command that was met is the one that these words name.
+name_first : {X A B : Type 0} (f : X → A) (g : X → B) (o : Option X) → option_map (λ (p : A × B). p.0) (option_map (λ x. (f x, g x)) o) ≡ option_map f o
+name_first f g None = refl
+name_first f g (Some x) = refl
+
+pub met_is : (app : App) (words : List Text) (m : ArgMatches) → app ≡ grammar → HasMatchesOf app words m → subcommand_name_of m ≡ named_by words
+unfolding named_by
+met_is app words m is has =
+    let rows = (has (ap is_simple is)).1 in
+    sym (name_first _ _ _) ∙ ap (option_map (λ (c : Text × List Row). c.0)) (rows ∙ ap (λ a. subcommand_of a words) is)
+
+-- what was met, where a name was
+pub none_named : {X A : Type 0} (f : X → A) (o : Option X) (name : A) → option_map f o ≡ Some name → o ≡ None → ⊥
+none_named f o name met none = let no : None ≡ Some name = sym (ap (option_map f) none) ∙ met in cc
+
+pub one_named : {X A : Type 0} (f : X → A) (o : Option X) (name : A) (x : X) → option_map f o ≡ Some name → o ≡ Some x → f x ≡ name
+one_named f o name x met some = let one : Some (f x) ≡ Some name = sym (ap (option_map f) some) ∙ met in cc

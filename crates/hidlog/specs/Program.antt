@@ -1,0 +1,66 @@
+-- What the program answers, and what it writes. A pair is a source or a target before and behind the call.
+use Rattle.std.specs.Prelude.{◌≡◌, ◌≢◌, ◌⊎◌, ℕ, Bool, true, false, List, [], ◌∷◌, ◌++◌, Option, Result, Err, MatchResult, OnOk, codes, ◌+◌}
+use Rattle.std.specs.Bool.{MatchBool}
+use Rattle.std.specs.Io.KnownBytes.{Appends}
+use Rattle.clap.specs.declared.error.kind.ErrorKind.{ErrorKind}
+use Rattle.clap.specs.declared.error.kind.ErrorKind.TheVariants.{DisplayHelp, DisplayVersion, OutOfMemory}
+use Rattle.token_session.specs.declared.input.Meters.{Meters}
+use Rattle.token_session.specs.declared.input.Timed.{Timed}
+use Rattle.session_log.specs.declared.fault.LogFault.{LogFault}
+use Rattle.session_log.specs.Breaking.{BreaksOff}
+use Rattle.session_log.specs.Command.{status_of}
+use Rattle.session_log.specs.Replay.{Answers}
+use Rattle.session_log.specs.Session.{history}
+use Rattle.session_log.specs.Streams.{Moves}
+
+abbrev pub Status : Type 0
+Status = Result (Unit {0}) ℕ
+
+-- A target took a text whole; or a call of it failed, and it took the front alone.
+abbrev pub IsTaken : {F : Type 0} → (F → Option (List ℕ)) → (F → ℕ) → (F × F) → List ℕ → Type 0
+IsTaken taken failed target text = Appends (taken target.0) (taken target.1) text × (failed target.1 ≡ failed target.0)
+
+abbrev pub IsBroken : {F : Type 0} → (F → Option (List ℕ)) → (F → ℕ) → (F × F) → List ℕ → Type 0
+IsBroken taken failed target text = BreaksOff (taken target.0) (taken target.1) text × (failed target.1 ≡ failed target.0 + 1)
+
+abbrev pub IsGiven : {F : Type 0} → (F → Option (List ℕ)) → (F → ℕ) → (F × F) → List ℕ → Type 0
+IsGiven taken failed target text = IsTaken taken failed target text ⊎ IsBroken taken failed target text
+
+-- what is told where memory is wanting
+abbrev pub no_memory : List ℕ
+no_memory = codes "hidlog: no memory" ++ 10 ∷ []
+
+-- answers that go to the output
+abbrev pub is_help : ErrorKind → Bool
+is_help DisplayHelp = true
+is_help DisplayVersion = true
+is_help _ = false
+
+-- The log was replayed behind the empty history; where it has no fault, nothing was told.
+abbrev pub Replays : {I O F : Type 0} → (I → Option (List ℕ)) → (O → Option (List ℕ)) → Status → (I × I) → (O × O) → (F × F) → Type 0
+Replays left taken status input output faults =
+    (answer : Result Meters LogFault) × (later : List Timed) × (status ≡ status_of answer)
+    × Moves (left input.0) (left input.1) (taken output.0) (taken output.1) (λ bytes text. Answers (history 0) [] later bytes text answer)
+    × OnOk status (faults.1 ≡ faults.0)
+
+-- Memory was wanting, and that was told.
+abbrev pub LacksMemory : {O F : Type 0} → (F → Option (List ℕ)) → (F → ℕ) → Status → (O × O) → (F × F) → Type 0
+LacksMemory told untold status output faults =
+    (status ≡ Err 2) × (output.1 ≡ output.0) × IsGiven told untold faults no_memory
+
+-- What is wrong with the words was told.
+abbrev pub Refuses : {O F : Type 0} → (F → Option (List ℕ)) → (F → ℕ) → Status → (O × O) → (F × F) → Type 0
+Refuses told untold status output faults =
+    (status ≡ Err 2) × (output.1 ≡ output.0) × ((text : List ℕ) × IsGiven told untold faults text)
+
+-- Help was written.
+abbrev pub Helps : {O F : Type 0} → (O → Option (List ℕ)) → (O → ℕ) → Status → (O × O) → (F × F) → Type 0
+Helps taken failed status output faults = (faults.1 ≡ faults.0) × ((text : List ℕ)
+    × MatchResult status (λ _. IsTaken taken failed output text) (λ code. (code ≡ 2) × IsBroken taken failed output text))
+
+-- An answer of clap's was given, of this kind, or there was no memory for it.
+abbrev pub Explains : {O F : Type 0} → ErrorKind → (O → Option (List ℕ)) → (O → ℕ) → (F → Option (List ℕ)) → (F → ℕ)
+    → Status → (O × O) → (F × F) → Type 0
+Explains kind taken failed told untold status output faults =
+    LacksMemory told untold status output faults
+    ⊎ ((kind ≢ OutOfMemory) × MatchBool (is_help kind) (Helps taken failed status output faults) (Refuses told untold status output faults))
