@@ -31,7 +31,7 @@ info first = first % 32
 unfoldable pub argument_len : ℕ → ℕ
 argument_len i = if nat_lt i 24 then 0 else 2 ^ (i - 24)
 
--- the number that bytes scalar_text, the highest first
+-- the number that bytes spell, the highest first
 abbrev pub number_after : ℕ → List ℕ → ℕ
 number_after n [] = n
 number_after n (b ∷ bs) = number_after (n * 256 + b) bs
