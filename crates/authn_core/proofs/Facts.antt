@@ -17,7 +17,7 @@ EventIsGiven given Drop = Unit {0}
 pub work_stays_given : (given : ℕ) (core : CoreState) (at : ℕ) (e : Event) → IsGiven given (working core) → EventIsGiven given e
     → IsGiven given (working (core_turn core at e).state)
 unfolding core_turn
-work_stays_given given core at (Request cid bytes) w h = w
+work_stays_given given core at (Request cid bytes) w h = tt
 work_stays_given given core at Cancel w h = tt
 work_stays_given given core at Drop w h = tt
 

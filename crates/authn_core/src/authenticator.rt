@@ -1,5 +1,5 @@
 ghost use Rattle.std.specs.Prelude.{◌≡◌, ℕ, ◌∷◌, [], option_map};
-ghost use Rattle.authn_core.specs.Turn.{core_turn, first_state, Request, Cancel, Drop as DropWork};
+ghost use Rattle.authn_core.specs.Turn.{core_turn, first_state, steps_of, Request, Cancel, Drop as DropWork};
 ghost use Rattle.authn_core.specs.Status.{work_of};
 ghost use Rattle.authn_core.specs.Answers.{answer_of};
 ghost use Rattle.authn_core.specs.Needs.{needs};
@@ -35,21 +35,31 @@ pub enum Need {
     Presence,
 }
 
+/// What an authenticator is made with.
+#[derive(Clone, Copy, Debug, PartialEq, Eq)]
+pub struct Config {
+    /// The AAGUID, which names the authenticator's model (WebAuthn Level 2, section 6.1).
+    pub aaguid: [u8; 16],
+}
+
 /// The authenticator.
 #[derive(Drop)]
 pub struct Core {
+    config: Config,
+    start: u64,
     work: Option<Work>,
+    last_steps: u64,
 }
 
-// Clauses see the waiting work.
+// Clauses see the authenticator's state, and the steps of the last request.
 impl Model for Core {
     ghost use Rattle.std.specs.Prelude.{option_map};
-    ghost use Rattle.authn_core.specs.Turn.{CoreState};
+    ghost use Rattle.authn_core.specs.Turn.{Held};
     ghost use Rattle.authn_core.specs.Status.{work_of};
 
-    ghost Value = { CoreState };
+    ghost Value = { Held };
 
-    ghost view = { λ c. record { work = option_map work_of c.work } };
+    ghost view = { λ c. record { state = record { aaguid = c.config.aaguid; began = c.start; work = option_map work_of c.work }; last_steps = c.last_steps } };
 }
 
 /// An answer that is a status alone.
@@ -62,28 +72,38 @@ fn status_answer(status: u8) -> Answer
 }
 
 impl Core {
-    /// An authenticator with no waiting work.
-    pub fn new() -> Self
-        ensures { result ≡ first_state }
+    /// An authenticator that begins at the moment `start`, in milliseconds, with no waiting work.
+    pub fn new(config: Config, start: u64) -> Self
+        ensures state { result.state ≡ first_state (record { aaguid = config.aaguid; moment = start }) }
+        ensures steps { result.last_steps ≡ 0 }
     {
-        Core { work: None }
+        Core {
+            config,
+            start,
+            work: None,
+            last_steps: 0,
+        }
     }
 
     /// The turn of a request that came at `at` on the channel `cid`: `message` is its command byte and
     /// what follows.
-    #[tactic(auto, unfolding(crate::specs::Turn::core_turn))]
+    #[tactic(auto, unfolding(crate::specs::Turn::core_turn, crate::specs::Turn::steps_of))]
     pub fn request(&mut self, at: u64, cid: u32, message: &[u8]) -> Turn
-        ensures state { self.new ≡ (core_turn self.old at (Request cid message.now)).state }
-        ensures answer { answer_of result ≡ (core_turn self.old at (Request cid message.now)).answer }
+        ensures state { self.new.state ≡ (core_turn self.old.state at (Request cid message.now)).state }
+        ensures answer { answer_of result ≡ (core_turn self.old.state at (Request cid message.now)).answer }
+        ensures steps { self.new.last_steps ≡ steps_of message.now }
     {
+        self.work = None;
+        self.last_steps = 0;
         Turn::Answer(status_answer(INVALID_COMMAND))
     }
 
     /// The turn of a CANCEL of the waiting work.
     #[tactic(auto, unfolding(crate::specs::Turn::core_turn))]
     pub fn cancel(&mut self) -> Turn
-        ensures state { (at : ℕ) → self.new ≡ (core_turn self.old at Cancel).state }
-        ensures answer { (at : ℕ) → answer_of result ≡ (core_turn self.old at Cancel).answer }
+        ensures state { (at : ℕ) → self.new.state ≡ (core_turn self.old.state at Cancel).state }
+        ensures answer { (at : ℕ) → answer_of result ≡ (core_turn self.old.state at Cancel).answer }
+        ensures steps { self.new.last_steps ≡ self.old.last_steps }
     {
         self.work = None;
         Turn::Answer(status_answer(KEEPALIVE_CANCEL))
@@ -92,21 +112,22 @@ impl Core {
     /// Ends the waiting work with no answer.
     #[tactic(auto, unfolding(crate::specs::Turn::core_turn))]
     pub fn drop_work(&mut self)
-        ensures { (at : ℕ) → self.new ≡ (core_turn self.old at DropWork).state }
+        ensures state { (at : ℕ) → self.new.state ≡ (core_turn self.old.state at DropWork).state }
+        ensures steps { self.new.last_steps ≡ self.old.last_steps }
     {
         self.work = None;
     }
 
     /// The work that waits.
     pub fn work(&self) -> Option<Work>
-        ensures { self.now.work ≡ option_map work_of result }
+        ensures { self.now.state.work ≡ option_map work_of result }
     {
         self.work
     }
 
     /// What the waiting work needs, nothing where none waits.
     pub fn need(&self) -> Need
-        ensures { result ≡ needs self.now }
+        ensures { result ≡ needs self.now.state }
     {
         match self.work() {
             Some(work) => match work.status {
@@ -115,5 +136,12 @@ impl Core {
             },
             None => Need::None,
         }
+    }
+
+    /// The steps that reading the last request took, 0 before one.
+    pub fn last_steps(&self) -> u64
+        ensures { result ≡ self.now.last_steps }
+    {
+        self.last_steps
     }
 }

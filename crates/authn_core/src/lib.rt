@@ -5,7 +5,7 @@
 mod authenticator;
 mod work;
 
-pub use authenticator::{Answer, Core, Need, Turn};
+pub use authenticator::{Answer, Config, Core, Need, Turn};
 pub use work::{KeepaliveStatus, Work};
 
 #[cfg(test)]

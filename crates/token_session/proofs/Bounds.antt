@@ -1,6 +1,7 @@
 -- At most one message is open, and how much is held of it.
 use Rattle.std.proofs.Common.{◌≡◌, ℕ, ◌+◌, ◌*◌, ◌≤◌, ◌<◌, Bool, true, false, cond, ◌&&◌, List, [], ◌∷◌, length, Option, Some, None, option_to_list, refl, ap, arith, nat_lt}
 use Rattle.std.proofs.lemmas.Bool.Decides.{nat_tests}
+use Rattle.authn_core.specs.Turn.{Start}
 use Rattle.token_session.proofs.Opens.{From, Lawful, from_earlier, none_stays, open_is_admitted, and_true, cond_none}
 use Rattle.token_session.proofs.Serve.{cond_case, long_says}
 use Rattle.hid_packet.specs.Packet.{channel, message_length}
@@ -15,7 +16,7 @@ none_all (e ∷ before) L t n =
     let shut = two.0 in
     rw shut (none_all before (e ∷ L) t two.1)
 
-pub one_open : (h L : List Judged) (start t : ℕ) → Lawful start h → From (end start h) L → end start h ≤ t → all_open L h t ≡ option_to_list (open_among L h t)
+pub one_open : (h L : List Judged) (start : Start) (t : ℕ) → Lawful start h → From (end start h) L → end start h ≤ t → all_open L h t ≡ option_to_list (open_among L h t)
 unfolding open_among all_open open_at
 one_open [] L start t l f le = refl
 one_open (e ∷ before) L start t l f le = go (is_open e L t) refl (one_open before (e ∷ L) start t l.2 (l.0, from_earlier L (end start before) e.at l.0 f) (omega (arith, l.0)))
@@ -62,7 +63,7 @@ unfolding open_among
 few_own [] L t = tt
 few_own (e ∷ before) L t = cond_case FewOwn (is_open e L t) _ _ (λ y. few_here e L t y) (λ _. few_own before (e ∷ L) t)
 
-pub held_few : (start : ℕ) (h : List Judged) → held start h ≤ 7550
+pub held_few : (start : Start) (h : List Judged) → held start h ≤ 7550
 unfolding held open_at
 held_few start h = go (open_among [] h (end start h)) (few_own h [] (end start h))
   where

@@ -4,6 +4,7 @@
 
 ghost use Rattle.std.specs.Prelude.{◌≡◌, ◌≤◌, ℕ, List, [], ◌∷◌, length, Option, Some, option_to_list};
 ghost use Rattle.token_session.specs.declared.input.Timed.{Timed as OneInput};
+ghost use Rattle.authn_core.specs.Turn.{Start};
 ghost use Rattle.hid_packet.specs.Carries.{CarriesMessage};
 ghost use Rattle.hid_assemble.specs.Assembly.{Message};
 ghost use Rattle.token_session.specs.Carried.{ArePackets, finished_at, carriers_at};
@@ -14,22 +15,22 @@ ghost use Rattle.token_session.specs.Law.{all_open, Behind, sent_now, onto, sent
 /// The composed turn, over any history, is in the state that the history names, and each input sends
 /// the packets that the history says.
 pub fn machine_follows_history()
-    ensures state { (start : ℕ) (h : List OneInput) → Behind (machine start h) start h }
-    ensures packets { (start : ℕ) (h : List OneInput) (x : OneInput) → (turn (machine start h) x).packets ≡ sent_now start h x }
+    ensures state { (start : Start) (h : List OneInput) → Behind (machine start h) start h }
+    ensures packets { (start : Start) (h : List OneInput) (x : OneInput) → (turn (machine start h) x).packets ≡ sent_now start h x }
 {}
 
 /// A run from a state that stands behind a history stands behind the longer one, and sends what the
 /// longer history says.
 pub fn runs_follow_history()
-    ensures state { (s : State) (start : ℕ) (h xs : List OneInput) → Behind s start h → Behind (run_state s xs) start (onto xs h) }
-    ensures packets { (s : State) (start n : ℕ) (h xs : List OneInput) → Behind s start h → run_sent n s xs ≡ sent_from n start h xs }
+    ensures state { (s : State) (start : Start) (h xs : List OneInput) → Behind s start h → Behind (run_state s xs) start (onto xs h) }
+    ensures packets { (s : State) (start : Start) (n : ℕ) (h xs : List OneInput) → Behind s start h → run_sent n s xs ≡ sent_from n start h xs }
 {}
 
 /// At most one message is open behind a history, at its end and at any later moment, and at most 7550
 /// bytes are held of it.
 pub fn one_message_is_open()
-    ensures one { (start t : ℕ) (h : List OneInput) → end start (judged start h) ≤ t → all_open [] (judged start h) t ≡ option_to_list (open_at (judged start h) t) }
-    ensures held { (start : ℕ) (h : List OneInput) → held start (judged start h) ≤ 7550 }
+    ensures one { (start : Start) (t : ℕ) (h : List OneInput) → end start (judged start h) ≤ t → all_open [] (judged start h) t ≡ option_to_list (open_at (judged start h) t) }
+    ensures held { (start : Start) (h : List OneInput) → held start (judged start h) ≤ 7550 }
 {}
 
 /// One input sends at most 130 packets, whatever the state.
@@ -40,7 +41,7 @@ pub fn one_input_sends_few_packets()
 /// A message that an input finishes is carried by its initialization packet and its channel's own
 /// packets up to this one: its bytes are just those that they carried.
 pub fn finished_messages_were_carried()
-    ensures { (start : ℕ) (h : List OneInput) (x : OneInput) (m : Message) → ArePackets (x ∷ h)
+    ensures { (start : Start) (h : List OneInput) (x : OneInput) (m : Message) → ArePackets (x ∷ h)
         → finished_at (judge start x (judged start h)) (judged start h) ≡ Some m
         → CarriesMessage (carriers_at (judge start x (judged start h)) (judged start h)) m.cid m.cmd m.bytes }
 {}
