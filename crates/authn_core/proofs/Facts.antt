@@ -1,6 +1,7 @@
 -- All that the transport needs to know of the authenticator.
-use Rattle.std.proofs.Common.{◌≡◌, ℕ, ◌≤◌, length, Option, Some, None, refl}
-use Rattle.authn_core.specs.Turn.{CoreState, working, Event, Answer, Answered, Nothing, Request, Cancel, Drop, core_turn}
+use Rattle.std.proofs.Common.{◌≡◌, ℕ, ◌≤◌, Option, Some, None, Result, Ok, Err, refl}
+use Rattle.ctap_message.specs.Requests.{Asked, GetInfo, read_of}
+use Rattle.authn_core.specs.Turn.{CoreState, working, Event, Nothing, Request, Cancel, Drop, answers_request, core_turn}
 
 -- a channel that was given out, where something is on one
 abbrev pub IsGiven : ℕ → Option ℕ → Type 0
@@ -17,7 +18,11 @@ EventIsGiven given Drop = Unit {0}
 pub work_stays_given : (given : ℕ) (core : CoreState) (at : ℕ) (e : Event) → IsGiven given (working core) → EventIsGiven given e
     → IsGiven given (working (core_turn core at e).state)
 unfolding core_turn
-work_stays_given given core at (Request cid bytes) w h = tt
+work_stays_given given core at (Request cid bytes) w h = go (read_of bytes)
+  where
+    go : (read : Result Asked ℕ) → IsGiven given (working (answers_request core read).state)
+    go (Ok GetInfo) = tt
+    go (Err status) = tt
 work_stays_given given core at Cancel w h = tt
 work_stays_given given core at Drop w h = tt
 
@@ -25,8 +30,3 @@ work_stays_given given core at Drop w h = tt
 pub drop_is_silent : (core : CoreState) (at : ℕ) → (core_turn core at Drop).answer ≡ Nothing
 unfolding core_turn
 drop_is_silent core at = refl
-
--- An answer has at most 262 bytes.
-abbrev pub IsShort : Answer → Type 0
-IsShort (Answered bytes) = length bytes ≤ 262
-IsShort answer = Unit {0}

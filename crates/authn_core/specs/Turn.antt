@@ -1,5 +1,8 @@
 -- The authenticator's turns: what each event makes of its state, and what it answers (CTAP 2.1, section 6).
-use Rattle.std.specs.Prelude.{ℕ, List, [], ◌∷◌, Option, None, option_map}
+use Rattle.std.specs.Prelude.{ℕ, List, Option, None, option_map, Result, Ok, Err}
+use Rattle.ctap_message.specs.Answers.{refusal, info_answer}
+use Rattle.ctap_message.specs.Requests.{Asked, GetInfo, read_of}
+use Rattle.ctap_message.specs.Statuses.{KEEPALIVE_CANCEL}
 
 -- What an authenticator begins with: its AAGUID, and the moment, in milliseconds.
 pub record Start : Type 0 where
@@ -50,12 +53,14 @@ idle core = record core { work = None }
 abbrev pub answers : CoreState → List ℕ → Turned
 answers core bytes = record { state = idle core; answer = Answered bytes }
 
-unfoldable pub steps_of : List ℕ → ℕ
-steps_of bytes = 0
+-- A request that fails a check is answered by its status; authenticatorGetInfo is answered at once (section 6.4).
+abbrev pub answers_request : CoreState → Result Asked ℕ → Turned
+answers_request core (Err status) = answers core (refusal status)
+answers_request core (Ok GetInfo) = answers core (info_answer core.aaguid)
 
 unfoldable pub core_turn : CoreState → ℕ → Event → Turned
-core_turn core at (Request cid bytes) = answers core (0x01 ∷ [])
-core_turn core at Cancel = answers core (0x2d ∷ [])
+core_turn core at (Request cid bytes) = answers_request core (read_of bytes)
+core_turn core at Cancel = answers core (refusal KEEPALIVE_CANCEL)
 core_turn core at Drop = record { state = idle core; answer = Nothing }
 
 -- An authenticator between its turns: its state, and the steps of reading its last request, 0 before one.

@@ -1,21 +1,13 @@
-ghost use Rattle.std.specs.Prelude.{◌≡◌, ℕ, ◌∷◌, [], option_map};
-ghost use Rattle.authn_core.specs.Turn.{core_turn, first_state, steps_of, Request, Cancel, Drop as DropWork};
+ghost use Rattle.std.specs.Prelude.{◌≡◌, ℕ, option_map};
+ghost use Rattle.ctap_message.specs.Requests.{steps_of};
+ghost use Rattle.authn_core.specs.Turn.{core_turn, first_state, Request as Asks, Cancel, Drop as DropWork};
 ghost use Rattle.authn_core.specs.Status.{work_of};
 ghost use Rattle.authn_core.specs.Answers.{answer_of};
 ghost use Rattle.authn_core.specs.Needs.{needs};
 
 use crate::work::{KeepaliveStatus, Work};
-use arrayvec::ArrayVec;
+use ctap_message::{Answer, Request, Status, read_request, write_info, write_status};
 use std::marker::Model;
-
-/// The status of a command that isn't served: CTAP1_ERR_INVALID_COMMAND (CTAP 2.1, section 8.2).
-const INVALID_COMMAND: u8 = 0x01;
-
-/// The status of work that the host cancelled: CTAP2_ERR_KEEPALIVE_CANCEL.
-const KEEPALIVE_CANCEL: u8 = 0x2d;
-
-/// An answer's message: a status, and at success a map behind it.
-pub type Answer = ArrayVec<u8, 262>;
 
 /// What an event comes to.
 #[derive(Drop)]
@@ -62,15 +54,6 @@ impl Model for Core {
     ghost view = { λ c. record { state = record { aaguid = c.config.aaguid; began = c.start; work = option_map work_of c.work }; last_steps = c.last_steps } };
 }
 
-/// An answer that is a status alone.
-fn status_answer(status: u8) -> Answer
-    ensures { result.items ≡ status ∷ [] }
-{
-    let mut answer = ArrayVec::new();
-    answer.push(status);
-    answer
-}
-
 impl Core {
     /// An authenticator that begins at the moment `start`, in milliseconds, with no waiting work.
     pub fn new(config: Config, start: u64) -> Self
@@ -87,15 +70,19 @@ impl Core {
 
     /// The turn of a request that came at `at` on the channel `cid`: `message` is its command byte and
     /// what follows.
-    #[tactic(auto, unfolding(crate::specs::Turn::core_turn, crate::specs::Turn::steps_of))]
+    #[tactic(auto, unfolding(crate::specs::Turn::core_turn))]
     pub fn request(&mut self, at: u64, cid: u32, message: &[u8]) -> Turn
-        ensures state { self.new.state ≡ (core_turn self.old.state at (Request cid message.now)).state }
-        ensures answer { answer_of result ≡ (core_turn self.old.state at (Request cid message.now)).answer }
+        ensures state { self.new.state ≡ (core_turn self.old.state at (Asks cid message.now)).state }
+        ensures answer { answer_of result ≡ (core_turn self.old.state at (Asks cid message.now)).answer }
         ensures steps { self.new.last_steps ≡ steps_of message.now }
     {
+        let (request, steps) = read_request(message);
+        self.last_steps = steps;
         self.work = None;
-        self.last_steps = 0;
-        Turn::Answer(status_answer(INVALID_COMMAND))
+        match request {
+            Ok(Request::Info) => Turn::Answer(write_info(&self.config.aaguid)),
+            Err(status) => Turn::Answer(write_status(status)),
+        }
     }
 
     /// The turn of a CANCEL of the waiting work.
@@ -106,7 +93,7 @@ impl Core {
         ensures steps { self.new.last_steps ≡ self.old.last_steps }
     {
         self.work = None;
-        Turn::Answer(status_answer(KEEPALIVE_CANCEL))
+        Turn::Answer(write_status(Status::KEEPALIVE_CANCEL))
     }
 
     /// Ends the waiting work with no answer.

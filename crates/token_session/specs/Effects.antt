@@ -5,7 +5,8 @@ use Rattle.hid_packet.specs.Message.{written}
 use Rattle.hid_assemble.specs.Codes.{code_number}
 use Rattle.hid_assemble.specs.declared.verdict.Verdict.{Verdict}
 use Rattle.hid_assemble.specs.declared.verdict.Verdict.TheVariants.{Ignored, Kept, Finished, Refuse, Greet, GreetAndDrop, CancelWork}
-use Rattle.authn_core.specs.Turn.{Event, Request, Cancel, Drop, steps_of}
+use Rattle.authn_core.specs.Turn.{Event, Request, Cancel, Drop}
+use Rattle.ctap_message.specs.Requests.{steps_of}
 use Rattle.token_session.specs.declared.machine.Reading.{Reading}
 use Rattle.token_session.specs.Replies.{error, greeting}
 

@@ -1,7 +1,8 @@
 -- The meters of a session: what a history names, and what one turn adds.
 use Rattle.std.specs.Prelude.{◌≡◌, ℕ, ◌+◌, ◌-◌, ◌^◌, List, [], ◌∷◌, ◌++◌, length, max, min, sum_by, Option, Some, None}
 use Rattle.hid_assemble.specs.Assembly.{held_bytes}
-use Rattle.authn_core.specs.Turn.{Start, steps_of}
+use Rattle.authn_core.specs.Turn.{Start}
+use Rattle.ctap_message.specs.Requests.{steps_of}
 use Rattle.token_session.specs.declared.input.Timed.{Timed}
 use Rattle.token_session.specs.declared.input.Meters.{Meters}
 use Rattle.token_session.specs.declared.machine.Reading.{Reading}
