@@ -1,6 +1,6 @@
 //! The answer of authenticatorGetInfo.
 
-ghost use Rattle.std.specs.Prelude.{◌≡◌, ◌≤◌, ◌++◌, length, take};
+ghost use Rattle.std.specs.Prelude.{◌≡◌, ◌≤◌, length, take};
 ghost use Rattle.ctap_cbor.specs.Grammar.{text};
 ghost use Rattle.ctap_cbor.specs.Writing.{room_of, Appends, SameBuffer};
 ghost use Rattle.ctap_message.specs.Answers as spec;
