@@ -13,7 +13,11 @@ versions_lawful = (omega arith, ((omega arith, (codes "FIDO_2_0", (refl, refl)))
 
 option_names_lawful : IsLawful (name (codes "rk")) × IsLawful (name (codes "up")) × IsLawful (name (codes "plat"))
 unfolding encode
-option_names_lawful = ((omega arith, (codes "rk", (refl, refl))), (omega arith, (codes "up", (refl, refl))), (omega arith, (codes "plat", (refl, refl))))
+option_names_lawful = (
+  (omega arith, (codes "rk", (refl, refl))),
+  (omega arith, (codes "up", (refl, refl))),
+  (omega arith, (codes "plat", (refl, refl))),
+)
 
 options_lawful : IsLawful options
 unfolding head
@@ -27,7 +31,11 @@ transports_lawful = (omega arith, ((omega arith, (codes "usb", (refl, refl))), t
 
 algorithm_texts_lawful : IsLawful (name (codes "alg")) × IsLawful (name (codes "type")) × IsLawful (name (codes "public-key"))
 unfolding encode
-algorithm_texts_lawful = ((omega arith, (codes "alg", (refl, refl))), (omega arith, (codes "type", (refl, refl))), (omega arith, (codes "public-key", (refl, refl))))
+algorithm_texts_lawful = (
+  (omega arith, (codes "alg", (refl, refl))),
+  (omega arith, (codes "type", (refl, refl))),
+  (omega arith, (codes "public-key", (refl, refl))),
+)
 
 algorithms_lawful : IsLawful algorithms
 unfolding head
@@ -35,6 +43,7 @@ algorithms_lawful =
     let texts = algorithm_texts_lawful in
     (omega arith, ((omega arith, (tt, tt, (tt, refl, tt)), (texts.0, omega arith, (texts.1, texts.2, tt))), tt))
 
+-- the keys rise, and each value has an encoding
 lawful : (aaguid : List ℕ) → length aaguid ≡ 16 → AreBytes aaguid → IsLawful (info_tree aaguid)
 unfolding head info_tree
 lawful aaguid len bytes = (

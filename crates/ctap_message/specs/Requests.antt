@@ -26,11 +26,11 @@ first_failing [] = None
 first_failing (check ∷ checks) = if check.holds then first_failing checks else Some check.status
 
 -- The checks of a command, in their order, on the bytes behind the command byte. authenticatorGetInfo takes no
--- parameters (CTAP 2.1, section 6.4).
+-- inputs (CTAP 2.1, section 6.4); that bytes which stand there are a wrong length is this project's choice.
 abbrev pub checks : Command → List ℕ → List Check
 checks served.GetInfo behind = record { holds = length behind == 0; status = INVALID_LENGTH } ∷ []
 
--- what a command asks that passes its checks
+-- what a command asks, once its checks hold
 abbrev pub asks : Command → List ℕ → Asked
 asks served.GetInfo behind = GetInfo
 
@@ -45,7 +45,8 @@ abbrev pub served_request : Option Command → List ℕ → Result Asked ℕ
 served_request None behind = Err INVALID_COMMAND
 served_request (Some c) behind = request_of c behind
 
--- What a message asks (CTAP 2.1, section 8, "Message Encoding"): its first byte is the command.
+-- What a message asks (CTAP 2.1, section 8, "Message Encoding"): its first byte names the command, and the command's
+-- parameters stand behind it. A message without a command byte has a wrong length.
 unfoldable pub read_of : List ℕ → Result Asked ℕ
 read_of [] = Err INVALID_LENGTH
 read_of (byte ∷ behind) = served_request (command byte) behind
@@ -58,11 +59,12 @@ abbrev pub served_steps : Option Command → List ℕ → ℕ
 served_steps None behind = 0
 served_steps (Some c) behind = command_steps c behind
 
+-- The steps of reading a message.
 unfoldable pub steps_of : List ℕ → ℕ
 steps_of [] = 0
 steps_of (byte ∷ behind) = served_steps (command byte) behind
 
--- what the code's request asks
+-- what the code's requests ask
 abbrev pub asked : Request → Asked
 asked Info = GetInfo
 

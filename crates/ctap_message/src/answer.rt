@@ -2,7 +2,7 @@
 
 ghost use Rattle.std.specs.Prelude.{◌≡◌, ◌∷◌, ◌≤◌, length};
 ghost use Rattle.ctap_message.specs.Answers.{refusal};
-ghost use Rattle.ctap_message.specs.Statuses.{OK as SUCCESS};
+ghost use Rattle.ctap_message.specs.Statuses.{OK};
 
 use crate::status::Status;
 use arrayvec::ArrayVec;
@@ -25,7 +25,7 @@ pub fn write_status(status: Status) -> Answer
 /// The answer of a success with the bytes of a map.
 pub(crate) fn write_success(map: &[u8]) -> Answer
     requires { length map.now ≤ LONGEST_MAP }
-    ensures { result.items ≡ SUCCESS ∷ map.now }
+    ensures { result.items ≡ OK ∷ map.now }
 {
     let mut answer = write_status(Status::OK);
     answer.try_extend_from_slice(map).unwrap();

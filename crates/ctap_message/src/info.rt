@@ -1,6 +1,6 @@
 //! The answer of authenticatorGetInfo.
 
-ghost use Rattle.std.specs.Prelude.{◌≡◌, ◌≤◌, ◌++◌, length, take};
+ghost use Rattle.std.specs.Prelude.{◌≡◌, ◌≤◌, length, take};
 ghost use Rattle.ctap_cbor.specs.Grammar.{text};
 ghost use Rattle.ctap_cbor.specs.Writing.{room_of, Appends, SameBuffer};
 ghost use Rattle.ctap_message.specs.Answers as spec;
@@ -29,7 +29,7 @@ pub fn write_info(aaguid: &[u8; 16]) -> Answer
     write_success(&map[..len])
 }
 
-/// Writes the map into a buffer, and gives its length.
+/// Writes the map to the front of a buffer, and gives its length.
 fn info_into(buffer: &mut [u8], aaguid: &[u8; 16]) -> usize
     requires { 80 ≤ length buffer.old }
     ensures len { result ≡ 80 }
@@ -40,7 +40,7 @@ fn info_into(buffer: &mut [u8], aaguid: &[u8; 16]) -> usize
     sink.len()
 }
 
-/// Writes the map.
+/// Writes the map, its members in rising order of their keys.
 fn put_info(sink: &mut Sink<'_>, aaguid: &[u8; 16])
     requires { 80 ≤ room_of sink.old }
     ensures appends { Appends sink.old sink.new (text (spec.info_tree aaguid.now)) 80 }
@@ -61,6 +61,7 @@ fn put_info(sink: &mut Sink<'_>, aaguid: &[u8; 16])
     put_algorithms(sink);
 }
 
+/// Writes the list of versions.
 fn put_versions(sink: &mut Sink<'_>)
     requires { 10 ≤ room_of sink.old }
     ensures appends { Appends sink.old sink.new (text spec.versions) 10 }
@@ -70,6 +71,7 @@ fn put_versions(sink: &mut Sink<'_>)
     sink.text(VERSION);
 }
 
+/// Writes the AAGUID.
 fn put_aaguid(sink: &mut Sink<'_>, aaguid: &[u8; 16])
     requires { 17 ≤ room_of sink.old }
     ensures appends { Appends sink.old sink.new (text (spec.aaguid_of aaguid.now)) 17 }
@@ -78,6 +80,7 @@ fn put_aaguid(sink: &mut Sink<'_>, aaguid: &[u8; 16])
     sink.bytes(aaguid);
 }
 
+/// Writes the options: discoverable credentials (rk), user presence (up), no platform authenticator (plat).
 fn put_options(sink: &mut Sink<'_>)
     requires { 15 ≤ room_of sink.old }
     ensures appends { Appends sink.old sink.new (text spec.options) 15 }
@@ -92,6 +95,7 @@ fn put_options(sink: &mut Sink<'_>)
     sink.flag(false);
 }
 
+/// Writes the list of transports.
 fn put_transports(sink: &mut Sink<'_>)
     requires { 5 ≤ room_of sink.old }
     ensures appends { Appends sink.old sink.new (text spec.transports) 5 }
@@ -101,6 +105,7 @@ fn put_transports(sink: &mut Sink<'_>)
     sink.text("usb");
 }
 
+/// Writes the list of algorithms, ES256 alone.
 fn put_algorithms(sink: &mut Sink<'_>)
     requires { 23 ≤ room_of sink.old }
     ensures appends { Appends sink.old sink.new (text spec.algorithms) 23 }

@@ -1,6 +1,6 @@
 //! Answers that were worked out by hand.
 
-use crate::{Request, Status, read_request, write_info, write_status};
+use crate::{Command, Request, Status, read_request, write_info, write_status};
 
 /// What a message gives: 0x00 for authenticatorGetInfo, else the status of its refusal; and the steps.
 fn told(message: &[u8]) -> (u8, u64) {
@@ -8,6 +8,12 @@ fn told(message: &[u8]) -> (u8, u64) {
         (Ok(Request::Info), steps) => (0x00, steps),
         (Err(status), steps) => (status.0, steps),
     }
+}
+
+#[test]
+fn a_byte_names_a_command(rt: HostRuntime) {
+    assert_eq!(rt; Command::named(0x04), Some(Command::GetInfo));
+    assert_eq!(rt; Command::named(0x06), None);
 }
 
 #[test]
@@ -30,10 +36,18 @@ fn a_refusal_is_its_status(rt: HostRuntime) {
     );
 }
 
+/// The answer of authenticatorGetInfo where the AAGUID is zero.
+const INFO: &[u8] = b"\x00\xa6\
+    \x01\x81\x68FIDO_2_0\
+    \x03\x50\x00\x00\x00\x00\x00\x00\x00\x00\x00\x00\x00\x00\x00\x00\x00\x00\
+    \x04\xa3\x62rk\xf5\x62up\xf5\x64plat\xf4\
+    \x05\x19\x1d\xb9\
+    \x09\x81\x63usb\
+    \x0a\x81\xa2\x63alg\x26\x64type\x6apublic-key";
+
 #[test]
 fn info_is_answered(rt: HostRuntime) {
-    assert_eq!(rt;
-        write_info(&[0; 16]).as_slice(),
-        b"\x00\xa6\x01\x81\x68\x46\x49\x44\x4f\x5f\x32\x5f\x30\x03\x50\x00\x00\x00\x00\x00\x00\x00\x00\x00\x00\x00\x00\x00\x00\x00\x00\x04\xa3\x62\x72\x6b\xf5\x62\x75\x70\xf5\x64\x70\x6c\x61\x74\xf4\x05\x19\x1d\xb9\x09\x81\x63\x75\x73\x62\x0a\x81\xa2\x63\x61\x6c\x67\x26\x64\x74\x79\x70\x65\x6a\x70\x75\x62\x6c\x69\x63\x2d\x6b\x65\x79".as_slice()
-    );
+    let answer = write_info(&[0; 16]);
+    assert_eq!(rt; answer.len(), 81);
+    assert_eq!(rt; answer.as_slice(), INFO);
 }
