@@ -1,9 +1,10 @@
 -- The written packets carry their message.
-use Rattle.std.proofs.Common.{◌≡◌, ℕ, ◌+◌, ◌-◌, ◌*◌, ◌/◌, ◌^◌, ◌<◌, ◌≤◌, true, false, inl, inr, suc, zero, List, [], ◌∷◌, ◌++◌, length, take, drop, replicate, flat_map, append_assoc, append-nil, refl, sym, ◌∙◌, ap, subst, arith, nat_le, length-append, length-drop}
+use Rattle.std.proofs.Common.{◌≡◌, ℕ, ◌+◌, ◌-◌, ◌*◌, ◌/◌, ◌^◌, ◌<◌, ◌≤◌, true, false, inl, inr, suc, zero, List, [], ◌∷◌, ◌++◌, length, take, drop, replicate, flat_map, append_assoc, append-nil, zero-add, refl, sym, ◌∙◌, ap, ap₂, subst, arith, nat_le, length-append, length-drop}
 use Rattle.std.proofs.lemmas.Bool.Decides.{nat_tests}
 use Rattle.std.proofs.lemmas.Bool.{cases_lt}
-use Rattle.std.proofs.lemmas.List.{take-append-drop, take_all, length-take, length-replicate}
-use Rattle.std.proofs.Math.Seq.{take-append-add, take-append_seam}
+use Rattle.std.proofs.lemmas.List.{take-append-drop, take_all, length-take, length-replicate, replicate-append-replicate}
+use Rattle.std.proofs.Math.ListN.{drop_of_length-le}
+use Rattle.std.proofs.Math.Seq.{take-append_seam}
 use Rattle.byteorder.specs.Endian.{big_bytes}
 use Rattle.byteorder.specs.Numbers.{big_number-reads_back}
 use Rattle.hid_packet.specs.Packet.{channel, is_initialization, command, message_length, initialization_data, sequence, continuation_data}
@@ -71,31 +72,31 @@ module _ (cid number : ℕ) (part : List ℕ) where
       let rest : 64 - length (big_bytes 4 cid ++ number ∷ [] ++ part) ≡ 59 - length part = omega arith in
       ap (λ k. take 59 (part ++ replicate k 0)) rest ∙ all_data 59 part short
 
--- Whole data bytes, cut to the message's length, are its bytes.
-cut_join : (k : ℕ) (bytes more : List ℕ) → take (length (drop k bytes)) more ≡ drop k bytes
-    → take (length bytes) ((take k bytes ++ replicate (k - length (take k bytes)) 0) ++ more) ≡ bytes
-cut_join k bytes more rest = elim (cases_lt (length bytes) k) [
+-- Where the first k bytes fill up with zeros and the others do, all of the bytes do.
+pub fill_up : (k n : ℕ) (bytes : List ℕ)
+    → (take k bytes ++ replicate (k - length (take k bytes)) 0) ++ (drop k bytes ++ replicate n 0) ≡ bytes ++ replicate (k - length (take k bytes) + n) 0
+fill_up k n bytes = elim (cases_lt (length bytes) k) [
   | inl few ↦
       let all : take k bytes ≡ bytes = take_all k bytes (omega arith) in
-      rw (all, append_assoc) (take-append_seam bytes _)
+      let none : drop k bytes ≡ [] = drop_of_length-le bytes (omega arith) in
+      rw (all, none, append_assoc, replicate-append-replicate) refl
   | inr many ↦
-      let full : length (take k bytes) ≡ k = omega (arith, length-take k bytes) in
-      let none : k - length (take k bytes) ≡ 0 = omega arith in
-      let split : length bytes ≡ length (take k bytes) + length (drop k bytes) = omega (arith, length-drop k bytes) in
-      rw (none, append-nil, split, take-append-add, rest) (take-append-drop k bytes)
+      let full : k - length (take k bytes) ≡ 0 = omega (arith, length-take k bytes) in
+      rw (full, append-nil, ← append_assoc, take-append-drop, zero-add) refl
 ]
 
-joins_more : (most cid number : ℕ) (bytes : List ℕ) → length bytes ≤ 59 * most
-    → take (length bytes) (flat_map continuation_data (continuation_packets most cid number bytes)) ≡ bytes
+-- The data of continuation packets are the bytes, and zeros behind them.
+data_continuations : (most cid number : ℕ) (bytes : List ℕ) → length bytes ≤ 59 * most
+    → (further : ℕ) × (flat_map continuation_data (continuation_packets most cid number bytes) ≡ bytes ++ replicate further 0)
 unfolding continuation_packets
-joins_more zero cid number [] fits = refl
-joins_more zero cid number (b ∷ bytes) fits = absurd (omega arith)
-joins_more (suc most) cid number [] fits = refl
-joins_more (suc most) cid number (b ∷ bytes) fits =
+data_continuations zero cid number [] fits = (0, refl)
+data_continuations zero cid number (b ∷ bytes) fits = absurd (omega arith)
+data_continuations (suc most) cid number [] fits = (0, refl)
+data_continuations (suc most) cid number (b ∷ bytes) fits =
     let all = b ∷ bytes in
     let part = data-continuation cid number (take 59 all) (omega (arith, length-take 59 all)) in
-    let rest = joins_more most cid (number + 1) (drop 59 all) (omega (arith, length-drop 59 all)) in
-    rw part (cut_join 59 all _ rest)
+    let rest = data_continuations most cid (number + 1) (drop 59 all) (omega (arith, length-drop 59 all)) in
+    (_, ap₂ ◌++◌ part rest.1 ∙ fill_up 59 rest.0 all)
 
 continues_all : (most cid number : ℕ) (bytes : List ℕ) → cid < 2 ^ 32 → number + most ≤ 128
     → Continue cid number (continuation_packets most cid number bytes)
@@ -122,13 +123,13 @@ length-continuation_packets (suc most) cid number (b ∷ bytes) fits =
     let rest = length-continuation_packets most cid (number + 1) (drop 59 all) (omega (arith, dropped)) in
     (omega (arith, dropped, rest.0), omega (arith, dropped, rest.1))
 
--- The data of the written packets, joined, begins with the message.
-joins_written : (cid cmd : ℕ) (bytes : List ℕ) → length bytes ≤ 7609
-    → take (length bytes) (joined (initialization_packet cid cmd (length bytes) (take 57 bytes)) (continuation_packets 128 cid 0 (drop 57 bytes))) ≡ bytes
-joins_written cid cmd bytes short =
-    let first = data-initialization cid cmd (length bytes) (take 57 bytes) (omega (arith, length-take 57 bytes)) in
-    let rest = joins_more 128 cid 0 (drop 57 bytes) (omega (arith, length-drop 57 bytes)) in
-    rw first (cut_join 57 bytes _ rest)
+-- The data of the written packets, joined, are the message, and zeros behind it.
+pub data_written : (cid cmd : ℕ) (bytes : List ℕ) → length bytes ≤ 7609
+    → (further : ℕ) × (joined (initialization_packet cid cmd (length bytes) (take 57 bytes)) (continuation_packets 128 cid 0 (drop 57 bytes)) ≡ bytes ++ replicate further 0)
+data_written cid cmd bytes short =
+    let part = data-initialization cid cmd (length bytes) (take 57 bytes) (omega (arith, length-take 57 bytes)) in
+    let rest = data_continuations 128 cid 0 (drop 57 bytes) (omega (arith, length-drop 57 bytes)) in
+    (_, ap₂ ◌++◌ part rest.1 ∙ fill_up 57 rest.0 bytes)
 
 least_of : (len count : ℕ) → (len - 57 ≤ 59 * count) → (59 * count < (len - 57) + 59) → IsLeast count len
 least_of len count enough few = elim (cases_lt len 58) [
@@ -156,7 +157,7 @@ written_carries cid cmd bytes fits short =
       counts = message_length-initialization cid cmd (length bytes) part (omega arith);
       continues = continues_all 128 cid 0 (drop 57 bytes) fits (omega arith);
       least = least_continuations cid bytes short;
-      joins = sym (joins_written cid cmd bytes short);
+      joins = sym (rw (data_written cid cmd bytes short).1 (take-append_seam bytes _));
     }
 
 -- There is one least number.

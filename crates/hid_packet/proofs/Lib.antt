@@ -1,4 +1,7 @@
 pub mod Writing
 pub mod Ring
 pub mod Carrying
+pub mod Bytes
+pub mod Whole
+pub mod Only
 mod Rows

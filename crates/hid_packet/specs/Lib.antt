@@ -2,5 +2,6 @@ pub mod Commands
 pub mod Packet
 pub mod Message
 pub mod Carries
+pub mod Padding
 pub mod Remaining
 pub mod Queue

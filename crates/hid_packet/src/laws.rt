@@ -4,6 +4,7 @@
 ghost use Rattle.std.specs.Prelude.{◌≡◌, ℕ, ◌-◌, ◌^◌, ◌<◌, ◌≤◌, List, length};
 ghost use Rattle.hid_packet.specs.Message.{written};
 ghost use Rattle.hid_packet.specs.Carries.{IsLeast, CarriesMessage};
+ghost use Rattle.hid_packet.specs.Padding.{AreBytes, ArePackets, FurtherDataIsZero};
 
 /// The packets that are written for a message carry it.
 pub fn written_packets_carry_their_message()
@@ -16,6 +17,19 @@ pub fn written_packets_are_the_fewest()
     ensures least { (cid cmd : ℕ) (bytes : List ℕ) → length bytes ≤ 7609 → IsLeast (length (written cid cmd bytes) - 1) (length bytes) }
     ensures few { (cid cmd : ℕ) (bytes : List ℕ) → length (written cid cmd bytes) ≤ 129 }
     ensures one { (a b len : ℕ) → IsLeast a len → IsLeast b len → a ≡ b }
+{}
+
+/// They are packets of 64 bytes, and their data bytes behind the message are zero.
+pub fn written_packets_end_in_zeros()
+    ensures packets { (cid cmd : ℕ) (bytes : List ℕ) → cmd < 128 → AreBytes bytes → ArePackets (written cid cmd bytes) }
+    ensures zeros { (cid cmd : ℕ) (bytes : List ℕ) → length bytes ≤ 7609 → FurtherDataIsZero bytes (written cid cmd bytes) }
+{}
+
+/// No other packets of 64 bytes carry the message with zeros behind it.
+pub fn written_packets_are_the_only_ones()
+    ensures { (packets : List (List ℕ)) (cid cmd : ℕ) (bytes : List ℕ)
+        → CarriesMessage packets cid cmd bytes → ArePackets packets → FurtherDataIsZero bytes packets
+        → packets ≡ written cid cmd bytes }
 {}
 
 /// A list of packets carries at most one message.
