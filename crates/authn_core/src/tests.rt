@@ -8,6 +8,15 @@ fn authenticator() -> Core {
     Core::new(Config { aaguid: [0xab; 16] }, 0)
 }
 
+/// Its answer to authenticatorGetInfo.
+const INFO: &[u8] = b"\x00\xa6\
+    \x01\x81\x68FIDO_2_0\
+    \x03\x50\xab\xab\xab\xab\xab\xab\xab\xab\xab\xab\xab\xab\xab\xab\xab\xab\
+    \x04\xa3\x62rk\xf5\x62up\xf5\x64plat\xf4\
+    \x05\x19\x1d\xb9\
+    \x09\x81\x63usb\
+    \x0a\x81\xa2\x63alg\x26\x64type\x6apublic-key";
+
 fn assert_answer(rt: &impl Abort, turn: Turn, expected: &[u8]) {
     match turn {
         Turn::Answer(answer) => assert_eq!(rt; answer.as_slice(), expected),
@@ -19,9 +28,7 @@ fn assert_answer(rt: &impl Abort, turn: Turn, expected: &[u8]) {
 fn requests(rt: HostRuntime) {
     let mut core = authenticator();
     assert_eq!(rt; core.last_steps(), 0);
-    let info =
-        b"\x00\xa6\x01\x81\x68FIDO_2_0\x03\x50\xab\xab\xab\xab\xab\xab\xab\xab\xab\xab\xab\xab\xab\xab\xab\xab\x04\xa3\x62rk\xf5\x62up\xf5\x64plat\xf4\x05\x19\x1d\xb9\x09\x81\x63usb\x0a\x81\xa2\x63alg\x26\x64type\x6apublic-key";
-    assert_answer(&rt, core.request(5, 1, &[4]), info);
+    assert_answer(&rt, core.request(5, 1, &[4]), INFO);
     assert_answer(&rt, core.request(5, 1, &[4, 0]), &[0x03]);
     assert_answer(&rt, core.request(5, 1, &[6]), &[0x01]);
     assert_eq!(rt; core.last_steps(), 0);
