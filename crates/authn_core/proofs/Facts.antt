@@ -1,7 +1,8 @@
 -- All that the transport needs to know of the authenticator.
-use Rattle.std.proofs.Common.{◌≡◌, ℕ, ◌≤◌, Option, Some, None, Result, Ok, Err, refl}
+use Rattle.std.proofs.Common.{◌≡◌, ℕ, ◌≤◌, List, Option, Some, None, Result, Ok, Err, refl, ap}
+use Rattle.ctap_message.specs.Answers.{info_answer}
 use Rattle.ctap_message.specs.Requests.{Asked, GetInfo, read_of}
-use Rattle.authn_core.specs.Turn.{CoreState, working, Event, Nothing, Request, Cancel, Drop, answers_request, core_turn}
+use Rattle.authn_core.specs.Turn.{CoreState, working, Event, Answered, Nothing, Request, Cancel, Drop, answers_request, core_turn}
 
 -- a channel that was given out, where something is on one
 abbrev pub IsGiven : ℕ → Option ℕ → Type 0
@@ -30,3 +31,20 @@ work_stays_given given core at Drop w h = tt
 pub drop_is_silent : (core : CoreState) (at : ℕ) → (core_turn core at Drop).answer ≡ Nothing
 unfolding core_turn
 drop_is_silent core at = refl
+
+-- No turn changes the AAGUID.
+pub aaguid_stays : (core : CoreState) (at : ℕ) (e : Event) → (core_turn core at e).state.aaguid ≡ core.aaguid
+unfolding core_turn
+aaguid_stays core at (Request cid bytes) = go (read_of bytes)
+  where
+    go : (read : Result Asked ℕ) → (answers_request core read).state.aaguid ≡ core.aaguid
+    go (Ok GetInfo) = refl
+    go (Err status) = refl
+aaguid_stays core at Cancel = refl
+aaguid_stays core at Drop = refl
+
+-- authenticatorGetInfo is answered by its map, with the AAGUID.
+pub info_answered : (core : CoreState) (at cid : ℕ) (bytes : List ℕ) → read_of bytes ≡ Ok GetInfo
+    → (core_turn core at (Request cid bytes)).answer ≡ Answered (info_answer core.aaguid)
+unfolding core_turn
+info_answered core at cid bytes asks = ap (λ read. (answers_request core read).answer) asks

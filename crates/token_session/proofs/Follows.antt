@@ -69,7 +69,7 @@ still_given : (g t : ℕ) (w : Option ℕ) (o : Option Begun) → OpenGiven g o 
 still_given g t w None h = tt
 still_given g t w (Some b) h = cond_case (λ v. OpenGiven g v w) (nat_lt t (last_at b.at b.own + 500)) _ _ (λ _. h) (λ _. tt)
 
-safe_at : (start : Start) (t : ℕ) (h : List Judged) → Good start h → end start h ≤ t → Safe (given h) (open_at h t) (working (core start h))
+pub safe_at : (start : Start) (t : ℕ) (h : List Judged) → Good start h → end start h ≤ t → Safe (given h) (open_at h t) (working (core start h))
 safe_at start t h good le =
     record {
       few = (good.safe).few;
@@ -130,12 +130,12 @@ named_turn start e h =
       event = ev;
     }
 
-seen_same : (o : Option Begun) → option_map hist.seen o ≡ option_map machine_seen (option_map as_open o)
+pub seen_same : (o : Option Begun) → option_map hist.seen o ≡ option_map machine_seen (option_map as_open o)
 seen_same None = refl
 seen_same (Some b) = refl
 
 -- the input is judged so at t
-abbrev judged_at : Start → ℕ → List Judged → Input → Judged
+abbrev pub judged_at : Start → ℕ → List Judged → Input → Judged
 judged_at start t h i = record { at = t; input = i; admitted = is_packet (admits (given h) (open_at h t) (working (core start h))) i }
 
 -- what the machine does behind time, at t

@@ -2,15 +2,21 @@
 //! gives over any history just what that history names. Each law is the contract of a function that
 //! does nothing.
 
-ghost use Rattle.std.specs.Prelude.{◌≡◌, ◌≤◌, ℕ, List, [], ◌∷◌, length, Option, Some, option_to_list};
+ghost use Rattle.std.specs.Prelude.{◌≡◌, ◌≤◌, ◌+◌, ◌*◌, ℕ, List, [], ◌∷◌, length, Option, Some, option_to_list};
 ghost use Rattle.token_session.specs.declared.input.Timed.{Timed as OneInput};
-ghost use Rattle.authn_core.specs.Turn.{Start};
+ghost use Rattle.authn_core.specs.Turn.{Start, Request};
+ghost use Rattle.ctap_message.specs.Answers.{info_answer};
+ghost use Rattle.hid_packet.specs.Commands.{CBOR};
+ghost use Rattle.hid_packet.specs.Message.{written};
 ghost use Rattle.hid_packet.specs.Carries.{CarriesMessage};
 ghost use Rattle.hid_assemble.specs.Assembly.{Message};
 ghost use Rattle.token_session.specs.Carried.{ArePackets, finished_at, carriers_at};
-ghost use Rattle.token_session.specs.History.{judge, judged, open_at, end, held};
-ghost use Rattle.token_session.specs.Machine.{State, machine, turn};
+ghost use Rattle.token_session.specs.History.{judge, judged, open_at, end, held, core, service_packets};
+ghost use Rattle.token_session.specs.Machine.{State, machine, turn, event_packets};
 ghost use Rattle.token_session.specs.Law.{all_open, Behind, sent_now, onto, sent_from, run_state, run_sent};
+ghost use Rattle.token_session.specs.Meters.{meters_of};
+
+use ctap_message::laws::steps_are_bounded;
 
 /// The composed turn, over any history, is in the state that the history names, and each input sends
 /// the packets that the history says.
@@ -32,6 +38,29 @@ pub fn one_message_is_open()
     ensures one { (start : Start) (t : ℕ) (h : List OneInput) → end start (judged start h) ≤ t → all_open [] (judged start h) t ≡ option_to_list (open_at (judged start h) t) }
     ensures held { (start : Start) (h : List OneInput) → held start (judged start h) ≤ 7550 }
 {}
+
+/// A finished CBOR message is a request: it is answered on its channel as the authenticator's turn says, and beside
+/// the packets of time nothing else is sent for it. So authenticatorGetInfo is answered by its map with the AAGUID
+/// of the start, whatever came before.
+pub fn requests_are_answered()
+    ensures request { (start : Start) (h : List OneInput) (x : OneInput) (m : Message)
+        → finished_at (judge start x (judged start h)) (judged start h) ≡ Some m → m.cmd ≡ CBOR
+        → service_packets start (judge start x (judged start h)) (judged start h)
+        ≡ event_packets (core start (judged start h)) (judge start x (judged start h)).at (Some (Request m.cid m.bytes)) }
+    ensures info { (start : Start) (h : List OneInput) (x : OneInput) (m : Message)
+        → finished_at (judge start x (judged start h)) (judged start h) ≡ Some m → m.cmd ≡ CBOR → m.bytes ≡ 0x04 ∷ []
+        → service_packets start (judge start x (judged start h)) (judged start h) ≡ written m.cid CBOR (info_answer start.aaguid) }
+{}
+
+/// The meters of every history are bounded: at most 7550 bytes were held of an unfinished message, and reading
+/// took at most four steps for each byte behind a command byte, and two for each request.
+pub fn meters_are_bounded()
+    ensures held { (start : Start) (h : List OneInput) → (meters_of start (judged start h)).held ≤ 7550 }
+    ensures steps { (start : Start) (h : List OneInput)
+        → (meters_of start (judged start h)).steps ≤ 4 * (meters_of start (judged start h)).bytes + 2 * (meters_of start (judged start h)).requests }
+{
+    steps_are_bounded();
+}
 
 /// One input sends at most 130 packets, whatever the state.
 pub fn one_input_sends_few_packets()
