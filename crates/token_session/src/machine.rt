@@ -179,7 +179,7 @@ fn react(
     ensures keepalive { result.keepalive_at ≡ (if event_keeps_alive core.old.state now (verdict_event verdict.now message.now) then now else keepalive_at) }
     ensures reading { result.reading ≡ reading_in (verdict_event verdict.now message.now) }
 {
-    let mut unread = Reaction {
+    let unread = Reaction {
         keepalive_at,
         reading: None,
     };
@@ -198,10 +198,10 @@ fn react(
             core.drop_work();
             unread
         }
-        Verdict::CancelWork => {
-            unread.keepalive_at = cancel(core, now, keepalive_at, outbox);
-            unread
-        }
+        Verdict::CancelWork => Reaction {
+            keepalive_at: cancel(core, now, keepalive_at, outbox),
+            reading: None,
+        },
         Verdict::Finished { cid, cmd } => {
             if *cmd == PING {
                 outbox.put_message(*cid, PING, message);
