@@ -1,14 +1,17 @@
 -- A finished CBOR message is a request, and its answer is all that is sent for it.
-use Rattle.std.proofs.Common.{◌≡◌, ℕ, ◌≤◌, List, [], ◌∷◌, max, Option, Some, None, option_map, Ok, refl, sym, ◌∙◌, ap, subst, arith}
+use Rattle.std.proofs.Common.{◌≡◌, ℕ, ◌≤◌, ◌==◌, ◌⊎◌, inl, inr, ◌&&◌, ◌||◌, true, nat_le, List, [], ◌∷◌, length, max, Option, Some, None, option_map, Ok, refl, sym, ◌∙◌, ap, subst, arith}
+use Rattle.std.proofs.lemmas.Bool.Decides.{nat_tests}
 use Rattle.ctap_message.specs.Answers.{info_answer}
 use Rattle.ctap_message.specs.Requests.{GetInfo, read_of}
 use Rattle.authn_core.specs.Turn.{Start, Event, Request, working}
 use Rattle.authn_core.proofs.Facts.{aaguid_stays, info_answered}
 use Rattle.hid_assemble.specs.Assembly.{Message, Open, message_after, seen}
-use Rattle.hid_assemble.specs.Table.{row_of}
+use Rattle.hid_assemble.specs.Table.{is_given, row_of}
 use Rattle.hid_assemble.specs.declared.table.Row.{Row}
 use Rattle.hid_assemble.specs.declared.table.Row.TheVariants.{BadLength, BrokenOff, BusyElsewhere, BusyHere, CancelsNothing, CancelsWork, InitAgain, InitFull, InitLength, InitNew, Kept, Long, NoSuchChannel, NoSuchCommand, Short, Stray, Whole, WrongNumber}
-use Rattle.hid_packet.specs.Commands.{CBOR}
+use Rattle.hid_packet.specs.Carries.{Carries, IsLeast}
+use Rattle.hid_packet.specs.Commands.{CBOR, PING}
+use Rattle.hid_packet.specs.declared.packet.Packet.{Packet as Packet64}
 use Rattle.hid_packet.specs.Message.{written}
 use Rattle.hid_packet.specs.Packet.{Fields, fields}
 use Rattle.token_session.specs.Carried.{finished_at}
@@ -106,3 +109,35 @@ info_is_answered start h x m fin is bytes =
     requests_answered start h x m fin is
     ∙ ap (answer_packets (asker k.work (Request m.cid m.bytes)) (status_of k.work)) (info_answered k t m.cid m.bytes asks)
     ∙ ap (λ aaguid. written m.cid CBOR (info_answer aaguid)) (core_aaguid start past)
+
+-- A packet that carries a whole message is admitted and finishes it, where nothing is open and no work waits.
+fits_one : (len : ℕ) → IsLeast 0 len → len ≤ 57
+fits_one len (inl a) = a.0
+fits_one len (inr b) = omega (arith, b.0)
+
+on_given : (g c : ℕ) → 1 ≤ c → c ≤ g → is_given g c ≡ true
+on_given g c low high = grind (arith, nat_tests)
+
+is_served : (k n : ℕ) → (k ≡ PING) ⊎ ((k ≡ CBOR) × (1 ≤ n)) → ((k == PING) || ((k == CBOR) && nat_le 1 n)) ≡ true
+is_served k n (inl ping) = rw ping refl
+is_served k n (inr cbor) = let some : nat_le 1 n ≡ true = let least = cbor.1 in grind (arith, nat_tests) in rw (cbor.0, some) refl
+
+pub short_finishes : (start : Start) (t : ℕ) (h : List Judged) (x : Packet64) (c k : ℕ) (b : List ℕ) → Carries x.0 [] c k b
+    → (k ≡ PING) ⊎ ((k ≡ CBOR) × (1 ≤ length b)) → 1 ≤ c → c ≤ given h → open_at h t ≡ None → working (core start h) ≡ None
+    → finished (open_at h t) (judged_at start t h (Packet x)).admitted (Packet x) ≡ Some (record { cid = c; cmd = k; bytes = b })
+unfolding finished admits
+short_finishes start t h x c k b carries served low high none idle =
+    let few = fits_one (length b) carries.least in
+    let on_one : nat_le (length b) 57 ≡ true = grind (arith, nat_tests) in
+    rw (none, idle, carries.begins, carries.on, carries.asks, carries.counts, on_given (given h) c low high, is_served k (length b) served, on_one)
+    (λ i. Some (record { cid = c; cmd = k; bytes = (sym carries.joins) i }))
+
+pub one_packet_finishes : (start : Start) (h : List Timed) (x : Timed) (p : Packet64) (c k : ℕ) (b : List ℕ) → x.input ≡ Packet p → Carries p.0 [] c k b
+    → (k ≡ PING) ⊎ ((k ≡ CBOR) × (1 ≤ length b)) → 1 ≤ c → c ≤ given (judged start h)
+    → open_at (judged start h) (judge start x (judged start h)).at ≡ None → working (core start (judged start h)) ≡ None
+    → finished_at (judge start x (judged start h)) (judged start h) ≡ Some (record { cid = c; cmd = k; bytes = b })
+unfolding judge
+one_packet_finishes start h x p c k b came carries served low high none idle =
+    let past = judged start h in
+    let t = max (end start past) x.at in
+    rw came (short_finishes start t past p c k b carries served low high none idle)

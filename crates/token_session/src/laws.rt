@@ -2,16 +2,18 @@
 //! gives over any history just what that history names. Each law is the contract of a function that
 //! does nothing.
 
-ghost use Rattle.std.specs.Prelude.{◌≡◌, ◌≤◌, ◌+◌, ◌*◌, ℕ, List, [], ◌∷◌, length, Option, Some, option_to_list};
+ghost use Rattle.std.specs.Prelude.{◌≡◌, ◌≤◌, ◌⊎◌, ◌+◌, ◌*◌, ℕ, List, [], ◌∷◌, length, Option, Some, None, option_to_list};
 ghost use Rattle.token_session.specs.declared.input.Timed.{Timed as OneInput};
-ghost use Rattle.authn_core.specs.Turn.{Start, Request};
+ghost use Rattle.authn_core.specs.Turn.{Start, Request, working};
 ghost use Rattle.ctap_message.specs.Answers.{info_answer};
-ghost use Rattle.hid_packet.specs.Commands.{CBOR};
+ghost use Rattle.hid_packet.specs.Commands.{CBOR, PING};
 ghost use Rattle.hid_packet.specs.Message.{written};
+ghost use Rattle.hid_packet.specs.declared.packet.Packet.{Packet as AnyPacket};
+ghost use Rattle.token_session.specs.declared.input.Input.TheVariants.{Packet as PacketCame};
 ghost use Rattle.hid_packet.specs.Carries.{CarriesMessage};
 ghost use Rattle.hid_assemble.specs.Assembly.{Message};
 ghost use Rattle.token_session.specs.Carried.{ArePackets, finished_at, carriers_at};
-ghost use Rattle.token_session.specs.History.{judge, judged, open_at, end, held, core, service_packets};
+ghost use Rattle.token_session.specs.History.{judge, judged, open_at, end, given, held, core, service_packets};
 ghost use Rattle.token_session.specs.Machine.{State, machine, turn, event_packets};
 ghost use Rattle.token_session.specs.Law.{all_open, Behind, sent_now, onto, sent_from, run_state, run_sent};
 ghost use Rattle.token_session.specs.Meters.{meters_of};
@@ -37,6 +39,16 @@ pub fn runs_follow_history()
 pub fn one_message_is_open()
     ensures one { (start : Start) (t : ℕ) (h : List OneInput) → end start (judged start h) ≤ t → all_open [] (judged start h) t ≡ option_to_list (open_at (judged start h) t) }
     ensures held { (start : Start) (h : List OneInput) → held start (judged start h) ≤ 7550 }
+{}
+
+/// A packet that carries a whole PING or CBOR message on a channel that was given out finishes it, where no message
+/// is open and no work waits.
+pub fn messages_of_one_packet_finish()
+    ensures { (start : Start) (h : List OneInput) (x : OneInput) (p : AnyPacket) (cid cmd : ℕ) (bytes : List ℕ)
+        → x.input ≡ PacketCame p → CarriesMessage (p.0 ∷ []) cid cmd bytes → (cmd ≡ PING) ⊎ ((cmd ≡ CBOR) × (1 ≤ length bytes))
+        → 1 ≤ cid → cid ≤ given (judged start h)
+        → open_at (judged start h) (judge start x (judged start h)).at ≡ None → working (core start (judged start h)) ≡ None
+        → finished_at (judge start x (judged start h)) (judged start h) ≡ Some (record { cid = cid; cmd = cmd; bytes = bytes }) }
 {}
 
 /// A finished CBOR message is a request: it is answered on its channel as the authenticator's turn says, and beside
