@@ -2,7 +2,7 @@
 -- up to eight bytes of an argument, the highest first.
 use Rattle.std.specs.Prelude.{ℕ, ◌+◌, ◌-◌, ◌*◌, ◌/◌, ◌%◌, ◌^◌, ◌<◌, List, [], ◌∷◌, take, if◌then◌else◌, nat_lt, nat_eq}
 use Rattle.std.specs.List.{AllByRecursion}
-use Rattle.std.specs.Int.{w16, w32, w64, to_be_bytes}
+use Rattle.std.specs.Int.{w16 as two_bytes, w32 as four_bytes, w64 as eight_bytes, to_be_bytes}
 
 abbrev pub AreBytes : List ℕ → Type 0
 AreBytes bs = AllByRecursion (λ b. b < 256) bs
@@ -12,9 +12,9 @@ unfoldable pub head : ℕ → ℕ → List ℕ
 head major n =
     if nat_lt n 24 then (32 * major + n) ∷ []
     else if nat_lt n 0x100 then (32 * major + 24) ∷ n ∷ []
-    else if nat_lt n 0x1_0000 then (32 * major + 25) ∷ to_be_bytes w16 n
-    else if nat_lt n 0x1_0000_0000 then (32 * major + 26) ∷ to_be_bytes w32 n
-    else (32 * major + 27) ∷ to_be_bytes w64 n
+    else if nat_lt n 0x1_0000 then (32 * major + 25) ∷ to_be_bytes two_bytes n
+    else if nat_lt n 0x1_0000_0000 then (32 * major + 26) ∷ to_be_bytes four_bytes n
+    else (32 * major + 27) ∷ to_be_bytes eight_bytes n
 
 -- how long that is
 abbrev pub head_len : ℕ → ℕ
