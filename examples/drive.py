@@ -3,8 +3,9 @@
 
     examples/drive.py [COMMAND..]        by default `./hidlog replay`
 
-It greets the key (CTAPHID_INIT), sends it a PING on the channel that it is given, asks for a command that is not
-served, lets time pass, and prints what comes back. It ends with 0 where the key answered as CTAPHID says.
+It greets the key (CTAPHID_INIT), sends it a PING on the channel that it is given, asks what the authenticator can do
+(authenticatorGetInfo), asks for a command that is not served, lets time pass, and prints what comes back. It ends with
+0 where the key answered as CTAPHID says.
 docs/LOG_FORMAT.md has the lines.
 """
 
@@ -13,7 +14,7 @@ import subprocess
 import sys
 
 BROADCAST = 0xFFFFFFFF
-PING, INIT, WINK, ERROR = 0x81, 0x86, 0x88, 0xBF
+PING, INIT, WINK, CBOR, ERROR = 0x81, 0x86, 0x88, 0x90, 0xBF
 
 
 class Key:
@@ -55,10 +56,16 @@ class Key:
 
 
 def show(packets):
-    """One line a packet: channel, command, and the data of its message."""
+    """One line a packet: channel, command or sequence number, and data."""
     for packet in packets:
-        length = int.from_bytes(packet[5:7], "big")
-        print(f"  {packet[:4].hex()} {packet[4]:02x} {packet[7:7 + length].hex()}")
+        front = 7 if packet[4] >= 0x80 else 5
+        print(f"  {packet[:4].hex()} {packet[4]:02x} {packet[front:].rstrip(bytes(1)).hex()}")
+
+
+def joined(packets):
+    """The bytes of the message that the packets carry."""
+    length = int.from_bytes(packets[0][5:7], "big")
+    return (packets[0][7:] + b"".join(packet[5:] for packet in packets[1:]))[:length]
 
 
 def check(holds, what):
@@ -81,6 +88,13 @@ def main():
     sent = key.packet(5, channel, PING, b"hello")
     show(sent)
     check(len(sent) == 1 and sent[0][4] == PING and sent[0][7:12] == b"hello", "the echo")
+
+    print("authenticatorGetInfo")
+    sent = key.packet(5, channel, CBOR, b"\x04")
+    show(sent)
+    answer = joined(sent)
+    check(len(sent) == 2 and sent[0][4] == CBOR and len(answer) == 81, "two packets")
+    check(answer[0] == 0 and answer[5:13] == b"FIDO_2_0", "success and a version")
 
     print("WINK, which is not served")
     sent = key.packet(6, channel, WINK, b"")

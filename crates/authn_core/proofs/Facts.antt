@@ -1,6 +1,8 @@
 -- All that the transport needs to know of the authenticator.
-use Rattle.std.proofs.Common.{◌≡◌, ℕ, ◌≤◌, length, Option, Some, None, refl}
-use Rattle.authn_core.specs.Turn.{CoreState, working, Event, Answer, Answered, Nothing, Request, Cancel, Drop, core_turn}
+use Rattle.std.proofs.Common.{◌≡◌, ℕ, ◌≤◌, List, Option, Some, None, Result, Ok, Err, refl, ap}
+use Rattle.ctap_message.specs.Answers.{info_answer}
+use Rattle.ctap_message.specs.Requests.{Asked, GetInfo, read_of}
+use Rattle.authn_core.specs.Turn.{CoreState, working, Event, Answered, Nothing, Request, Cancel, Drop, answers_request, core_turn}
 
 -- a channel that was given out, where something is on one
 abbrev pub IsGiven : ℕ → Option ℕ → Type 0
@@ -17,7 +19,11 @@ EventIsGiven given Drop = Unit {0}
 pub work_stays_given : (given : ℕ) (core : CoreState) (at : ℕ) (e : Event) → IsGiven given (working core) → EventIsGiven given e
     → IsGiven given (working (core_turn core at e).state)
 unfolding core_turn
-work_stays_given given core at (Request cid bytes) w h = w
+work_stays_given given core at (Request cid bytes) w h = go (read_of bytes)
+  where
+    go : (read : Result Asked ℕ) → IsGiven given (working (answers_request core read).state)
+    go (Ok GetInfo) = tt
+    go (Err status) = tt
 work_stays_given given core at Cancel w h = tt
 work_stays_given given core at Drop w h = tt
 
@@ -26,7 +32,19 @@ pub drop_is_silent : (core : CoreState) (at : ℕ) → (core_turn core at Drop).
 unfolding core_turn
 drop_is_silent core at = refl
 
--- An answer has at most 262 bytes.
-abbrev pub IsShort : Answer → Type 0
-IsShort (Answered bytes) = length bytes ≤ 262
-IsShort answer = Unit {0}
+-- No turn changes the AAGUID.
+pub aaguid_stays : (core : CoreState) (at : ℕ) (e : Event) → (core_turn core at e).state.aaguid ≡ core.aaguid
+unfolding core_turn
+aaguid_stays core at (Request cid bytes) = go (read_of bytes)
+  where
+    go : (read : Result Asked ℕ) → (answers_request core read).state.aaguid ≡ core.aaguid
+    go (Ok GetInfo) = refl
+    go (Err status) = refl
+aaguid_stays core at Cancel = refl
+aaguid_stays core at Drop = refl
+
+-- authenticatorGetInfo is answered by its map, with the AAGUID.
+pub info_answered : (core : CoreState) (at cid : ℕ) (bytes : List ℕ) → read_of bytes ≡ Ok GetInfo
+    → (core_turn core at (Request cid bytes)).answer ≡ Answered (info_answer core.aaguid)
+unfolding core_turn
+info_answered core at cid bytes asks = ap (λ read. (answers_request core read).answer) asks

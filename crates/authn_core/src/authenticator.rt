@@ -1,21 +1,13 @@
-ghost use Rattle.std.specs.Prelude.{◌≡◌, ℕ, ◌∷◌, [], option_map};
-ghost use Rattle.authn_core.specs.Turn.{core_turn, first_state, Request, Cancel, Drop as DropWork};
+ghost use Rattle.std.specs.Prelude.{◌≡◌, ℕ, option_map};
+ghost use Rattle.ctap_message.specs.Requests.{steps_of};
+ghost use Rattle.authn_core.specs.Turn.{core_turn, first_state, Request as Asks, Cancel, Drop as DropWork};
 ghost use Rattle.authn_core.specs.Status.{work_of};
 ghost use Rattle.authn_core.specs.Answers.{answer_of};
 ghost use Rattle.authn_core.specs.Needs.{needs};
 
 use crate::work::{KeepaliveStatus, Work};
-use arrayvec::ArrayVec;
+use ctap_message::{Answer, Request, Status, read_request, write_info, write_status};
 use std::marker::Model;
-
-/// The status of a command that isn't served: CTAP1_ERR_INVALID_COMMAND (CTAP 2.1, section 8.2).
-const INVALID_COMMAND: u8 = 0x01;
-
-/// The status of work that the host cancelled: CTAP2_ERR_KEEPALIVE_CANCEL.
-const KEEPALIVE_CANCEL: u8 = 0x2d;
-
-/// An answer's message: a status, and at success a map behind it.
-pub type Answer = ArrayVec<u8, 262>;
 
 /// What an event comes to.
 #[derive(Drop)]
@@ -35,78 +27,94 @@ pub enum Need {
     Presence,
 }
 
+/// What an authenticator is made with.
+#[derive(Clone, Copy, Debug, PartialEq, Eq)]
+pub struct Config {
+    /// The AAGUID, which names the authenticator's model (WebAuthn Level 2, section 6.1).
+    pub aaguid: [u8; 16],
+}
+
 /// The authenticator.
 #[derive(Drop)]
 pub struct Core {
+    config: Config,
+    start: u64,
     work: Option<Work>,
+    last_steps: u64,
 }
 
-// Clauses see the waiting work.
+// Clauses see the authenticator's state, and the steps of the last request.
 impl Model for Core {
     ghost use Rattle.std.specs.Prelude.{option_map};
-    ghost use Rattle.authn_core.specs.Turn.{CoreState};
+    ghost use Rattle.authn_core.specs.Turn.{Held};
     ghost use Rattle.authn_core.specs.Status.{work_of};
 
-    ghost Value = { CoreState };
+    ghost Value = { Held };
 
-    ghost view = { λ c. record { work = option_map work_of c.work } };
-}
-
-/// An answer that is a status alone.
-fn status_answer(status: u8) -> Answer
-    ensures { result.items ≡ status ∷ [] }
-{
-    let mut answer = ArrayVec::new();
-    answer.push(status);
-    answer
+    ghost view = { λ c. record { state = record { aaguid = c.config.aaguid; began = c.start; work = option_map work_of c.work }; last_steps = c.last_steps } };
 }
 
 impl Core {
-    /// An authenticator with no waiting work.
-    pub fn new() -> Self
-        ensures { result ≡ first_state }
+    /// An authenticator that begins at the moment `start`, in milliseconds, with no waiting work.
+    pub fn new(config: Config, start: u64) -> Self
+        ensures state { result.state ≡ first_state (record { aaguid = config.aaguid; moment = start }) }
+        ensures steps { result.last_steps ≡ 0 }
     {
-        Core { work: None }
+        Core {
+            config,
+            start,
+            work: None,
+            last_steps: 0,
+        }
     }
 
     /// The turn of a request that came at `at` on the channel `cid`: `message` is its command byte and
     /// what follows.
     #[tactic(auto, unfolding(crate::specs::Turn::core_turn))]
     pub fn request(&mut self, at: u64, cid: u32, message: &[u8]) -> Turn
-        ensures state { self.new ≡ (core_turn self.old at (Request cid message.now)).state }
-        ensures answer { answer_of result ≡ (core_turn self.old at (Request cid message.now)).answer }
+        ensures state { self.new.state ≡ (core_turn self.old.state at (Asks cid message.now)).state }
+        ensures answer { answer_of result ≡ (core_turn self.old.state at (Asks cid message.now)).answer }
+        ensures steps { self.new.last_steps ≡ steps_of message.now }
     {
-        Turn::Answer(status_answer(INVALID_COMMAND))
+        let (request, steps) = read_request(message);
+        self.last_steps = steps;
+        self.work = None;
+        match request {
+            Ok(Request::Info) => Turn::Answer(write_info(&self.config.aaguid)),
+            Err(status) => Turn::Answer(write_status(status)),
+        }
     }
 
     /// The turn of a CANCEL of the waiting work.
     #[tactic(auto, unfolding(crate::specs::Turn::core_turn))]
     pub fn cancel(&mut self) -> Turn
-        ensures state { (at : ℕ) → self.new ≡ (core_turn self.old at Cancel).state }
-        ensures answer { (at : ℕ) → answer_of result ≡ (core_turn self.old at Cancel).answer }
+        ensures state { (at : ℕ) → self.new.state ≡ (core_turn self.old.state at Cancel).state }
+        ensures answer { (at : ℕ) → answer_of result ≡ (core_turn self.old.state at Cancel).answer }
+        ensures steps { self.new.last_steps ≡ self.old.last_steps }
     {
         self.work = None;
-        Turn::Answer(status_answer(KEEPALIVE_CANCEL))
+        Turn::Answer(write_status(Status::KEEPALIVE_CANCEL))
     }
 
     /// Ends the waiting work with no answer.
     #[tactic(auto, unfolding(crate::specs::Turn::core_turn))]
     pub fn drop_work(&mut self)
-        ensures { (at : ℕ) → self.new ≡ (core_turn self.old at DropWork).state }
+        ensures state { (at : ℕ) → self.new.state ≡ (core_turn self.old.state at DropWork).state }
+        ensures steps { self.new.last_steps ≡ self.old.last_steps }
     {
         self.work = None;
     }
 
     /// The work that waits.
     pub fn work(&self) -> Option<Work>
-        ensures { self.now.work ≡ option_map work_of result }
+        ensures { self.now.state.work ≡ option_map work_of result }
     {
         self.work
     }
 
     /// What the waiting work needs, nothing where none waits.
     pub fn need(&self) -> Need
-        ensures { result ≡ needs self.now }
+        ensures { result ≡ needs self.now.state }
     {
         match self.work() {
             Some(work) => match work.status {
@@ -115,5 +123,12 @@ impl Core {
             },
             None => Need::None,
         }
+    }
+
+    /// The steps that reading the last request took, 0 before one.
+    pub fn last_steps(&self) -> u64
+        ensures { result ≡ self.now.last_steps }
+    {
+        self.last_steps
     }
 }

@@ -1,11 +1,12 @@
 //! The authenticator of CTAP 2.1, section 6, as a machine that takes requests and gives answers. It
-//! serves no command yet: every request is answered by status 0x01. Nothing here takes memory.
+//! serves authenticatorGetInfo; every other command is answered by status 0x01. Nothing here takes
+//! memory.
 #![tactic(auto)]
 
 mod authenticator;
 mod work;
 
-pub use authenticator::{Answer, Core, Need, Turn};
+pub use authenticator::{Config, Core, Need, Turn};
 pub use work::{KeepaliveStatus, Work};
 
 #[cfg(test)]

@@ -2,7 +2,7 @@
 -- up to eight bytes of an argument, the highest first.
 use Rattle.std.specs.Prelude.{ℕ, ◌+◌, ◌-◌, ◌*◌, ◌/◌, ◌%◌, ◌^◌, ◌<◌, List, [], ◌∷◌, take, if◌then◌else◌, nat_lt, nat_eq}
 use Rattle.std.specs.List.{AllByRecursion}
-use Rattle.std.specs.Int.{w16, w32, w64, to_be_bytes}
+use Rattle.std.specs.Int.{w16 as two_bytes, w32 as four_bytes, w64 as eight_bytes, to_be_bytes}
 
 abbrev pub AreBytes : List ℕ → Type 0
 AreBytes bs = AllByRecursion (λ b. b < 256) bs
@@ -12,9 +12,9 @@ unfoldable pub head : ℕ → ℕ → List ℕ
 head major n =
     if nat_lt n 24 then (32 * major + n) ∷ []
     else if nat_lt n 0x100 then (32 * major + 24) ∷ n ∷ []
-    else if nat_lt n 0x1_0000 then (32 * major + 25) ∷ to_be_bytes w16 n
-    else if nat_lt n 0x1_0000_0000 then (32 * major + 26) ∷ to_be_bytes w32 n
-    else (32 * major + 27) ∷ to_be_bytes w64 n
+    else if nat_lt n 0x1_0000 then (32 * major + 25) ∷ to_be_bytes two_bytes n
+    else if nat_lt n 0x1_0000_0000 then (32 * major + 26) ∷ to_be_bytes four_bytes n
+    else (32 * major + 27) ∷ to_be_bytes eight_bytes n
 
 -- how long that is
 abbrev pub head_len : ℕ → ℕ
@@ -31,7 +31,7 @@ info first = first % 32
 unfoldable pub argument_len : ℕ → ℕ
 argument_len i = if nat_lt i 24 then 0 else 2 ^ (i - 24)
 
--- the number that bytes scalar_text, the highest first
+-- the number that bytes spell, the highest first
 abbrev pub number_after : ℕ → List ℕ → ℕ
 number_after n [] = n
 number_after n (b ∷ bs) = number_after (n * 256 + b) bs

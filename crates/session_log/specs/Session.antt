@@ -1,6 +1,7 @@
 -- What a log is played on: what a session holds, or a history.
 use Rattle.std.specs.Prelude.{◌≡◌, ℕ, ◌<◌, ◌^◌, List, ◌∷◌, length, Option}
 use Rattle.std.specs.Io.KnownBytes.{Appends}
+use Rattle.authn_core.specs.Turn.{Start}
 use Rattle.token_session.specs.declared.input.Timed.{Timed}
 use Rattle.token_session.specs.History.{judged}
 use Rattle.token_session.specs.Law.{sent_now}
@@ -14,7 +15,7 @@ abbrev pub machine : World SessionState
 machine = record { turned = λ s x. stepped s x; sends = λ s x. sent_by s x; counts = λ s. s.meters }
 
 -- the inputs so far, the newest first, and what the history that they are sends and counts
-abbrev pub history : ℕ → World (List Timed)
+abbrev pub history : Start → World (List Timed)
 history start = record { turned = λ h x. x ∷ h; sends = λ h x. sent_now start h x; counts = λ h. meters_of start (judged start h) }
 
 -- what was written is its own log, on a session that stands at s, unless it has too many lines

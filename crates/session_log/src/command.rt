@@ -3,7 +3,7 @@ ghost use Rattle.std.specs.Prelude.{◌≡◌, ◌<◌, ◌-◌, ◌+◌, ◌^�
 ghost use Rattle.token_session.specs.declared.input.Timed.{Timed as OneInput};
 ghost use Rattle.token_session.specs.declared.input.Meters.{Meters as Counts};
 ghost use Rattle.session_log.specs.declared.fault.LogFault.{LogFault as Fault};
-ghost use Rattle.session_log.specs.Command.{status_of};
+ghost use Rattle.session_log.specs.Command.{program_start, status_of};
 ghost use Rattle.session_log.specs.Replay.{Answers};
 ghost use Rattle.session_log.specs.Session.{history};
 ghost use Rattle.session_log.specs.Streams.{Moves};
@@ -39,10 +39,10 @@ pub fn replay_command<S: Source, O: Target, E: Target>(
     requires reads { S.failed input.old < 2 ^ 64 - 1 }
     requires writes { O.failed output.old < 2 ^ 64 - 1 }
     requires tells { E.failed faults.old < 2 ^ 64 - 1 }
-    // It is the log of the empty history that was written.
+    // It is the log of the empty history, of the program's start, that was written.
     ensures replayed { (answer : Result Counts Fault) × (later : List OneInput) × (result ≡ status_of answer)
         × Moves (S.left input.old) (S.left input.new) (O.taken output.old) (O.taken output.new)
-        (λ bytes text. Answers (history 0) [] later bytes text answer) }
+        (λ bytes text. Answers (history program_start) [] later bytes text answer) }
     // Without a fault nothing is told.
     ensures silent { OnOk result (faults.new ≡ faults.old) }
 {

@@ -8,6 +8,7 @@ ghost use Rattle.session_log.specs.Replay.{Answers, IfLineFault, IfRead, IsDone,
 ghost use Rattle.session_log.specs.Sent.{SendsPackets};
 ghost use Rattle.session_log.specs.Session.{history, machine, Repeats};
 ghost use Rattle.token_session.specs.declared.input.Timed.{Timed as OneInput};
+ghost use Rattle.authn_core.specs.Turn.{Start};
 ghost use Rattle.token_session.specs.Meters.{StandsBehind};
 ghost use Rattle.session_log.specs.Streams.{Moves};
 ghost use Rattle.session_log.specs.Window.{HasLine, IsUnfinished, LineFails, Stops};
@@ -207,7 +208,7 @@ pub fn replay<S: Source, T: Target, const C: usize>(
         (T.taken writer.old) (T.taken writer.new)
         (λ bytes text. IsUnwritten machine session.old session.new bytes text)) }
     // Behind any history, all this holds of what the history names in place of what the session holds.
-    ensures history { (start : ℕ) (h : List OneInput) → StandsBehind session.old start h
+    ensures history { (start : Start) (h : List OneInput) → StandsBehind session.old start h
         → (later : List OneInput) × StandsBehind session.new start later
         × Moves (S.left reader.old) (S.left reader.new) (T.taken writer.old) (T.taken writer.new)
         (λ bytes text. Answers (history start) h later bytes text result) }

@@ -89,7 +89,7 @@ fn commands_that_are_not_served(rt: HostRuntime) -> Result<(), AllocError> {
     let lines = [
         ("> 0", INIT),
         ("<", FIRST_GREETING),
-        ("> 1", "000000019000020400"),
+        ("> 1", "00000001900002ff00"),
         ("<", "0000000190000101"),
         ("> 2", "0000000181003a"),
         ("> 3", "00000001830000"),
@@ -100,6 +100,63 @@ fn commands_that_are_not_served(rt: HostRuntime) -> Result<(), AllocError> {
         ("> 5", "0000000100"),
     ];
     assert_replayed(&rt, alloc, &lines, counts.as_str())
+}
+
+#[test]
+fn get_info(rt: HostRuntime) -> Result<(), AllocError> {
+    let alloc = rt.alloc();
+    let first = "00000001900051\
+        00a60181684649444f5f325f300350\
+        00000000000000000000000000000000\
+        04a362726bf5627570f564706c6174f405191db9098163757362";
+    let lines = [
+        ("> 0", INIT),
+        ("<", FIRST_GREETING),
+        ("> 0", INIT),
+        ("<", SECOND_GREETING),
+        ("> 0", "0000000190000104"),
+        ("<", first),
+        (
+            "<",
+            "00000001000a81a263616c672664747970656a7075626c69632d6b6579",
+        ),
+    ];
+    assert_replayed(&rt, alloc, &lines, meters(alloc, 0, 1, 0)?.as_str())?;
+    let lines = [
+        ("> 0", INIT),
+        ("<", FIRST_GREETING),
+        ("> 0", INIT),
+        ("<", SECOND_GREETING),
+        ("> 0", "000000019000020400"),
+        ("<", "0000000190000103"),
+        ("> 0", "00000001900000"),
+        ("<", "00000001bf000103"),
+    ];
+    assert_replayed(&rt, alloc, &lines, meters(alloc, 0, 1, 1)?.as_str())
+}
+
+#[test]
+fn requests_that_are_refused(rt: HostRuntime) -> Result<(), AllocError> {
+    let alloc = rt.alloc();
+    let lines = [
+        ("> 0", INIT),
+        ("<", FIRST_GREETING),
+        ("> 0", INIT),
+        ("<", SECOND_GREETING),
+        ("> 0", "0000000190000106"),
+        ("<", "0000000190000101"),
+    ];
+    assert_replayed(&rt, alloc, &lines, meters(alloc, 0, 1, 0)?.as_str())?;
+    let lines = [
+        ("> 0", INIT),
+        ("<", FIRST_GREETING),
+        ("> 0", INIT),
+        ("<", SECOND_GREETING),
+        ("> 0", "0000000190003a04"),
+        ("> 0", "0000000100"),
+        ("<", "0000000190000103"),
+    ];
+    assert_replayed(&rt, alloc, &lines, meters(alloc, 57, 1, 57)?.as_str())
 }
 
 #[test]

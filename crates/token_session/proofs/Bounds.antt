@@ -1,11 +1,14 @@
 -- At most one message is open, and how much is held of it.
-use Rattle.std.proofs.Common.{◌≡◌, ℕ, ◌+◌, ◌*◌, ◌≤◌, ◌<◌, Bool, true, false, cond, ◌&&◌, List, [], ◌∷◌, length, Option, Some, None, option_to_list, refl, ap, arith, nat_lt}
+use Rattle.std.proofs.Common.{◌≡◌, ℕ, ◌+◌, ◌-◌, ◌*◌, ◌≤◌, ◌<◌, min, sum_by, Bool, true, false, cond, ◌&&◌, List, [], ◌∷◌, length, Option, Some, None, option_to_list, refl, ap, arith, nat_lt}
 use Rattle.std.proofs.lemmas.Bool.Decides.{nat_tests}
+use Rattle.std.proofs.lemmas.List.Sums.{sum_by-cons}
+use Rattle.authn_core.specs.Turn.{Start}
 use Rattle.token_session.proofs.Opens.{From, Lawful, from_earlier, none_stays, open_is_admitted, and_true, cond_none}
 use Rattle.token_session.proofs.Serve.{cond_case, long_says}
 use Rattle.hid_packet.specs.Packet.{channel, message_length}
 use Rattle.token_session.specs.History.{Begun, Judged, end, goes_on, held, is_long, is_next, is_open, open_among, open_at, own, packet}
 use Rattle.token_session.specs.Law.{all_open}
+use Rattle.token_session.specs.Meters.{LARGEST, peak_held}
 
 none_all : (h L : List Judged) (t : ℕ) → open_among L h t ≡ None → all_open L h t ≡ []
 unfolding open_among all_open
@@ -15,7 +18,7 @@ none_all (e ∷ before) L t n =
     let shut = two.0 in
     rw shut (none_all before (e ∷ L) t two.1)
 
-pub one_open : (h L : List Judged) (start t : ℕ) → Lawful start h → From (end start h) L → end start h ≤ t → all_open L h t ≡ option_to_list (open_among L h t)
+pub one_open : (h L : List Judged) (start : Start) (t : ℕ) → Lawful start h → From (end start h) L → end start h ≤ t → all_open L h t ≡ option_to_list (open_among L h t)
 unfolding open_among all_open open_at
 one_open [] L start t l f le = refl
 one_open (e ∷ before) L start t l f le = go (is_open e L t) refl (one_open before (e ∷ L) start t l.2 (l.0, from_earlier L (end start before) e.at l.0 f) (omega (arith, l.0)))
@@ -62,10 +65,28 @@ unfolding open_among
 few_own [] L t = tt
 few_own (e ∷ before) L t = cond_case FewOwn (is_open e L t) _ _ (λ y. few_here e L t y) (λ _. few_own before (e ∷ L) t)
 
-pub held_few : (start : ℕ) (h : List Judged) → held start h ≤ 7550
+pub held_few : (start : Start) (h : List Judged) → held start h ≤ 7550
 unfolding held open_at
 held_few start h = go (open_among [] h (end start h)) (few_own h [] (end start h))
   where
     go : (o : Option Begun) → FewOwn o → (elim o [ None ↦ 0 | Some b ↦ 57 + 59 * length b.own ]) ≤ 7550
     go None f = omega arith
     go (Some b) f = f
+
+-- the most that was held
+pub peak_few : (start : Start) (h : List Judged) → peak_held start h ≤ 7550
+unfolding peak_held
+peak_few start [] = held_few start []
+peak_few start (e ∷ h) = let one = held_few start (e ∷ h) in let others = peak_few start h in omega arith
+
+-- Where each message takes at most four steps for each byte behind the first and two more, so do they together.
+pub few_steps : (steps : List ℕ → ℕ) → ((m : List ℕ) → steps m ≤ 4 * (length m - 1) + 2) → (ms : List (List ℕ))
+    → sum_by steps ms ≤ 4 * sum_by (λ m. length m - 1) ms + 2 * length ms
+few_steps steps each [] = omega arith
+few_steps steps each (m ∷ ms) =
+    let here = each m in
+    let rest = few_steps steps each ms in
+    omega (arith, sum_by-cons steps m ms, sum_by-cons (λ (b : List ℕ). length b - 1) m ms)
+
+pub few_capped : (steps bytes count : ℕ) → steps ≤ 4 * bytes + 2 * count → min steps LARGEST ≤ 4 * min bytes LARGEST + 2 * min count LARGEST
+few_capped steps bytes count h = omega arith

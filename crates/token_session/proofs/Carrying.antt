@@ -2,6 +2,7 @@
 use Rattle.std.proofs.Common.{◌≡◌, ℕ, ◌+◌, ◌*◌, ◌≤◌, ◌==◌, Bool, true, false, cond, ◌&&◌, not, inl, inr, List, [], ◌∷◌, ◌++◌, length, take, drop, filter, flat_map, refl, sym, ◌∙◌, ap, subst, arith, Option, Some, None, max, nat_le, nat_lt, length-append, length-drop, length-take}
 use Rattle.std.proofs.lemmas.Bool.Decides.{nat_tests}
 use Rattle.std.proofs.lemmas.List.{length-map}
+use Rattle.authn_core.specs.Turn.{Start}
 use Rattle.token_session.proofs.Bounds.{goes_on_below}
 use Rattle.std.proofs.lemmas.Option.{same_Some}
 use Rattle.token_session.specs.Carried.{Are64, IsWhole, AreWhole, ArePackets, carriers, long_carriers, finished_at, carriers_at}
@@ -211,7 +212,7 @@ carried o t admitted (Packet p) m k whole starts h = go (admitted && nat_le (mes
 carried o t admitted Tick m k whole starts h = cc
 
 -- a judged history's inputs
-whole_judged : (start : ℕ) (h : List Timed) → ArePackets h → AreWhole (judged start h)
+whole_judged : (start : Start) (h : List Timed) → ArePackets h → AreWhole (judged start h)
 unfolding judged judge
 whole_judged start [] w = tt
 whole_judged start (x ∷ h) w = (w.0, whole_judged start h w.1)
@@ -220,12 +221,12 @@ admitted_starts : (g : ℕ) (o : Option Begun) (w : Option ℕ) (i : Input) → 
 admitted_starts g o w (Packet p) whole h = ((says_admitted g o w p.0 h).start, whole)
 admitted_starts g o w Tick whole h = cc
 
-starts_judged : (start : ℕ) (h : List Timed) → ArePackets h → AdmitsStarts (judged start h)
+starts_judged : (start : Start) (h : List Timed) → ArePackets h → AdmitsStarts (judged start h)
 unfolding judged judge
 starts_judged start [] w = tt
 starts_judged start (x ∷ h) w = ((λ a. admitted_starts _ _ _ x.input w.0 a), starts_judged start h w.1)
 
-pub finished_is_carried : (start : ℕ) (h : List Timed) (x : Timed) (m : Message) → ArePackets (x ∷ h)
+pub finished_is_carried : (start : Start) (h : List Timed) (x : Timed) (m : Message) → ArePackets (x ∷ h)
     → finished_at (judge start x (judged start h)) (judged start h) ≡ Some m
     → CarriesMessage (carriers_at (judge start x (judged start h)) (judged start h)) m.cid m.cmd m.bytes
 unfolding judge open_at

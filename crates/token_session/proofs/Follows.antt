@@ -7,7 +7,7 @@ use Rattle.token_session.proofs.Serve.{says_admitted, Safe, OpenGiven, Serves, s
 use Rattle.token_session.proofs.Time.{still, still_open}
 use Rattle.token_session.proofs.Safety.{packet_works, packet_alone}
 use Rattle.authn_core.proofs.Facts.{IsGiven}
-use Rattle.authn_core.specs.Turn.{CoreState, Event, Work, working}
+use Rattle.authn_core.specs.Turn.{Start, CoreState, Event, Work, working}
 use Rattle.hid_assemble.specs.Assembly.{Open, given_after, is_overdue, message_after, open_after}
 use Rattle.hid_assemble.specs.Table.{LAST_CHANNEL, row_of}
 use Rattle.hid_packet.specs.Packet.{fields}
@@ -61,33 +61,33 @@ pass_named now g t keepalive_at (Some b) k =
     rw (not_below (last_at b.at b.own + 500) t) (pass_open (nat_lt t (last_at b.at b.own + 500)) g t keepalive_at b k)
 
 -- What holds behind every history.
-pub record Good (start : ℕ) (h : List Judged) : Type 0 where
+pub record Good (start : Start) (h : List Judged) : Type 0 where
   pub lawful : Lawful start h
-  pub safe : Safe (given h) (open_at h (end start h)) (working (core h))
+  pub safe : Safe (given h) (open_at h (end start h)) (working (core start h))
 
 still_given : (g t : ℕ) (w : Option ℕ) (o : Option Begun) → OpenGiven g o w → OpenGiven g (still t o) w
 still_given g t w None h = tt
 still_given g t w (Some b) h = cond_case (λ v. OpenGiven g v w) (nat_lt t (last_at b.at b.own + 500)) _ _ (λ _. h) (λ _. tt)
 
-safe_at : (start t : ℕ) (h : List Judged) → Good start h → end start h ≤ t → Safe (given h) (open_at h t) (working (core h))
+pub safe_at : (start : Start) (t : ℕ) (h : List Judged) → Good start h → end start h ≤ t → Safe (given h) (open_at h t) (working (core start h))
 safe_at start t h good le =
     record {
       few = (good.safe).few;
       works = (good.safe).works;
-      opens = subst (λ v. OpenGiven (given h) v (working (core h))) (sym (still_open h start t good.lawful le)) (still_given (given h) t (working (core h)) (open_at h (end start h)) (good.safe).opens);
+      opens = subst (λ v. OpenGiven (given h) v (working (core start h))) (sym (still_open h start t good.lawful le)) (still_given (given h) t (working (core start h)) (open_at h (end start h)) (good.safe).opens);
     }
 
 -- Time passes for the state that a history names.
-time_named : (start t : ℕ) (h : List Judged) → Good start h → end start h ≤ t
+time_named : (start : Start) (t : ℕ) (h : List Judged) → Good start h → end start h ≤ t
     → passed (named start h) t ≡ record {
-      state = record { now = t; given = given h; current = option_map as_open (open_at h t); core = core h; keepalive_at = time_keepalive (open_at h (end start h)) (open_at h t) (core h).work (last_keepalive start h) t };
+      state = record { now = t; given = given h; current = option_map as_open (open_at h t); core = core start h; keepalive_at = time_keepalive (open_at h (end start h)) (open_at h t) (core start h).work (last_keepalive start h) t };
       packets = time_packets start h t;
       event = None;
     }
 unfolding named time_packets
 time_named start t h good le =
-    pass_named (end start h) (given h) t (last_keepalive start h) (open_at h (end start h)) (core h)
-    ∙ ap (λ v. timed (given h) (open_at h (end start h)) v (core h) (last_keepalive start h) t) (sym (still_open h start t good.lawful le))
+    pass_named (end start h) (given h) t (last_keepalive start h) (open_at h (end start h)) (core start h)
+    ∙ ap (λ v. timed (given h) (open_at h (end start h)) v (core start h) (last_keepalive start h) t) (sym (still_open h start t good.lawful le))
 
 -- Service.
 happens_same : (t k : ℕ) (a b : ℕ) (c d : Option Open) (s : CoreState) (early : List (List ℕ)) (x y : List (List ℕ)) (e f : Option Event)
@@ -109,75 +109,75 @@ or_cond true b x y = refl
 or_cond false b x y = refl
 
 -- what the history names, as a turn
-abbrev goal_turn : ℕ → Judged → List Judged → Turn
-goal_turn start e h = record { state = named start (e ∷ h); packets = sent_at start e h; event = event_at e h }
+abbrev goal_turn : Start → Judged → List Judged → Turn
+goal_turn start e h = record { state = named start (e ∷ h); packets = sent_at start e h; event = event_at start e h }
 
-named_turn : (start : ℕ) (e : Judged) (h : List Judged)
-    → happens e.at (given (e ∷ h)) (option_map as_open (open_at (e ∷ h) e.at)) (core h)
-    (time_keepalive (open_at h (end start h)) (open_at h e.at) (core h).work (last_keepalive start h) e.at) (time_packets start h e.at)
-    (table_packets (given h) (open_at h e.at) (working (core h)) e.input ++ ping_packets (finished (open_at h e.at) e.admitted e.input))
-    (event (working (core h)) (finished (open_at h e.at) e.admitted e.input) e.input)
+named_turn : (start : Start) (e : Judged) (h : List Judged)
+    → happens e.at (given (e ∷ h)) (option_map as_open (open_at (e ∷ h) e.at)) (core start h)
+    (time_keepalive (open_at h (end start h)) (open_at h e.at) (core start h).work (last_keepalive start h) e.at) (time_packets start h e.at)
+    (table_packets (given h) (open_at h e.at) (working (core start h)) e.input ++ ping_packets (finished (open_at h e.at) e.admitted e.input))
+    (event (working (core start h)) (finished (open_at h e.at) e.admitted e.input) e.input)
     ≡ goal_turn start e h
 unfolding named sent_at service_packets core last_keepalive event_at
 named_turn start e h =
     let m = finished (open_at h e.at) e.admitted e.input in
-    let ev = event (working (core h)) m e.input in
+    let ev = event (working (core start h)) m e.input in
     let cutted = is_cut (open_at h (end start h)) (open_at h e.at) in
-    let p = or_cond (event_keeps_alive (core h) e.at ev) (not cutted && keepalive_due (core h).work (last_keepalive start h) e.at) e.at (last_keepalive start h) in
+    let p = or_cond (event_keeps_alive (core start h) e.at ev) (not cutted && keepalive_due (core start h).work (last_keepalive start h) e.at) e.at (last_keepalive start h) in
     λ i. record {
-      state = record { now = e.at; given = given (e ∷ h); current = option_map as_open (open_at (e ∷ h) e.at); core = core (e ∷ h); keepalive_at = (sym p) i };
+      state = record { now = e.at; given = given (e ∷ h); current = option_map as_open (open_at (e ∷ h) e.at); core = core start (e ∷ h); keepalive_at = (sym p) i };
       packets = sent_at start e h;
       event = ev;
     }
 
-seen_same : (o : Option Begun) → option_map hist.seen o ≡ option_map machine_seen (option_map as_open o)
+pub seen_same : (o : Option Begun) → option_map hist.seen o ≡ option_map machine_seen (option_map as_open o)
 seen_same None = refl
 seen_same (Some b) = refl
 
 -- the input is judged so at t
-abbrev judged_at : ℕ → List Judged → Input → Judged
-judged_at t h i = record { at = t; input = i; admitted = is_packet (admits (given h) (open_at h t) (working (core h))) i }
+abbrev pub judged_at : Start → ℕ → List Judged → Input → Judged
+judged_at start t h i = record { at = t; input = i; admitted = is_packet (admits (given h) (open_at h t) (working (core start h))) i }
 
 -- what the machine does behind time, at t
-abbrev late_state : ℕ → List Judged → ℕ → State
-late_state start h t = record { now = t; given = given h; current = option_map as_open (open_at h t); core = core h; keepalive_at = time_keepalive (open_at h (end start h)) (open_at h t) (core h).work (last_keepalive start h) t }
+abbrev late_state : Start → List Judged → ℕ → State
+late_state start h t = record { now = t; given = given h; current = option_map as_open (open_at h t); core = core start h; keepalive_at = time_keepalive (open_at h (end start h)) (open_at h t) (core start h).work (last_keepalive start h) t }
 
 tick_next : (t : ℕ) (b : Bool) (o : Option Begun) → then_next (record { at = t; input = Tick; admitted = b }) o ≡ o
 unfolding next is_own
 tick_next t b None = refl
 tick_next t b (Some c) = refl
 
-served_named : (start t : ℕ) (h : List Judged) (i : Input) → Good start h → end start h ≤ t
-    → served (late_state start h t) (time_packets start h t) i ≡ goal_turn start (judged_at t h i) h
+served_named : (start : Start) (t : ℕ) (h : List Judged) (i : Input) → Good start h → end start h ≤ t
+    → served (late_state start h t) (time_packets start h t) i ≡ goal_turn start (judged_at start t h i) h
 unfolding event finished
 served_named start t h (Packet x) good le =
     let g = given h in
     let o = open_at h t in
-    let w = working (core h) in
+    let w = working (core start h) in
     let p = x.0 in
     let row = row_of g (option_map machine_seen (option_map as_open o)) w (fields p) in
     let s : Serves g o w t p (fields p) (new_open g o w t p (Packet x)) (finished o (admits g o w p) (Packet x)) row = serves g o w t x (safe_at start t h good le) in
-    let channels : given_after g row ≡ given (judged_at t h (Packet x) ∷ h) = sym (given_more (judged_at t h (Packet x)) h ∙ s.channels) in
-    let current : open_after (option_map as_open o) t (fields p) row ≡ option_map as_open (open_at (judged_at t h (Packet x) ∷ h) t) =
-    sym (ap (option_map as_open) (open_behind h (judged_at t h (Packet x)) start good.lawful le) ∙ s.current) in
+    let channels : given_after g row ≡ given (judged_at start t h (Packet x) ∷ h) = sym (given_more (judged_at start t h (Packet x)) h ∙ s.channels) in
+    let current : open_after (option_map as_open o) t (fields p) row ≡ option_map as_open (open_at (judged_at start t h (Packet x) ∷ h) t) =
+    sym (ap (option_map as_open) (open_behind h (judged_at start t h (Packet x)) start good.lawful le) ∙ s.current) in
     let message : message_after (option_map as_open o) (fields p) row ≡ finished o (admits g o w p) (Packet x) = sym s.message in
     let packets : (row_packets g (fields p) row ++ ping_packets (message_after (option_map as_open o) (fields p) row)) ≡ (table_packets g o w (Packet x) ++ ping_packets (finished o (admits g o w p) (Packet x))) =
     λ i. row_packets g (fields p) (row_of g ((sym (seen_same o)) i) w (fields p)) ++ ping_packets (message i) in
     let ev : event_after w (fields p) (message_after (option_map as_open o) (fields p) row) row ≡ packet_event w (finished o (admits g o w p) (Packet x)) p =
     sym s.event ∙ ap (λ m. packet_event w m p) message in
-    happens_same t (time_keepalive (open_at h (end start h)) o (core h).work (last_keepalive start h) t) _ _ _ _ (core h) (time_packets start h t) _ _ _ _ channels current packets ev
-    ∙ named_turn start (judged_at t h (Packet x)) h
+    happens_same t (time_keepalive (open_at h (end start h)) o (core start h).work (last_keepalive start h) t) _ _ _ _ (core start h) (time_packets start h t) _ _ _ _ channels current packets ev
+    ∙ named_turn start (judged_at start t h (Packet x)) h
 served_named start t h Tick good le =
-    let e : Judged = judged_at t h Tick in
+    let e : Judged = judged_at start t h Tick in
     let o = open_at h t in
     let channels : given h ≡ given (e ∷ h) = sym (given_more e h) in
     let current : option_map as_open o ≡ option_map as_open (open_at (e ∷ h) t) = sym (ap (option_map as_open) (open_behind h e start good.lawful le ∙ tick_next t false o)) in
-    happens_same t (time_keepalive (open_at h (end start h)) o (core h).work (last_keepalive start h) t) (given h) (given (e ∷ h)) (option_map as_open o) (option_map as_open (open_at (e ∷ h) t))
-    (core h) (time_packets start h t) [] [] None None channels current refl refl
+    happens_same t (time_keepalive (open_at h (end start h)) o (core start h).work (last_keepalive start h) t) (given h) (given (e ∷ h)) (option_map as_open o) (option_map as_open (open_at (e ∷ h) t))
+    (core start h) (time_packets start h t) [] [] None None channels current refl refl
     ∙ named_turn start e h
 
 -- One input: the machine's turn on the state that a history names gives the state that the longer history names, and its packets.
-pub follows : (start : ℕ) (h : List Judged) (x : Timed) → Good start h → turn (named start h) x ≡ record { state = named start (judge start x h ∷ h); packets = sent_at start (judge start x h) h; event = event_at (judge start x h) h }
+pub follows : (start : Start) (h : List Judged) (x : Timed) → Good start h → turn (named start h) x ≡ record { state = named start (judge start x h ∷ h); packets = sent_at start (judge start x h) h; event = event_at start (judge start x h) h }
 unfolding turn judge named
 follows start h x good =
     let t = max (end start h) x.at in
@@ -209,45 +209,45 @@ opens_more g k None w le h = tt
 opens_more g k (Some b) w le h = (h.0, omega (arith, h.1), h.2)
 
 -- behind an input, with what it made of the open message and of the authenticator
-safe_of : (start t : ℕ) (h : List Judged) (i : Input) (o : Option Begun) (w : Option ℕ) → IsGiven (given h) w → OpenGiven (given h) o w
-    → open_at (judged_at t h i ∷ h) t ≡ o → Safe (given (judged_at t h i ∷ h)) (open_at (judged_at t h i ∷ h) t) w
+safe_of : (start : Start) (t : ℕ) (h : List Judged) (i : Input) (o : Option Begun) (w : Option ℕ) → IsGiven (given h) w → OpenGiven (given h) o w
+    → open_at (judged_at start t h i ∷ h) t ≡ o → Safe (given (judged_at start t h i ∷ h)) (open_at (judged_at start t h i ∷ h) t) w
 safe_of start t h i o w works opens is =
-    let le = given_rises (judged_at t h i) h in
+    let le = given_rises (judged_at start t h i) h in
     record {
-      few = given_few (judged_at t h i ∷ h);
+      few = given_few (judged_at start t h i ∷ h);
       works = works_more (given h) _ w le works;
       opens = opens_more (given h) _ _ w le (subst (λ v. OpenGiven (given h) v w) (sym is) opens);
     }
 
-safe_behind : (start t : ℕ) (h : List Judged) (i : Input) → Good start h → end start h ≤ t
-    → Safe (given (judged_at t h i ∷ h)) (open_at (judged_at t h i ∷ h) t) (working (event_core (core h) t (event (working (core h)) (finished (open_at h t) (judged_at t h i).admitted i) i)))
+safe_behind : (start : Start) (t : ℕ) (h : List Judged) (i : Input) → Good start h → end start h ≤ t
+    → Safe (given (judged_at start t h i ∷ h)) (open_at (judged_at start t h i ∷ h) t) (working (event_core (core start h) t (event (working (core start h)) (finished (open_at h t) (judged_at start t h i).admitted i) i)))
 unfolding event finished
 safe_behind start t h (Packet x) good le =
     let s = safe_at start t h good le in
-    safe_of start t h (Packet x) _ _ (packet_works (given h) (open_at h t) (core h) t x s) (packet_alone (given h) (open_at h t) (core h) t x s)
-    (open_behind h (judged_at t h (Packet x)) start good.lawful le)
+    safe_of start t h (Packet x) _ _ (packet_works (given h) (open_at h t) (core start h) t x s) (packet_alone (given h) (open_at h t) (core start h) t x s)
+    (open_behind h (judged_at start t h (Packet x)) start good.lawful le)
 safe_behind start t h Tick good le =
     let s = safe_at start t h good le in
-    safe_of start t h Tick (open_at h t) (working (core h)) s.works s.opens (open_behind h (judged_at t h Tick) start good.lawful le ∙ tick_next t false (open_at h t))
+    safe_of start t h Tick (open_at h t) (working (core start h)) s.works s.opens (open_behind h (judged_at start t h Tick) start good.lawful le ∙ tick_next t false (open_at h t))
 
 -- What holds behind a history holds behind a longer one.
-good_longer : (start : ℕ) (h : List Judged) (x : Timed) → Good start h → Good start (judge start x h ∷ h)
+good_longer : (start : Start) (h : List Judged) (x : Timed) → Good start h → Good start (judge start x h ∷ h)
 unfolding judge core
 good_longer start h x good =
     let t = max (end start h) x.at in
     let le : end start h ≤ t = omega arith in
     record {
-      lawful = (le, admitted_alone (given h) (open_at h t) (working (core h)) x.input, good.lawful);
+      lawful = (le, admitted_alone (given h) (open_at h t) (working (core start h)) x.input, good.lawful);
       safe = safe_behind start t h x.input good le;
     }
 
-pub good_judged : (start : ℕ) (h : List Timed) → Good start (judged start h)
+pub good_judged : (start : Start) (h : List Timed) → Good start (judged start h)
 unfolding judged given core open_at hist.open_among
 good_judged start [] = record { lawful = tt; safe = record { few = omega arith; works = tt; opens = tt } }
 good_judged start (x ∷ h) = good_longer start (judged start h) x (good_judged start h)
 
 -- The machine over a history is in the state that the history names, and each input sends the packets that the history says.
-pub machine_follows : (start : ℕ) (h : List Timed) → machine start h ≡ named start (judged start h)
+pub machine_follows : (start : Start) (h : List Timed) → machine start h ≡ named start (judged start h)
 unfolding machine judged start_state named given core open_at hist.open_among last_keepalive
 machine_follows start [] = refl
 machine_follows start (x ∷ h) =

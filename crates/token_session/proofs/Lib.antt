@@ -12,3 +12,4 @@ pub mod Serving
 pub mod Metering
 mod Rows
 pub mod Carrying
+pub mod Answering

@@ -3,6 +3,7 @@ use Rattle.std.proofs.Common.{◌≡◌, ℕ, ◌+◌, ◌≤◌, Bool, true, fa
 use Rattle.std.proofs.lemmas.Bool.Decides.{nat_tests}
 use Rattle.std.proofs.lemmas.List.Elements.{filter-append}
 use Rattle.hid_packet.specs.Packet.{channel, message_length}
+use Rattle.authn_core.specs.Turn.{Start}
 use Rattle.token_session.specs.History.{Begun, Judged, end, goes_on, is_long, is_next, is_open, is_own, open_among, open_at, own, packet}
 
 -- each of these inputs came at t or later
@@ -102,7 +103,7 @@ none_stays (e ∷ before) L M t u f le n =
     (λ _. none_stays before (e ∷ L) M t u f le two.1)
 
 -- The moments never fall, and nothing is open where a start is admitted.
-abbrev pub Lawful : ℕ → List Judged → Type 0
+abbrev pub Lawful : Start → List Judged → Type 0
 Lawful start [] = Unit {0}
 Lawful start (e ∷ past) = (end start past ≤ e.at) × (e.admitted ≡ true → open_at past e.at ≡ None) × Lawful start past
 
@@ -167,7 +168,7 @@ from_one [] x t f le = (le, tt)
 from_one (e ∷ L) x t f le = (f.0, from_one L x t f.1 le)
 
 -- One more input: what was open goes on by it, and nothing else comes to be open behind the newest start.
-pub one_more : (h L : List Judged) (x : Judged) (start : ℕ) → Lawful start h → From (end start h) L → end start h ≤ x.at
+pub one_more : (h L : List Judged) (x : Judged) (start : Start) → Lawful start h → From (end start h) L → end start h ≤ x.at
     → open_among (L ++ x ∷ []) h x.at ≡ then_next x (open_among L h x.at)
 unfolding open_among open_at
 one_more [] L x start l f le = refl
@@ -196,7 +197,7 @@ open_now x =
     and_also (x.admitted && is_long (packet x.input)) (nat_lt x.at (x.at + 500)) soon
 
 -- What is open behind one more input.
-pub open_behind : (h : List Judged) (x : Judged) (start : ℕ) → Lawful start h → end start h ≤ x.at
+pub open_behind : (h : List Judged) (x : Judged) (start : Start) → Lawful start h → end start h ≤ x.at
     → open_at (x ∷ h) x.at
     ≡ cond (x.admitted && is_long (packet x.input)) (Some (record { packet = packet x.input; at = x.at; own = [] })) (then_next x (open_at h x.at))
 unfolding open_at open_among own

@@ -1,7 +1,9 @@
 -- Worked histories, by computation: a reader's check that the definitions say what is meant. Code and definitions share the
 -- fields, the error codes, the greeting and the authenticator's turns, and only these rows look at them from outside.
 use Rattle.std.specs.Prelude.{◌≡◌, ℕ, ◌+◌, ◌-◌, List, [], ◌∷◌, ◌++◌, length, refl, replicate, reverse, zero, suc, Some, None}
-use Rattle.authn_core.specs.Turn.{Waits, core_turn}
+use Rattle.authn_core.specs.Turn.{Start, Waits, core_turn}
+use Rattle.ctap_message.specs.Answers.{info_answer}
+use Rattle.ctap_message.specs.Requests.{read_of}
 use Rattle.hid_assemble.specs.Assembly.{is_overdue, message_after, open_after}
 use Rattle.hid_assemble.specs.Table.{begin_row, continuation_row, init_row, initialization_row, row_of}
 use Rattle.hid_packet.specs.Message.{continuation_packet, continuation_packets, initialization_packet, padded, written}
@@ -29,9 +31,13 @@ init_line = 255 ∷ 255 ∷ 255 ∷ 255 ∷ 134 ∷ 0 ∷ 8 ∷ 1 ∷ 1 ∷ 1 �
 abbrev greeted : ℕ → List ℕ
 greeted c = pad (255 ∷ 255 ∷ 255 ∷ 255 ∷ 134 ∷ 0 ∷ 17 ∷ 1 ∷ 1 ∷ 1 ∷ 1 ∷ 1 ∷ 1 ∷ 1 ∷ 1 ∷ 0 ∷ 0 ∷ 0 ∷ c ∷ 2 ∷ 1 ∷ 0 ∷ 0 ∷ 12 ∷ [])
 
+-- an AAGUID of sixteen zero bytes, and the moment 0
+abbrev at_zero : Start
+at_zero = record { aaguid = replicate 16 0; moment = 0 }
+
 sent_by : List Timed → List (List ℕ)
-unfolding channel is_initialization command message_length initialization_data sequence continuation_data padded initialization_packet continuation_packet continuation_packets written core_turn init_row begin_row initialization_row continuation_row row_of greeting row_packets answer_packets answer_keeps_alive is_overdue keepalive_due open_after message_after event_after passed turn start_state machine judged sent held asks_channel given is_own own is_next goes_on is_long is_open open_among open_at is_last finished_long finished packet_event event core admits judge last_keepalive time_packets service_packets sent_at
-sent_by xs = sent 0 (judged 0 (reverse xs))
+unfolding channel is_initialization command message_length initialization_data sequence continuation_data padded initialization_packet continuation_packet continuation_packets written read_of core_turn init_row begin_row initialization_row continuation_row row_of greeting row_packets answer_packets answer_keeps_alive is_overdue keepalive_due open_after message_after event_after passed turn start_state machine judged sent held asks_channel given is_own own is_next goes_on is_long is_open open_among open_at is_last finished_long finished packet_event event core admits judge last_keepalive time_packets service_packets sent_at
+sent_by xs = sent at_zero (judged at_zero (reverse xs))
 
 -- the first lines of the plainest log
 init_and_ping : sent_by (came 0 init_line ∷ came 5 (0 ∷ 0 ∷ 0 ∷ 1 ∷ 129 ∷ 0 ∷ 3 ∷ 97 ∷ 98 ∷ 99 ∷ []) ∷ []) ≡ greeted 1 ∷ pad (0 ∷ 0 ∷ 0 ∷ 1 ∷ 129 ∷ 0 ∷ 3 ∷ 97 ∷ 98 ∷ 99 ∷ []) ∷ []
@@ -147,18 +153,32 @@ unfolding sent_by
 ping_58 = refl
 
 -- commands that aren't served, a channel that wasn't given, a CBOR message without a byte and one that isn't served
-refusals : sent_by (begun_with_two (came 0 (one (131 ∷ 0 ∷ 0 ∷ [])) ∷ came 1 (0 ∷ 0 ∷ 0 ∷ 3 ∷ 129 ∷ 0 ∷ 0 ∷ []) ∷ came 2 (one (144 ∷ 0 ∷ 0 ∷ [])) ∷ came 3 (one (144 ∷ 0 ∷ 1 ∷ 4 ∷ [])) ∷ []))
+refusals : sent_by (begun_with_two (came 0 (one (131 ∷ 0 ∷ 0 ∷ [])) ∷ came 1 (0 ∷ 0 ∷ 0 ∷ 3 ∷ 129 ∷ 0 ∷ 0 ∷ []) ∷ came 2 (one (144 ∷ 0 ∷ 0 ∷ [])) ∷ came 3 (one (144 ∷ 0 ∷ 1 ∷ 6 ∷ [])) ∷ []))
     ≡ behind_two (error_1 1 ∷ pad (0 ∷ 0 ∷ 0 ∷ 3 ∷ 191 ∷ 0 ∷ 1 ∷ 11 ∷ []) ∷ error_1 3 ∷ pad (one (144 ∷ 0 ∷ 1 ∷ 1 ∷ [])) ∷ [])
 unfolding sent_by error_1
 refusals = refl
 
+-- authenticatorGetInfo's answer, for that AAGUID, as a CBOR message on channel 1
+info_1 : List (List ℕ)
+unfolding written initialization_packet continuation_packet continuation_packets padded
+info_1 = written 1 0x10 (info_answer (replicate 16 0))
+
+get_info : sent_by (begun_with_two (came 0 (one (144 ∷ 0 ∷ 1 ∷ 4 ∷ [])) ∷ [])) ≡ behind_two info_1
+unfolding sent_by info_1
+get_info = refl
+
+-- a byte behind its command
+get_info_refused : sent_by (begun_with_two (came 0 (one (144 ∷ 0 ∷ 2 ∷ 4 ∷ 0 ∷ [])) ∷ [])) ≡ behind_two (pad (one (144 ∷ 0 ∷ 1 ∷ 3 ∷ [])) ∷ [])
+unfolding sent_by
+get_info_refused = refl
+
 -- Work waits for the user's presence on channel 1 since the moment 0. (No command begins work yet, so that such a state
 -- stands behind no history.)
 waiting : State
-waiting = record { now = 0; given = 2; current = None; core = record { work = Some (record { cid = 1; status = 2 }) }; keepalive_at = 0 }
+waiting = record { now = 0; given = 2; current = None; core = record { aaguid = replicate 16 0; began = 0; work = Some (record { cid = 1; status = 2 }) }; keepalive_at = 0 }
 
 runs : List Timed → List (ℕ × List ℕ)
-unfolding channel is_initialization command message_length initialization_data sequence continuation_data padded initialization_packet continuation_packet continuation_packets written core_turn init_row begin_row initialization_row continuation_row row_of greeting row_packets answer_packets answer_keeps_alive is_overdue keepalive_due open_after message_after event_after passed turn start_state machine judged sent held asks_channel given is_own own is_next goes_on is_long is_open open_among open_at is_last finished_long finished packet_event event core admits judge last_keepalive time_packets service_packets sent_at waiting
+unfolding channel is_initialization command message_length initialization_data sequence continuation_data padded initialization_packet continuation_packet continuation_packets written read_of core_turn init_row begin_row initialization_row continuation_row row_of greeting row_packets answer_packets answer_keeps_alive is_overdue keepalive_due open_after message_after event_after passed turn start_state machine judged sent held asks_channel given is_own own is_next goes_on is_long is_open open_among open_at is_last finished_long finished packet_event event core admits judge last_keepalive time_packets service_packets sent_at waiting
 runs xs = run_sent 0 waiting xs
 
 -- busy, a new channel, KEEPALIVE at 100 and 200 but not at 150, an idle CANCEL and a real one

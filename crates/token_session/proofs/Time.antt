@@ -1,6 +1,7 @@
 -- What is open at one moment, and still at a later one.
 use Rattle.std.proofs.Common.{◌≡◌, ℕ, ◌+◌, ◌≤◌, Bool, true, false, cond, ◌&&◌, List, [], ◌∷◌, Option, Some, None, refl, ◌∙◌, ap, arith, nat_lt}
 use Rattle.std.proofs.lemmas.Bool.Decides.{nat_tests}
+use Rattle.authn_core.specs.Turn.{Start}
 use Rattle.token_session.proofs.Opens.{From, Lawful, from_earlier, none_stays, open_is_admitted}
 use Rattle.hid_packet.specs.Packet.{channel, message_length}
 use Rattle.token_session.specs.History.{Begun, Judged, end, goes_on, is_long, is_next, is_open, open_among, open_at, own, packet}
@@ -32,7 +33,7 @@ cut : {A : Type 0} (b : Bool) (x y z : A) → y ≡ z → cond b x y ≡ cond b 
 cut true x y z h = refl
 cut false x y z h = h
 
-pub later_open : (h L : List Judged) (start t u : ℕ) → Lawful start h → From (end start h) L → end start h ≤ t → t ≤ u → open_among L h u ≡ still u (open_among L h t)
+pub later_open : (h L : List Judged) (start : Start) (t u : ℕ) → Lawful start h → From (end start h) L → end start h ≤ t → t ≤ u → open_among L h u ≡ still u (open_among L h t)
 unfolding open_among open_at
 later_open [] L start t u l f le lu = refl
 later_open (e ∷ before) L start t u l f le lu =
@@ -48,6 +49,6 @@ later_open (e ∷ before) L start t u l f le lu =
         (none_stays before [] (e ∷ L) e.at u (omega arith, f) (omega arith) (l.1 (open_is_admitted e L t h)))
     go false h ih = ih
 
-pub still_open : (h : List Judged) (start u : ℕ) → Lawful start h → end start h ≤ u → open_at h u ≡ still u (open_at h (end start h))
+pub still_open : (h : List Judged) (start : Start) (u : ℕ) → Lawful start h → end start h ≤ u → open_at h u ≡ still u (open_at h (end start h))
 unfolding open_at
 still_open h start u l le = later_open h [] start (end start h) u l tt (omega arith) le

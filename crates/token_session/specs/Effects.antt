@@ -6,6 +6,8 @@ use Rattle.hid_assemble.specs.Codes.{code_number}
 use Rattle.hid_assemble.specs.declared.verdict.Verdict.{Verdict}
 use Rattle.hid_assemble.specs.declared.verdict.Verdict.TheVariants.{Ignored, Kept, Finished, Refuse, Greet, GreetAndDrop, CancelWork}
 use Rattle.authn_core.specs.Turn.{Event, Request, Cancel, Drop}
+use Rattle.ctap_message.specs.Requests.{steps_of}
+use Rattle.token_session.specs.declared.machine.Reading.{Reading}
 use Rattle.token_session.specs.Replies.{error, greeting}
 
 -- the packets of a verdict on a packet that finished these bytes, but for those of an event
@@ -34,6 +36,16 @@ request_in (Some (Request cid bytes)) = Some bytes
 request_in (Some Cancel) = None
 request_in (Some Drop) = None
 
--- how many bytes a request has behind its command byte
-abbrev pub request_size : Option Event → Option ℕ
-request_size e = option_map (λ bytes. length bytes - 1) (request_in e)
+-- what reading a request takes: the bytes behind its command byte, and the steps
+abbrev pub reading_of : List ℕ → Reading
+reading_of message = record { bytes = length message - 1; steps = steps_of message }
+
+abbrev pub reading_in : Option Event → Option Reading
+reading_in e = option_map reading_of (request_in e)
+
+-- the steps of reading the last request, behind an event
+abbrev pub steps_behind : ℕ → Option Event → ℕ
+steps_behind before None = before
+steps_behind before (Some (Request cid bytes)) = steps_of bytes
+steps_behind before (Some Cancel) = before
+steps_behind before (Some Drop) = before

@@ -1,5 +1,5 @@
 -- What a history says, by its inputs alone: positions, filters and lists, and no state. A history is a list of inputs, the
--- newest first, so that what came before an input is the rest of the list.
+-- newest first, so that what came before an input is the rest of the list. It begins with an authenticator's start.
 use Rattle.std.specs.Prelude.{ℕ, ◌+◌, ◌*◌, Bool, false, not, ◌&&◌, ◌||◌, ◌==◌, nat_le, nat_lt, List, [], ◌∷◌, ◌++◌, take, length, max, min, map, filter, count_by, Option, Some, None, option_map, is_some, is_none, if◌then◌else◌}
 use Rattle.hid_packet.specs.Commands.{PING, INIT, CBOR, CANCEL, BROADCAST, LONGEST}
 use Rattle.hid_packet.specs.Packet.{fields, channel, is_initialization, command, message_length, sequence, is_command}
@@ -7,7 +7,7 @@ use Rattle.hid_packet.specs.Carries.{joined}
 use Rattle.hid_assemble.specs.declared.table.Opened.{Opened}
 use Rattle.hid_assemble.specs.Table.{LAST_CHANNEL, is_given, is_on, row_of}
 use Rattle.hid_assemble.specs.Assembly.{Message}
-use Rattle.authn_core.specs.Turn.{CoreState, working, Event, Cancel, Drop, first_state}
+use Rattle.authn_core.specs.Turn.{Start, CoreState, working, Event, Cancel, Drop, first_state}
 use Rattle.token_session.specs.declared.input.Input.{Input}
 use Rattle.token_session.specs.declared.input.Input.TheVariants.{Packet, Tick}
 use Rattle.token_session.specs.declared.input.Timed.{Timed}
@@ -22,8 +22,8 @@ pub record Judged : Type 0 where
   pub admitted : Bool
 
 -- the moment of the last input, that of the start without one
-abbrev pub end : ℕ → List Judged → ℕ
-end start [] = start
+abbrev pub end : Start → List Judged → ℕ
+end start [] = start.moment
 end start (e ∷ past) = e.at
 
 -- the bytes of an input's packet
@@ -130,9 +130,9 @@ event work m (Packet p) = packet_event work m p.0
 event work m Tick = None
 
 -- The authenticator behind a history: its turns over the events, one after the other.
-unfoldable pub core : List Judged → CoreState
-core [] = first_state
-core (e ∷ past) = event_core (core past) e.at (event (working (core past)) (finished (open_at past e.at) e.admitted e.input) e.input)
+unfoldable pub core : Start → List Judged → CoreState
+core start [] = first_state start
+core start (e ∷ past) = event_core (core start past) e.at (event (working (core start past)) (finished (open_at past e.at) e.admitted e.input) e.input)
 
 -- An initialization packet is admitted on a channel that was given out, with a command that is served, where nothing is
 -- open and no work waits.
@@ -141,12 +141,12 @@ admits given o work p =
     is_initialization p && is_given given (channel p)
     && ((command p == PING) || ((command p == CBOR) && nat_le 1 (message_length p))) && is_none o && is_none work
 
-unfoldable pub judge : ℕ → Timed → List Judged → Judged
+unfoldable pub judge : Start → Timed → List Judged → Judged
 judge start x past =
     let t = max (end start past) x.at in
-    record { at = t; input = x.input; admitted = is_packet (admits (given past) (open_at past t) (working (core past))) x.input }
+    record { at = t; input = x.input; admitted = is_packet (admits (given past) (open_at past t) (working (core start past))) x.input }
 
-unfoldable pub judged : ℕ → List Timed → List Judged
+unfoldable pub judged : Start → List Timed → List Judged
 judged start [] = []
 judged start (x ∷ past) = judge start x (judged start past) ∷ judged start past
 
@@ -160,17 +160,17 @@ cut_packets None = []
 cut_packets (Some b) = error (channel b.packet) 0x05
 
 -- the moment of the last input that sent a KEEPALIVE, 0 without one
-unfoldable pub last_keepalive : ℕ → List Judged → ℕ
+unfoldable pub last_keepalive : Start → List Judged → ℕ
 last_keepalive start [] = 0
 last_keepalive start (e ∷ past) =
-    if event_keeps_alive (core past) e.at (event (working (core past)) (finished (open_at past e.at) e.admitted e.input) e.input)
-    || (not (is_cut (open_at past (end start past)) (open_at past e.at)) && keepalive_due (core past).work (last_keepalive start past) e.at)
+    if event_keeps_alive (core start past) e.at (event (working (core start past)) (finished (open_at past e.at) e.admitted e.input) e.input)
+    || (not (is_cut (open_at past (end start past)) (open_at past e.at)) && keepalive_due (core start past).work (last_keepalive start past) e.at)
     then e.at else last_keepalive start past
 
-unfoldable pub time_packets : ℕ → List Judged → ℕ → List (List ℕ)
+unfoldable pub time_packets : Start → List Judged → ℕ → List (List ℕ)
 time_packets start past t =
     if is_cut (open_at past (end start past)) (open_at past t) then cut_packets (open_at past (end start past))
-    else if keepalive_due (core past).work (last_keepalive start past) t then keepalive_packets (core past).work
+    else if keepalive_due (core start past).work (last_keepalive start past) t then keepalive_packets (core start past).work
     else []
 
 -- The packets of service: those of the reply table's row, the answer to a finished PING, and those of the event.
@@ -178,22 +178,22 @@ abbrev pub table_packets : ℕ → Option Begun → Option ℕ → Input → Lis
 table_packets given o work (Packet p) = row_packets given (fields p.0) (row_of given (option_map seen o) work (fields p.0))
 table_packets given o work Tick = []
 
-unfoldable pub service_packets : Judged → List Judged → List (List ℕ)
-service_packets e past =
+unfoldable pub service_packets : Start → Judged → List Judged → List (List ℕ)
+service_packets start e past =
     let o = open_at past e.at in
-    let k = core past in
+    let k = core start past in
     let m = finished o e.admitted e.input in
     table_packets (given past) o (working k) e.input ++ ping_packets m ++ event_packets k e.at (event (working k) m e.input)
 
 -- What an input sends: the packets of time, and then those of service.
-unfoldable pub sent_at : ℕ → Judged → List Judged → List (List ℕ)
-sent_at start e past = time_packets start past e.at ++ service_packets e past
+unfoldable pub sent_at : Start → Judged → List Judged → List (List ℕ)
+sent_at start e past = time_packets start past e.at ++ service_packets start e past
 
 -- what a history sends, in order
-unfoldable pub sent : ℕ → List Judged → List (List ℕ)
+unfoldable pub sent : Start → List Judged → List (List ℕ)
 sent start [] = []
 sent start (e ∷ past) = sent start past ++ sent_at start e past
 
 -- the data bytes that are held of the open message
-unfoldable pub held : ℕ → List Judged → ℕ
+unfoldable pub held : Start → List Judged → ℕ
 held start h = (elim (open_at h (end start h)) [ None ↦ 0 | Some b ↦ 57 + 59 * length b.own ])

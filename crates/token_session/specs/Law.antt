@@ -3,7 +3,7 @@ use Rattle.std.specs.Prelude.{◌≡◌, ℕ, ◌+◌, List, [], ◌∷◌, ◌+
 use Rattle.hid_packet.specs.Packet.{channel, command, message_length}
 use Rattle.hid_packet.specs.Carries.{joined}
 use Rattle.hid_assemble.specs.Assembly.{Open}
-use Rattle.authn_core.specs.Turn.{working, Event}
+use Rattle.authn_core.specs.Turn.{Start, working, Event}
 use Rattle.token_session.specs.declared.input.Timed.{Timed}
 use Rattle.token_session.specs.Machine.{State, turn}
 use Rattle.token_session.specs.History.{is_open, own, packet, judge, judged, sent_at, finished, event, Judged, Begun, end, given, open_at, core, last_keepalive, packets_of}
@@ -25,26 +25,26 @@ as_open b = record {
 }
 
 -- the state that a history names
-unfoldable pub named : ℕ → List Judged → State
+unfoldable pub named : Start → List Judged → State
 named start h = record {
   now = end start h;
   given = given h;
   current = option_map as_open (open_at h (end start h));
-  core = core h;
+  core = core start h;
   keepalive_at = last_keepalive start h;
 }
 
 -- The state holds what the history names.
-abbrev pub Behind : State → ℕ → List Timed → Type 0
+abbrev pub Behind : State → Start → List Timed → Type 0
 Behind s start h = s ≡ named start (judged start h)
 
 -- the packets that x sends behind h
-unfoldable pub sent_now : ℕ → List Timed → Timed → List (List ℕ)
+unfoldable pub sent_now : Start → List Timed → Timed → List (List ℕ)
 sent_now start h x = sent_at start (judge start x (judged start h)) (judged start h)
 
 -- the event that an input is behind a history
-unfoldable pub event_at : Judged → List Judged → Option Event
-event_at e past = event (working (core past)) (finished (open_at past e.at) e.admitted e.input) e.input
+unfoldable pub event_at : Start → Judged → List Judged → Option Event
+event_at start e past = event (working (core start past)) (finished (open_at past e.at) e.admitted e.input) e.input
 
 -- the inputs of a list, in order, behind a history
 abbrev pub onto : List Timed → List Timed → List Timed
@@ -57,7 +57,7 @@ numbered n [] = []
 numbered n (p ∷ ps) = (n, p) ∷ numbered n ps
 
 -- what the inputs of a list send behind a history, in order, with the number of the input
-abbrev pub sent_from : ℕ → ℕ → List Timed → List Timed → List (ℕ × List ℕ)
+abbrev pub sent_from : ℕ → Start → List Timed → List Timed → List (ℕ × List ℕ)
 sent_from n start h [] = []
 sent_from n start h (x ∷ xs) = numbered n (sent_now start h x) ++ sent_from (n + 1) start (x ∷ h) xs
 

@@ -6,7 +6,7 @@ use Rattle.hid_assemble.specs.declared.table.Row.{Row}
 use Rattle.hid_assemble.specs.declared.table.Row.TheVariants.{CancelsWork, InitAgain}
 use Rattle.hid_assemble.specs.Table.{is_on, row_of}
 use Rattle.hid_assemble.specs.Assembly.{Open, Message, seen, is_overdue, given_after, open_after, message_after}
-use Rattle.authn_core.specs.Turn.{Work, CoreState, working, Event, Cancel, Drop, first_state, core_turn}
+use Rattle.authn_core.specs.Turn.{Start, Work, CoreState, working, Event, Cancel, Drop, first_state, core_turn}
 use Rattle.token_session.specs.Replies.{error, keepalive, row_packets, ping_packets, request_of, status_of, asker, answer_packets, answer_keeps_alive}
 use Rattle.token_session.specs.declared.input.Input.{Input}
 use Rattle.token_session.specs.declared.input.Input.TheVariants.{Packet, Tick}
@@ -98,10 +98,10 @@ served s early Tick = happens s.now s.given s.current s.core s.keepalive_at earl
 unfoldable pub turn : State → Timed → Turn
 turn s x = let at = max s.now x.at in served (passed s at).state (passed s at).packets x.input
 
-unfoldable pub start_state : ℕ → State
-start_state at = record { now = at; given = 0; current = None; core = first_state; keepalive_at = 0 }
+unfoldable pub start_state : Start → State
+start_state start = record { now = start.moment; given = 0; current = None; core = first_state start; keepalive_at = 0 }
 
 -- The state behind a list of inputs, the newest first.
-unfoldable pub machine : ℕ → List Timed → State
-machine at [] = start_state at
-machine at (x ∷ past) = (turn (machine at past) x).state
+unfoldable pub machine : Start → List Timed → State
+machine start [] = start_state start
+machine start (x ∷ past) = (turn (machine start past) x).state

@@ -1,9 +1,12 @@
 -- The meters of a session: what a history names, and what one turn adds.
 use Rattle.std.specs.Prelude.{◌≡◌, ℕ, ◌+◌, ◌-◌, ◌^◌, List, [], ◌∷◌, ◌++◌, length, max, min, sum_by, Option, Some, None}
 use Rattle.hid_assemble.specs.Assembly.{held_bytes}
+use Rattle.authn_core.specs.Turn.{Start}
+use Rattle.ctap_message.specs.Requests.{steps_of}
 use Rattle.token_session.specs.declared.input.Timed.{Timed}
 use Rattle.token_session.specs.declared.input.Meters.{Meters}
-use Rattle.token_session.specs.Effects.{request_in, request_size}
+use Rattle.token_session.specs.declared.machine.Reading.{Reading}
+use Rattle.token_session.specs.Effects.{request_in, reading_in}
 use Rattle.token_session.specs.History.{Judged, judged, held}
 use Rattle.token_session.specs.Machine.{State, turn}
 use Rattle.token_session.specs.Law.{event_at, named}
@@ -17,43 +20,47 @@ listed None = []
 listed (Some bytes) = bytes ∷ []
 
 -- the messages of the requests that a history finished, the newest first
-unfoldable pub requests : List Judged → List (List ℕ)
-requests [] = []
-requests (e ∷ past) = listed (request_in (event_at e past)) ++ requests past
+unfoldable pub requests : Start → List Judged → List (List ℕ)
+requests start [] = []
+requests start (e ∷ past) = listed (request_in (event_at start e past)) ++ requests start past
 
 -- the most data bytes held of an open message, at the start and behind each input
-unfoldable pub peak_held : ℕ → List Judged → ℕ
+unfoldable pub peak_held : Start → List Judged → ℕ
 peak_held start [] = held start []
 peak_held start (e ∷ past) = max (peak_held start past) (held start (e ∷ past))
 
--- The meters that a history names: no row and no pending assertion stands in them yet, and reading takes no step yet.
-unfoldable pub meters_of : ℕ → List Judged → Meters
+-- The meters that a history names. No row and no pending assertion stands in them yet.
+unfoldable pub meters_of : Start → List Judged → Meters
 meters_of start h = record {
   held = peak_held start h;
   rows = 0;
   pending = 0;
-  requests = min (length (requests h)) LARGEST;
-  bytes = min (sum_by (λ bytes. length bytes - 1) (requests h)) LARGEST;
-  steps = 0;
+  requests = min (length (requests start h)) LARGEST;
+  bytes = min (sum_by (λ bytes. length bytes - 1) (requests start h)) LARGEST;
+  steps = min (sum_by steps_of (requests start h)) LARGEST;
 }
 
--- What a turn adds: the bytes held behind it, and the request that it finished.
-abbrev pub one_more : Option ℕ → ℕ
+-- What a turn adds: the bytes held behind it, and what reading the request took that it finished.
+abbrev pub one_more : Option Reading → ℕ
 one_more None = 0
-one_more (Some size) = 1
+one_more (Some reading) = 1
 
-abbrev pub size_of : Option ℕ → ℕ
-size_of None = 0
-size_of (Some size) = size
+abbrev pub bytes_in : Option Reading → ℕ
+bytes_in None = 0
+bytes_in (Some reading) = reading.bytes
 
-unfoldable pub metered : Meters → ℕ → Option ℕ → Meters
+abbrev pub steps_in : Option Reading → ℕ
+steps_in None = 0
+steps_in (Some reading) = reading.steps
+
+unfoldable pub metered : Meters → ℕ → Option Reading → Meters
 metered m held_now request = record {
   held = max m.held held_now;
   rows = m.rows;
   pending = m.pending;
   requests = min (m.requests + one_more request) LARGEST;
-  bytes = min (m.bytes + size_of request) LARGEST;
-  steps = m.steps;
+  bytes = min (m.bytes + bytes_in request) LARGEST;
+  steps = min (m.steps + steps_in request) LARGEST;
 }
 
 -- A session: the composed turn's state, and its meters.
@@ -65,7 +72,7 @@ pub record SessionState : Type 0 where
 unfoldable pub stepped : SessionState → Timed → SessionState
 stepped s x = record {
   machine = (turn s.machine x).state;
-  meters = metered s.meters (held_bytes (turn s.machine x).state.current) (request_size (turn s.machine x).event);
+  meters = metered s.meters (held_bytes (turn s.machine x).state.current) (reading_in (turn s.machine x).event);
 }
 
 -- the packets that the input sends
@@ -73,9 +80,9 @@ abbrev pub sent_by : SessionState → Timed → List (List ℕ)
 sent_by s x = (turn s.machine x).packets
 
 -- the session that a history names
-unfoldable pub session_of : ℕ → List Judged → SessionState
+unfoldable pub session_of : Start → List Judged → SessionState
 session_of start h = record { machine = named start h; meters = meters_of start h }
 
 -- The session stands behind a history.
-abbrev pub StandsBehind : SessionState → ℕ → List Timed → Type 0
+abbrev pub StandsBehind : SessionState → Start → List Timed → Type 0
 StandsBehind s start h = s ≡ session_of start (judged start h)

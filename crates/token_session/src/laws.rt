@@ -2,35 +2,77 @@
 //! gives over any history just what that history names. Each law is the contract of a function that
 //! does nothing.
 
-ghost use Rattle.std.specs.Prelude.{◌≡◌, ◌≤◌, ℕ, List, [], ◌∷◌, length, Option, Some, option_to_list};
+ghost use Rattle.std.specs.Prelude.{◌≡◌, ◌≤◌, ◌⊎◌, ◌+◌, ◌*◌, ℕ, List, [], ◌∷◌, length, Option, Some, None, option_to_list};
 ghost use Rattle.token_session.specs.declared.input.Timed.{Timed as OneInput};
+ghost use Rattle.authn_core.specs.Turn.{Start, Request, working};
+ghost use Rattle.ctap_message.specs.Answers.{info_answer};
+ghost use Rattle.hid_packet.specs.Commands.{CBOR, PING};
+ghost use Rattle.hid_packet.specs.Message.{written};
+ghost use Rattle.hid_packet.specs.declared.packet.Packet.{Packet as AnyPacket};
+ghost use Rattle.token_session.specs.declared.input.Input.TheVariants.{Packet as PacketCame};
 ghost use Rattle.hid_packet.specs.Carries.{CarriesMessage};
 ghost use Rattle.hid_assemble.specs.Assembly.{Message};
 ghost use Rattle.token_session.specs.Carried.{ArePackets, finished_at, carriers_at};
-ghost use Rattle.token_session.specs.History.{judge, judged, open_at, end, held};
-ghost use Rattle.token_session.specs.Machine.{State, machine, turn};
+ghost use Rattle.token_session.specs.History.{judge, judged, open_at, end, given, held, core, service_packets};
+ghost use Rattle.token_session.specs.Machine.{State, machine, turn, event_packets};
 ghost use Rattle.token_session.specs.Law.{all_open, Behind, sent_now, onto, sent_from, run_state, run_sent};
+ghost use Rattle.token_session.specs.Meters.{meters_of};
+
+use ctap_message::laws::steps_are_bounded;
 
 /// The composed turn, over any history, is in the state that the history names, and each input sends
 /// the packets that the history says.
 pub fn machine_follows_history()
-    ensures state { (start : ℕ) (h : List OneInput) → Behind (machine start h) start h }
-    ensures packets { (start : ℕ) (h : List OneInput) (x : OneInput) → (turn (machine start h) x).packets ≡ sent_now start h x }
+    ensures state { (start : Start) (h : List OneInput) → Behind (machine start h) start h }
+    ensures packets { (start : Start) (h : List OneInput) (x : OneInput) → (turn (machine start h) x).packets ≡ sent_now start h x }
 {}
 
 /// A run from a state that stands behind a history stands behind the longer one, and sends what the
 /// longer history says.
 pub fn runs_follow_history()
-    ensures state { (s : State) (start : ℕ) (h xs : List OneInput) → Behind s start h → Behind (run_state s xs) start (onto xs h) }
-    ensures packets { (s : State) (start n : ℕ) (h xs : List OneInput) → Behind s start h → run_sent n s xs ≡ sent_from n start h xs }
+    ensures state { (s : State) (start : Start) (h xs : List OneInput) → Behind s start h → Behind (run_state s xs) start (onto xs h) }
+    ensures packets { (s : State) (start : Start) (n : ℕ) (h xs : List OneInput) → Behind s start h → run_sent n s xs ≡ sent_from n start h xs }
 {}
 
 /// At most one message is open behind a history, at its end and at any later moment, and at most 7550
 /// bytes are held of it.
 pub fn one_message_is_open()
-    ensures one { (start t : ℕ) (h : List OneInput) → end start (judged start h) ≤ t → all_open [] (judged start h) t ≡ option_to_list (open_at (judged start h) t) }
-    ensures held { (start : ℕ) (h : List OneInput) → held start (judged start h) ≤ 7550 }
+    ensures one { (start : Start) (t : ℕ) (h : List OneInput) → end start (judged start h) ≤ t → all_open [] (judged start h) t ≡ option_to_list (open_at (judged start h) t) }
+    ensures held { (start : Start) (h : List OneInput) → held start (judged start h) ≤ 7550 }
 {}
+
+/// A packet that carries a whole PING or CBOR message on a channel that was given out finishes it, where no message
+/// is open and no work waits.
+pub fn messages_of_one_packet_finish()
+    ensures { (start : Start) (h : List OneInput) (x : OneInput) (p : AnyPacket) (cid cmd : ℕ) (bytes : List ℕ)
+        → x.input ≡ PacketCame p → CarriesMessage (p.0 ∷ []) cid cmd bytes → (cmd ≡ PING) ⊎ ((cmd ≡ CBOR) × (1 ≤ length bytes))
+        → 1 ≤ cid → cid ≤ given (judged start h)
+        → open_at (judged start h) (judge start x (judged start h)).at ≡ None → working (core start (judged start h)) ≡ None
+        → finished_at (judge start x (judged start h)) (judged start h) ≡ Some (record { cid = cid; cmd = cmd; bytes = bytes }) }
+{}
+
+/// A finished CBOR message is a request: it is answered on its channel as the authenticator's turn says, and beside
+/// the packets of time nothing else is sent for it. So authenticatorGetInfo is answered by its map with the AAGUID
+/// of the start, whatever came before.
+pub fn requests_are_answered()
+    ensures request { (start : Start) (h : List OneInput) (x : OneInput) (m : Message)
+        → finished_at (judge start x (judged start h)) (judged start h) ≡ Some m → m.cmd ≡ CBOR
+        → service_packets start (judge start x (judged start h)) (judged start h)
+        ≡ event_packets (core start (judged start h)) (judge start x (judged start h)).at (Some (Request m.cid m.bytes)) }
+    ensures info { (start : Start) (h : List OneInput) (x : OneInput) (m : Message)
+        → finished_at (judge start x (judged start h)) (judged start h) ≡ Some m → m.cmd ≡ CBOR → m.bytes ≡ 0x04 ∷ []
+        → service_packets start (judge start x (judged start h)) (judged start h) ≡ written m.cid CBOR (info_answer start.aaguid) }
+{}
+
+/// The meters of every history are bounded: at most 7550 bytes were held of an unfinished message, and reading
+/// took at most four steps for each byte behind a command byte, and two for each request.
+pub fn meters_are_bounded()
+    ensures held { (start : Start) (h : List OneInput) → (meters_of start (judged start h)).held ≤ 7550 }
+    ensures steps { (start : Start) (h : List OneInput)
+        → (meters_of start (judged start h)).steps ≤ 4 * (meters_of start (judged start h)).bytes + 2 * (meters_of start (judged start h)).requests }
+{
+    steps_are_bounded();
+}
 
 /// One input sends at most 130 packets, whatever the state.
 pub fn one_input_sends_few_packets()
@@ -40,7 +82,7 @@ pub fn one_input_sends_few_packets()
 /// A message that an input finishes is carried by its initialization packet and its channel's own
 /// packets up to this one: its bytes are just those that they carried.
 pub fn finished_messages_were_carried()
-    ensures { (start : ℕ) (h : List OneInput) (x : OneInput) (m : Message) → ArePackets (x ∷ h)
+    ensures { (start : Start) (h : List OneInput) (x : OneInput) (m : Message) → ArePackets (x ∷ h)
         → finished_at (judge start x (judged start h)) (judged start h) ≡ Some m
         → CarriesMessage (carriers_at (judge start x (judged start h)) (judged start h)) m.cid m.cmd m.bytes }
 {}

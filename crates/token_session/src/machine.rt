@@ -8,11 +8,11 @@ ghost use Rattle.authn_core.specs.Answers.{answer_of};
 ghost use Rattle.authn_core.specs.Needs.{needs};
 ghost use Rattle.token_session.specs.Replies.{error, keepalive, greeting, status_of, asker, answer_packets, answer_keeps_alive};
 ghost use Rattle.token_session.specs.Machine.{start_state, passed, served, turn, event_core, event_packets, event_keeps_alive};
-ghost use Rattle.token_session.specs.Effects.{verdict_packets, verdict_event, request_size};
+ghost use Rattle.token_session.specs.Effects.{verdict_packets, verdict_event, reading_of, reading_in};
 
 use crate::input::Input;
 use arrayvec::ArrayVec;
-use authn_core::{Core, Need, Turn, Work};
+use authn_core::{Config, Core, Need, Turn, Work};
 use byteorder::{BigEndian, ByteOrder};
 use hid_assemble::{Assembler, ErrorCode, Verdict};
 use hid_packet::command::{CBOR, ERROR, INIT, KEEPALIVE, PING};
@@ -25,6 +25,23 @@ pub const KEEPALIVE_PERIOD: u64 = 100;
 /// What an INIT answer says of the device: version 2 of the protocol, version 1.0.0 of the device, and
 /// the capabilities CBOR and NMSG (CTAP 2.1, section 11.2.9.1.3).
 const DEVICE: [u8; 5] = [2, 1, 0, 0, 0x0c];
+
+/// What reading a request took.
+#[derive(Clone, Copy)]
+pub(crate) struct Reading {
+    /// The bytes behind its command byte.
+    pub(crate) bytes: u16,
+    pub(crate) steps: u64,
+}
+
+/// What came of a verdict.
+#[derive(Clone, Copy)]
+struct Reaction {
+    /// The moment of the last KEEPALIVE.
+    keepalive_at: u64,
+    /// Of the request that was read, if one was.
+    reading: Option<Reading>,
+}
 
 #[tactic(auto, using(hid_packet::proofs::Carrying::few_written))]
 fn put_error(outbox: &mut Outbox, cid: u32, code: ErrorCode)
@@ -83,15 +100,15 @@ fn put_keepalive(outbox: &mut Outbox, work: Work)
 
 /// The channel of the waiting work.
 fn working_on(core: &Core) -> Option<u32>
-    ensures { result ≡ working core.now }
+    ensures { result ≡ working core.now.state }
 {
     core.work().map(|work| work.cid)
 }
 
 /// The channel and the status of the waiting work, 0 without one.
 fn asked(core: &Core) -> (u32, u8)
-    ensures channel { result.0 ≡ asker core.now.work Cancel }
-    ensures status { result.1 ≡ status_of core.now.work }
+    ensures channel { result.0 ≡ asker core.now.state.work Cancel }
+    ensures status { result.1 ≡ status_of core.now.state.work }
 {
     match core.work() {
         Some(work) => (work.cid, work.status.number()),
@@ -102,9 +119,9 @@ fn asked(core: &Core) -> (u32, u8)
 /// The event of a CANCEL of waiting work. It gives the moment of the last KEEPALIVE.
 fn cancel(core: &mut Core, now: u64, keepalive_at: u64, outbox: &mut Outbox) -> u64
     requires { length outbox.old ≤ 1 }
-    ensures core { core.new ≡ event_core core.old now (Some Cancel) }
-    ensures packets { outbox.new ≡ outbox.old ++ event_packets core.old now (Some Cancel) }
-    ensures keepalive { result ≡ (if event_keeps_alive core.old now (Some Cancel) then now else keepalive_at) }
+    ensures core { core.new.state ≡ event_core core.old.state now (Some Cancel) }
+    ensures packets { outbox.new ≡ outbox.old ++ event_packets core.old.state now (Some Cancel) }
+    ensures keepalive { result ≡ (if event_keeps_alive core.old.state now (Some Cancel) then now else keepalive_at) }
 {
     let (cid, before) = asked(core);
     let turn = core.cancel();
@@ -115,7 +132,7 @@ fn cancel(core: &mut Core, now: u64, keepalive_at: u64, outbox: &mut Outbox) -> 
     }
 }
 
-/// The event of a request. It gives the moment of the last KEEPALIVE.
+/// The event of a request.
 fn request(
     core: &mut Core,
     now: u64,
@@ -123,23 +140,29 @@ fn request(
     cid: u32,
     message: &[u8],
     outbox: &mut Outbox,
-) -> u64
-    requires { length outbox.old ≤ 1 }
-    ensures core { core.new ≡ event_core core.old now (Some (Request cid message.now)) }
-    ensures packets { outbox.new ≡ outbox.old ++ event_packets core.old now (Some (Request cid message.now)) }
-    ensures keepalive { result ≡ (if event_keeps_alive core.old now (Some (Request cid message.now)) then now else keepalive_at) }
+) -> Reaction
+    requires room { length outbox.old ≤ 1 }
+    requires short { length message.now ≤ 7609 }
+    ensures core { core.new.state ≡ event_core core.old.state now (Some (Request cid message.now)) }
+    ensures packets { outbox.new ≡ outbox.old ++ event_packets core.old.state now (Some (Request cid message.now)) }
+    ensures keepalive { result.keepalive_at ≡ (if event_keeps_alive core.old.state now (Some (Request cid message.now)) then now else keepalive_at) }
+    ensures reading { result.reading ≡ Some (reading_of message.now) }
 {
     let (_, before) = asked(core);
     let turn = core.request(now, cid, message);
-    if put_turn(outbox, cid, before, &turn) {
-        now
-    } else {
-        keepalive_at
+    let reading = Reading {
+        bytes: (message.len() as u16).saturating_sub(1),
+        steps: core.last_steps(),
+    };
+    let keeps_alive = put_turn(outbox, cid, before, &turn);
+    Reaction {
+        keepalive_at: if keeps_alive { now } else { keepalive_at },
+        reading: Some(reading),
     }
 }
 
 /// Sends what a verdict sends, hands the authenticator the event that it is, and sends what comes of
-/// that. `message` is what the packet finished. It gives the moment of the last KEEPALIVE.
+/// that. `message` is what the packet finished.
 fn react(
     core: &mut Core,
     now: u64,
@@ -147,53 +170,48 @@ fn react(
     verdict: &Verdict,
     message: &[u8],
     outbox: &mut Outbox,
-) -> u64
+) -> Reaction
     requires room { length outbox.old ≤ 1 }
     requires short { length message.now ≤ 7609 }
-    ensures core { core.new ≡ event_core core.old now (verdict_event verdict.now message.now) }
+    ensures core { core.new.state ≡ event_core core.old.state now (verdict_event verdict.now message.now) }
     ensures packets { outbox.new ≡ outbox.old ++ (verdict_packets verdict.now message.now
-        ++ event_packets core.old now (verdict_event verdict.now message.now)) }
-    ensures keepalive { result ≡ (if event_keeps_alive core.old now (verdict_event verdict.now message.now) then now else keepalive_at) }
+        ++ event_packets core.old.state now (verdict_event verdict.now message.now)) }
+    ensures keepalive { result.keepalive_at ≡ (if event_keeps_alive core.old.state now (verdict_event verdict.now message.now) then now else keepalive_at) }
+    ensures reading { result.reading ≡ reading_in (verdict_event verdict.now message.now) }
 {
+    let unread = Reaction {
+        keepalive_at,
+        reading: None,
+    };
     match verdict {
-        Verdict::Ignored | Verdict::Kept => keepalive_at,
+        Verdict::Ignored | Verdict::Kept => unread,
         Verdict::Refuse { cid, code } => {
             put_error(outbox, *cid, *code);
-            keepalive_at
+            unread
         }
         Verdict::Greet { on, channel, nonce } => {
             put_greeting(outbox, *on, *channel, nonce);
-            keepalive_at
+            unread
         }
         Verdict::GreetAndDrop { on, channel, nonce } => {
             put_greeting(outbox, *on, *channel, nonce);
             core.drop_work();
-            keepalive_at
+            unread
         }
-        Verdict::CancelWork => cancel(core, now, keepalive_at, outbox),
+        Verdict::CancelWork => Reaction {
+            keepalive_at: cancel(core, now, keepalive_at, outbox),
+            reading: None,
+        },
         Verdict::Finished { cid, cmd } => {
             if *cmd == PING {
                 outbox.put_message(*cid, PING, message);
-                keepalive_at
+                unread
             } else if *cmd == CBOR {
                 request(core, now, keepalive_at, *cid, message, outbox)
             } else {
-                keepalive_at
+                unread
             }
         }
-    }
-}
-
-/// How many bytes the request that was finished has behind its command byte, if one was.
-fn request_size_of(verdict: &Verdict, message: &[u8]) -> Option<u16>
-    requires { length message.now ≤ 7609 }
-    ensures { result ≡ request_size (verdict_event verdict.now message.now) }
-{
-    match verdict {
-        Verdict::Finished { cmd, .. } if *cmd == CBOR => Some(
-            (message.len() as u16).saturating_sub(1),
-        ),
-        _ => None,
     }
 }
 
@@ -212,20 +230,20 @@ impl Model for Machine {
 
     ghost Value = { State };
 
-    ghost view = { λ s. record { now = s.latest; given = s.assembler.given; current = s.assembler.current; core = s.core; keepalive_at = s.keepalive_at } };
+    ghost view = { λ s. record { now = s.latest; given = s.assembler.given; current = s.assembler.current; core = s.core.state; keepalive_at = s.keepalive_at } };
 }
 
 impl Machine {
     /// No channel was given out, and no work waits.
     #[tactic(auto, unfolding(crate::specs::Machine::start_state))]
-    pub(crate) fn new(start: u64) -> Self
-        ensures { result ≡ start_state start }
+    pub(crate) fn new(config: Config, start: u64) -> Self
+        ensures { result ≡ start_state (record { aaguid = config.aaguid; moment = start }) }
     {
         Machine {
             latest: start,
             keepalive_at: 0,
             assembler: Assembler::new(),
-            core: Core::new(),
+            core: Core::new(config, start),
         }
     }
 
@@ -243,13 +261,12 @@ impl Machine {
         self.core.need()
     }
 
-    /// One input. It gives the size of the request that it finished, if it did, behind the command
-    /// byte.
-    pub(crate) fn step(&mut self, at: u64, input: Input, outbox: &mut Outbox) -> Option<u16>
+    /// One input. It gives what reading the request took that it finished, if it finished one.
+    pub(crate) fn step(&mut self, at: u64, input: Input, outbox: &mut Outbox) -> Option<Reading>
         requires { outbox.old ≡ [] }
         ensures state { self.new ≡ (turn self.old (record { at = at; input = input })).state }
         ensures packets { outbox.new ≡ (turn self.old (record { at = at; input = input })).packets }
-        ensures request { result ≡ request_size (turn self.old (record { at = at; input = input })).event }
+        ensures reading { result ≡ reading_in (turn self.old (record { at = at; input = input })).event }
     {
         let now = self.latest.max(at);
         self.pass_time(now, outbox);
@@ -274,11 +291,11 @@ impl Machine {
     }
 
     /// Serves an input behind the packets of time.
-    fn serve(&mut self, input: Input, outbox: &mut Outbox) -> Option<u16>
+    fn serve(&mut self, input: Input, outbox: &mut Outbox) -> Option<Reading>
         requires { length outbox.old ≤ 1 }
         ensures state { self.new ≡ (served self.old outbox.old input).state }
         ensures packets { outbox.new ≡ (served self.old outbox.old input).packets }
-        ensures request { result ≡ request_size (served self.old outbox.old input).event }
+        ensures reading { result ≡ reading_in (served self.old outbox.old input).event }
     {
         match input {
             Input::Packet(packet) => self.serve_packet(&packet, outbox),
@@ -286,17 +303,17 @@ impl Machine {
         }
     }
 
-    fn serve_packet(&mut self, packet: &Packet, outbox: &mut Outbox) -> Option<u16>
+    fn serve_packet(&mut self, packet: &Packet, outbox: &mut Outbox) -> Option<Reading>
         requires { length outbox.old ≤ 1 }
         ensures state { self.new ≡ (served self.old outbox.old (Input.Packet packet.now)).state }
         ensures packets { outbox.new ≡ (served self.old outbox.old (Input.Packet packet.now)).packets }
-        ensures request { result ≡ request_size (served self.old outbox.old (Input.Packet packet.now)).event }
+        ensures reading { result ≡ reading_in (served self.old outbox.old (Input.Packet packet.now)).event }
     {
         let working = working_on(&self.core);
         let verdict = self.assembler.accept(self.latest, packet, working);
         let message = self.assembler.message();
         let core = &mut self.core;
-        self.keepalive_at = react(
+        let reaction = react(
             core,
             self.latest,
             self.keepalive_at,
@@ -304,6 +321,7 @@ impl Machine {
             message,
             outbox,
         );
-        request_size_of(&verdict, message)
+        self.keepalive_at = reaction.keepalive_at;
+        reaction.reading
     }
 }

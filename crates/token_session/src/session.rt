@@ -1,13 +1,14 @@
 ghost use Rattle.std.specs.Prelude.{◌≡◌, ℕ, ◌≤◌, [], ◌∷◌, List, length, option_map};
 ghost use Rattle.hid_assemble.specs.Assembly.{held_bytes};
 ghost use Rattle.authn_core.specs.Needs.{needs};
+ghost use Rattle.authn_core.specs.Turn.{Start};
 ghost use Rattle.token_session.specs.declared.input.Timed.{Timed as OneInput};
 ghost use Rattle.token_session.specs.Law.{sent_now};
 ghost use Rattle.token_session.specs.Meters.{SessionState, StandsBehind, stepped, sent_by, session_of, metered};
 
 use crate::input::{Input, Meters};
-use crate::machine::Machine;
-use authn_core::Need;
+use crate::machine::{Machine, Reading};
+use authn_core::{Config, Need};
 use hid_packet::Outbox;
 use std::marker::Model;
 
@@ -28,16 +29,18 @@ impl<const C: usize> Model for Session<C> {
     ghost view = { λ s. record { machine = s.machine; meters = s.meters } };
 }
 
-/// The meters behind an input, with what is held now and the size of the request that it finished.
+/// The meters behind an input, with what is held now and what reading the request took that it
+/// finished.
 #[tactic(auto, unfolding(crate::specs::Meters::metered))]
-fn count(meters: Meters, held: u16, request: Option<u16>) -> Meters
+fn count(meters: Meters, held: u16, request: Option<Reading>) -> Meters
     ensures { result ≡ metered meters held request }
 {
     let mut counted = meters;
     counted.held = meters.held.max(held);
-    if let Some(size) = request {
+    if let Some(reading) = request {
         counted.requests = meters.requests.saturating_add(1);
-        counted.bytes = meters.bytes.saturating_add(u64::from(size));
+        counted.bytes = meters.bytes.saturating_add(u64::from(reading.bytes));
+        counted.steps = meters.steps.saturating_add(reading.steps);
     }
     counted
 }
@@ -46,11 +49,10 @@ impl<const C: usize> Session<C> {
     /// A session without credentials that begins at the moment `start`, in milliseconds, for an
     /// authenticator with this AAGUID. No channel is given out.
     pub fn bare(aaguid: [u8; 16], start: u64) -> Self
-        ensures { result ≡ session_of start [] }
+        ensures { result ≡ session_of (record { aaguid = aaguid; moment = start }) [] }
     {
-        let _ = aaguid;
         Session {
-            machine: Machine::new(start),
+            machine: Machine::new(Config { aaguid }, start),
             meters: Meters {
                 held: 0,
                 rows: 0,
@@ -72,11 +74,11 @@ impl<const C: usize> Session<C> {
         ensures few { length outbox.new ≤ 130 }
         // Behind any history that the session stands behind, it stands behind the longer one, and it
         // sent just what that history names for the input.
-        ensures behind { (start : ℕ) (h : List OneInput) → StandsBehind self.old start h → StandsBehind self.new start (record { at = at; input = input } ∷ h) }
-        ensures sent { (start : ℕ) (h : List OneInput) → StandsBehind self.old start h → outbox.new ≡ sent_now start h (record { at = at; input = input }) }
+        ensures behind { (start : Start) (h : List OneInput) → StandsBehind self.old start h → StandsBehind self.new start (record { at = at; input = input } ∷ h) }
+        ensures sent { (start : Start) (h : List OneInput) → StandsBehind self.old start h → outbox.new ≡ sent_now start h (record { at = at; input = input }) }
     {
-        let request = self.machine.step(at, input, outbox);
-        self.meters = count(self.meters, self.machine.held(), request);
+        let reading = self.machine.step(at, input, outbox);
+        self.meters = count(self.meters, self.machine.held(), reading);
     }
 
     /// How many data bytes are held of the open message, at most 7550.

@@ -123,30 +123,67 @@ fn time(rt: HostRuntime) {
     step(&rt, &mut session, 900, &[0, 0, 0, 1, 0], &pong_100());
 }
 
+/// The two packets of getInfo's answer on channel 1, for an AAGUID of sixteen bytes like this one.
+fn info(aaguid: u8) -> [Packet; 2] {
+    let front = b"\x00\x00\x00\x01\x90\x00\x51\x00\xa6\x01\x81\x68FIDO_2_0\x03\x50";
+    let back = b"\x04\xa3\x62rk\xf5\x62up\xf5\x64plat\xf4\x05\x19\x1d\xb9\x09\x81\x63usb";
+    let mut first = [0; 64];
+    first[..22].copy_from_slice(front);
+    first[22..38].copy_from_slice(&[aaguid; 16]);
+    first[38..].copy_from_slice(back);
+    let rest = b"\x00\x00\x00\x01\x00\x0a\x81\xa2\x63alg\x26\x64type\x6apublic-key";
+    [Packet(first), pad(rest)]
+}
+
+/// The answer on channel 1 that is a status alone.
+fn refused(status: u8) -> Packet {
+    pad(&[0, 0, 0, 1, 0x90, 0, 1, status])
+}
+
 #[test]
-fn requests_are_counted(rt: HostRuntime) {
+fn get_info(rt: HostRuntime) {
     let mut session = two_channels(&rt);
-    let not_served = pad(&[0, 0, 0, 1, 0x90, 0, 1, 1]);
-    step(
-        &rt,
-        &mut session,
-        0,
-        &[0, 0, 0, 1, 0x90, 0, 2, 4, 0],
-        &[not_served],
-    );
+    let request = [0, 0, 0, 1, 0x90, 0, 1, 4];
+    step(&rt, &mut session, 0, &request, &info(0));
+    let meters = Meters {
+        requests: 1,
+        ..held(0)
+    };
+    assert_eq!(rt; session.meters(), meters);
+
+    let mut named = Session::bare([0xab; 16], 0);
+    step(&rt, &mut named, 0, &INIT, &[greeting(1)]);
+    step(&rt, &mut named, 0, &request, &info(0xab));
+}
+
+#[test]
+fn requests_that_are_refused(rt: HostRuntime) {
+    let mut session = two_channels(&rt);
+    let with_a_byte_behind = [0, 0, 0, 1, 0x90, 0, 2, 4, 0];
+    step(&rt, &mut session, 0, &with_a_byte_behind, &[refused(0x03)]);
     let meters = Meters {
         requests: 1,
         bytes: 1,
         ..held(0)
     };
     assert_eq!(rt; session.meters(), meters);
-    step(
-        &rt,
-        &mut session,
-        0,
-        &[0, 0, 0, 1, 0x90, 0, 0],
-        &[error(1, 3)],
-    );
+    let empty = [0, 0, 0, 1, 0x90, 0, 0];
+    step(&rt, &mut session, 0, &empty, &[error(1, 3)]);
+    assert_eq!(rt; session.meters(), meters);
+    let not_served = [0, 0, 0, 1, 0x90, 0, 1, 6];
+    step(&rt, &mut session, 0, &not_served, &[refused(0x01)]);
+}
+
+#[test]
+fn get_info_in_two_packets(rt: HostRuntime) {
+    let mut session = two_channels(&rt);
+    step(&rt, &mut session, 0, &[0, 0, 0, 1, 0x90, 0, 58, 4], &[]);
+    step(&rt, &mut session, 0, &[0, 0, 0, 1, 0, 0], &[refused(0x03)]);
+    let meters = Meters {
+        requests: 1,
+        bytes: 57,
+        ..held(57)
+    };
     assert_eq!(rt; session.meters(), meters);
 }
 

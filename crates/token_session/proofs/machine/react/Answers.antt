@@ -13,10 +13,10 @@ pub returns-in-GreetAndDrop-clause-packets : goal.returns-in-GreetAndDrop-clause
 returns-in-GreetAndDrop-clause-packets c =
     let sent = greeting c.in-GreetAndDrop.on c.in-GreetAndDrop.channel c.in-GreetAndDrop.nonce in
     c.put_greeting-in-GreetAndDrop.ensures
-    ∙ ap (λ q. c.args.outbox.now ++ q) (sym (append-nil sent) ∙ ap (λ e. sent ++ e) (sym (drop_sends_nothing c.args.core.now c.args.now)))
-    ∙ ap (λ v. c.args.outbox.now ++ (verdict_packets v c.args.message.now ++ event_packets c.args.core.now c.args.now (verdict_event v c.args.message.now))) (sym c.in-GreetAndDrop.is)
+    ∙ ap (λ q. c.args.outbox.now ++ q) (sym (append-nil sent) ∙ ap (λ e. sent ++ e) (sym (drop_sends_nothing c.args.core.now.state c.args.now)))
+    ∙ ap (λ v. c.args.outbox.now ++ (verdict_packets v c.args.message.now ++ event_packets c.args.core.now.state c.args.now (verdict_event v c.args.message.now))) (sym c.in-GreetAndDrop.is)
 
 pub returns-in-GreetAndDrop-clause-keepalive : goal.returns-in-GreetAndDrop-clause-keepalive
 returns-in-GreetAndDrop-clause-keepalive c =
-    ap (λ q. cond q c.args.now c.args.keepalive_at) (sym (drop_keeps_silent c.args.core.now c.args.now))
-    ∙ ap (λ v. cond (event_keeps_alive c.args.core.now c.args.now (verdict_event v c.args.message.now)) c.args.now c.args.keepalive_at) (sym c.in-GreetAndDrop.is)
+    ap (λ q. cond q c.args.now c.args.keepalive_at) (sym (drop_keeps_silent c.args.core.now.state c.args.now))
+    ∙ ap (λ v. cond (event_keeps_alive c.args.core.now.state c.args.now (verdict_event v c.args.message.now)) c.args.now c.args.keepalive_at) (sym c.in-GreetAndDrop.is)

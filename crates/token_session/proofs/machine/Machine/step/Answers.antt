@@ -1,6 +1,6 @@
 use Rattle.std.proofs.Common.{◌≡◌, ℕ, ◌≤◌, List, length, max, subst, sym, ◌∙◌, ap}
 use Rattle.token_session.specs.Machine.{Turn, State}
-use Rattle.token_session.specs.Effects.{request_size}
+use Rattle.token_session.specs.Effects.{reading_in}
 use Rattle.token_session.proofs.Few.{time_few}
 use Rattle.token_session.proofs.Serving.{step_turn}
 use Rattle.token_session.proofs.machine.Machine.step.Goals as goal
@@ -18,7 +18,7 @@ returns-clause-packets c =
     let at : c.max-now.result ≡ max (c.args.self.now).now c.args.at = c.max-now.ensures ∙ ap (λ (s : State). max s.now c.args.at) c.self.view_is in
     c.serve.ensures.packets ∙ ap (λ (t : Turn). t.packets) (step_turn c.args.self.now _ c.max-now.result (record { at = c.args.at; input = c.args.input }) _ at c.pass_time.ensures.state c.pass_time.ensures.packets)
 
-pub returns-clause-request : goal.returns-clause-request
-returns-clause-request c =
+pub returns-clause-reading : goal.returns-clause-reading
+returns-clause-reading c =
     let at : c.max-now.result ≡ max (c.args.self.now).now c.args.at = c.max-now.ensures ∙ ap (λ (s : State). max s.now c.args.at) c.self.view_is in
-    c.serve.ensures.request ∙ ap (λ (t : Turn). request_size t.event) (step_turn c.args.self.now _ c.max-now.result (record { at = c.args.at; input = c.args.input }) _ at c.pass_time.ensures.state c.pass_time.ensures.packets)
+    c.serve.ensures.reading ∙ ap (λ (t : Turn). reading_in t.event) (step_turn c.args.self.now _ c.max-now.result (record { at = c.args.at; input = c.args.input }) _ at c.pass_time.ensures.state c.pass_time.ensures.packets)

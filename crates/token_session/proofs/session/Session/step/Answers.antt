@@ -6,17 +6,17 @@ use Rattle.token_session.proofs.session.Session.step.Goals as goal
 
 pub returns-clause-state : goal.returns-clause-state
 returns-clause-state g c =
-    stepped_is c.self.inside.machine c.step-request.new.self c.self.inside.meters c.count-self-inside.result c.args.self.now (record { at = c.args.at; input = c.args.input })
-    c.step-request.result c.held.result c.self.view_is c.step-request.ensures.state c.step-request.ensures.request c.held.ensures c.count-self-inside.ensures
+    stepped_is c.self.inside.machine c.step-reading.new.self c.self.inside.meters c.count-self-inside.result c.args.self.now (record { at = c.args.at; input = c.args.input })
+    c.step-reading.result c.held.result c.self.view_is c.step-reading.ensures.state c.step-reading.ensures.reading c.held.ensures c.count-self-inside.ensures
 
 pub returns-clause-few : goal.returns-clause-few
 returns-clause-few g c =
-    subst (λ (ps : List (List ℕ)). length ps ≤ 130) (sym c.step-request.ensures.packets) (turn_few c.self.inside.machine (record { at = c.args.at; input = c.args.input }))
+    subst (λ (ps : List (List ℕ)). length ps ≤ 130) (sym c.step-reading.ensures.packets) (turn_few c.self.inside.machine (record { at = c.args.at; input = c.args.input }))
 
 pub returns-clause-behind : goal.returns-clause-behind
 returns-clause-behind g c = λ start h b. returns-clause-state g c ∙ stands_longer c.args.self.now start h (record { at = c.args.at; input = c.args.input }) b
 
 pub returns-clause-sent : goal.returns-clause-sent
 returns-clause-sent g c = λ start h b.
-    c.step-request.ensures.packets
+    c.step-reading.ensures.packets
     ∙ step_sends c.self.inside.machine start h (record { at = c.args.at; input = c.args.input }) (machine_behind _ start h (c.self.view_is ∙ b))

@@ -1,0 +1,4 @@
+pub mod Composing
+pub mod Bounds
+pub mod Canonical
+pub mod Rows

@@ -1,0 +1,23 @@
+//! The commands that are served.
+
+ghost use Rattle.std.specs.Prelude.{◌≡◌};
+ghost use Rattle.ctap_message.specs.Requests.{command};
+
+/// A command that is served, by the first byte of its message (CTAP 2.1, section 8.1, "Commands").
+#[derive(Clone, Copy, Debug, PartialEq, Eq)]
+pub enum Command {
+    /// 0x04, authenticatorGetInfo.
+    GetInfo,
+}
+
+impl Command {
+    /// The command with this byte, None where none is served.
+    pub fn named(byte: u8) -> Option<Command>
+        ensures { result ≡ command byte }
+    {
+        match byte {
+            0x04 => Some(Command::GetInfo),
+            _ => None,
+        }
+    }
+}

@@ -1,0 +1,143 @@
+-- A finished CBOR message is a request, and its answer is all that is sent for it.
+use Rattle.std.proofs.Common.{◌≡◌, ℕ, ◌≤◌, ◌==◌, ◌⊎◌, inl, inr, ◌&&◌, ◌||◌, true, nat_le, List, [], ◌∷◌, length, max, Option, Some, None, option_map, Ok, refl, sym, ◌∙◌, ap, subst, arith}
+use Rattle.std.proofs.lemmas.Bool.Decides.{nat_tests}
+use Rattle.ctap_message.specs.Answers.{info_answer}
+use Rattle.ctap_message.specs.Requests.{GetInfo, read_of}
+use Rattle.authn_core.specs.Turn.{Start, Event, Request, working}
+use Rattle.authn_core.proofs.Facts.{aaguid_stays, info_answered}
+use Rattle.hid_assemble.specs.Assembly.{Message, Open, message_after, seen}
+use Rattle.hid_assemble.specs.Table.{is_given, row_of}
+use Rattle.hid_assemble.specs.declared.table.Row.{Row}
+use Rattle.hid_assemble.specs.declared.table.Row.TheVariants.{BadLength, BrokenOff, BusyElsewhere, BusyHere, CancelsNothing, CancelsWork, InitAgain, InitFull, InitLength, InitNew, Kept, Long, NoSuchChannel, NoSuchCommand, Short, Stray, Whole, WrongNumber}
+use Rattle.hid_packet.specs.Carries.{Carries, IsLeast}
+use Rattle.hid_packet.specs.Commands.{CBOR, PING}
+use Rattle.hid_packet.specs.declared.packet.Packet.{Packet as Packet64}
+use Rattle.hid_packet.specs.Message.{written}
+use Rattle.hid_packet.specs.Packet.{Fields, fields}
+use Rattle.token_session.specs.Carried.{finished_at}
+use Rattle.token_session.specs.History.{Judged, admits, core, end, event, finished, given, judge, judged, open_at, packet_event, service_packets}
+use Rattle.token_session.specs.Law.{as_open}
+use Rattle.token_session.specs.Machine.{event_after, event_core, event_packets}
+use Rattle.token_session.specs.Replies.{answer_packets, asker, ping_packets, request_of, row_packets, status_of}
+use Rattle.token_session.specs.declared.input.Input.{Input}
+use Rattle.token_session.specs.declared.input.Input.TheVariants.{Packet, Tick}
+use Rattle.token_session.specs.declared.input.Timed.{Timed}
+use Rattle.token_session.proofs.Follows.{Good, good_judged, judged_at, safe_at, seen_same}
+use Rattle.token_session.proofs.Serve.{Serves, new_open, serves}
+
+-- A row that finishes a message sends nothing of its own, and the message is the event.
+record Ends (g : ℕ) (w : Option ℕ) (f : Fields) (m : Message) (r : Row) : Type 0 where
+  quiet : row_packets g f r ≡ []
+  asks : event_after w f (Some m) r ≡ request_of (Some m)
+
+ends : (g : ℕ) (w : Option ℕ) (o : Option Open) (f : Fields) (m : Message) (r : Row) → message_after o f r ≡ Some m → Ends g w f m r
+unfolding message_after row_packets event_after
+ends g w o f m Short h = record { quiet = refl; asks = refl }
+ends g w o f m Whole h = record { quiet = refl; asks = refl }
+ends g w o f m CancelsWork h = cc
+ends g w o f m CancelsNothing h = cc
+ends g w o f m NoSuchChannel h = cc
+ends g w o f m InitLength h = cc
+ends g w o f m InitFull h = cc
+ends g w o f m InitNew h = cc
+ends g w o f m InitAgain h = cc
+ends g w o f m BusyElsewhere h = cc
+ends g w o f m BusyHere h = cc
+ends g w o f m BrokenOff h = cc
+ends g w o f m NoSuchCommand h = cc
+ends g w o f m BadLength h = cc
+ends g w o f m Long h = cc
+ends g w o f m Kept h = cc
+ends g w o f m WrongNumber h = cc
+ends g w o f m Stray h = cc
+
+asked : (m : Message) → m.cmd ≡ CBOR → request_of (Some m) ≡ Some (Request m.cid m.bytes)
+asked m h = rw h refl
+
+no_ping : (m : Message) → m.cmd ≡ CBOR → ping_packets (Some m) ≡ []
+no_ping m h = rw h refl
+
+request_at : (start : Start) (t : ℕ) (h : List Judged) (i : Input) (m : Message) → Good start h → end start h ≤ t
+    → finished (open_at h t) (judged_at start t h i).admitted i ≡ Some m → m.cmd ≡ CBOR
+    → service_packets start (judged_at start t h i) h ≡ event_packets (core start h) t (Some (Request m.cid m.bytes))
+unfolding service_packets event finished
+request_at start t h (Packet x) m good le fin is =
+    let g = given h in
+    let o = open_at h t in
+    let w = working (core start h) in
+    let f = fields x.0 in
+    let row = row_of g (option_map seen (option_map as_open o)) w f in
+    let s : Serves g o w t x.0 f (new_open g o w t x.0 (Packet x)) (finished o (admits g o w x.0) (Packet x)) row = serves g o w t x (safe_at start t h good le) in
+    let after : message_after (option_map as_open o) f row ≡ Some m = sym s.message ∙ fin in
+    let e : Ends g w f m row = ends g w (option_map as_open o) f m row after in
+    let happened : packet_event w (Some m) x.0 ≡ event_after w f (Some m) row = subst (λ v. packet_event w v x.0 ≡ event_after w f v row) after s.event in
+    let asks : packet_event w (Some m) x.0 ≡ Some (Request m.cid m.bytes) = happened ∙ e.asks ∙ asked m is in
+    rw (seen_same o, e.quiet, fin, no_ping m is, asks) refl
+request_at start t h Tick m good le fin is = cc
+
+-- The AAGUID behind every history is that of the start.
+pub core_aaguid : (start : Start) (h : List Judged) → (core start h).aaguid ≡ start.aaguid
+unfolding core
+core_aaguid start [] = refl
+core_aaguid start (e ∷ h) = go (event (working (core start h)) (finished (open_at h e.at) e.admitted e.input) e.input) (core_aaguid start h)
+  where
+    go : (happens : Option Event) → (core start h).aaguid ≡ start.aaguid → (event_core (core start h) e.at happens).aaguid ≡ start.aaguid
+    go None stays = stays
+    go (Some x) stays = aaguid_stays (core start h) e.at x ∙ stays
+
+-- A request is answered on its channel, as the authenticator's turn says.
+pub requests_answered : (start : Start) (h : List Timed) (x : Timed) (m : Message)
+    → finished_at (judge start x (judged start h)) (judged start h) ≡ Some m → m.cmd ≡ CBOR
+    → service_packets start (judge start x (judged start h)) (judged start h)
+    ≡ event_packets (core start (judged start h)) (judge start x (judged start h)).at (Some (Request m.cid m.bytes))
+unfolding judge
+requests_answered start h x m fin is =
+    let past = judged start h in
+    let t = max (end start past) x.at in
+    let le : end start past ≤ t = omega arith in
+    request_at start t past x.input m (good_judged start h) le fin is
+
+pub info_is_answered : (start : Start) (h : List Timed) (x : Timed) (m : Message)
+    → finished_at (judge start x (judged start h)) (judged start h) ≡ Some m → m.cmd ≡ CBOR → m.bytes ≡ 0x04 ∷ []
+    → service_packets start (judge start x (judged start h)) (judged start h) ≡ written m.cid CBOR (info_answer start.aaguid)
+unfolding answer_packets read_of
+info_is_answered start h x m fin is bytes =
+    let past = judged start h in
+    let k = core start past in
+    let t = (judge start x past).at in
+    let asks : read_of m.bytes ≡ Ok GetInfo = ap read_of bytes in
+    requests_answered start h x m fin is
+    ∙ ap (answer_packets (asker k.work (Request m.cid m.bytes)) (status_of k.work)) (info_answered k t m.cid m.bytes asks)
+    ∙ ap (λ aaguid. written m.cid CBOR (info_answer aaguid)) (core_aaguid start past)
+
+-- A packet that carries a whole message is admitted and finishes it, where nothing is open and no work waits.
+fits_one : (len : ℕ) → IsLeast 0 len → len ≤ 57
+fits_one len (inl a) = a.0
+fits_one len (inr b) = omega (arith, b.0)
+
+on_given : (g c : ℕ) → 1 ≤ c → c ≤ g → is_given g c ≡ true
+on_given g c low high = grind (arith, nat_tests)
+
+is_served : (k n : ℕ) → (k ≡ PING) ⊎ ((k ≡ CBOR) × (1 ≤ n)) → ((k == PING) || ((k == CBOR) && nat_le 1 n)) ≡ true
+is_served k n (inl ping) = rw ping refl
+is_served k n (inr cbor) = let some : nat_le 1 n ≡ true = let least = cbor.1 in grind (arith, nat_tests) in rw (cbor.0, some) refl
+
+pub short_finishes : (start : Start) (t : ℕ) (h : List Judged) (x : Packet64) (c k : ℕ) (b : List ℕ) → Carries x.0 [] c k b
+    → (k ≡ PING) ⊎ ((k ≡ CBOR) × (1 ≤ length b)) → 1 ≤ c → c ≤ given h → open_at h t ≡ None → working (core start h) ≡ None
+    → finished (open_at h t) (judged_at start t h (Packet x)).admitted (Packet x) ≡ Some (record { cid = c; cmd = k; bytes = b })
+unfolding finished admits
+short_finishes start t h x c k b carries served low high none idle =
+    let few = fits_one (length b) carries.least in
+    let on_one : nat_le (length b) 57 ≡ true = grind (arith, nat_tests) in
+    rw (none, idle, carries.begins, carries.on, carries.asks, carries.counts, on_given (given h) c low high, is_served k (length b) served, on_one)
+    (λ i. Some (record { cid = c; cmd = k; bytes = (sym carries.joins) i }))
+
+pub one_packet_finishes : (start : Start) (h : List Timed) (x : Timed) (p : Packet64) (c k : ℕ) (b : List ℕ) → x.input ≡ Packet p → Carries p.0 [] c k b
+    → (k ≡ PING) ⊎ ((k ≡ CBOR) × (1 ≤ length b)) → 1 ≤ c → c ≤ given (judged start h)
+    → open_at (judged start h) (judge start x (judged start h)).at ≡ None → working (core start (judged start h)) ≡ None
+    → finished_at (judge start x (judged start h)) (judged start h) ≡ Some (record { cid = c; cmd = k; bytes = b })
+unfolding judge
+one_packet_finishes start h x p c k b came carries served low high none idle =
+    let past = judged start h in
+    let t = max (end start past) x.at in
+    rw came (short_finishes start t past p c k b carries served low high none idle)
