@@ -8,7 +8,7 @@ use Rattle.token_session.specs.declared.input.Meters.{Meters}
 use Rattle.token_session.specs.declared.input.Timed.{Timed}
 use Rattle.session_log.specs.declared.fault.LogFault.{LogFault}
 use Rattle.session_log.specs.Breaking.{BreaksOff}
-use Rattle.session_log.specs.Command.{status_of}
+use Rattle.session_log.specs.Command.{program_start, status_of}
 use Rattle.session_log.specs.Replay.{Answers}
 use Rattle.session_log.specs.Session.{history}
 use Rattle.session_log.specs.Streams.{Moves}
@@ -36,11 +36,12 @@ is_help DisplayHelp = true
 is_help DisplayVersion = true
 is_help _ = false
 
--- The log was replayed behind the empty history; where it has no fault, nothing was told.
+-- The log was replayed on a new session; where it has no fault, nothing was told.
 abbrev pub Replays : {I O F : Type 0} → (I → Option (List ℕ)) → (O → Option (List ℕ)) → Status → (I × I) → (O × O) → (F × F) → Type 0
 Replays left taken status input output faults =
     (answer : Result Meters LogFault) × (later : List Timed) × (status ≡ status_of answer)
-    × Moves (left input.0) (left input.1) (taken output.0) (taken output.1) (λ bytes text. Answers (history 0) [] later bytes text answer)
+    × Moves (left input.0) (left input.1) (taken output.0) (taken output.1)
+    (λ bytes text. Answers (history program_start) [] later bytes text answer)
     × OnOk status (faults.1 ≡ faults.0)
 
 -- Memory was wanting, and that was told.
