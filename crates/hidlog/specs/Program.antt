@@ -1,20 +1,11 @@
 -- What the program answers, and what it writes. A pair is a source or a target before and behind the call.
-use Rattle.std.specs.Prelude.{◌≡◌, ◌≢◌, ◌⊎◌, ℕ, Bool, true, false, List, [], ◌∷◌, ◌++◌, Option, Result, Err, MatchResult, OnOk, codes, ◌+◌}
+use Rattle.std.specs.Prelude.{◌≡◌, ◌≢◌, ◌⊎◌, ℕ, Bool, true, false, List, [], ◌∷◌, ◌++◌, Option, Err, MatchResult, OnOk, codes, ◌+◌}
 use Rattle.std.specs.Bool.{MatchBool}
 use Rattle.std.specs.Io.KnownBytes.{Appends}
 use Rattle.clap.specs.declared.error.kind.ErrorKind.{ErrorKind}
 use Rattle.clap.specs.declared.error.kind.ErrorKind.TheVariants.{DisplayHelp, DisplayVersion, OutOfMemory}
-use Rattle.token_session.specs.declared.input.Meters.{Meters}
-use Rattle.token_session.specs.declared.input.Timed.{Timed}
-use Rattle.session_log.specs.declared.fault.LogFault.{LogFault}
 use Rattle.session_log.specs.Breaking.{BreaksOff}
-use Rattle.session_log.specs.Command.{program_start, status_of}
-use Rattle.session_log.specs.Replay.{Answers}
-use Rattle.session_log.specs.Session.{history}
-use Rattle.session_log.specs.Streams.{Moves}
-
-abbrev pub Status : Type 0
-Status = Result (Unit {0}) ℕ
+use Rattle.session_log.specs.Command.{IsReplayed, Status}
 
 -- A target took a text whole; or a call of it failed, and it took the front alone.
 abbrev pub IsTaken : {F : Type 0} → (F → Option (List ℕ)) → (F → ℕ) → (F × F) → List ℕ → Type 0
@@ -37,12 +28,10 @@ is_help DisplayVersion = true
 is_help _ = false
 
 -- The log was replayed on a new session; where it has no fault, nothing was told.
-abbrev pub Replays : {I O F : Type 0} → (I → Option (List ℕ)) → (O → Option (List ℕ)) → Status → (I × I) → (O × O) → (F × F) → Type 0
-Replays left taken status input output faults =
-    (answer : Result Meters LogFault) × (later : List Timed) × (status ≡ status_of answer)
-    × Moves (left input.0) (left input.1) (taken output.0) (taken output.1)
-    (λ bytes text. Answers (history program_start) [] later bytes text answer)
-    × OnOk status (faults.1 ≡ faults.0)
+abbrev pub Replays : {I O F : Type 0} → (I → Option (List ℕ)) → (I → ℕ) → (I → Bool) → (O → Option (List ℕ)) → (O → ℕ)
+    → Status → (I × I) → (O × O) → (F × F) → Type 0
+Replays left unread ended taken unwritten status input output faults =
+    IsReplayed left unread ended taken unwritten status input output × OnOk status (faults.1 ≡ faults.0)
 
 -- Memory was wanting, and that was told.
 abbrev pub LacksMemory : {O F : Type 0} → (F → Option (List ℕ)) → (F → ℕ) → Status → (O × O) → (F × F) → Type 0

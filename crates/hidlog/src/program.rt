@@ -60,12 +60,12 @@ where
     ensures status { IfErr result (λ code. (code ≡ 1) ⊎ (code ≡ 2)) }
     // The log is replayed where the words are that command; else the input is left as it is.
     ensures answered { (AskFor (texts_of words.now) Task.Replay
-        × Replays S.left O.taken result (input.old, input.new) (output.old, output.new) (faults.old, faults.new))
+        × Replays S.left S.failed S.ended O.taken O.failed result (input.old, input.new) (output.old, output.new) (faults.old, faults.new))
         ⊎ ((input.new ≡ input.old) × ((kind : Kind) × IsAmong kind (ErrorKind.OutOfMemory ∷ answers_to (texts_of words.now))
         × Explains kind O.taken O.failed E.taken E.failed result (output.old, output.new) (faults.old, faults.new))) }
     // `replay` alone is that command.
     ensures replayed { drop 1 (texts_of words.now) ≡ codes "replay" ∷ []
-        → Replays S.left O.taken result (input.old, input.new) (output.old, output.new) (faults.old, faults.new)
+        → Replays S.left S.failed S.ended O.taken O.failed result (input.old, input.new) (output.old, output.new) (faults.old, faults.new)
         ⊎ ((input.new ≡ input.old) × LacksMemory E.taken E.failed result (output.old, output.new) (faults.old, faults.new)) }
 {
     match task_of(alloc, words) {

@@ -1,12 +1,6 @@
 //! The commands of the program `hidlog`, over any source and targets.
-ghost use Rattle.std.specs.Prelude.{◌≡◌, ◌<◌, ◌-◌, ◌+◌, ◌^◌, [], List, Result, OnOk};
-ghost use Rattle.token_session.specs.declared.input.Timed.{Timed as OneInput};
-ghost use Rattle.token_session.specs.declared.input.Meters.{Meters as Counts};
-ghost use Rattle.session_log.specs.declared.fault.LogFault.{LogFault as Fault};
-ghost use Rattle.session_log.specs.Command.{program_start, status_of};
-ghost use Rattle.session_log.specs.Replay.{Answers};
-ghost use Rattle.session_log.specs.Session.{history};
-ghost use Rattle.session_log.specs.Streams.{Moves};
+ghost use Rattle.std.specs.Prelude.{◌≡◌, ◌<◌, ◌-◌, ◌^◌, OnOk};
+ghost use Rattle.session_log.specs.Command.{IsReplayed};
 
 use crate::fault::LogFault;
 use crate::replaying::replay;
@@ -40,9 +34,7 @@ pub fn replay_command<S: Source, O: Target, E: Target>(
     requires writes { O.failed output.old < 2 ^ 64 - 1 }
     requires tells { E.failed faults.old < 2 ^ 64 - 1 }
     // It is the log of the empty history, of the program's start, that was written.
-    ensures replayed { (answer : Result Counts Fault) × (later : List OneInput) × (result ≡ status_of answer)
-        × Moves (S.left input.old) (S.left input.new) (O.taken output.old) (O.taken output.new)
-        (λ bytes text. Answers (history program_start) [] later bytes text answer) }
+    ensures replayed { IsReplayed S.left S.failed S.ended O.taken O.failed result (input.old, input.new) (output.old, output.new) }
     // Without a fault nothing is told.
     ensures silent { OnOk result (faults.new ≡ faults.old) }
 {
