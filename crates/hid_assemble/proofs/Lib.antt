@@ -1,7 +1,8 @@
 pub mod Comparing
+pub mod ByCommand
 pub mod Says
 pub mod Keeping
 pub mod Lawful
-pub mod Accepting
 pub mod Receiving
 pub mod Foreign
+mod Rows

@@ -2,20 +2,9 @@
 use Rattle.std.specs.Prelude.{◌≡◌, ℕ, ◌+◌, ◌*◌, ◌≤◌, ◌<◌, ◌⊎◌, Bool, false, ◌==◌, nat_le, List, [], ◌++◌, take, length, Option, Some, None, option_map, if◌then◌else◌}
 use Rattle.hid_packet.specs.Commands.{PING, CBOR, LONGEST}
 use Rattle.hid_packet.specs.Packet.{Fields, channel_of, command_of, length_of, data_of}
-use Rattle.hid_assemble.specs.Table.{LAST_CHANNEL, row_of}
-use Rattle.hid_assemble.specs.declared.table.Row.{Row}
-use Rattle.hid_assemble.specs.declared.table.Row.TheVariants.{InitLength, InitNew, InitAgain, BrokenOff, Short, Long, Kept, Whole, WrongNumber}
-use Rattle.hid_assemble.specs.declared.table.Opened.{Opened}
-
--- An open message: what its initialization packet said, the data bytes so far, how many continuation packets brought them,
--- and the moment of the last packet.
-pub record Open : Type 0 where
-  pub cid : ℕ
-  pub cmd : ℕ
-  pub len : ℕ
-  pub bytes : List ℕ
-  pub kept : ℕ
-  pub last : ℕ
+use Rattle.hid_assemble.specs.Table.{Open, Ruling, Begins, Continues, LAST_CHANNEL, ruling_of}
+use Rattle.hid_assemble.specs.declared.table.Row.TheVariants.{InitLength, InitNew, InitAgain, BrokenOff, Short, Long}
+use Rattle.hid_assemble.specs.declared.table.Continuation.TheVariants.{Stray, WrongNumber, Kept, Whole}
 
 -- a finished message
 pub record Message : Type 0 where
@@ -28,10 +17,6 @@ pub record Assembly : Type 0 where
   pub given : ℕ
   pub current : Option Open
   pub finished : List ℕ
-
--- what the reply table looks at of an open message
-abbrev pub seen : Open → Opened
-seen m = record { cid = m.cid; len = m.len; kept = m.kept }
 
 -- An open message is overdue 500 ms after its last packet (CTAP 2.1, section 11.2.5.2).
 unfoldable pub is_overdue : Option Open → ℕ → Bool
@@ -47,9 +32,9 @@ abbrev pub held_bytes : Option Open → ℕ
 held_bytes None = 0
 held_bytes (Some m) = 57 + 59 * m.kept
 
--- What a row makes of the channels and of the open message.
-abbrev pub given_after : ℕ → Row → ℕ
-given_after given InitNew = given + 1
+-- What a packet makes of the channels and of the open message.
+abbrev pub given_after : ℕ → Ruling → ℕ
+given_after given (Begins InitNew) = given + 1
 given_after given _ = given
 
 abbrev pub begun : ℕ → Fields → Open
@@ -63,51 +48,52 @@ abbrev pub drop_on : Option Open → ℕ → Option Open
 drop_on None cid = None
 drop_on (Some m) cid = if m.cid == cid then None else Some m
 
-unfoldable pub open_after : Option Open → ℕ → Fields → Row → Option Open
-open_after current at f InitLength = drop_on current (channel_of f)
-open_after current at f InitAgain = drop_on current (channel_of f)
-open_after current at f BrokenOff = None
-open_after current at f Long = Some (begun at f)
-open_after current at f Kept = option_map (grown at f) current
-open_after current at f Whole = None
-open_after current at f WrongNumber = None
-open_after current at f _ = current
+unfoldable pub open_after : Option Open → ℕ → Fields → Ruling → Option Open
+open_after current at f (Begins InitLength) = drop_on current (channel_of f)
+open_after current at f (Begins InitAgain) = drop_on current (channel_of f)
+open_after current at f (Begins BrokenOff) = None
+open_after current at f (Begins Short) = None
+open_after current at f (Begins Long) = Some (begun at f)
+open_after current at f (Begins _) = current
+open_after current at f (Continues Stray) = current
+open_after current at f (Continues WrongNumber) = None
+open_after current at f (Continues Kept) = option_map (grown at f) current
+open_after current at f (Continues Whole) = None
 
--- The message that a row finishes: its bytes are the first `len` of the joined data.
+-- The message that a packet finishes: its bytes are the first `len` of the joined data.
 abbrev pub completed : Fields → Open → Message
 completed f m = record { cid = m.cid; cmd = m.cmd; bytes = take m.len (m.bytes ++ data_of f) }
 
-unfoldable pub message_after : Option Open → Fields → Row → Option Message
-message_after current f Short = Some (record { cid = channel_of f; cmd = command_of f; bytes = take (length_of f) (data_of f) })
-message_after current f Whole = option_map (completed f) current
+unfoldable pub message_after : Option Open → Fields → Ruling → Option Message
+message_after current f (Begins Short) = Some (record { cid = channel_of f; cmd = command_of f; bytes = take (length_of f) (data_of f) })
+message_after current f (Continues Whole) = option_map (completed f) current
 message_after current f _ = None
 
 abbrev pub bytes_of : Option Message → List ℕ
 bytes_of None = []
 bytes_of (Some m) = m.bytes
 
--- What a row makes of all that is kept.
-abbrev pub kept_by : Assembly → ℕ → Fields → Row → Assembly
-kept_by a at f row =
-    record { given = given_after a.given row; current = open_after a.current at f row; finished = bytes_of (message_after a.current f row) }
+-- What a packet makes of all that is kept.
+abbrev pub kept_by : Assembly → ℕ → Fields → Ruling → Assembly
+kept_by a at f ruling =
+    record { given = given_after a.given ruling; current = open_after a.current at f ruling; finished = bytes_of (message_after a.current f ruling) }
 
 -- What is kept behind a packet with these fields.
 unfoldable pub accepted : Assembly → ℕ → Option ℕ → Fields → Assembly
-accepted a at work f = kept_by a at f (row_of a.given (option_map seen a.current) work f)
+accepted a at work f = kept_by a at f (ruling_of a.given a.current work f)
 
 -- An open message is a PING or a CBOR message on a channel that was given out, too long for one packet and not yet whole.
-pub record IsOpenMessage (given : ℕ) (m : Open) : Type 0 where
-  pub low : 1 ≤ m.cid
-  pub high : m.cid ≤ given
-  pub served : (m.cmd ≡ PING) ⊎ (m.cmd ≡ CBOR)
-  pub longer : 57 < m.len
-  pub longest : m.len ≤ LONGEST
-  pub joined : length m.bytes ≡ 57 + 59 * m.kept
-  pub more : 57 + 59 * m.kept < m.len
+pub record IsOpenMessage (given cid cmd len kept : ℕ) : Type 0 where
+  pub low : 1 ≤ cid
+  pub high : cid ≤ given
+  pub served : (cmd ≡ PING) ⊎ (cmd ≡ CBOR)
+  pub longer : 57 < len
+  pub longest : len ≤ LONGEST
+  pub more : 57 + 59 * kept < len
 
 abbrev pub OpenIsLawful : ℕ → Option Open → Type 0
 OpenIsLawful given None = Unit {0}
-OpenIsLawful given (Some m) = IsOpenMessage given m
+OpenIsLawful given (Some m) = IsOpenMessage given m.cid m.cmd m.len m.kept × (length m.bytes ≡ 57 + 59 * m.kept)
 
 -- what holds of everything that is kept
 pub record IsLawful (a : Assembly) : Type 0 where

@@ -3,5 +3,4 @@ pub mod Assembly
 pub mod Verdicts
 pub mod Codes
 pub mod Kept
-pub mod Says
 pub mod Receiving

@@ -1,8 +1,11 @@
 -- Packets that come one after the other, with their moments.
-use Rattle.std.specs.Prelude.{◌≡◌, ℕ, ◌+◌, ◌≤◌, ◌<◌, ◌⊎◌, List, [], ◌∷◌, length, map, None, Option}
+use Rattle.std.specs.Prelude.{◌≡◌, ℕ, ◌+◌, ◌≤◌, ◌<◌, ◌⊎◌, List, [], ◌∷◌, length, map, None}
 use Rattle.hid_packet.specs.Commands.{PING, CBOR}
 use Rattle.hid_packet.specs.Packet.{fields}
 use Rattle.hid_assemble.specs.Assembly.{Assembly, still_open, accepted}
+use Rattle.hid_assemble.specs.Verdicts.{verdict}
+use Rattle.hid_assemble.specs.declared.verdict.Verdict.{Verdict}
+use Rattle.hid_assemble.specs.declared.verdict.Verdict.TheVariants.{Ignored}
 
 -- a packet's bytes, with the moment at which it comes
 pub record Arrival : Type 0 where
@@ -13,8 +16,17 @@ abbrev pub packets_of : List Arrival → List (List ℕ)
 packets_of arrivals = map (λ arrival. arrival.packet) arrivals
 
 -- An overdue message is dropped, and then the packet is accepted; no work waits.
+abbrev pub awaits : Assembly → Arrival → Assembly
+awaits a arrival = record { given = a.given; current = still_open a.current arrival.at; finished = a.finished }
+
 unfoldable pub received_one : Assembly → Arrival → Assembly
-received_one a arrival = accepted (record { given = a.given; current = still_open a.current arrival.at; finished = a.finished }) arrival.at None (fields arrival.packet)
+received_one a arrival = accepted (awaits a arrival) arrival.at None (fields arrival.packet)
+
+-- the verdict on the last of the packets
+unfoldable pub last_verdict : Assembly → List Arrival → Verdict
+last_verdict a [] = Ignored
+last_verdict a (arrival ∷ []) = verdict (awaits a arrival) None (fields arrival.packet)
+last_verdict a (arrival ∷ next ∷ arrivals) = last_verdict (received_one a arrival) (next ∷ arrivals)
 
 unfoldable pub received : Assembly → List Arrival → Assembly
 received a [] = a

@@ -1,12 +1,23 @@
 -- The reply table: which of its rows a packet falls under (CTAP 2.1, sections 11.2.4 to 11.2.5 and 11.2.9, with this
 -- project's choices). It looks at the packet's fields, at how many channels were given out, at the open message and at the
 -- channel of waiting work.
-use Rattle.std.specs.Prelude.{ℕ, ◌+◌, ◌*◌, Bool, false, not, ◌&&◌, ◌||◌, ◌==◌, nat_le, nat_lt, Option, Some, None, option_map, if◌then◌else◌}
+use Rattle.std.specs.Prelude.{ℕ, ◌+◌, ◌*◌, Bool, false, not, ◌&&◌, ◌||◌, ◌==◌, nat_le, nat_lt, List, [], ◌∷◌, Option, Some, None, option_map, if◌then◌else◌}
 use Rattle.hid_packet.specs.Commands.{PING, INIT, CBOR, CANCEL, BROADCAST, LONGEST}
 use Rattle.hid_packet.specs.Packet.{Fields, initialization, continuation}
 use Rattle.hid_assemble.specs.declared.table.Row.{Row}
-use Rattle.hid_assemble.specs.declared.table.Row.TheVariants.{CancelsWork, CancelsNothing, NoSuchChannel, InitLength, InitFull, InitNew, InitAgain, BusyElsewhere, BusyHere, BrokenOff, NoSuchCommand, BadLength, Short, Long, Kept, Whole, WrongNumber, Stray}
-use Rattle.hid_assemble.specs.declared.table.Opened.{Opened}
+use Rattle.hid_assemble.specs.declared.table.Row.TheVariants.{CancelsWork, CancelsNothing, NoSuchChannel, InitLength, InitFull, InitNew, InitAgain, BusyElsewhere, BusyHere, BrokenOff, NoSuchCommand, BadLength, Short, Long}
+use Rattle.hid_assemble.specs.declared.table.Continuation.{Continuation}
+use Rattle.hid_assemble.specs.declared.table.Continuation.TheVariants.{Stray, WrongNumber, Kept, Whole}
+
+-- An open message: what its initialization packet said, the data bytes so far, how many continuation packets brought them,
+-- and the moment of the last packet.
+pub record Open : Type 0 where
+  pub cid : ℕ
+  pub cmd : ℕ
+  pub len : ℕ
+  pub bytes : List ℕ
+  pub kept : ℕ
+  pub last : ℕ
 
 -- the channel that is given out last
 abbrev pub LAST_CHANNEL : ℕ
@@ -26,40 +37,48 @@ abbrev pub is_elsewhere : Option ℕ → ℕ → Bool
 is_elsewhere None cid = false
 is_elsewhere (Some busy) cid = not (busy == cid)
 
--- INIT, on the broadcast channel or on one that was given out
-unfoldable pub init_row : ℕ → ℕ → ℕ → Row
-init_row given cid len =
-    if not (len == 8) then InitLength
-    else if cid == BROADCAST then (if given == LAST_CHANNEL then InitFull else InitNew)
-    else InitAgain
+-- the first row whose test holds, or else this one
+abbrev pub first_row : List (Bool × Row) → Row → Row
+first_row [] else_row = else_row
+first_row (t ∷ ts) else_row = if t.0 then t.1 else first_row ts else_row
 
--- any other command on a channel that was given out
-unfoldable pub begin_row : Option ℕ → Option ℕ → ℕ → ℕ → ℕ → Row
-begin_row current work cid cmd len =
-    if is_elsewhere current cid || is_elsewhere work cid then BusyElsewhere
-    else if is_on work cid then BusyHere
-    else if is_on current cid then BrokenOff
-    else if not (cmd == PING || cmd == CBOR) then NoSuchCommand
-    else if nat_lt LONGEST len || (cmd == CBOR && (len == 0)) then BadLength
-    else if nat_le len 57 then Short
-    else Long
-
+-- An initialization packet: each row with its test, in their order. A packet that is under none of them opens a message.
 unfoldable pub initialization_row : ℕ → Option ℕ → Option ℕ → ℕ → ℕ → ℕ → Row
 initialization_row given current work cid cmd len =
-    if cmd == CANCEL then (if is_on work cid then CancelsWork else CancelsNothing)
-    else if not (is_given given cid || ((cid == BROADCAST) && (cmd == INIT))) then NoSuchChannel
-    else if cmd == INIT then init_row given cid len
-    else begin_row current work cid cmd len
+    let asks_for_channel = (cid == BROADCAST) && (cmd == INIT) in
+    first_row
+    (((cmd == CANCEL) && is_on work cid, CancelsWork)
+    ∷ (cmd == CANCEL, CancelsNothing)
+    ∷ (not (is_given given cid || asks_for_channel), NoSuchChannel)
+    ∷ ((cmd == INIT) && not (len == 8), InitLength)
+    ∷ (asks_for_channel && (given == LAST_CHANNEL), InitFull)
+    ∷ (asks_for_channel, InitNew)
+    ∷ (cmd == INIT, InitAgain)
+    ∷ (is_elsewhere current cid || is_elsewhere work cid, BusyElsewhere)
+    ∷ (is_on work cid, BusyHere)
+    ∷ (is_on current cid, BrokenOff)
+    ∷ (not (cmd == PING || cmd == CBOR), NoSuchCommand)
+    ∷ (nat_lt LONGEST len || (cmd == CBOR && (len == 0)), BadLength)
+    ∷ (nat_le len 57, Short)
+    ∷ []) Long
 
-unfoldable pub continuation_row : Option Opened → ℕ → ℕ → Row
-continuation_row None cid number = Stray
-continuation_row (Some m) cid number =
-    if not (m.cid == cid) then Stray
-    else if not (number == m.kept) then WrongNumber
-    else if nat_lt (57 + 59 * (m.kept + 1)) m.len then Kept
+-- A continuation packet, where a message of `len` bytes is open on the channel `on` and `kept` of its packets were kept.
+abbrev pub continues : (on len kept cid number : ℕ) → Continuation
+continues on len kept cid number =
+    if not (on == cid) then Stray
+    else if not (number == kept) then WrongNumber
+    else if nat_lt (57 + 59 * (kept + 1)) len then Kept
     else Whole
 
--- The row of a packet with these fields.
-unfoldable pub row_of : ℕ → Option Opened → Option ℕ → Fields → Row
-row_of given current work (initialization cid cmd len part) = initialization_row given (option_map (λ m. m.cid) current) work cid cmd len
-row_of given current work (continuation cid number part) = continuation_row current cid number
+unfoldable pub continuation_row : Option Open → ℕ → ℕ → Continuation
+continuation_row None cid number = Stray
+continuation_row (Some m) cid number = continues m.cid m.len m.kept cid number
+
+-- What a packet with these fields is: under this row, or such a continuation packet.
+pub data Ruling : Type 0 where
+  Begins : Row → Ruling
+  Continues : Continuation → Ruling
+
+unfoldable pub ruling_of : ℕ → Option Open → Option ℕ → Fields → Ruling
+ruling_of given current work (initialization cid cmd len part) = Begins (initialization_row given (option_map (λ m. m.cid) current) work cid cmd len)
+ruling_of given current work (continuation cid number part) = Continues (continuation_row current cid number)

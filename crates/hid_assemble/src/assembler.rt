@@ -1,12 +1,12 @@
+#![tactic(auto, unfolding(crate::specs::Table::ruling_of, crate::specs::Table::continuation_row, crate::specs::Assembly::accepted, crate::specs::Assembly::is_overdue, crate::specs::Assembly::open_after, crate::specs::Assembly::message_after, crate::specs::Verdicts::verdict, crate::specs::Verdicts::ruling_verdict, crate::specs::Kept::assembly))]
+
 ghost use Rattle.std.specs.Prelude.{◌≡◌, ℕ, ◌+◌, ◌*◌, ◌≤◌, ◌<◌, ◌++◌, List, [], length, take, drop, Option, None, Some, option_map, if◌then◌else◌};
 ghost use Rattle.hid_packet.specs.Packet.{fields, initialization, continuation};
-ghost use Rattle.hid_assemble.specs.Assembly.{Open, IsLawful, is_overdue, still_open, held_bytes, kept_by, accepted, message_after, seen as seen_of};
-ghost use Rattle.hid_assemble.specs.Verdicts.{verdict, row_verdict, greeted_again};
-ghost use Rattle.hid_assemble.specs.Says.{BeginsWith, InitializationSays, ContinuationSays};
-ghost use Rattle.hid_assemble.specs.Kept as spec;
+ghost use Rattle.hid_assemble.specs.Assembly.{IsLawful, is_overdue, still_open, held_bytes, accepted, drop_on};
+ghost use Rattle.hid_assemble.specs.Verdicts.{verdict, greeted_again};
 
 use crate::code::ErrorCode;
-use crate::table::{self, LAST_CHANNEL, Opened, Row};
+use crate::table::{Continuation, LAST_CHANNEL, Row, continuation_row, initialization_row};
 use crate::verdict::Verdict;
 use hid_packet::{BROADCAST, LONGEST_MESSAGE, Packet, View};
 use std::marker::Model;
@@ -23,12 +23,31 @@ const CONTINUATION_DATA: usize = 59;
 /// An open message: what its initialization packet said, how many continuation packets were kept, and
 /// the moment of the last packet.
 #[derive(Clone, Copy)]
-struct OpenMessage {
-    cid: u32,
-    cmd: u8,
-    len: u16,
-    kept: u8,
-    last: u64,
+pub(crate) struct OpenMessage {
+    pub(crate) cid: u32,
+    pub(crate) cmd: u8,
+    pub(crate) len: u16,
+    pub(crate) kept: u8,
+    pub(crate) last: u64,
+}
+
+/// What the buffer holds.
+#[derive(Clone, Copy)]
+enum Contents {
+    Nothing,
+    /// The data bytes so far of an open message.
+    Open(OpenMessage),
+    /// The message that the last packet finished, of so many bytes.
+    Finished(u16),
+}
+
+impl OpenMessage {
+    /// How many data bytes are held of it.
+    fn held(&self) -> usize
+        ensures { result ≡ 57 + 59 * self.now.kept }
+    {
+        INITIALIZATION_DATA + CONTINUATION_DATA * usize::from(self.kept)
+    }
 }
 
 /// Writes the data bytes behind those that are held already.
@@ -49,40 +68,6 @@ fn nonce_of(part: &[u8]) -> [u8; 8]
     nonce
 }
 
-/// The open message, but not one on this channel.
-fn drop_on(current: Option<OpenMessage>, cid: u32) -> Option<OpenMessage>
-    ensures { result ≡ spec.drop_on current cid }
-{
-    match current {
-        Some(message) if message.cid == cid => None,
-        _ => current,
-    }
-}
-
-/// The channel of the open message.
-fn channel_of(current: Option<OpenMessage>) -> Option<u32>
-    ensures { result ≡ option_map (λ m. m.cid) current }
-{
-    match current {
-        Some(message) => Some(message.cid),
-        None => None,
-    }
-}
-
-/// What the table looks at of the open message.
-fn seen(current: Option<OpenMessage>) -> Option<Opened>
-    ensures { result ≡ option_map spec.seen current }
-{
-    match current {
-        Some(message) => Some(Opened {
-            cid: message.cid,
-            len: message.len,
-            kept: message.kept,
-        }),
-        None => None,
-    }
-}
-
 /// What an INIT on a given channel is answered: work that waits there must be dropped.
 fn greet_again(cid: u32, nonce: [u8; 8], working: Option<u32>) -> Verdict
     ensures { result ≡ greeted_again working cid nonce }
@@ -101,61 +86,10 @@ fn greet_again(cid: u32, nonce: [u8; 8], working: Option<u32>) -> Verdict
     }
 }
 
-/// The verdict of a row on an initialization packet.
-#[tactic(auto, unfolding(crate::specs::Verdicts::row_verdict, crate::specs::Assembly::message_after))]
-fn initialization_verdict(
-    row: Row,
-    given: u32,
-    cid: u32,
-    cmd: u8,
-    part: &[u8],
-    working: Option<u32>,
-) -> Verdict
-    requires data { length part.now ≡ 57 }
-    requires row { BeginsWith given row }
-    ensures { (len : ℕ) (current : Option Open) → let f = initialization cid cmd len part.now in
-        result ≡ row_verdict given working f (message_after current f row) row }
+fn refuse(cid: u32, code: ErrorCode) -> Verdict
+    ensures { result ≡ Verdict.Refuse cid code }
 {
-    let refuse = |code: ErrorCode| Verdict::Refuse { cid, code };
-    match row {
-        Row::CancelsWork => Verdict::CancelWork,
-        Row::NoSuchChannel => refuse(ErrorCode::InvalidChannel),
-        Row::InitLength | Row::BadLength => refuse(ErrorCode::InvalidLength),
-        Row::InitFull => refuse(ErrorCode::Other),
-        Row::InitNew => Verdict::Greet {
-            on: BROADCAST,
-            channel: given + 1,
-            nonce: nonce_of(part),
-        },
-        Row::InitAgain => greet_again(cid, nonce_of(part), working),
-        Row::BusyElsewhere | Row::BusyHere => refuse(ErrorCode::ChannelBusy),
-        Row::BrokenOff => refuse(ErrorCode::InvalidSequence),
-        Row::NoSuchCommand => refuse(ErrorCode::InvalidCommand),
-        Row::Short => Verdict::Finished { cid, cmd },
-        Row::Long => Verdict::Kept,
-        _ => Verdict::Ignored,
-    }
-}
-
-/// The verdict of a row on a continuation packet.
-#[tactic(auto, unfolding(crate::specs::Verdicts::row_verdict, crate::specs::Assembly::message_after))]
-fn continuation_verdict(row: Row, cid: u32, current: Option<OpenMessage>) -> Verdict
-    requires { ContinuationSays (option_map spec.seen current) row }
-    ensures { (given number : ℕ) (working : Option ℕ) (part buffer : List ℕ) → let f = continuation cid number part in
-        result ≡ row_verdict given working f (message_after (option_map (spec.opened buffer) current) f row) row }
-{
-    match (row, current) {
-        (Row::Kept, _) => Verdict::Kept,
-        (Row::Whole, Some(message)) => Verdict::Finished {
-            cid: message.cid,
-            cmd: message.cmd,
-        },
-        (Row::WrongNumber, _) => Verdict::Refuse {
-            cid,
-            code: ErrorCode::InvalidSequence,
-        },
-        _ => Verdict::Ignored,
-    }
+    Verdict::Refuse { cid, code }
 }
 
 /// The channels that were given out, and the one message that may be open. A packet is served by
@@ -163,24 +97,20 @@ fn continuation_verdict(row: Row, cid: u32, current: Option<OpenMessage>) -> Ver
 #[derive(Drop)]
 pub struct Assembler {
     given: u32,
-    current: Option<OpenMessage>,
-    /// The data bytes of the open message, or of the one that the last packet finished.
-    message: [u8; LONGEST_MESSAGE as usize],
-    /// How many bytes the message has that the last packet finished.
-    finished: usize,
+    contents: Contents,
+    buffer: [u8; LONGEST_MESSAGE as usize],
 }
 
 // Clauses see how many channels were given out, the open message with its bytes, and the finished bytes.
 impl Model for Assembler {
-    ghost use Rattle.std.specs.Prelude.{◌≡◌, ◌≤◌, length};
     ghost use Rattle.hid_assemble.specs.Assembly.{Assembly};
     ghost use Rattle.hid_assemble.specs.Kept.{assembly, IsKept};
 
     ghost Value = { Assembly };
 
-    ghost view = { λ a. assembly a.given a.current a.message a.finished };
+    ghost view = { λ a. assembly a.given a.contents a.buffer };
 
-    ghost invariant = { λ a. IsKept a.given a.current a.message a.finished };
+    ghost invariant = { λ a. IsKept a.given a.contents a.buffer };
 }
 
 impl Assembler {
@@ -198,9 +128,8 @@ impl Assembler {
     {
         Assembler {
             given,
-            current: None,
-            message: [0; LONGEST_MESSAGE as usize],
-            finished: 0,
+            contents: Contents::Nothing,
+            buffer: [0; LONGEST_MESSAGE as usize],
         }
     }
 
@@ -208,9 +137,9 @@ impl Assembler {
     pub fn overdue(&self, at: u64) -> bool
         ensures { result ≡ is_overdue self.now.current at }
     {
-        match self.current {
-            Some(message) => at.saturating_sub(message.last) >= MESSAGE_TIMEOUT,
-            None => false,
+        match self.contents {
+            Contents::Open(message) => at.saturating_sub(message.last) >= MESSAGE_TIMEOUT,
+            Contents::Nothing | Contents::Finished(_) => false,
         }
     }
 
@@ -224,8 +153,8 @@ impl Assembler {
         if !self.overdue(at) {
             return None;
         }
-        let channel = channel_of(self.current);
-        self.current = None;
+        let channel = self.open_on();
+        self.contents = Contents::Nothing;
         channel
     }
 
@@ -233,89 +162,137 @@ impl Assembler {
     /// says which row of the reply table applies, keeps the packet's data where that row says so, and
     /// gives or drops what it says. `CancelWork` and `GreetAndDrop` come only where work waits on the
     /// packet's channel.
+    #[tactic(auto, unfolding(crate::specs::Assembly::accepted, crate::specs::Verdicts::verdict))]
     pub fn accept(&mut self, at: u64, packet: &Packet, working: Option<u32>) -> Verdict
         ensures verdict { result ≡ verdict self.old working (fields packet.now.0) }
         ensures state { self.new ≡ accepted self.old at working (fields packet.now.0) }
         ensures lawful { IsLawful self.new }
     {
+        self.forget_finished();
         match packet.view() {
             View::Start {
                 cid,
                 cmd,
                 len,
                 part,
-            } => {
-                let open_on = channel_of(self.current);
-                let row = table::initialization_row(self.given, open_on, working, cid, cmd, len);
-                let verdict = initialization_verdict(row, self.given, cid, cmd, part, working);
-                self.keep_initialization(row, at, cid, cmd, len, part);
-                verdict
-            }
-            View::More { cid, seq, part } => {
-                let row = table::continuation_row(seen(self.current), cid, seq);
-                let verdict = continuation_verdict(row, cid, self.current);
-                self.keep_continuation(row, at, part);
-                verdict
-            }
+            } => self.begin(at, working, cid, cmd, len, part),
+            View::More { cid, seq, part } => self.go_on(at, cid, seq, part),
         }
     }
 
-    /// Keeps what a row says of an initialization packet.
-    #[tactic(auto, unfolding(crate::specs::Assembly::open_after, crate::specs::Assembly::message_after, crate::specs::Kept::assembly))]
-    fn keep_initialization(&mut self, row: Row, at: u64, cid: u32, cmd: u8, len: u16, part: &[u8])
-        requires data { length part.now ≡ 57 }
-        requires row { InitializationSays self.old.given (option_map (λ m. m.cid) self.old.current) cid cmd len row }
-        ensures { self.new ≡ kept_by self.old at (initialization cid cmd len part.now) row }
+    /// Forgets the message that the packet before finished.
+    fn forget_finished(&mut self)
+        ensures forgotten { self.new ≡ record self.old { finished = [] } }
+        ensures lawful { IsLawful self.new }
     {
-        self.finished = 0;
-        match row {
-            Row::InitNew => self.given += 1,
-            Row::InitLength | Row::InitAgain => self.current = drop_on(self.current, cid),
-            Row::BrokenOff => self.current = None,
+        if let Contents::Finished(_) = self.contents {
+            self.contents = Contents::Nothing;
+        }
+    }
+
+    /// Drops the open message if it is on this channel.
+    fn drop_on(&mut self, cid: u32)
+        requires { self.old.finished ≡ [] }
+        ensures { self.new ≡ record self.old { current = drop_on self.old.current cid } }
+    {
+        if self.open_on() == Some(cid) {
+            self.contents = Contents::Nothing;
+        }
+    }
+
+    /// Serves an initialization packet.
+    fn begin(
+        &mut self,
+        at: u64,
+        working: Option<u32>,
+        cid: u32,
+        cmd: u8,
+        len: u16,
+        part: &[u8],
+    ) -> Verdict
+        requires data { length part.now ≡ 57 }
+        requires forgotten { self.old.finished ≡ [] }
+        ensures verdict { result ≡ verdict self.old working (initialization cid cmd len part.now) }
+        ensures state { self.new ≡ accepted self.old at working (initialization cid cmd len part.now) }
+    {
+        match initialization_row(self.given(), self.open_on(), working, cid, cmd, len) {
+            Row::CancelsWork => Verdict::CancelWork,
+            Row::CancelsNothing => Verdict::Ignored,
+            Row::NoSuchChannel => refuse(cid, ErrorCode::InvalidChannel),
+            Row::InitLength => {
+                self.drop_on(cid);
+                refuse(cid, ErrorCode::InvalidLength)
+            }
+            Row::InitFull => refuse(cid, ErrorCode::Other),
+            Row::InitNew => {
+                self.given += 1;
+                Verdict::Greet {
+                    on: BROADCAST,
+                    channel: self.given,
+                    nonce: nonce_of(part),
+                }
+            }
+            Row::InitAgain => {
+                self.drop_on(cid);
+                greet_again(cid, nonce_of(part), working)
+            }
+            Row::BusyElsewhere | Row::BusyHere => refuse(cid, ErrorCode::ChannelBusy),
+            Row::BrokenOff => {
+                self.contents = Contents::Nothing;
+                refuse(cid, ErrorCode::InvalidSequence)
+            }
+            Row::NoSuchCommand => refuse(cid, ErrorCode::InvalidCommand),
+            Row::BadLength => refuse(cid, ErrorCode::InvalidLength),
             Row::Short => {
-                put_data(&mut self.message, 0, part);
-                self.finished = usize::from(len);
+                put_data(&mut self.buffer, 0, part);
+                self.contents = Contents::Finished(len);
+                Verdict::Finished { cid, cmd }
             }
             Row::Long => {
-                put_data(&mut self.message, 0, part);
-                self.current = Some(OpenMessage {
+                put_data(&mut self.buffer, 0, part);
+                self.contents = Contents::Open(OpenMessage {
                     cid,
                     cmd,
                     len,
                     kept: 0,
                     last: at,
                 });
+                Verdict::Kept
             }
-            _ => {}
         }
     }
 
-    /// Keeps what a row says of a continuation packet.
-    #[tactic(auto, unfolding(crate::specs::Assembly::open_after, crate::specs::Assembly::message_after, crate::specs::Kept::assembly))]
-    fn keep_continuation(&mut self, row: Row, at: u64, part: &[u8])
+    /// Serves a continuation packet.
+    fn go_on(&mut self, at: u64, cid: u32, number: u8, part: &[u8]) -> Verdict
         requires data { length part.now ≡ 59 }
-        requires row { ContinuationSays (option_map seen_of self.old.current) row }
-        ensures { (cid number : ℕ) → self.new ≡ kept_by self.old at (continuation cid number part.now) row }
+        requires forgotten { self.old.finished ≡ [] }
+        ensures verdict { (working : Option ℕ) → result ≡ verdict self.old working (continuation cid number part.now) }
+        ensures state { (working : Option ℕ) → self.new ≡ accepted self.old at working (continuation cid number part.now) }
     {
-        self.finished = 0;
-        let Some(mut message) = self.current else {
-            return;
+        let Contents::Open(mut message) = self.contents else {
+            return Verdict::Ignored;
         };
-        let held = INITIALIZATION_DATA + CONTINUATION_DATA * usize::from(message.kept);
-        match row {
-            Row::Kept => {
-                put_data(&mut self.message, held, part);
+        match continuation_row(&message, cid, number) {
+            Continuation::Stray => Verdict::Ignored,
+            Continuation::WrongNumber => {
+                self.contents = Contents::Nothing;
+                refuse(cid, ErrorCode::InvalidSequence)
+            }
+            Continuation::Kept => {
+                put_data(&mut self.buffer, message.held(), part);
                 message.kept += 1;
                 message.last = at;
-                self.current = Some(message);
+                self.contents = Contents::Open(message);
+                Verdict::Kept
             }
-            Row::Whole => {
-                put_data(&mut self.message, held, part);
-                self.current = None;
-                self.finished = usize::from(message.len);
+            Continuation::Whole => {
+                put_data(&mut self.buffer, message.held(), part);
+                self.contents = Contents::Finished(message.len);
+                Verdict::Finished {
+                    cid: message.cid,
+                    cmd: message.cmd,
+                }
             }
-            Row::WrongNumber => self.current = None,
-            _ => {}
         }
     }
 
@@ -325,7 +302,10 @@ impl Assembler {
         ensures bytes { result.now ≡ self.now.finished }
         ensures limit { length self.now.finished ≤ 7609 }
     {
-        &self.message[..self.finished]
+        match self.contents {
+            Contents::Finished(len) => &self.buffer[..usize::from(len)],
+            Contents::Nothing | Contents::Open(_) => &[],
+        }
     }
 
     /// How many data bytes are held of the open message, 0 without one.
@@ -334,10 +314,9 @@ impl Assembler {
         ensures bytes { result ≡ held_bytes self.now.current }
         ensures limit { held_bytes self.now.current ≤ 7550 }
     {
-        match self.current {
-            Some(message) => (INITIALIZATION_DATA
-                + CONTINUATION_DATA * usize::from(message.kept)) as u16,
-            None => 0,
+        match self.contents {
+            Contents::Open(message) => message.held() as u16,
+            Contents::Nothing | Contents::Finished(_) => 0,
         }
     }
 
@@ -345,7 +324,10 @@ impl Assembler {
     pub fn open_on(&self) -> Option<u32>
         ensures { result ≡ option_map (λ m. m.cid) self.now.current }
     {
-        channel_of(self.current)
+        match self.contents {
+            Contents::Open(message) => Some(message.cid),
+            Contents::Nothing | Contents::Finished(_) => None,
+        }
     }
 
     /// How many channels were given out.

@@ -4,13 +4,18 @@ ghost use Rattle.std.specs.Prelude.{◌≡◌, ℕ, ◌≤◌, List, Option, Non
 ghost use Rattle.hid_packet.specs.Commands.{CANCEL};
 ghost use Rattle.hid_packet.specs.Packet.{Fields, initialization, channel_of};
 ghost use Rattle.hid_packet.specs.Carries.{CarriesMessage};
-ghost use Rattle.hid_assemble.specs.Assembly.{Open, Assembly, accepted};
-ghost use Rattle.hid_assemble.specs.Receiving.{Arrival, packets_of, received, ComeInTime, IsServed};
+ghost use Rattle.hid_assemble.specs.Table.{Open};
+ghost use Rattle.hid_assemble.specs.Assembly.{Assembly, accepted};
+ghost use Rattle.hid_assemble.specs.Receiving.{Arrival, packets_of, received, last_verdict, ComeInTime, IsServed};
+ghost use Rattle.hid_assemble.specs.declared.verdict.Verdict.TheVariants.{Finished};
 
 /// With nothing open, the packets of a message on a channel that was given out, each less than 500 ms
 /// after the one before, finish with just the message's bytes, where its command is served.
 pub fn packets_of_a_message_finish_it()
-    ensures { (a : Assembly) (arrivals : List Arrival) (cid cmd : ℕ) (bytes : List ℕ) → a.current ≡ None → 1 ≤ cid → cid ≤ a.given → IsServed cmd bytes
+    ensures told { (a : Assembly) (arrivals : List Arrival) (cid cmd : ℕ) (bytes : List ℕ) → a.current ≡ None → 1 ≤ cid → cid ≤ a.given → IsServed cmd bytes
+        → CarriesMessage (packets_of arrivals) cid cmd bytes → ComeInTime arrivals
+        → last_verdict a arrivals ≡ Finished cid cmd }
+    ensures bytes { (a : Assembly) (arrivals : List Arrival) (cid cmd : ℕ) (bytes : List ℕ) → a.current ≡ None → 1 ≤ cid → cid ≤ a.given → IsServed cmd bytes
         → CarriesMessage (packets_of arrivals) cid cmd bytes → ComeInTime arrivals
         → received a arrivals ≡ record { given = a.given; current = None; finished = bytes } }
 {}

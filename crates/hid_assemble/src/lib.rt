@@ -11,7 +11,7 @@ mod verdict;
 
 pub use assembler::{Assembler, MESSAGE_TIMEOUT};
 pub use code::ErrorCode;
-pub use table::{LAST_CHANNEL, Opened, Row};
+pub use table::{Continuation, LAST_CHANNEL, Row};
 pub use verdict::Verdict;
 
 #[cfg(test)]

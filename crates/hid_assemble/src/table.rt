@@ -1,22 +1,14 @@
-ghost use Rattle.std.specs.Prelude.{◌≡◌, Option, None, Some};
+ghost use Rattle.std.specs.Prelude.{◌≡◌};
 ghost use Rattle.hid_assemble.specs.Table as spec;
 
+use crate::assembler::OpenMessage;
 use hid_packet::command::{CANCEL, CBOR, INIT, PING};
 use hid_packet::{BROADCAST, LONGEST_MESSAGE};
 
 /// The channel that is given out last.
 pub const LAST_CHANNEL: u32 = 0xffff_fffe;
 
-/// What the reply table looks at of an open message: its channel, its length in bytes, and how many
-/// continuation packets were kept of it.
-#[derive(Clone, Copy, Debug)]
-pub struct Opened {
-    pub cid: u32,
-    pub len: u16,
-    pub kept: u8,
-}
-
-/// The rows of the reply table. The first that applies decides.
+/// The rows of the reply table for an initialization packet. The first that applies decides.
 #[derive(Clone, Copy, Debug, PartialEq, Eq)]
 pub enum Row {
     /// CANCEL where work waits on its channel: the work ends.
@@ -47,14 +39,19 @@ pub enum Row {
     Short,
     /// The message is open from now on.
     Long,
-    /// The continuation packet that was due: its data is kept.
-    Kept,
-    /// The continuation packet that was due, and the message is whole.
-    Whole,
-    /// Another continuation packet than the one that was due: the message is dropped.
-    WrongNumber,
-    /// A continuation packet of a channel with no open message.
+}
+
+/// What a continuation packet is to the open message.
+#[derive(Clone, Copy, Debug, PartialEq, Eq)]
+pub enum Continuation {
+    /// No message is open on its channel.
     Stray,
+    /// Another packet than the one that is due: the message is dropped.
+    WrongNumber,
+    /// The packet that is due: its data is kept.
+    Kept,
+    /// The packet that is due, and the message is whole.
+    Whole,
 }
 
 /// Whether something is on this channel.
@@ -71,26 +68,35 @@ fn is_elsewhere(busy: Option<u32>, cid: u32) -> bool
     matches!(busy, Some(channel) if channel != cid)
 }
 
-#[tactic(auto, unfolding(crate::specs::Table::init_row))]
-fn init_row(given: u32, cid: u32, len: u16) -> Row
-    ensures { result ≡ spec.init_row given cid len }
+/// The row of an initialization packet.
+#[tactic(auto, unfolding(crate::specs::Table::initialization_row))]
+pub(crate) fn initialization_row(
+    given: u32,
+    current: Option<u32>,
+    working: Option<u32>,
+    cid: u32,
+    cmd: u8,
+    len: u16,
+) -> Row
+    ensures { result ≡ spec.initialization_row given current working cid cmd len }
 {
-    if len != 8 {
+    let is_given = 1 <= cid && cid <= given;
+    let asks_for_channel = cid == BROADCAST && cmd == INIT;
+    if cmd == CANCEL && is_on(working, cid) {
+        Row::CancelsWork
+    } else if cmd == CANCEL {
+        Row::CancelsNothing
+    } else if !is_given && !asks_for_channel {
+        Row::NoSuchChannel
+    } else if cmd == INIT && len != 8 {
         Row::InitLength
-    } else if cid != BROADCAST {
-        Row::InitAgain
-    } else if given == LAST_CHANNEL {
+    } else if asks_for_channel && given == LAST_CHANNEL {
         Row::InitFull
-    } else {
+    } else if asks_for_channel {
         Row::InitNew
-    }
-}
-
-#[tactic(auto, unfolding(crate::specs::Table::begin_row))]
-fn begin_row(current: Option<u32>, working: Option<u32>, cid: u32, cmd: u8, len: u16) -> Row
-    ensures { result ≡ spec.begin_row current working cid cmd len }
-{
-    if is_elsewhere(current, cid) || is_elsewhere(working, cid) {
+    } else if cmd == INIT {
+        Row::InitAgain
+    } else if is_elsewhere(current, cid) || is_elsewhere(working, cid) {
         Row::BusyElsewhere
     } else if is_on(working, cid) {
         Row::BusyHere
@@ -107,49 +113,17 @@ fn begin_row(current: Option<u32>, working: Option<u32>, cid: u32, cmd: u8, len:
     }
 }
 
-/// The row of an initialization packet.
-#[tactic(auto, unfolding(crate::specs::Table::initialization_row))]
-pub(crate) fn initialization_row(
-    given: u32,
-    current: Option<u32>,
-    working: Option<u32>,
-    cid: u32,
-    cmd: u8,
-    len: u16,
-) -> Row
-    ensures { result ≡ spec.initialization_row given current working cid cmd len }
+/// What a continuation packet is to this open message.
+pub(crate) fn continuation_row(message: &OpenMessage, cid: u32, number: u8) -> Continuation
+    ensures { result ≡ spec.continues message.now.cid message.now.len message.now.kept cid number }
 {
-    let is_given = 1 <= cid && cid <= given;
-    if cmd == CANCEL {
-        if is_on(working, cid) {
-            Row::CancelsWork
-        } else {
-            Row::CancelsNothing
-        }
-    } else if !is_given && (cid != BROADCAST || cmd != INIT) {
-        Row::NoSuchChannel
-    } else if cmd == INIT {
-        init_row(given, cid, len)
+    if message.cid != cid {
+        Continuation::Stray
+    } else if number != message.kept {
+        Continuation::WrongNumber
+    } else if 57 + 59 * (u32::from(message.kept) + 1) < u32::from(message.len) {
+        Continuation::Kept
     } else {
-        begin_row(current, working, cid, cmd, len)
-    }
-}
-
-/// The row of a continuation packet.
-#[tactic(auto, unfolding(crate::specs::Table::continuation_row))]
-pub(crate) fn continuation_row(current: Option<Opened>, cid: u32, number: u8) -> Row
-    ensures { result ≡ spec.continuation_row current cid number }
-{
-    match current {
-        Some(message) if message.cid == cid => {
-            if number != message.kept {
-                Row::WrongNumber
-            } else if 57 + 59 * (u32::from(message.kept) + 1) < u32::from(message.len) {
-                Row::Kept
-            } else {
-                Row::Whole
-            }
-        }
-        _ => Row::Stray,
+        Continuation::Whole
     }
 }

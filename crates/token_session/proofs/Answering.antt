@@ -5,51 +5,52 @@ use Rattle.ctap_message.specs.Answers.{info_answer}
 use Rattle.ctap_message.specs.Requests.{GetInfo, read_of}
 use Rattle.authn_core.specs.Turn.{Start, Event, Request, working}
 use Rattle.authn_core.proofs.Facts.{aaguid_stays, info_answered}
-use Rattle.hid_assemble.specs.Assembly.{Message, Open, message_after, seen}
-use Rattle.hid_assemble.specs.Table.{is_given, row_of}
-use Rattle.hid_assemble.specs.declared.table.Row.{Row}
-use Rattle.hid_assemble.specs.declared.table.Row.TheVariants.{BadLength, BrokenOff, BusyElsewhere, BusyHere, CancelsNothing, CancelsWork, InitAgain, InitFull, InitLength, InitNew, Kept, Long, NoSuchChannel, NoSuchCommand, Short, Stray, Whole, WrongNumber}
+use Rattle.hid_assemble.specs.Table.{Begins, Continues, Open, Ruling, is_given, ruling_of}
+use Rattle.hid_assemble.specs.Assembly.{Message, message_after}
+use Rattle.hid_assemble.specs.declared.table.Row.TheVariants.{BadLength, BrokenOff, BusyElsewhere, BusyHere, CancelsNothing, CancelsWork, InitAgain, InitFull, InitLength, InitNew, Long, NoSuchChannel, NoSuchCommand, Short}
+use Rattle.hid_assemble.specs.declared.table.Continuation.TheVariants.{Kept, Stray, Whole, WrongNumber}
 use Rattle.hid_packet.specs.Carries.{Carries, IsLeast}
 use Rattle.hid_packet.specs.Commands.{CBOR, PING}
 use Rattle.hid_packet.specs.declared.packet.Packet.{Packet as Packet64}
 use Rattle.hid_packet.specs.Message.{written}
 use Rattle.hid_packet.specs.Packet.{Fields, fields}
-use Rattle.token_session.specs.Carried.{finished_at}
-use Rattle.token_session.specs.History.{Judged, admits, core, end, event, finished, given, judge, judged, open_at, packet_event, service_packets}
-use Rattle.token_session.specs.Law.{as_open}
-use Rattle.token_session.specs.Machine.{event_after, event_core, event_packets}
+use Rattle.token_session.specs.Carried.{}
+use Rattle.token_session.specs.History.{finished_at, Judged, admits, core, end, event, finished, given, judge, judged, open_at, packet_event, service_packets}
+use Rattle.token_session.specs.History.{as_open}
+use Rattle.token_session.specs.Machine.{event_after}
+use Rattle.token_session.specs.Events.{event_core, event_packets}
 use Rattle.token_session.specs.Replies.{answer_packets, asker, ping_packets, request_of, row_packets, status_of}
 use Rattle.token_session.specs.declared.input.Input.{Input}
 use Rattle.token_session.specs.declared.input.Input.TheVariants.{Packet, Tick}
 use Rattle.token_session.specs.declared.input.Timed.{Timed}
-use Rattle.token_session.proofs.Follows.{Good, good_judged, judged_at, safe_at, seen_same}
+use Rattle.token_session.proofs.Follows.{Good, good_judged, judged_at, safe_at}
 use Rattle.token_session.proofs.Serve.{Serves, new_open, serves}
 
 -- A row that finishes a message sends nothing of its own, and the message is the event.
-record Ends (g : ℕ) (w : Option ℕ) (f : Fields) (m : Message) (r : Row) : Type 0 where
+record Ends (g : ℕ) (w : Option ℕ) (f : Fields) (m : Message) (r : Ruling) : Type 0 where
   quiet : row_packets g f r ≡ []
   asks : event_after w f (Some m) r ≡ request_of (Some m)
 
-ends : (g : ℕ) (w : Option ℕ) (o : Option Open) (f : Fields) (m : Message) (r : Row) → message_after o f r ≡ Some m → Ends g w f m r
+ends : (g : ℕ) (w : Option ℕ) (o : Option Open) (f : Fields) (m : Message) (r : Ruling) → message_after o f r ≡ Some m → Ends g w f m r
 unfolding message_after row_packets event_after
-ends g w o f m Short h = record { quiet = refl; asks = refl }
-ends g w o f m Whole h = record { quiet = refl; asks = refl }
-ends g w o f m CancelsWork h = cc
-ends g w o f m CancelsNothing h = cc
-ends g w o f m NoSuchChannel h = cc
-ends g w o f m InitLength h = cc
-ends g w o f m InitFull h = cc
-ends g w o f m InitNew h = cc
-ends g w o f m InitAgain h = cc
-ends g w o f m BusyElsewhere h = cc
-ends g w o f m BusyHere h = cc
-ends g w o f m BrokenOff h = cc
-ends g w o f m NoSuchCommand h = cc
-ends g w o f m BadLength h = cc
-ends g w o f m Long h = cc
-ends g w o f m Kept h = cc
-ends g w o f m WrongNumber h = cc
-ends g w o f m Stray h = cc
+ends g w o f m (Begins Short) h = record { quiet = refl; asks = refl }
+ends g w o f m (Continues Whole) h = record { quiet = refl; asks = refl }
+ends g w o f m (Begins CancelsWork) h = cc
+ends g w o f m (Begins CancelsNothing) h = cc
+ends g w o f m (Begins NoSuchChannel) h = cc
+ends g w o f m (Begins InitLength) h = cc
+ends g w o f m (Begins InitFull) h = cc
+ends g w o f m (Begins InitNew) h = cc
+ends g w o f m (Begins InitAgain) h = cc
+ends g w o f m (Begins BusyElsewhere) h = cc
+ends g w o f m (Begins BusyHere) h = cc
+ends g w o f m (Begins BrokenOff) h = cc
+ends g w o f m (Begins NoSuchCommand) h = cc
+ends g w o f m (Begins BadLength) h = cc
+ends g w o f m (Begins Long) h = cc
+ends g w o f m (Continues Kept) h = cc
+ends g w o f m (Continues WrongNumber) h = cc
+ends g w o f m (Continues Stray) h = cc
 
 asked : (m : Message) → m.cmd ≡ CBOR → request_of (Some m) ≡ Some (Request m.cid m.bytes)
 asked m h = rw h refl
@@ -66,13 +67,13 @@ request_at start t h (Packet x) m good le fin is =
     let o = open_at h t in
     let w = working (core start h) in
     let f = fields x.0 in
-    let row = row_of g (option_map seen (option_map as_open o)) w f in
+    let row = ruling_of g (option_map as_open o) w f in
     let s : Serves g o w t x.0 f (new_open g o w t x.0 (Packet x)) (finished o (admits g o w x.0) (Packet x)) row = serves g o w t x (safe_at start t h good le) in
     let after : message_after (option_map as_open o) f row ≡ Some m = sym s.message ∙ fin in
     let e : Ends g w f m row = ends g w (option_map as_open o) f m row after in
     let happened : packet_event w (Some m) x.0 ≡ event_after w f (Some m) row = subst (λ v. packet_event w v x.0 ≡ event_after w f v row) after s.event in
     let asks : packet_event w (Some m) x.0 ≡ Some (Request m.cid m.bytes) = happened ∙ e.asks ∙ asked m is in
-    rw (seen_same o, e.quiet, fin, no_ping m is, asks) refl
+    rw (e.quiet, fin, no_ping m is, asks) refl
 request_at start t h Tick m good le fin is = cc
 
 -- The AAGUID behind every history is that of the start.

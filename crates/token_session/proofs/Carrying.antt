@@ -5,14 +5,14 @@ use Rattle.std.proofs.lemmas.List.{length-map}
 use Rattle.authn_core.specs.Turn.{Start}
 use Rattle.token_session.proofs.Bounds.{goes_on_below}
 use Rattle.std.proofs.lemmas.Option.{same_Some}
-use Rattle.token_session.specs.Carried.{Are64, IsWhole, AreWhole, ArePackets, carriers, long_carriers, finished_at, carriers_at}
+use Rattle.token_session.specs.Carried.{Are64, IsWhole, AreWhole, ArePackets, carriers, long_carriers, carriers_at}
 use Rattle.token_session.proofs.Opens.{and_true}
 use Rattle.token_session.proofs.Serve.{is_eq, not_is, all_four, long_says, is_le, says_admitted}
 use Rattle.hid_assemble.specs.Assembly.{Message}
 use Rattle.hid_packet.specs.Carries.{Carries, CarriesMessage, Continue, joined}
 use Rattle.hid_packet.specs.Commands.{CANCEL}
 use Rattle.hid_packet.specs.Packet.{channel, command, continuation_data, initialization_data, is_command, is_initialization, message_length, sequence}
-use Rattle.token_session.specs.History.{Begun, Judged, admits, end, finished, finished_long, goes_on, is_last, is_long, is_next, is_open, is_own, is_own_packet, is_packet, judge, judged, message, open_among, open_at, own, packet, packets_of}
+use Rattle.token_session.specs.History.{finished_at, Begun, Judged, admits, end, finished, finished_long, goes_on, is_last, is_long, is_next, is_open, is_own, is_own_packet, is_packet, judge, judged, message, open_among, open_at, own, packet, packets_of}
 use Rattle.token_session.specs.declared.input.Input.{Input}
 use Rattle.token_session.specs.declared.input.Input.TheVariants.{Packet, Tick}
 use Rattle.token_session.specs.declared.input.Timed.{Timed}

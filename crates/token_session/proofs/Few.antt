@@ -1,23 +1,23 @@
 -- One input sends at most 130 packets.
-use Rattle.std.proofs.Common.{◌≡◌, ℕ, ◌+◌, ◌≤◌, ◌==◌, Bool, true, false, cond, suc, List, [], ◌∷◌, ◌++◌, append-nil, length, take, Option, Some, None, option_map, refl, ap, arith, length-append}
+use Rattle.std.proofs.Common.{◌∙◌, ◌≡◌, ℕ, ◌+◌, ◌≤◌, ◌==◌, Bool, true, false, cond, suc, List, [], ◌∷◌, ◌++◌, append-nil, length, take, Option, Some, None, refl, ap, arith, length-append}
 use Rattle.std.proofs.lemmas.List.{drop_all}
 use Rattle.hid_packet.proofs.Carrying.{few_written}
 use Rattle.token_session.proofs.Serve.{cond_case, is_eq}
 use Rattle.authn_core.proofs.Facts.{drop_is_silent}
 use Rattle.authn_core.specs.Turn.{Answer, Answered, Cancel, CoreState, Drop, Event, Nothing, Request, Waits, Work, working}
-use Rattle.hid_assemble.specs.Assembly.{Message, Open, is_overdue, message_after}
-use Rattle.hid_assemble.specs.Table.{is_on, row_of}
-use Rattle.hid_assemble.specs.declared.table.Row.{Row}
-use Rattle.hid_assemble.specs.declared.table.Row.TheVariants.{BadLength, BrokenOff, BusyElsewhere, BusyHere, CancelsNothing, CancelsWork, InitAgain, InitFull, InitLength, InitNew, Kept, Long, NoSuchChannel, NoSuchCommand, Short, Stray, Whole, WrongNumber}
+use Rattle.hid_assemble.specs.Table.{Begins, Continues, Open, Ruling, is_on, ruling_of}
+use Rattle.hid_assemble.specs.Assembly.{Message, is_overdue, message_after}
+use Rattle.hid_assemble.specs.declared.table.Row.TheVariants.{BadLength, BrokenOff, BusyElsewhere, BusyHere, CancelsNothing, CancelsWork, InitAgain, InitFull, InitLength, InitNew, Long, NoSuchChannel, NoSuchCommand, Short}
+use Rattle.hid_assemble.specs.declared.table.Continuation.TheVariants.{Kept, Stray, Whole, WrongNumber}
 use Rattle.hid_packet.specs.Commands.{BROADCAST, CBOR, ERROR, INIT, KEEPALIVE, PING}
 use Rattle.hid_packet.specs.Message.{continuation_packets, written}
 use Rattle.hid_packet.specs.Packet.{Fields, channel_of, data_of, fields}
-use Rattle.token_session.specs.Machine.{State, Turn, event_after, event_keeps_alive, event_packets, keepalive_due, keepalive_packets, overdue_packets, passed, served, turn}
-use Rattle.token_session.specs.Replies.{answer_keeps_alive, answer_packets, asker, greeting, ping_packets, request_of, row_packets, status_of}
+use Rattle.token_session.specs.Machine.{State, Turn, event_after, overdue_packets, passed, served, turn}
+use Rattle.token_session.specs.Events.{event_keeps_alive, event_packets, keepalive_due, keepalive_packets}
+use Rattle.token_session.specs.Replies.{answer_keeps_alive, answer_packets, asker, greeting, is_status, ping_packets, request_of, row_packets, status_of}
 use Rattle.token_session.specs.declared.input.Input.{Input}
 use Rattle.token_session.specs.declared.input.Input.TheVariants.{Packet, Tick}
 use Rattle.token_session.specs.declared.input.Timed.{Timed}
-use Rattle.hid_assemble.specs.Assembly.{seen}
 
 no_more : (c : ℕ) → suc (length (continuation_packets 128 c 0 [])) ≤ 1
 unfolding continuation_packets
@@ -27,23 +27,27 @@ one_packet : (c k : ℕ) (b : List ℕ) → length b ≤ 57 → length (written 
 unfolding written
 one_packet c k b h = let e = drop_all 57 b h in rw e (no_more c)
 
-answer_few : (c s : ℕ) (a : Answer) → length (answer_packets c s a) ≤ 129
+answer_few : (c s : Option ℕ) (a : Answer) → length (answer_packets c s a) ≤ 129
 unfolding answer_packets
-answer_few c s (Answered b) = few_written c CBOR b
-answer_few c s (Waits n) = cond_case (λ (v : List (List ℕ)). length v ≤ 129) (n == s) _ _ (λ _. omega arith) (λ _. few_written c KEEPALIVE (n ∷ []))
-answer_few c s Nothing = omega arith
+answer_few None s a = omega arith
+answer_few (Some c) s (Answered b) = few_written c CBOR b
+answer_few (Some c) s (Waits n) = cond_case (λ (v : List (List ℕ)). length v ≤ 129) (is_status s n) _ _ (λ _. omega arith) (λ _. few_written c KEEPALIVE (n ∷ []))
+answer_few (Some c) s Nothing = omega arith
 
 event_few : (k : CoreState) (t : ℕ) (e : Option Event) → length (event_packets k t e) ≤ 129
 event_few k t None = omega arith
 event_few k t (Some e) = answer_few _ _ _
 
+nothing_sent : (c s : Option ℕ) → (answer_packets c s Nothing ≡ []) × (answer_keeps_alive c s Nothing ≡ false)
+unfolding answer_packets answer_keeps_alive
+nothing_sent None s = (refl, refl)
+nothing_sent (Some c) s = (refl, refl)
+
 pub drop_sends_nothing : (k : CoreState) (t : ℕ) → event_packets k t (Some Drop) ≡ []
-unfolding answer_packets
-drop_sends_nothing k t = ap (answer_packets (asker k.work Drop) (status_of k.work)) (drop_is_silent k t)
+drop_sends_nothing k t = ap (answer_packets (asker k.work Drop) (status_of k.work)) (drop_is_silent k t) ∙ (nothing_sent (asker k.work Drop) (status_of k.work)).0
 
 pub drop_keeps_silent : (k : CoreState) (t : ℕ) → event_keeps_alive k t (Some Drop) ≡ false
-unfolding answer_keeps_alive
-drop_keeps_silent k t = ap (answer_keeps_alive (status_of k.work)) (drop_is_silent k t)
+drop_keeps_silent k t = ap (answer_keeps_alive (asker k.work Drop) (status_of k.work)) (drop_is_silent k t) ∙ (nothing_sent (asker k.work Drop) (status_of k.work)).1
 
 message_few : (k : CoreState) (t : ℕ) (m : Option Message) → length (ping_packets m ++ event_packets k t (request_of m)) ≤ 129
 message_few k t None = omega arith
@@ -61,28 +65,28 @@ greeting_few : (on c : ℕ) (nonce : List ℕ) → length (greeting on c nonce) 
 unfolding greeting
 greeting_few on c nonce = few_written on INIT _
 
-pub service_few : (g t : ℕ) (o : Option Open) (k : CoreState) (w : Option ℕ) (p : Fields) (r : Row)
+pub service_few : (g t : ℕ) (o : Option Open) (k : CoreState) (w : Option ℕ) (p : Fields) (r : Ruling)
     → length ((row_packets g p r ++ ping_packets (message_after o p r)) ++ event_packets k t (event_after w p (message_after o p r) r)) ≤ 129
 unfolding row_packets message_after event_after
-service_few g t o k w p CancelsWork = event_few k t (Some Cancel)
-service_few g t o k w p CancelsNothing = omega arith
-service_few g t o k w p NoSuchChannel = alone _ (few_written (channel_of p) ERROR (11 ∷ []))
-service_few g t o k w p InitLength = alone _ (few_written (channel_of p) ERROR (3 ∷ []))
-service_few g t o k w p InitFull = alone _ (few_written (channel_of p) ERROR (127 ∷ []))
-service_few g t o k w p InitNew = alone _ (greeting_few BROADCAST (g + 1) _)
-service_few g t o k w p InitAgain = cond_case (λ e. length ((greeting (channel_of p) (channel_of p) (take 8 (data_of p)) ++ []) ++ event_packets k t e) ≤ 129) (is_on w (channel_of p)) _ _
+service_few g t o k w p (Begins CancelsWork) = event_few k t (Some Cancel)
+service_few g t o k w p (Begins CancelsNothing) = omega arith
+service_few g t o k w p (Begins NoSuchChannel) = alone _ (few_written (channel_of p) ERROR (11 ∷ []))
+service_few g t o k w p (Begins InitLength) = alone _ (few_written (channel_of p) ERROR (3 ∷ []))
+service_few g t o k w p (Begins InitFull) = alone _ (few_written (channel_of p) ERROR (127 ∷ []))
+service_few g t o k w p (Begins InitNew) = alone _ (greeting_few BROADCAST (g + 1) _)
+service_few g t o k w p (Begins InitAgain) = cond_case (λ e. length ((greeting (channel_of p) (channel_of p) (take 8 (data_of p)) ++ []) ++ event_packets k t e) ≤ 129) (is_on w (channel_of p)) _ _
     (λ _. rw (drop_sends_nothing k t) (alone _ (greeting_few (channel_of p) (channel_of p) (take 8 (data_of p))))) (λ _. alone _ (greeting_few (channel_of p) (channel_of p) (take 8 (data_of p))))
-service_few g t o k w p BusyElsewhere = alone _ (few_written (channel_of p) ERROR (6 ∷ []))
-service_few g t o k w p BusyHere = alone _ (few_written (channel_of p) ERROR (6 ∷ []))
-service_few g t o k w p BrokenOff = alone _ (few_written (channel_of p) ERROR (4 ∷ []))
-service_few g t o k w p NoSuchCommand = alone _ (few_written (channel_of p) ERROR (1 ∷ []))
-service_few g t o k w p BadLength = alone _ (few_written (channel_of p) ERROR (3 ∷ []))
-service_few g t o k w p Short = message_few k t (message_after o p Short)
-service_few g t o k w p Long = omega arith
-service_few g t o k w p Kept = omega arith
-service_few g t o k w p Whole = message_few k t (message_after o p Whole)
-service_few g t o k w p WrongNumber = alone _ (few_written (channel_of p) ERROR (4 ∷ []))
-service_few g t o k w p Stray = omega arith
+service_few g t o k w p (Begins BusyElsewhere) = alone _ (few_written (channel_of p) ERROR (6 ∷ []))
+service_few g t o k w p (Begins BusyHere) = alone _ (few_written (channel_of p) ERROR (6 ∷ []))
+service_few g t o k w p (Begins BrokenOff) = alone _ (few_written (channel_of p) ERROR (4 ∷ []))
+service_few g t o k w p (Begins NoSuchCommand) = alone _ (few_written (channel_of p) ERROR (1 ∷ []))
+service_few g t o k w p (Begins BadLength) = alone _ (few_written (channel_of p) ERROR (3 ∷ []))
+service_few g t o k w p (Begins Short) = message_few k t (message_after o p (Begins Short))
+service_few g t o k w p (Begins Long) = omega arith
+service_few g t o k w p (Continues Kept) = omega arith
+service_few g t o k w p (Continues Whole) = message_few k t (message_after o p (Continues Whole))
+service_few g t o k w p (Continues WrongNumber) = alone _ (few_written (channel_of p) ERROR (4 ∷ []))
+service_few g t o k w p (Continues Stray) = omega arith
 
 overdue_few : (o : Option Open) → length (overdue_packets o) ≤ 1
 overdue_few None = omega arith
@@ -102,7 +106,7 @@ below a b h k = omega (arith, length-append a b)
 
 served_few : (s : State) (early : List (List ℕ)) (i : Input) → length early ≤ 1 → length (served s early i).packets ≤ 130
 served_few s early (Packet p) h =
-    let few = service_few s.given s.now s.current s.core (working s.core) (fields p.0) (row_of s.given (option_map seen s.current) (working s.core) (fields p.0)) in
+    let few = service_few s.given s.now s.current s.core (working s.core) (fields p.0) (ruling_of s.given s.current (working s.core) (fields p.0)) in
     below early _ h few
 served_few s early Tick h = below early [] h (omega arith)
 

@@ -8,18 +8,20 @@ use Rattle.token_session.proofs.Time.{still, still_open}
 use Rattle.token_session.proofs.Safety.{packet_works, packet_alone}
 use Rattle.authn_core.proofs.Facts.{IsGiven}
 use Rattle.authn_core.specs.Turn.{Start, CoreState, Event, Work, working}
-use Rattle.hid_assemble.specs.Assembly.{Open, given_after, is_overdue, message_after, open_after}
-use Rattle.hid_assemble.specs.Table.{LAST_CHANNEL, row_of}
+use Rattle.hid_assemble.specs.Table.{Open}
+use Rattle.hid_assemble.specs.Assembly.{given_after, is_overdue, message_after, open_after}
+use Rattle.hid_assemble.specs.Table.{LAST_CHANNEL, ruling_of}
 use Rattle.hid_packet.specs.Packet.{fields}
 use Rattle.token_session.specs.History.{Begun, Judged, admits, asks_channel, core, cut_packets, end, event, finished, given, is_cut, is_own, is_packet, judge, judged, last_keepalive, message, open_at, packet_event, sent_at, service_packets, table_packets, time_packets}
-use Rattle.token_session.specs.Law.{as_open, event_at, last_at, named}
-use Rattle.token_session.specs.Machine.{State, Turn, event_after, event_core, event_keeps_alive, happens, keepalive_due, keepalive_packets, machine, overdue_packets, passed, served, start_state, turn}
+use Rattle.token_session.specs.History.{as_open, last_at}
+use Rattle.token_session.specs.Law.{event_at, named}
+use Rattle.token_session.specs.Machine.{State, Turn, event_after, happens, machine, overdue_packets, passed, served, start_state, turn}
+use Rattle.token_session.specs.Events.{event_core, event_keeps_alive, keepalive_due, keepalive_packets}
 use Rattle.token_session.specs.Replies.{ping_packets, row_packets}
 use Rattle.token_session.specs.declared.input.Input.{Input}
 use Rattle.token_session.specs.declared.input.Input.TheVariants.{Packet, Tick}
 use Rattle.token_session.specs.declared.input.Timed.{Timed}
 use Rattle.token_session.specs.History as hist
-use Rattle.hid_assemble.specs.Assembly.{seen as machine_seen}
 
 -- Time.
 abbrev time_keepalive : Option Begun → Option Begun → Option Work → ℕ → ℕ → ℕ
@@ -130,10 +132,6 @@ named_turn start e h =
       event = ev;
     }
 
-pub seen_same : (o : Option Begun) → option_map hist.seen o ≡ option_map machine_seen (option_map as_open o)
-seen_same None = refl
-seen_same (Some b) = refl
-
 -- the input is judged so at t
 abbrev pub judged_at : Start → ℕ → List Judged → Input → Judged
 judged_at start t h i = record { at = t; input = i; admitted = is_packet (admits (given h) (open_at h t) (working (core start h))) i }
@@ -155,14 +153,14 @@ served_named start t h (Packet x) good le =
     let o = open_at h t in
     let w = working (core start h) in
     let p = x.0 in
-    let row = row_of g (option_map machine_seen (option_map as_open o)) w (fields p) in
+    let row = ruling_of g (option_map as_open o) w (fields p) in
     let s : Serves g o w t p (fields p) (new_open g o w t p (Packet x)) (finished o (admits g o w p) (Packet x)) row = serves g o w t x (safe_at start t h good le) in
     let channels : given_after g row ≡ given (judged_at start t h (Packet x) ∷ h) = sym (given_more (judged_at start t h (Packet x)) h ∙ s.channels) in
     let current : open_after (option_map as_open o) t (fields p) row ≡ option_map as_open (open_at (judged_at start t h (Packet x) ∷ h) t) =
     sym (ap (option_map as_open) (open_behind h (judged_at start t h (Packet x)) start good.lawful le) ∙ s.current) in
     let message : message_after (option_map as_open o) (fields p) row ≡ finished o (admits g o w p) (Packet x) = sym s.message in
     let packets : (row_packets g (fields p) row ++ ping_packets (message_after (option_map as_open o) (fields p) row)) ≡ (table_packets g o w (Packet x) ++ ping_packets (finished o (admits g o w p) (Packet x))) =
-    λ i. row_packets g (fields p) (row_of g ((sym (seen_same o)) i) w (fields p)) ++ ping_packets (message i) in
+    ap (λ m. row_packets g (fields p) row ++ ping_packets m) message in
     let ev : event_after w (fields p) (message_after (option_map as_open o) (fields p) row) row ≡ packet_event w (finished o (admits g o w p) (Packet x)) p =
     sym s.event ∙ ap (λ m. packet_event w m p) message in
     happens_same t (time_keepalive (open_at h (end start h)) o (core start h).work (last_keepalive start h) t) _ _ _ _ (core start h) (time_packets start h t) _ _ _ _ channels current packets ev

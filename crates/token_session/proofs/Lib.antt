@@ -6,6 +6,7 @@ pub mod Follows
 pub mod Runs
 pub mod Bounds
 pub mod Few
+pub mod Alive
 pub mod Effects
 pub mod Passing
 pub mod Serving
@@ -13,3 +14,4 @@ pub mod Metering
 mod Rows
 pub mod Carrying
 pub mod Answering
+pub mod Noted

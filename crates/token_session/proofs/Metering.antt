@@ -7,15 +7,16 @@ use Rattle.authn_core.specs.Turn.{Start, Event, Request, Cancel, Drop}
 use Rattle.token_session.specs.declared.input.Timed.{Timed}
 use Rattle.token_session.specs.declared.input.Meters.{Meters}
 use Rattle.token_session.specs.Effects.{request_in, reading_in}
-use Rattle.token_session.specs.declared.machine.Reading.{Reading}
+use Rattle.token_session.specs.declared.authenticator.Reading.{Reading}
 use Rattle.token_session.specs.History.{Judged, Begun, judged, judge, held, open_at, end, open_among, given, core, last_keepalive}
 use Rattle.token_session.specs.Machine.{State, Turn, turn, start_state}
-use Rattle.token_session.specs.Law.{named, as_open, event_at, Behind}
+use Rattle.token_session.specs.History.{as_open}
+use Rattle.token_session.specs.Law.{named, event_at, Behind}
 use Rattle.token_session.specs.Meters.{LARGEST, listed, requests, peak_held, meters_of, one_more, bytes_in, steps_in, metered, SessionState, StandsBehind, stepped, session_of}
 use Rattle.token_session.proofs.Runs.{turn_behind}
 
 -- the bytes held are those that the history names
-held_named : (start : Start) (h : List Judged) → held_bytes (named start h).current ≡ held start h
+pub held_named : (start : Start) (h : List Judged) → held_bytes (named start h).current ≡ held start h
 unfolding named held
 held_named start h = go (open_at h (end start h))
   where
@@ -84,3 +85,7 @@ starts start m is = ap (λ (v : State). record { machine = v; meters = record { 
 pub machine_behind : (s : SessionState) (start : Start) (h : List Timed) → StandsBehind s start h → Behind s.machine start h
 unfolding session_of
 machine_behind s start h b = ap (λ (v : SessionState). v.machine) b
+
+pub session_held : (start : Start) (h : List Judged) → held_bytes (session_of start h).machine.current ≡ held start h
+unfolding session_of
+session_held start h = held_named start h

@@ -1,10 +1,11 @@
--- Time passes: the three cases.
-use Rattle.std.proofs.Common.{◌≡◌, ℕ, ◌+◌, ◌≤◌, ◌<◌, Bool, true, false, cond, [], Option, Some, None, option_map, refl, ap, arith, nat_le}
-use Rattle.std.proofs.lemmas.Bool.Decides.{nat_tests}
-use Rattle.hid_assemble.specs.Assembly.{Open, Assembly, is_overdue, still_open}
-use Rattle.authn_core.specs.Turn.{CoreState, Work}
-use Rattle.token_session.specs.Replies.{error, keepalive}
-use Rattle.token_session.specs.Machine.{State, passed, overdue_packets, keepalive_due}
+-- Time passes: a message is given up, or the authenticator may send a KEEPALIVE.
+use Rattle.std.proofs.Common.{◌≡◌, ℕ, ◌+◌, Bool, true, false, cond, List, [], Option, Some, None, option_map, refl, ap, nat_le}
+use Rattle.hid_assemble.specs.Table.{Open}
+use Rattle.hid_assemble.specs.Assembly.{Assembly, is_overdue, still_open}
+use Rattle.authn_core.specs.Turn.{CoreState}
+use Rattle.token_session.specs.Replies.{error}
+use Rattle.token_session.specs.Machine.{State, Turn, passed, overdue_packets}
+use Rattle.token_session.specs.Events.{keepalive_due, keepalive_packets}
 
 record Late (c : Option Open) (t x : ℕ) : Type 0 where
   late : is_overdue c t ≡ true
@@ -36,6 +37,13 @@ whole n a k b = record { now = n; given = a.given; current = a.current; core = k
 abbrev pub passed_to : Assembly → ℕ → Assembly
 passed_to a t = record { given = a.given; current = still_open a.current t; finished = a.finished }
 
+due_or_not : (due : Bool) (t g b : ℕ) (c : Option Open) (k : CoreState) (ps : List (List ℕ))
+    → ◌≡◌ {A = Turn} (cond due (record { state = record { now = t; given = g; current = c; core = k; keepalive_at = t }; packets = ps; event = None })
+    (record { state = record { now = t; given = g; current = c; core = k; keepalive_at = b }; packets = []; event = None }))
+    (record { state = record { now = t; given = g; current = c; core = k; keepalive_at = cond due t b }; packets = cond due ps []; event = None })
+due_or_not true t g b c k ps = refl
+due_or_not false t g b c k ps = refl
+
 module _ (n b t : ℕ) (a d : Assembly) (k : CoreState) (v : State) (is : whole n a k b ≡ v) (kept : d ≡ passed_to a t) where
   pub late_turn : (x : ℕ) → Some x ≡ cond (is_overdue a.current t) (option_map (λ m. m.cid) a.current) None
       → passed v t ≡ record { state = whole t d k b; packets = error x 5; event = None }
@@ -45,27 +53,9 @@ module _ (n b t : ℕ) (a d : Assembly) (k : CoreState) (v : State) (is : whole 
       let late : is_overdue a.current t ≡ true = l.late in
       rw (← is, kept, late, l.packets) refl
 
-  pub calm_turn : None ≡ cond (is_overdue a.current t) (option_map (λ m. m.cid) a.current) None → keepalive_due k.work b t ≡ false
-      → passed v t ≡ record { state = whole t d k b; packets = []; event = None }
+  pub timely_turn : None ≡ cond (is_overdue a.current t) (option_map (λ m. m.cid) a.current) None
+      → passed v t ≡ record { state = whole t d k (cond (keepalive_due k.work b t) t b); packets = cond (keepalive_due k.work b t) (keepalive_packets k.work) []; event = None }
   unfolding passed
-  calm_turn r due =
+  timely_turn r =
       let late : is_overdue a.current t ≡ false = in_time_at a.current t r in
-      rw (← is, kept, late, due) refl
-
-  pub keepalive_turn : (w : Work) → None ≡ cond (is_overdue a.current t) (option_map (λ m. m.cid) a.current) None → k.work ≡ Some w → b + 100 ≤ t
-      → passed v t ≡ record { state = whole t d k t; packets = keepalive w.cid w.status; event = None }
-  unfolding passed keepalive_due
-  keepalive_turn w r works le =
-      let late : is_overdue a.current t ≡ false = in_time_at a.current t r in
-      let due : nat_le (b + 100) t ≡ true = grind (arith, nat_tests) in
-      rw (← is, kept, late, works, due) refl
-
-pub not_due : (w : Option Work) (b t : ℕ) → t < b + 100 → keepalive_due w b t ≡ false
-unfolding keepalive_due
-not_due None b t h = refl
-not_due (Some w) b t h = grind (arith, nat_tests)
-
-pub idle_not_due : (w : Option Work) (b t : ℕ) → w ≡ None → keepalive_due w b t ≡ false
-unfolding keepalive_due
-idle_not_due None b t h = refl
-idle_not_due (Some w) b t h = cc
+      rw (← is, kept, late) (due_or_not (keepalive_due k.work b t) t a.given b a.current k (keepalive_packets k.work))

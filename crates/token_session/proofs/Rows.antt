@@ -5,12 +5,13 @@ use Rattle.authn_core.specs.Turn.{Start, Waits, core_turn}
 use Rattle.ctap_message.specs.Answers.{info_answer}
 use Rattle.ctap_message.specs.Requests.{read_of}
 use Rattle.hid_assemble.specs.Assembly.{is_overdue, message_after, open_after}
-use Rattle.hid_assemble.specs.Table.{begin_row, continuation_row, init_row, initialization_row, row_of}
+use Rattle.hid_assemble.specs.Table.{continuation_row, initialization_row, ruling_of}
 use Rattle.hid_packet.specs.Message.{continuation_packet, continuation_packets, initialization_packet, padded, written}
 use Rattle.hid_packet.specs.Packet.{channel, command, continuation_data, initialization_data, is_initialization, message_length, sequence}
 use Rattle.token_session.specs.History.{admits, asks_channel, core, event, finished, finished_long, given, goes_on, held, is_last, is_long, is_next, is_open, is_own, judge, judged, last_keepalive, open_among, open_at, own, packet_event, sent, sent_at, service_packets, time_packets}
 use Rattle.token_session.specs.Law.{run_sent}
-use Rattle.token_session.specs.Machine.{State, event_after, keepalive_due, machine, passed, start_state, turn}
+use Rattle.token_session.specs.Machine.{State, event_after, machine, passed, start_state, turn}
+use Rattle.token_session.specs.Events.{keepalive_due}
 use Rattle.token_session.specs.Replies.{answer_keeps_alive, answer_packets, greeting, row_packets}
 use Rattle.token_session.specs.declared.input.Input.TheVariants.{Packet, Tick}
 use Rattle.token_session.specs.declared.input.Timed.{Timed}
@@ -36,7 +37,7 @@ abbrev at_zero : Start
 at_zero = record { aaguid = replicate 16 0; moment = 0 }
 
 sent_by : List Timed → List (List ℕ)
-unfolding channel is_initialization command message_length initialization_data sequence continuation_data padded initialization_packet continuation_packet continuation_packets written read_of core_turn init_row begin_row initialization_row continuation_row row_of greeting row_packets answer_packets answer_keeps_alive is_overdue keepalive_due open_after message_after event_after passed turn start_state machine judged sent held asks_channel given is_own own is_next goes_on is_long is_open open_among open_at is_last finished_long finished packet_event event core admits judge last_keepalive time_packets service_packets sent_at
+unfolding channel is_initialization command message_length initialization_data sequence continuation_data padded initialization_packet continuation_packet continuation_packets written read_of core_turn initialization_row continuation_row ruling_of greeting row_packets answer_packets answer_keeps_alive is_overdue keepalive_due open_after message_after event_after passed turn start_state machine judged sent held asks_channel given is_own own is_next goes_on is_long is_open open_among open_at is_last finished_long finished packet_event event core admits judge last_keepalive time_packets service_packets sent_at
 sent_by xs = sent at_zero (judged at_zero (reverse xs))
 
 -- the first lines of the plainest log
@@ -178,7 +179,7 @@ waiting : State
 waiting = record { now = 0; given = 2; current = None; core = record { aaguid = replicate 16 0; began = 0; work = Some (record { cid = 1; status = 2 }) }; keepalive_at = 0 }
 
 runs : List Timed → List (ℕ × List ℕ)
-unfolding channel is_initialization command message_length initialization_data sequence continuation_data padded initialization_packet continuation_packet continuation_packets written read_of core_turn init_row begin_row initialization_row continuation_row row_of greeting row_packets answer_packets answer_keeps_alive is_overdue keepalive_due open_after message_after event_after passed turn start_state machine judged sent held asks_channel given is_own own is_next goes_on is_long is_open open_among open_at is_last finished_long finished packet_event event core admits judge last_keepalive time_packets service_packets sent_at waiting
+unfolding channel is_initialization command message_length initialization_data sequence continuation_data padded initialization_packet continuation_packet continuation_packets written read_of core_turn initialization_row continuation_row ruling_of greeting row_packets answer_packets answer_keeps_alive is_overdue keepalive_due open_after message_after event_after passed turn start_state machine judged sent held asks_channel given is_own own is_next goes_on is_long is_open open_among open_at is_last finished_long finished packet_event event core admits judge last_keepalive time_packets service_packets sent_at waiting
 runs xs = run_sent 0 waiting xs
 
 -- busy, a new channel, KEEPALIVE at 100 and 200 but not at 150, an idle CANCEL and a real one
@@ -203,8 +204,27 @@ cancel_in_time = refl
 -- A KEEPALIVE is sent as work begins and as its status changes, and not where it stays.
 keepalives : List (List (List ℕ))
 unfolding answer_packets written initialization_packet continuation_packets padded
-keepalives = answer_packets 1 0 (Waits 2) ∷ answer_packets 1 2 (Waits 1) ∷ answer_packets 1 2 (Waits 2) ∷ []
+keepalives = answer_packets (Some 1) None (Waits 2) ∷ answer_packets (Some 1) (Some 2) (Waits 1) ∷ answer_packets (Some 1) (Some 2) (Waits 2) ∷ []
 
 begins_and_changes : keepalives ≡ (pad (one (187 ∷ 0 ∷ 1 ∷ 2 ∷ [])) ∷ []) ∷ (pad (one (187 ∷ 0 ∷ 1 ∷ 1 ∷ [])) ∷ []) ∷ [] ∷ []
 unfolding keepalives
 begins_and_changes = refl
+
+-- A KEEPALIVE is due at 100 ms and not at 99.
+due : runs (tick 99 ∷ tick 100 ∷ tick 199 ∷ tick 200 ∷ []) ≡ (1, pad (one (187 ∷ 0 ∷ 1 ∷ 2 ∷ []))) ∷ (3, pad (one (187 ∷ 0 ∷ 1 ∷ 2 ∷ []))) ∷ []
+unfolding runs
+due = refl
+
+-- all channels were given out
+full : State
+full = record { now = 0; given = 4294967294; current = None; core = record { aaguid = replicate 16 0; began = 0; work = None }; keepalive_at = 0 }
+
+runs_full : List Timed → List (ℕ × List ℕ)
+unfolding channel is_initialization command message_length initialization_data sequence continuation_data padded initialization_packet continuation_packet continuation_packets written read_of core_turn initialization_row continuation_row ruling_of greeting row_packets answer_packets answer_keeps_alive is_overdue keepalive_due open_after message_after event_after passed turn start_state machine judged sent held asks_channel given is_own own is_next goes_on is_long is_open open_among open_at is_last finished_long finished packet_event event core admits judge last_keepalive time_packets service_packets sent_at full
+runs_full xs = run_sent 0 full xs
+
+-- INIT asks for one more, and then for one in vain with a length of 7; CANCEL there isn't answered, a command that isn't served is refused for its channel
+none_left : runs_full (came 0 init_line ∷ came 0 (255 ∷ 255 ∷ 255 ∷ 255 ∷ 134 ∷ 0 ∷ 7 ∷ []) ∷ came 0 (255 ∷ 255 ∷ 255 ∷ 255 ∷ 145 ∷ []) ∷ came 0 (255 ∷ 255 ∷ 255 ∷ 255 ∷ 131 ∷ []) ∷ [])
+    ≡ (0, pad (255 ∷ 255 ∷ 255 ∷ 255 ∷ 191 ∷ 0 ∷ 1 ∷ 127 ∷ [])) ∷ (1, pad (255 ∷ 255 ∷ 255 ∷ 255 ∷ 191 ∷ 0 ∷ 1 ∷ 3 ∷ [])) ∷ (3, pad (255 ∷ 255 ∷ 255 ∷ 255 ∷ 191 ∷ 0 ∷ 1 ∷ 11 ∷ [])) ∷ []
+unfolding runs_full
+none_left = refl

@@ -10,7 +10,7 @@ use Rattle.hid_assemble.specs.Table.{is_on}
 use Rattle.hid_packet.specs.Commands.{CANCEL, INIT}
 use Rattle.hid_packet.specs.Packet.{channel, is_command, is_initialization, message_length, sequence}
 use Rattle.token_session.specs.History.{Begun, Judged, admits, finished, finished_long, is_last, is_long, is_next, is_own, packet_event}
-use Rattle.token_session.specs.Machine.{event_core}
+use Rattle.token_session.specs.Events.{event_core}
 use Rattle.token_session.specs.Replies.{request_of}
 use Rattle.token_session.specs.declared.input.Input.TheVariants.{Packet}
 use Rattle.hid_packet.specs.declared.packet.Packet.{Packet as Packet64}

@@ -6,20 +6,22 @@ use Rattle.std.proofs.lemmas.List.{map-append, length-append}
 use Rattle.token_session.proofs.Opens.{next, then_next, and_true, both_true, not_true, cond_at}
 use Rattle.authn_core.proofs.Facts.{IsGiven}
 use Rattle.authn_core.specs.Turn.{Cancel, Drop}
-use Rattle.hid_assemble.specs.Assembly.{Message, given_after, grown, message_after, open_after}
-use Rattle.hid_assemble.specs.Table.{LAST_CHANNEL, begin_row, continuation_row, init_row, initialization_row, is_elsewhere, is_given, is_on, row_of}
+use Rattle.hid_assemble.specs.Table.{Begins, Continues, LAST_CHANNEL, Ruling, continuation_row, initialization_row, is_elsewhere, is_given, is_on, ruling_of}
 use Rattle.hid_assemble.specs.declared.table.Row.{Row}
-use Rattle.hid_assemble.specs.declared.table.Row.TheVariants.{BadLength, BrokenOff, BusyElsewhere, BusyHere, CancelsNothing, CancelsWork, InitAgain, InitFull, InitLength, InitNew, Kept, Long, NoSuchChannel, NoSuchCommand, Short, Stray, Whole, WrongNumber}
+use Rattle.hid_assemble.specs.declared.table.Continuation.{Continuation}
+use Rattle.hid_assemble.proofs.ByCommand.{begin_row, by_command, init_row}
+use Rattle.hid_assemble.specs.Assembly.{Message, given_after, grown, message_after, open_after}
+use Rattle.hid_assemble.specs.declared.table.Row.TheVariants.{BadLength, BrokenOff, BusyElsewhere, BusyHere, CancelsNothing, CancelsWork, InitAgain, InitFull, InitLength, InitNew, Long, NoSuchChannel, NoSuchCommand, Short}
+use Rattle.hid_assemble.specs.declared.table.Continuation.TheVariants.{Kept, Stray, Whole, WrongNumber}
 use Rattle.hid_packet.specs.Commands.{BROADCAST, CANCEL, CBOR, INIT, PING}
 use Rattle.hid_packet.specs.Packet.{Fields, channel, command, continuation, continuation_data, fields, initialization, initialization_data, is_initialization, message_length, sequence}
 use Rattle.token_session.specs.History.{Begun, Judged, admits, asks_channel, finished, finished_long, is_last, is_long, is_next, is_own, packet, packet_event, packets_of}
-use Rattle.token_session.specs.Law.{as_open, last_at}
+use Rattle.token_session.specs.History.{as_open, last_at}
 use Rattle.token_session.specs.Machine.{event_after}
 use Rattle.token_session.specs.Replies.{request_of}
 use Rattle.token_session.specs.declared.input.Input.{Input}
 use Rattle.token_session.specs.declared.input.Input.TheVariants.{Packet}
 use Rattle.hid_packet.specs.declared.packet.Packet.{Packet as Packet64}
-use Rattle.hid_assemble.specs.Assembly.{seen}
 
 pub cond_case : {A : Type 0} (P : A → Type 0) (b : Bool) (x y : A) → (b ≡ true → P x) → (b ≡ false → P y) → P (cond b x y)
 cond_case P true x y p q = p refl
@@ -41,7 +43,7 @@ abbrev pub goes : List ℕ → Fields
 goes p = continuation (channel p) (sequence p) (continuation_data p)
 
 -- The row does to each part what the history says.
-pub record Serves (g : ℕ) (o : Option Begun) (w : Option ℕ) (t : ℕ) (p : List ℕ) (f : Fields) (opens : Option Begun) (ends : Option Message) (r : Row) : Type 0 where
+pub record Serves (g : ℕ) (o : Option Begun) (w : Option ℕ) (t : ℕ) (p : List ℕ) (f : Fields) (opens : Option Begun) (ends : Option Message) (r : Ruling) : Type 0 where
   pub channels : new_given g p ≡ given_after g r
   pub current : option_map as_open opens ≡ open_after (option_map as_open o) t f r
   pub message : ends ≡ message_after (option_map as_open o) f r
@@ -123,7 +125,7 @@ says_admitted g o w p h =
     }
 
 -- Nothing is open, and the row neither begins nor ends a message.
-none_row : (g : ℕ) (w : Option ℕ) (t : ℕ) (x : Packet64) (f : Fields) (r : Row)
+none_row : (g : ℕ) (w : Option ℕ) (t : ℕ) (x : Packet64) (f : Fields) (r : Ruling)
     → new_given g x.0 ≡ given_after g r → (admits g None w x.0 && is_long x.0) ≡ false → (admits g None w x.0 && nat_le (message_length x.0) 57) ≡ false
     → open_after None t f r ≡ None → message_after None f r ≡ None → packet_event w None x.0 ≡ event_after w f None r
     → Serves g None w t x.0 f (new_open g None w t x.0 (Packet x)) (finished None (admits g None w x.0) (Packet x)) r
@@ -136,7 +138,7 @@ none_row g w t x f r ch lg sh op ms ev = record {
 }
 
 -- The row where a start is not admitted.
-refused_row : (g : ℕ) (w : Option ℕ) (t : ℕ) (x : Packet64) (f : Fields) (r : Row)
+refused_row : (g : ℕ) (w : Option ℕ) (t : ℕ) (x : Packet64) (f : Fields) (r : Ruling)
     → (Admitted g None w x.0 → ⊥) → new_given g x.0 ≡ given_after g r
     → open_after None t f r ≡ None → message_after None f r ≡ None → packet_event w None x.0 ≡ event_after w f None r
     → Serves g None w t x.0 f (new_open g None w t x.0 (Packet x)) (finished None (admits g None w x.0) (Packet x)) r
@@ -272,11 +274,11 @@ is_long_now p a b = let x : nat_le 58 (message_length p) ≡ true = grind (arith
 
 bad_row : (g : ℕ) (w : Option ℕ) (t : ℕ) (x : Packet64) → new_given g x.0 ≡ g → packet_event w None x.0 ≡ None
     → (7609 < message_length x.0) ⊎ ((command x.0 ≡ 16) × (message_length x.0 ≡ 0))
-    → Serves g None w t x.0 (starts x.0) (new_open g None w t x.0 (Packet x)) (finished None (admits g None w x.0) (Packet x)) BadLength
+    → Serves g None w t x.0 (starts x.0) (new_open g None w t x.0 (Packet x)) (finished None (admits g None w x.0) (Packet x)) (Begins BadLength)
 unfolding open_after message_after event_after
 bad_row g w t x ch ev bad =
     let p = x.0 in
-    none_row g w t x (starts x.0) BadLength ch
+    none_row g w t x (starts x.0) (Begins BadLength) ch
     (not_true _ (λ y. let q = and_true (admits g None w p) (is_long p) y in let a = says_admitted g None w p q.0 in let l = long_says p q.1 in
     elim bad [ inl z ↦ omega (arith, l.most) | inr z ↦ omega (arith, l.least, z.1) ]))
     (not_true _ (λ y. let q = and_true (admits g None w p) (nat_le (message_length p) 57) y in let a = says_admitted g None w p q.0 in let l = is_le (message_length p) 57 q.1 in
@@ -285,7 +287,7 @@ bad_row g w t x ch ev bad =
 
 short_row : (g : ℕ) (w : Option ℕ) (t : ℕ) (x : Packet64) → new_given g x.0 ≡ g → ((m : Option Message) → packet_event w m x.0 ≡ request_of m)
     → admits g None w x.0 ≡ true → nat_le (message_length x.0) 57 ≡ true
-    → Serves g None w t x.0 (starts x.0) (new_open g None w t x.0 (Packet x)) (finished None (admits g None w x.0) (Packet x)) Short
+    → Serves g None w t x.0 (starts x.0) (new_open g None w t x.0 (Packet x)) (finished None (admits g None w x.0) (Packet x)) (Begins Short)
 unfolding open_after message_after event_after finished finished_long
 short_row g w t x ch ev adm sh =
     let p = x.0 in
@@ -300,7 +302,7 @@ short_row g w t x ch ev adm sh =
 
 long_row : (g : ℕ) (w : Option ℕ) (t : ℕ) (x : Packet64) → new_given g x.0 ≡ g → ((m : Option Message) → packet_event w m x.0 ≡ request_of m)
     → admits g None w x.0 ≡ true → nat_le (message_length x.0) 57 ≡ false → message_length x.0 ≤ 7609
-    → Serves g None w t x.0 (starts x.0) (new_open g None w t x.0 (Packet x)) (finished None (admits g None w x.0) (Packet x)) Long
+    → Serves g None w t x.0 (starts x.0) (new_open g None w t x.0 (Packet x)) (finished None (admits g None w x.0) (Packet x)) (Begins Long)
 unfolding open_after message_after event_after finished finished_long
 long_row g w t x ch ev adm sh most =
     let p = x.0 in
@@ -314,51 +316,52 @@ long_row g w t x ch ev adm sh most =
 
 -- The rows of a start where nothing is open.
 start_none : (g : ℕ) (w : Option ℕ) (t : ℕ) (x : Packet64) → g ≤ LAST_CHANNEL → IsGiven g w → is_initialization x.0 ≡ true
-    → Serves g None w t x.0 (starts x.0) (new_open g None w t x.0 (Packet x)) (finished None (admits g None w x.0) (Packet x)) (initialization_row g None w (channel x.0) (command x.0) (message_length x.0))
-unfolding initialization_row init_row begin_row open_after message_after event_after
+    → Serves g None w t x.0 (starts x.0) (new_open g None w t x.0 (Packet x)) (finished None (admits g None w x.0) (Packet x)) (Begins (initialization_row g None w (channel x.0) (command x.0) (message_length x.0)))
+unfolding init_row begin_row open_after message_after event_after
 start_none g w t x few wg st =
     let p = x.0 in
     let c = channel p in
-    let P = Serves g None w t p (starts p) (new_open g None w t p (Packet x)) (finished None (admits g None w p) (Packet x)) in
-    cond_case P (command p == CANCEL) _ _
+    let P : Row → Type 0 = λ r. Serves g None w t p (starts p) (new_open g None w t p (Packet x)) (finished None (admits g None w p) (Packet x)) (Begins r) in
+    subst P (sym (by_command g None w c (command p) (message_length p)))
+    (cond_case P (command p == CANCEL) _ _
     (λ k. let cancel : command p ≡ 17 = is_eq (command p) CANCEL k in
     let never : Admitted g None w p → ⊥ = λ a. elim a.cmd [ inl y ↦ omega arith | inr y ↦ omega arith ] in
     let ch = no_channel g p (λ i _ _. omega arith) in
     cond_case P (is_on w c) _ _
-    (λ h. refused_row g w t x (starts x.0) CancelsWork never ch refl refl (cancel_event w None p st k h))
-    (λ h. refused_row g w t x (starts x.0) CancelsNothing never ch refl refl (no_event w None p (λ _. h) (λ i. absurd (omega arith)))))
+    (λ h. refused_row g w t x (starts x.0) (Begins CancelsWork) never ch refl refl (cancel_event w None p st k h))
+    (λ h. refused_row g w t x (starts x.0) (Begins CancelsNothing) never ch refl refl (no_event w None p (λ _. h) (λ i. absurd (omega arith)))))
     (λ k. let not_cancel : command p ≡ CANCEL → is_on w c ≡ false = λ y. absurd (not_eq (command p) CANCEL k y) in
     cond_case P (not (is_given g c || ((c == BROADCAST) && (command p == INIT)))) _ _
     (λ ng. let out = outside g c (command p) ng in
-    refused_row g w t x (starts x.0) NoSuchChannel (λ a. out.0 a.low a.high) (no_channel g p (λ i _ b. out.1 b i)) refl refl
+    refused_row g w t x (starts x.0) (Begins NoSuchChannel) (λ a. out.0 a.low a.high) (no_channel g p (λ i _ b. out.1 b i)) refl refl
     (no_event w None p not_cancel (λ _ _. here_given g w c wg out.0)))
     (λ ng. cond_case P (command p == INIT) _ _
     (λ n. let init : command p ≡ 6 = is_eq (command p) INIT n in
     let never : Admitted g None w p → ⊥ = λ a. elim a.cmd [ inl y ↦ omega arith | inr y ↦ omega arith ] in
     cond_case P (not (message_length p == 8)) _ _
     (λ l. let len = not_eq (message_length p) 8 (not_is (message_length p == 8) true l) in
-    refused_row g w t x (starts x.0) InitLength never (no_channel g p (λ _ e _. len e)) refl refl (no_event w None p not_cancel (λ _ e. absurd (len e))))
+    refused_row g w t x (starts x.0) (Begins InitLength) never (no_channel g p (λ _ e _. len e)) refl refl (no_event w None p not_cancel (λ _ e. absurd (len e))))
     (λ l. let eight = not_is (message_length p == 8) false l in
     cond_case P (c == BROADCAST) _ _
     (λ b. let broad : c ≡ 4294967295 = is_eq c BROADCAST b in
     let ev = no_event w None p not_cancel (λ _ _. here_given g w c wg (λ lo hi. omega arith)) in
     cond_case P (g == LAST_CHANNEL) _ _
     (λ f. let full : g ≡ 4294967294 = is_eq g LAST_CHANNEL f in
-    refused_row g w t x (starts x.0) InitFull never (asked_channel g p st n eight b ∙ min_full g full) refl refl ev)
+    refused_row g w t x (starts x.0) (Begins InitFull) never (asked_channel g p st n eight b ∙ min_full g full) refl refl ev)
     (λ f. let free = not_eq g LAST_CHANNEL f in
-    refused_row g w t x (starts x.0) InitNew never (asked_channel g p st n eight b ∙ min_free g few free) refl refl ev))
+    refused_row g w t x (starts x.0) (Begins InitNew) never (asked_channel g p st n eight b ∙ min_free g few free) refl refl ev))
     (λ b. let narrow = not_eq c BROADCAST b in
-    refused_row g w t x (starts x.0) InitAgain never (no_channel g p (λ _ _ e. narrow e)) refl refl (drop_event w None p st k n eight))))
+    refused_row g w t x (starts x.0) (Begins InitAgain) never (no_channel g p (λ _ _ e. narrow e)) refl refl (drop_event w None p st k n eight))))
     (λ n. let not_init : command p ≡ INIT → ⊥ = not_eq (command p) INIT n in
     let ch = no_channel g p (λ i _ _. not_init i) in
     let ev : (m : Option Message) → packet_event w m p ≡ request_of m = λ m. no_event w m p not_cancel (λ i. absurd (not_init i)) in
-    cond_case P (is_elsewhere w c) _ _ (λ we. refused_row g w t x (starts x.0) BusyElsewhere (λ a. not_idle_elsewhere w c a.idle we) ch refl refl (ev None))
-    (λ we. cond_case P (is_on w c) _ _ (λ wh. refused_row g w t x (starts x.0) BusyHere (λ a. not_idle w c a.idle wh) ch refl refl (ev None))
+    cond_case P (is_elsewhere w c) _ _ (λ we. refused_row g w t x (starts x.0) (Begins BusyElsewhere) (λ a. not_idle_elsewhere w c a.idle we) ch refl refl (ev None))
+    (λ we. cond_case P (is_on w c) _ _ (λ wh. refused_row g w t x (starts x.0) (Begins BusyHere) (λ a. not_idle w c a.idle wh) ch refl refl (ev None))
     (λ wh. cond_case P (not ((command p == PING) || (command p == CBOR))) _ _
-    (λ nc. refused_row g w t x (starts x.0) NoSuchCommand (λ a. not_served (command p) nc a.cmd) ch refl refl (ev None))
+    (λ nc. refused_row g w t x (starts x.0) (Begins NoSuchCommand) (λ a. not_served (command p) nc a.cmd) ch refl refl (ev None))
     (λ nc. cond_case P (nat_lt 7609 (message_length p) || ((command p == CBOR) && (message_length p == 0))) _ _ (λ bl. bad_row g w t x ch (ev None) (bad_length (command p) (message_length p) bl))
     (λ bl. let adm = admitted_now g w p st (inside g c (command p) ng n) nc bl (idle w c we wh) in
-    cond_case P (nat_le (message_length p) 57) _ _ (λ sh. short_row g w t x ch ev adm sh) (λ sh. long_row g w t x ch ev adm sh (good_length (command p) (message_length p) bl)))))))))
+    cond_case P (nat_le (message_length p) 57) _ _ (λ sh. short_row g w t x ch ev adm sh) (λ sh. long_row g w t x ch ev adm sh (good_length (command p) (message_length p) bl))))))))))
 
 -- Where a message is open, no start is admitted.
 pub never_admitted : (g : ℕ) (b : Begun) (w : Option ℕ) (p : List ℕ) → admits g (Some b) w p ≡ false
@@ -368,7 +371,7 @@ abbrev pub now_came : ℕ → Packet64 → Judged
 now_came t x = record { at = t; input = Packet x; admitted = false }
 
 -- A row where a message is open, which nothing finishes.
-open_row : (g : ℕ) (b : Begun) (t : ℕ) (x : Packet64) (f : Fields) (r : Row)
+open_row : (g : ℕ) (b : Begun) (t : ℕ) (x : Packet64) (f : Fields) (r : Ruling)
     → new_given g x.0 ≡ given_after g r → is_last b x.0 ≡ false
     → option_map as_open (next (now_came t x) b) ≡ open_after (Some (as_open b)) t f r
     → message_after (Some (as_open b)) f r ≡ None → packet_event None None x.0 ≡ event_after None f None r
@@ -423,41 +426,42 @@ elsewhere false false h = sym h
 -- The rows of a start where a message is open.
 start_open : (g : ℕ) (b : Begun) (t : ℕ) (x : Packet64) → g ≤ LAST_CHANNEL → 1 ≤ channel b.packet → channel b.packet ≤ g → is_initialization x.0 ≡ true
     → Serves g (Some b) None t x.0 (starts x.0) (new_open g (Some b) None t x.0 (Packet x)) (finished (Some b) (admits g (Some b) None x.0) (Packet x))
-    (initialization_row g (Some (channel b.packet)) None (channel x.0) (command x.0) (message_length x.0))
-unfolding initialization_row init_row begin_row open_after message_after event_after
+    (Begins (initialization_row g (Some (channel b.packet)) None (channel x.0) (command x.0) (message_length x.0)))
+unfolding init_row begin_row open_after message_after event_after
 start_open g b t x few low high st =
     let p = x.0 in
     let c = channel p in
-    let P = Serves g (Some b) None t p (starts p) (new_open g (Some b) None t p (Packet x)) (finished (Some b) (admits g (Some b) None p) (Packet x)) in
+    let P : Row → Type 0 = λ r. Serves g (Some b) None t p (starts p) (new_open g (Some b) None t p (Packet x)) (finished (Some b) (admits g (Some b) None p) (Packet x)) (Begins r) in
     let last = last_is_no_start b p st in
     let ev : packet_event None None p ≡ None = no_event None None p (λ _. refl) (λ _ _. refl) in
     let kept : (channel b.packet ≡ c → ⊥) → next (now_came t x) b ≡ Some b = λ never. foreign b t x (not_true _ (λ y. never (is_eq (channel b.packet) c y))) in
-    cond_case P (command p == CANCEL) _ _
+    subst P (sym (by_command g (Some (channel b.packet)) None c (command p) (message_length p)))
+    (cond_case P (command p == CANCEL) _ _
     (λ k. let cancel : command p ≡ 17 = is_eq (command p) CANCEL k in
-    open_row g b t x (starts x.0) CancelsNothing (no_channel g p (λ i _ _. omega arith)) last (ap (option_map as_open) (foreign_cancel b t x st k)) refl ev)
+    open_row g b t x (starts x.0) (Begins CancelsNothing) (no_channel g p (λ i _ _. omega arith)) last (ap (option_map as_open) (foreign_cancel b t x st k)) refl ev)
     (λ k. cond_case P (not (is_given g c || ((c == BROADCAST) && (command p == INIT)))) _ _
     (λ ng. let out = outside g c (command p) ng in
-    open_row g b t x (starts x.0) NoSuchChannel (no_channel g p (λ i _ e. out.1 e i)) last
+    open_row g b t x (starts x.0) (Begins NoSuchChannel) (no_channel g p (λ i _ e. out.1 e i)) last
     (ap (option_map as_open) (kept (λ e. out.0 (omega (arith, e, low)) (omega (arith, e, high))))) refl ev)
     (λ ng. cond_case P (command p == INIT) _ _
     (λ n. cond_case P (not (message_length p == 8)) _ _
     (λ l. let len = not_eq (message_length p) 8 (not_is (message_length p == 8) true l) in
-    open_row g b t x (starts x.0) InitLength (no_channel g p (λ _ e _. len e)) last (dropped b t x st k) refl ev)
+    open_row g b t x (starts x.0) (Begins InitLength) (no_channel g p (λ _ e _. len e)) last (dropped b t x st k) refl ev)
     (λ l. let eight = not_is (message_length p == 8) false l in
     cond_case P (c == BROADCAST) _ _
     (λ br. let broad : c ≡ 4294967295 = is_eq c BROADCAST br in
     let same = ap (option_map as_open) (kept (λ e. omega (arith, e, high, few, broad))) in
     cond_case P (g == LAST_CHANNEL) _ _
-    (λ f. open_row g b t x (starts x.0) InitFull (asked_channel g p st n eight br ∙ min_full g (is_eq g LAST_CHANNEL f)) last same refl ev)
-    (λ f. open_row g b t x (starts x.0) InitNew (asked_channel g p st n eight br ∙ min_free g few (not_eq g LAST_CHANNEL f)) last same refl ev))
-    (λ br. open_row g b t x (starts x.0) InitAgain (no_channel g p (λ _ _ e. not_eq c BROADCAST br e)) last (dropped b t x st k) refl ev)))
+    (λ f. open_row g b t x (starts x.0) (Begins InitFull) (asked_channel g p st n eight br ∙ min_full g (is_eq g LAST_CHANNEL f)) last same refl ev)
+    (λ f. open_row g b t x (starts x.0) (Begins InitNew) (asked_channel g p st n eight br ∙ min_free g few (not_eq g LAST_CHANNEL f)) last same refl ev))
+    (λ br. open_row g b t x (starts x.0) (Begins InitAgain) (no_channel g p (λ _ _ e. not_eq c BROADCAST br e)) last (dropped b t x st k) refl ev)))
     (λ n. let ch = no_channel g p (λ i _ _. not_eq (command p) INIT n i) in
     cond_case P (not (channel b.packet == c) || false) _ _
-    (λ be. open_row g b t x (starts x.0) BusyElsewhere ch last
+    (λ be. open_row g b t x (starts x.0) (Begins BusyElsewhere) ch last
     (ap (option_map as_open) (foreign b t x (elsewhere (channel b.packet == c) true be))) refl ev)
     (λ be. cond_case P (channel b.packet == c) _ _
-    (λ h. open_row g b t x (starts x.0) BrokenOff ch last (ap (option_map as_open) (own_start b t x h st k)) refl ev)
-    (λ h. true_or_false (channel b.packet == c) (elsewhere (channel b.packet == c) false be) h)))))
+    (λ h. open_row g b t x (starts x.0) (Begins BrokenOff) ch last (ap (option_map as_open) (own_start b t x h st k)) refl ev)
+    (λ h. true_or_false (channel b.packet == c) (elsewhere (channel b.packet == c) false be) h))))))
 
 -- Continuations.
 no_channel_more : (g : ℕ) (p : List ℕ) → is_initialization p ≡ false → new_given g p ≡ g
@@ -469,10 +473,10 @@ unfolding packet_event
 no_event_more w m p st = rw st refl
 
 more_none : (g : ℕ) (w : Option ℕ) (t : ℕ) (x : Packet64) → is_initialization x.0 ≡ false
-    → Serves g None w t x.0 (goes x.0) (new_open g None w t x.0 (Packet x)) (finished None (admits g None w x.0) (Packet x)) Stray
+    → Serves g None w t x.0 (goes x.0) (new_open g None w t x.0 (Packet x)) (finished None (admits g None w x.0) (Packet x)) (Continues Stray)
 unfolding open_after message_after event_after
 more_none g w t x st =
-    refused_row g w t x (goes x.0) Stray (λ a. true_or_false (is_initialization x.0) a.start st) (no_channel_more g x.0 st) refl refl (no_event_more w None x.0 st)
+    refused_row g w t x (goes x.0) (Continues Stray) (λ a. true_or_false (is_initialization x.0) a.start st) (no_channel_more g x.0 st) refl refl (no_event_more w None x.0 st)
 
 pub own_more : (b : Begun) (t : ℕ) (x : Packet64) → is_initialization x.0 ≡ false → (channel b.packet == channel x.0) ≡ true
     → next (now_came t x) b ≡ cond ((sequence x.0 == length b.own) && nat_lt (57 + 59 * (length b.own + 1)) (message_length b.packet)) (Some (record { packet = b.packet; at = b.at; own = b.own ++ now_came t x ∷ [] })) None
@@ -515,7 +519,7 @@ and_second false b h = refl
 
 whole_row : (g : ℕ) (b : Begun) (t : ℕ) (x : Packet64) → is_initialization x.0 ≡ false → (channel b.packet == channel x.0) ≡ true → (sequence x.0 == length b.own) ≡ true
     → nat_lt (57 + 59 * (length b.own + 1)) (message_length b.packet) ≡ false
-    → Serves g (Some b) None t x.0 (goes x.0) (new_open g (Some b) None t x.0 (Packet x)) (finished (Some b) (admits g (Some b) None x.0) (Packet x)) Whole
+    → Serves g (Some b) None t x.0 (goes x.0) (new_open g (Some b) None t x.0 (Packet x)) (finished (Some b) (admits g (Some b) None x.0) (Packet x)) (Continues Whole)
 unfolding open_after message_after event_after finished finished_long
 whole_row g b t x st h n l =
     let p = x.0 in
@@ -530,23 +534,23 @@ whole_row g b t x st h n l =
 
 more_open : (g : ℕ) (b : Begun) (t : ℕ) (x : Packet64) → is_initialization x.0 ≡ false
     → Serves g (Some b) None t x.0 (goes x.0) (new_open g (Some b) None t x.0 (Packet x)) (finished (Some b) (admits g (Some b) None x.0) (Packet x))
-    (continuation_row (option_map seen (Some (as_open b))) (channel x.0) (sequence x.0))
+    (Continues (continuation_row (Some (as_open b)) (channel x.0) (sequence x.0)))
 unfolding continuation_row open_after message_after event_after
 more_open g b t x st =
     let p = x.0 in
-    let P = Serves g (Some b) None t p (goes p) (new_open g (Some b) None t p (Packet x)) (finished (Some b) (admits g (Some b) None p) (Packet x)) in
+    let P : Continuation → Type 0 = λ c. Serves g (Some b) None t p (goes p) (new_open g (Some b) None t p (Packet x)) (finished (Some b) (admits g (Some b) None p) (Packet x)) (Continues c) in
     let ch = no_channel_more g p st in
     let ev = no_event_more None None p st in
     cond_case P (not (channel b.packet == channel p)) _ _
     (λ f. let h = not_is (channel b.packet == channel p) true f in
-    open_row g b t x (goes x.0) Stray ch (last_more b p st ∙ rw h refl) (ap (option_map as_open) (foreign b t x h)) refl ev)
+    open_row g b t x (goes x.0) (Continues Stray) ch (last_more b p st ∙ rw h refl) (ap (option_map as_open) (foreign b t x h)) refl ev)
     (λ f. let h = not_is (channel b.packet == channel p) false f in
     cond_case P (not (sequence p == length b.own)) _ _
     (λ q. let n = not_is (sequence p == length b.own) true q in
-    open_row g b t x (goes x.0) WrongNumber ch (last_more b p st ∙ rw (h, n) refl) (gone_next b t x st h (and_false _ _ n)) refl ev)
+    open_row g b t x (goes x.0) (Continues WrongNumber) ch (last_more b p st ∙ rw (h, n) refl) (gone_next b t x st h (and_false _ _ n)) refl ev)
     (λ q. let n = not_is (sequence p == length b.own) false q in
     cond_case P (nat_lt (57 + 59 * (length b.own + 1)) (message_length b.packet)) _ _
-    (λ l. open_row g b t x (goes x.0) Kept ch (last_more b p st ∙ rw (h, n, l) refl) (kept_next b t x st h n l) refl ev)
+    (λ l. open_row g b t x (goes x.0) (Continues Kept) ch (last_more b p st ∙ rw (h, n, l) refl) (kept_next b t x st h n l) refl ev)
     (λ l. whole_row g b t x st h n l)))
 
 -- All rows.
@@ -561,17 +565,17 @@ pub record Safe (g : ℕ) (o : Option Begun) (w : Option ℕ) : Type 0 where
   pub opens : OpenGiven g o w
 
 pub serves : (g : ℕ) (o : Option Begun) (w : Option ℕ) (t : ℕ) (x : Packet64) → Safe g o w
-    → Serves g o w t x.0 (fields x.0) (new_open g o w t x.0 (Packet x)) (finished o (admits g o w x.0) (Packet x)) (row_of g (option_map seen (option_map as_open o)) w (fields x.0))
-unfolding row_of continuation_row
+    → Serves g o w t x.0 (fields x.0) (new_open g o w t x.0 (Packet x)) (finished o (admits g o w x.0) (Packet x)) (ruling_of g (option_map as_open o) w (fields x.0))
+unfolding ruling_of continuation_row
 serves g None w t x s =
-    cond_case (λ f. Serves g None w t x.0 f (new_open g None w t x.0 (Packet x)) (finished None (admits g None w x.0) (Packet x)) (row_of g None w f))
+    cond_case (λ f. Serves g None w t x.0 f (new_open g None w t x.0 (Packet x)) (finished None (admits g None w x.0) (Packet x)) (ruling_of g None w f))
     (is_initialization x.0) (starts x.0) (goes x.0)
     (λ st. start_none g w t x s.few s.works st)
     (λ st. more_none g w t x st)
 serves g (Some b) w t x s =
     let e : None ≡ w = sym (s.opens).2 in
-    subst (λ v. Serves g (Some b) v t x.0 (fields x.0) (new_open g (Some b) v t x.0 (Packet x)) (finished (Some b) (admits g (Some b) v x.0) (Packet x)) (row_of g (Some (seen (as_open b))) v (fields x.0))) e
-    (cond_case (λ f. Serves g (Some b) None t x.0 f (new_open g (Some b) None t x.0 (Packet x)) (finished (Some b) (admits g (Some b) None x.0) (Packet x)) (row_of g (Some (seen (as_open b))) None f))
+    subst (λ v. Serves g (Some b) v t x.0 (fields x.0) (new_open g (Some b) v t x.0 (Packet x)) (finished (Some b) (admits g (Some b) v x.0) (Packet x)) (ruling_of g (Some (as_open b)) v (fields x.0))) e
+    (cond_case (λ f. Serves g (Some b) None t x.0 f (new_open g (Some b) None t x.0 (Packet x)) (finished (Some b) (admits g (Some b) None x.0) (Packet x)) (ruling_of g (Some (as_open b)) None f))
     (is_initialization x.0) (starts x.0) (goes x.0)
     (λ st. start_open g b t x s.few (s.opens).0 (s.opens).1 st)
     (λ st. more_open g b t x st))

@@ -1,10 +1,10 @@
 -- A packet that is served by its verdict is the composed turn.
-use Rattle.std.proofs.Common.{◌≡◌, ℕ, List, max, Option, option_map, refl, sym}
+use Rattle.std.proofs.Common.{◌≡◌, ℕ, List, max, Option, refl, sym}
 use Rattle.hid_packet.specs.declared.packet.Packet.{Packet as Packet64}
 use Rattle.hid_packet.specs.Packet.{fields}
 use Rattle.hid_assemble.specs.declared.verdict.Verdict.{Verdict}
-use Rattle.hid_assemble.specs.Table.{row_of}
-use Rattle.hid_assemble.specs.Assembly.{Assembly, seen, given_after, open_after, accepted}
+use Rattle.hid_assemble.specs.Table.{ruling_of}
+use Rattle.hid_assemble.specs.Assembly.{Assembly, given_after, open_after, accepted}
 use Rattle.hid_assemble.specs.Verdicts.{verdict}
 use Rattle.authn_core.specs.Turn.{CoreState, working}
 use Rattle.token_session.specs.declared.input.Input.TheVariants.{Packet}
@@ -21,7 +21,7 @@ pub packet_turn : (n b : ℕ) (a d : Assembly) (k : CoreState) (v : State) (x : 
 unfolding accepted verdict
 packet_turn n b a d k v x early w V B e ew ed eV eB =
     let f = fields x.0 in
-    let row = row_of a.given (option_map seen a.current) (working k) f in
+    let row = ruling_of a.given a.current (working k) f in
     let e' = effects a.current a.given (working k) f row in
     rw (← e, eB, ed, eV, ew) (λ i. happens n (given_after a.given row) (open_after a.current n f row) k b early ((sym e'.sends) i) ((sym e'.does) i))
 

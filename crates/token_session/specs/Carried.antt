@@ -1,11 +1,10 @@
 -- The packets that carried a message which an input finished.
 use Rattle.std.specs.Prelude.{◌≡◌, ℕ, Bool, ◌&&◌, nat_le, List, [], ◌∷◌, ◌++◌, length, Option, Some, None, if◌then◌else◌}
 use Rattle.hid_packet.specs.Packet.{message_length}
-use Rattle.hid_assemble.specs.Assembly.{Message}
 use Rattle.token_session.specs.declared.input.Input.{Input}
 use Rattle.token_session.specs.declared.input.Input.TheVariants.{Packet, Tick}
 use Rattle.token_session.specs.declared.input.Timed.{Timed}
-use Rattle.token_session.specs.History.{Judged, Begun, open_at, finished, is_last, packets_of}
+use Rattle.token_session.specs.History.{Judged, Begun, open_at, is_last, packets_of}
 
 -- each packet has 64 bytes
 abbrev pub Are64 : List (List ℕ) → Type 0
@@ -33,9 +32,6 @@ unfoldable pub carriers : Option Begun → Bool → Input → List (List ℕ)
 carriers o admitted (Packet p) = if admitted && nat_le (message_length p.0) 57 then p.0 ∷ [] else long_carriers o p.0
 carriers o admitted Tick = []
 
--- the message that an input finishes behind a history, and the packets that carried it
-abbrev pub finished_at : Judged → List Judged → Option Message
-finished_at e past = finished (open_at past e.at) e.admitted e.input
-
+-- the packets that carried the message that an input finishes behind a history
 abbrev pub carriers_at : Judged → List Judged → List (List ℕ)
 carriers_at e past = carriers (open_at past e.at) e.admitted e.input

@@ -7,7 +7,7 @@ use Rattle.hid_assemble.specs.declared.verdict.Verdict.{Verdict}
 use Rattle.hid_assemble.specs.declared.verdict.Verdict.TheVariants.{Ignored, Kept, Finished, Refuse, Greet, GreetAndDrop, CancelWork}
 use Rattle.authn_core.specs.Turn.{Event, Request, Cancel, Drop}
 use Rattle.ctap_message.specs.Requests.{steps_of}
-use Rattle.token_session.specs.declared.machine.Reading.{Reading}
+use Rattle.token_session.specs.declared.authenticator.Reading.{Reading}
 use Rattle.token_session.specs.Replies.{error, greeting}
 
 -- the packets of a verdict on a packet that finished these bytes, but for those of an event

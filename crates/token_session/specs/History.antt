@@ -4,15 +4,14 @@ use Rattle.std.specs.Prelude.{ℕ, ◌+◌, ◌*◌, Bool, false, not, ◌&&◌,
 use Rattle.hid_packet.specs.Commands.{PING, INIT, CBOR, CANCEL, BROADCAST, LONGEST}
 use Rattle.hid_packet.specs.Packet.{fields, channel, is_initialization, command, message_length, sequence, is_command}
 use Rattle.hid_packet.specs.Carries.{joined}
-use Rattle.hid_assemble.specs.declared.table.Opened.{Opened}
-use Rattle.hid_assemble.specs.Table.{LAST_CHANNEL, is_given, is_on, row_of}
+use Rattle.hid_assemble.specs.Table.{LAST_CHANNEL, Open, is_given, is_on, ruling_of}
 use Rattle.hid_assemble.specs.Assembly.{Message}
 use Rattle.authn_core.specs.Turn.{Start, CoreState, working, Event, Cancel, Drop, first_state}
 use Rattle.token_session.specs.declared.input.Input.{Input}
 use Rattle.token_session.specs.declared.input.Input.TheVariants.{Packet, Tick}
 use Rattle.token_session.specs.declared.input.Timed.{Timed}
 use Rattle.token_session.specs.Replies.{error, row_packets, ping_packets, request_of}
-use Rattle.token_session.specs.Machine.{event_core, event_packets, event_keeps_alive, keepalive_packets, keepalive_due}
+use Rattle.token_session.specs.Events.{event_core, event_packets, event_keeps_alive, keepalive_packets, keepalive_due}
 
 -- An input as it is judged when it comes: its moment, which is no earlier than any before it, and whether it is an admitted
 -- initialization packet.
@@ -74,31 +73,44 @@ pub record Begun : Type 0 where
 unfoldable pub is_long : List ℕ → Bool
 is_long p = nat_le 58 (message_length p) && nat_le (message_length p) LONGEST
 
+-- what an input begins, with its channel's own packets among those that came later
+abbrev pub begun_by : Judged → List Judged → Begun
+begun_by e later = record { packet = packet e.input; at = e.at; own = own (channel (packet e.input)) later }
+
 -- A message is open at t: its initialization packet was admitted and is long, and its channel's own packets since then go
 -- on with it.
 unfoldable pub is_open : Judged → List Judged → ℕ → Bool
 is_open e later t =
-    e.admitted && is_long (packet e.input)
-    && goes_on (message_length (packet e.input)) 0 e.at (own (channel (packet e.input)) later) t
+    let b = begun_by e later in
+    e.admitted && is_long b.packet && goes_on (message_length b.packet) 0 b.at b.own t
 
 -- the open message at t among these inputs, behind which those others came
 unfoldable pub open_among : List Judged → List Judged → ℕ → Option Begun
 open_among later [] t = None
-open_among later (e ∷ before) t =
-    if is_open e later t
-    then Some (record { packet = packet e.input; at = e.at; own = own (channel (packet e.input)) later })
-    else open_among (e ∷ later) before t
+open_among later (e ∷ before) t = if is_open e later t then Some (begun_by e later) else open_among (e ∷ later) before t
 
 unfoldable pub open_at : List Judged → ℕ → Option Begun
 open_at h t = open_among [] h t
 
--- what the reply table looks at of it
-abbrev pub seen : Begun → Opened
-seen b = record { cid = channel b.packet; len = message_length b.packet; kept = length b.own }
-
 -- The message that an input finishes: an admitted short one, or the open one by its last continuation packet.
 abbrev pub packets_of : List Judged → List (List ℕ)
 packets_of es = map (λ e. packet e.input) es
+
+-- the moment of the last of a message's own packets
+abbrev pub last_at : ℕ → List Judged → ℕ
+last_at t [] = t
+last_at t (e ∷ es) = last_at e.at es
+
+-- the open message, with its joined data
+abbrev pub as_open : Begun → Open
+as_open b = record {
+  cid = channel b.packet;
+  cmd = command b.packet;
+  len = message_length b.packet;
+  bytes = joined b.packet (packets_of b.own);
+  kept = length b.own;
+  last = last_at b.at b.own;
+}
 
 abbrev pub message : List ℕ → List (List ℕ) → Message
 message first others = record { cid = channel first; cmd = command first; bytes = take (message_length first) (joined first others) }
@@ -129,10 +141,18 @@ unfoldable pub event : Option ℕ → Option Message → Input → Option Event
 event work m (Packet p) = packet_event work m p.0
 event work m Tick = None
 
+-- the message that an input finishes behind a history
+abbrev pub finished_at : Judged → List Judged → Option Message
+finished_at e past = finished (open_at past e.at) e.admitted e.input
+
+-- the event that an input is behind a history, to an authenticator in this state
+abbrev pub event_to : CoreState → Judged → List Judged → Option Event
+event_to k e past = event (working k) (finished_at e past) e.input
+
 -- The authenticator behind a history: its turns over the events, one after the other.
 unfoldable pub core : Start → List Judged → CoreState
 core start [] = first_state start
-core start (e ∷ past) = event_core (core start past) e.at (event (working (core start past)) (finished (open_at past e.at) e.admitted e.input) e.input)
+core start (e ∷ past) = let before = core start past in event_core before e.at (event_to before e past)
 
 -- An initialization packet is admitted on a channel that was given out, with a command that is served, where nothing is
 -- open and no work waits.
@@ -163,7 +183,7 @@ cut_packets (Some b) = error (channel b.packet) 0x05
 unfoldable pub last_keepalive : Start → List Judged → ℕ
 last_keepalive start [] = 0
 last_keepalive start (e ∷ past) =
-    if event_keeps_alive (core start past) e.at (event (working (core start past)) (finished (open_at past e.at) e.admitted e.input) e.input)
+    if event_keeps_alive (core start past) e.at (event_to (core start past) e past)
     || (not (is_cut (open_at past (end start past)) (open_at past e.at)) && keepalive_due (core start past).work (last_keepalive start past) e.at)
     then e.at else last_keepalive start past
 
@@ -175,7 +195,7 @@ time_packets start past t =
 
 -- The packets of service: those of the reply table's row, the answer to a finished PING, and those of the event.
 abbrev pub table_packets : ℕ → Option Begun → Option ℕ → Input → List (List ℕ)
-table_packets given o work (Packet p) = row_packets given (fields p.0) (row_of given (option_map seen o) work (fields p.0))
+table_packets given o work (Packet p) = row_packets given (fields p.0) (ruling_of given (option_map as_open o) work (fields p.0))
 table_packets given o work Tick = []
 
 unfoldable pub service_packets : Start → Judged → List Judged → List (List ℕ)
@@ -195,5 +215,9 @@ sent start [] = []
 sent start (e ∷ past) = sent start past ++ sent_at start e past
 
 -- the data bytes that are held of the open message
+abbrev pub held_of : Option Begun → ℕ
+held_of None = 0
+held_of (Some b) = 57 + 59 * length b.own
+
 unfoldable pub held : Start → List Judged → ℕ
-held start h = (elim (open_at h (end start h)) [ None ↦ 0 | Some b ↦ 57 + 59 * length b.own ])
+held start h = held_of (open_at h (end start h))

@@ -1,28 +1,12 @@
 -- What a history names of the composed turn's state, and what runs of it send.
-use Rattle.std.specs.Prelude.{◌≡◌, ℕ, ◌+◌, List, [], ◌∷◌, ◌++◌, length, option_map, Option, if◌then◌else◌}
-use Rattle.hid_packet.specs.Packet.{channel, command, message_length}
-use Rattle.hid_packet.specs.Carries.{joined}
-use Rattle.hid_assemble.specs.Assembly.{Open}
-use Rattle.authn_core.specs.Turn.{Start, working, Event}
+use Rattle.std.specs.Prelude.{◌≡◌, Bool, ℕ, ◌+◌, List, [], ◌∷◌, ◌++◌, option_map, Option, if◌then◌else◌}
+use Rattle.std.specs.List.{list_any}
+use Rattle.hid_packet.specs.Commands.{KEEPALIVE}
+use Rattle.hid_packet.specs.Packet.{is_command}
+use Rattle.authn_core.specs.Turn.{Start, Event}
 use Rattle.token_session.specs.declared.input.Timed.{Timed}
 use Rattle.token_session.specs.Machine.{State, turn}
-use Rattle.token_session.specs.History.{is_open, own, packet, judge, judged, sent_at, finished, event, Judged, Begun, end, given, open_at, core, last_keepalive, packets_of}
-
--- the moment of the last of a message's own packets
-abbrev pub last_at : ℕ → List Judged → ℕ
-last_at t [] = t
-last_at t (e ∷ es) = last_at e.at es
-
--- the open message, with its joined data
-abbrev pub as_open : Begun → Open
-as_open b = record {
-  cid = channel b.packet;
-  cmd = command b.packet;
-  len = message_length b.packet;
-  bytes = joined b.packet (packets_of b.own);
-  kept = length b.own;
-  last = last_at b.at b.own;
-}
+use Rattle.token_session.specs.History.{begun_by, event_to, is_open, judge, judged, sent_at, Judged, Begun, end, given, open_at, core, last_keepalive, as_open}
 
 -- the state that a history names
 unfoldable pub named : Start → List Judged → State
@@ -44,7 +28,7 @@ sent_now start h x = sent_at start (judge start x (judged start h)) (judged star
 
 -- the event that an input is behind a history
 unfoldable pub event_at : Start → Judged → List Judged → Option Event
-event_at start e past = event (working (core start past)) (finished (open_at past e.at) e.admitted e.input) e.input
+event_at start e past = event_to (core start past) e past
 
 -- the inputs of a list, in order, behind a history
 abbrev pub onto : List Timed → List Timed → List Timed
@@ -74,6 +58,8 @@ run_sent n s (x ∷ xs) = numbered n (turn s x).packets ++ run_sent (n + 1) (tur
 unfoldable pub all_open : List Judged → List Judged → ℕ → List Begun
 all_open later [] t = []
 all_open later (e ∷ before) t =
-    if is_open e later t
-    then record { packet = packet e.input; at = e.at; own = own (channel (packet e.input)) later } ∷ all_open (e ∷ later) before t
-    else all_open (e ∷ later) before t
+    if is_open e later t then begun_by e later ∷ all_open (e ∷ later) before t else all_open (e ∷ later) before t
+
+-- Is one of these packets a KEEPALIVE?
+abbrev pub keeps_alive : List (List ℕ) → Bool
+keeps_alive packets = list_any (is_command KEEPALIVE) packets

@@ -1,4 +1,5 @@
 pub mod Replies
+pub mod Events
 pub mod Machine
 pub mod History
 pub mod Law

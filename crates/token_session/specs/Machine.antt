@@ -1,13 +1,13 @@
 -- The composed turn: the transport and the authenticator together, as a state and what an input makes of it. It knows no
 -- history.
-use Rattle.std.specs.Prelude.{ℕ, ◌+◌, Bool, false, nat_le, List, [], ◌∷◌, ◌++◌, max, Option, Some, None, option_map, if◌then◌else◌}
+use Rattle.std.specs.Prelude.{ℕ, List, [], ◌∷◌, ◌++◌, max, Option, Some, None, if◌then◌else◌}
 use Rattle.hid_packet.specs.Packet.{Fields, fields, channel_of}
-use Rattle.hid_assemble.specs.declared.table.Row.{Row}
+use Rattle.hid_assemble.specs.Table.{Begins, Open, Ruling, is_on, ruling_of}
 use Rattle.hid_assemble.specs.declared.table.Row.TheVariants.{CancelsWork, InitAgain}
-use Rattle.hid_assemble.specs.Table.{is_on, row_of}
-use Rattle.hid_assemble.specs.Assembly.{Open, Message, seen, is_overdue, given_after, open_after, message_after}
-use Rattle.authn_core.specs.Turn.{Start, Work, CoreState, working, Event, Cancel, Drop, first_state, core_turn}
-use Rattle.token_session.specs.Replies.{error, keepalive, row_packets, ping_packets, request_of, status_of, asker, answer_packets, answer_keeps_alive}
+use Rattle.hid_assemble.specs.Assembly.{Message, is_overdue, given_after, open_after, message_after}
+use Rattle.authn_core.specs.Turn.{Start, CoreState, working, Event, Cancel, Drop, first_state}
+use Rattle.token_session.specs.Replies.{error, row_packets, ping_packets, request_of}
+use Rattle.token_session.specs.Events.{event_core, event_packets, event_keeps_alive, keepalive_due, keepalive_packets}
 use Rattle.token_session.specs.declared.input.Input.{Input}
 use Rattle.token_session.specs.declared.input.Input.TheVariants.{Packet, Tick}
 use Rattle.token_session.specs.declared.input.Timed.{Timed}
@@ -26,32 +26,11 @@ pub record Turn : Type 0 where
   pub packets : List (List ℕ)
   pub event : Option Event
 
--- What an event, or none, makes of the authenticator and sends.
-abbrev pub event_core : CoreState → ℕ → Option Event → CoreState
-event_core core at None = core
-event_core core at (Some e) = (core_turn core at e).state
-
-abbrev pub event_packets : CoreState → ℕ → Option Event → List (List ℕ)
-event_packets core at None = []
-event_packets core at (Some e) = answer_packets (asker core.work e) (status_of core.work) (core_turn core at e).answer
-
-abbrev pub event_keeps_alive : CoreState → ℕ → Option Event → Bool
-event_keeps_alive core at None = false
-event_keeps_alive core at (Some e) = answer_keeps_alive (status_of core.work) (core_turn core at e).answer
-
 -- Time: an overdue message is given up with ERROR 0x05; else, where work waits, a KEEPALIVE is due 100 ms after the last
 -- (CTAP 2.1, sections 11.2.5.2 and 11.2.9.1.7).
 abbrev pub overdue_packets : Option Open → List (List ℕ)
 overdue_packets None = []
 overdue_packets (Some m) = error m.cid 0x05
-
-unfoldable pub keepalive_due : Option Work → ℕ → ℕ → Bool
-keepalive_due None keepalive_at at = false
-keepalive_due (Some w) keepalive_at at = nat_le (keepalive_at + 100) at
-
-abbrev pub keepalive_packets : Option Work → List (List ℕ)
-keepalive_packets None = []
-keepalive_packets (Some w) = keepalive w.cid w.status
 
 -- Time passes to a moment that is no earlier than the latest.
 unfoldable pub passed : State → ℕ → Turn
@@ -78,12 +57,12 @@ happens at given current core keepalive_at early packets e =
     }
 
 -- The event of a row: a CANCEL of waiting work, an INIT that drops it, a finished request.
-unfoldable pub event_after : Option ℕ → Fields → Option Message → Row → Option Event
-event_after work f m CancelsWork = Some Cancel
-event_after work f m InitAgain = if is_on work (channel_of f) then Some Drop else None
+unfoldable pub event_after : Option ℕ → Fields → Option Message → Ruling → Option Event
+event_after work f m (Begins CancelsWork) = Some Cancel
+event_after work f m (Begins InitAgain) = if is_on work (channel_of f) then Some Drop else None
 event_after work f m _ = request_of m
 
-abbrev pub served_by : State → Fields → List (List ℕ) → Row → Turn
+abbrev pub served_by : State → Fields → List (List ℕ) → Ruling → Turn
 served_by s f early row =
     happens s.now (given_after s.given row) (open_after s.current s.now f row) s.core s.keepalive_at
     early (row_packets s.given f row ++ ping_packets (message_after s.current f row))
@@ -91,7 +70,7 @@ served_by s f early row =
 
 -- An input is served behind the packets of time.
 abbrev pub served : State → List (List ℕ) → Input → Turn
-served s early (Packet p) = served_by s (fields p.0) early (row_of s.given (option_map seen s.current) (working s.core) (fields p.0))
+served s early (Packet p) = served_by s (fields p.0) early (ruling_of s.given s.current (working s.core) (fields p.0))
 served s early Tick = happens s.now s.given s.current s.core s.keepalive_at early [] None
 
 -- One input: its moment counts as the latest where it is earlier. First time passes, then the input is served.

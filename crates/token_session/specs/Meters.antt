@@ -5,7 +5,7 @@ use Rattle.authn_core.specs.Turn.{Start}
 use Rattle.ctap_message.specs.Requests.{steps_of}
 use Rattle.token_session.specs.declared.input.Timed.{Timed}
 use Rattle.token_session.specs.declared.input.Meters.{Meters}
-use Rattle.token_session.specs.declared.machine.Reading.{Reading}
+use Rattle.token_session.specs.declared.authenticator.Reading.{Reading}
 use Rattle.token_session.specs.Effects.{request_in, reading_in}
 use Rattle.token_session.specs.History.{Judged, judged, held}
 use Rattle.token_session.specs.Machine.{State, turn}

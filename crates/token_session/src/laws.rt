@@ -2,7 +2,7 @@
 //! gives over any history just what that history names. Each law is the contract of a function that
 //! does nothing.
 
-ghost use Rattle.std.specs.Prelude.{◌≡◌, ◌≤◌, ◌⊎◌, ◌+◌, ◌*◌, ℕ, List, [], ◌∷◌, length, Option, Some, None, option_to_list};
+ghost use Rattle.std.specs.Prelude.{◌≡◌, ◌≤◌, ◌⊎◌, ◌+◌, ◌*◌, ℕ, List, [], ◌∷◌, length, Option, Some, None, option_to_list, if◌then◌else◌};
 ghost use Rattle.token_session.specs.declared.input.Timed.{Timed as OneInput};
 ghost use Rattle.authn_core.specs.Turn.{Start, Request, working};
 ghost use Rattle.ctap_message.specs.Answers.{info_answer};
@@ -12,10 +12,11 @@ ghost use Rattle.hid_packet.specs.declared.packet.Packet.{Packet as AnyPacket};
 ghost use Rattle.token_session.specs.declared.input.Input.TheVariants.{Packet as PacketCame};
 ghost use Rattle.hid_packet.specs.Carries.{CarriesMessage};
 ghost use Rattle.hid_assemble.specs.Assembly.{Message};
-ghost use Rattle.token_session.specs.Carried.{ArePackets, finished_at, carriers_at};
-ghost use Rattle.token_session.specs.History.{judge, judged, open_at, end, given, held, core, service_packets};
-ghost use Rattle.token_session.specs.Machine.{State, machine, turn, event_packets};
-ghost use Rattle.token_session.specs.Law.{all_open, Behind, sent_now, onto, sent_from, run_state, run_sent};
+ghost use Rattle.token_session.specs.Carried.{ArePackets, carriers_at};
+ghost use Rattle.token_session.specs.History.{finished_at, judge, judged, open_at, end, given, held, core, service_packets, last_keepalive};
+ghost use Rattle.token_session.specs.Machine.{State, machine, turn};
+ghost use Rattle.token_session.specs.Events.{event_packets};
+ghost use Rattle.token_session.specs.Law.{all_open, keeps_alive, Behind, sent_now, onto, sent_from, run_state, run_sent};
 ghost use Rattle.token_session.specs.Meters.{meters_of};
 
 use ctap_message::laws::steps_are_bounded;
@@ -32,6 +33,12 @@ pub fn machine_follows_history()
 pub fn runs_follow_history()
     ensures state { (s : State) (start : Start) (h xs : List OneInput) → Behind s start h → Behind (run_state s xs) start (onto xs h) }
     ensures packets { (s : State) (start : Start) (n : ℕ) (h xs : List OneInput) → Behind s start h → run_sent n s xs ≡ sent_from n start h xs }
+{}
+
+/// The moment from which the next KEEPALIVE counts is that of the last input that sent one.
+pub fn keepalives_count_from_the_last()
+    ensures { (start : Start) (h : List OneInput) (x : OneInput) → last_keepalive start (judged start (x ∷ h))
+        ≡ (if keeps_alive (sent_now start h x) then (judge start x (judged start h)).at else last_keepalive start (judged start h)) }
 {}
 
 /// At most one message is open behind a history, at its end and at any later moment, and at most 7550

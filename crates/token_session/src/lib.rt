@@ -2,13 +2,14 @@
 //! packets to send.
 #![tactic(auto)]
 
+mod authenticator;
 mod input;
 pub mod laws;
 mod machine;
 mod session;
 
+pub use authenticator::KEEPALIVE_PERIOD;
 pub use input::{Input, Meters, Sent, Timed};
-pub use machine::KEEPALIVE_PERIOD;
 pub use session::Session;
 
 #[cfg(test)]

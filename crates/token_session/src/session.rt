@@ -3,11 +3,13 @@ ghost use Rattle.hid_assemble.specs.Assembly.{held_bytes};
 ghost use Rattle.authn_core.specs.Needs.{needs};
 ghost use Rattle.authn_core.specs.Turn.{Start};
 ghost use Rattle.token_session.specs.declared.input.Timed.{Timed as OneInput};
+ghost use Rattle.token_session.specs.History.{judged, held};
 ghost use Rattle.token_session.specs.Law.{sent_now};
 ghost use Rattle.token_session.specs.Meters.{SessionState, StandsBehind, stepped, sent_by, session_of, metered};
 
+use crate::authenticator::Reading;
 use crate::input::{Input, Meters};
-use crate::machine::{Machine, Reading};
+use crate::machine::Machine;
 use authn_core::{Config, Need};
 use hid_packet::Outbox;
 use std::marker::Model;
@@ -83,7 +85,9 @@ impl<const C: usize> Session<C> {
 
     /// How many data bytes are held of the open message, at most 7550.
     pub fn held(&self) -> u16
-        ensures { result ≡ held_bytes self.now.machine.current }
+        ensures bytes { result ≡ held_bytes self.now.machine.current }
+        ensures limit { result ≤ 7550 }
+        ensures named { (start : Start) (h : List OneInput) → StandsBehind self.now start h → result ≡ held start (judged start h) }
     {
         self.machine.held()
     }

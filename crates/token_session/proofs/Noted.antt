@@ -1,0 +1,152 @@
+-- The moment of the last KEEPALIVE is that of the last input that sent one.
+use Rattle.std.proofs.Common.{◌≡◌, ℕ, ◌+◌, ◌-◌, ◌<◌, ◌≤◌, ◌==◌, Bool, true, false, cond, not, ◌&&◌, ◌||◌, suc, zero, List, [], ◌∷◌, ◌++◌, length, take, drop, Option, Some, None, option_map, refl, sym, ◌∙◌, ap, ap₂, arith, nat_le}
+use Rattle.std.proofs.lemmas.Bool.Decides.{nat_tests}
+use Rattle.std.proofs.lemmas.List.Folds.{list_any-append}
+use Rattle.authn_core.specs.Turn.{Start, Work, CoreState, Event, Answer, Answered, Waits, Nothing, working}
+use Rattle.hid_assemble.specs.Table.{Begins, Continues, Ruling, ruling_of}
+use Rattle.hid_assemble.specs.Assembly.{Message}
+use Rattle.hid_assemble.specs.declared.table.Row.TheVariants.{BadLength, BrokenOff, BusyElsewhere, BusyHere, CancelsNothing, CancelsWork, InitAgain, InitFull, InitLength, InitNew, Long, NoSuchChannel, NoSuchCommand, Short}
+use Rattle.hid_assemble.specs.declared.table.Continuation.TheVariants.{Kept, Stray, Whole, WrongNumber}
+use Rattle.hid_packet.specs.Commands.{CBOR, ERROR, INIT, KEEPALIVE, PING, BROADCAST}
+use Rattle.hid_packet.specs.Message.{padded, initialization_packet, continuation_packet, continuation_packets, written}
+use Rattle.hid_packet.specs.Packet.{Fields, channel, channel_of, command, fields, is_command, is_initialization}
+use Rattle.token_session.specs.Events.{event_keeps_alive, event_packets, keepalive_due, keepalive_packets}
+use Rattle.token_session.specs.History.{Begun, Judged, core, cut_packets, end, event_to, finished_at, given, is_cut, last_keepalive, open_at, as_open, sent_at, service_packets, table_packets, time_packets}
+use Rattle.token_session.specs.Law.{keeps_alive}
+use Rattle.token_session.specs.Replies.{answer_keeps_alive, answer_packets, greeting, is_status, ping_packets, row_packets}
+use Rattle.token_session.specs.declared.input.Input.{Input}
+use Rattle.token_session.specs.declared.input.Input.TheVariants.{Packet, Tick}
+
+begins : (cid cmd len : ℕ) (part : List ℕ) → is_initialization (initialization_packet cid cmd len part) ≡ true
+unfolding is_initialization initialization_packet padded
+begins cid cmd len part = above (cmd + 128) (omega arith)
+  where
+    above : (n : ℕ) → 128 ≤ n → nat_le 128 n ≡ true
+    above n h = grind (arith, nat_tests)
+
+asks : (cid cmd len : ℕ) (part : List ℕ) → command (initialization_packet cid cmd len part) ≡ cmd
+unfolding command initialization_packet padded
+asks cid cmd len part = less cmd
+  where
+    less : (n : ℕ) → n + 128 - 128 ≡ n
+    less n = omega arith
+
+goes : (cid number : ℕ) (part : List ℕ) → number < 128 → is_initialization (continuation_packet cid number part) ≡ false
+unfolding is_initialization continuation_packet padded
+goes cid number part h = below number h
+  where
+    below : (n : ℕ) → n < 128 → nat_le 128 n ≡ false
+    below n h = grind (arith, nat_tests)
+
+none_among : (most cid number : ℕ) (bytes : List ℕ) → number + most ≤ 128 → keeps_alive (continuation_packets most cid number bytes) ≡ false
+unfolding continuation_packets
+none_among zero cid number bytes h = refl
+none_among (suc most) cid number [] h = refl
+none_among (suc most) cid number (b ∷ bytes) h =
+    let first = goes cid number (take 59 (b ∷ bytes)) (omega arith) in
+    let rest = none_among most cid (number + 1) (drop 59 (b ∷ bytes)) (omega arith) in
+    rw (first, rest) refl
+
+or_none : (b : Bool) → (b || false) ≡ b
+or_none true = refl
+or_none false = refl
+
+or_swap : (a b : Bool) → (a || b) ≡ (b || a)
+or_swap true true = refl
+or_swap true false = refl
+or_swap false true = refl
+or_swap false false = refl
+
+-- A message is a KEEPALIVE exactly where its command is.
+of_written : (cid cmd : ℕ) (bytes : List ℕ) → keeps_alive (written cid cmd bytes) ≡ (cmd == KEEPALIVE)
+unfolding written
+of_written cid cmd bytes =
+    let is = begins cid cmd (length bytes) (take 57 bytes) in
+    let named = asks cid cmd (length bytes) (take 57 bytes) in
+    let rest = none_among 128 cid 0 (drop 57 bytes) (omega arith) in
+    rw (is, named, rest) (or_none (cmd == KEEPALIVE))
+
+row_silent : (g : ℕ) (f : Fields) (r : Ruling) → keeps_alive (row_packets g f r) ≡ false
+unfolding row_packets greeting
+row_silent g f (Begins CancelsWork) = refl
+row_silent g f (Begins CancelsNothing) = refl
+row_silent g f (Begins NoSuchChannel) = of_written (channel_of f) ERROR _
+row_silent g f (Begins InitLength) = of_written (channel_of f) ERROR _
+row_silent g f (Begins InitFull) = of_written (channel_of f) ERROR _
+row_silent g f (Begins InitNew) = of_written BROADCAST INIT _
+row_silent g f (Begins InitAgain) = of_written (channel_of f) INIT _
+row_silent g f (Begins BusyElsewhere) = of_written (channel_of f) ERROR _
+row_silent g f (Begins BusyHere) = of_written (channel_of f) ERROR _
+row_silent g f (Begins BrokenOff) = of_written (channel_of f) ERROR _
+row_silent g f (Begins NoSuchCommand) = of_written (channel_of f) ERROR _
+row_silent g f (Begins BadLength) = of_written (channel_of f) ERROR _
+row_silent g f (Begins Short) = refl
+row_silent g f (Begins Long) = refl
+row_silent g f (Continues Kept) = refl
+row_silent g f (Continues Whole) = refl
+row_silent g f (Continues WrongNumber) = of_written (channel_of f) ERROR _
+row_silent g f (Continues Stray) = refl
+
+table_silent : (g : ℕ) (o : Option Begun) (w : Option ℕ) (i : Input) → keeps_alive (table_packets g o w i) ≡ false
+table_silent g o w (Packet p) = row_silent g (fields p.0) (ruling_of g (option_map as_open o) w (fields p.0))
+table_silent g o w Tick = refl
+
+ping_silent : (m : Option Message) → keeps_alive (ping_packets m) ≡ false
+ping_silent None = refl
+ping_silent (Some m) = go (m.cmd == PING)
+  where
+    go : (b : Bool) → keeps_alive (cond b (written m.cid PING m.bytes) []) ≡ false
+    go true = of_written m.cid PING m.bytes
+    go false = refl
+
+answer_noted : (to before : Option ℕ) (a : Answer) → keeps_alive (answer_packets to before a) ≡ answer_keeps_alive to before a
+unfolding answer_packets answer_keeps_alive
+answer_noted None before a = refl
+answer_noted (Some cid) before (Answered bytes) = of_written cid CBOR bytes
+answer_noted (Some cid) before (Waits status) = go (is_status before status)
+  where
+    go : (b : Bool) → keeps_alive (cond b [] (written cid KEEPALIVE (status ∷ []))) ≡ not b
+    go true = refl
+    go false = of_written cid KEEPALIVE (status ∷ [])
+answer_noted (Some cid) before Nothing = refl
+
+event_noted : (k : CoreState) (t : ℕ) (e : Option Event) → keeps_alive (event_packets k t e) ≡ event_keeps_alive k t e
+event_noted k t None = refl
+event_noted k t (Some e) = answer_noted _ _ _
+
+cut_silent : (o : Option Begun) → keeps_alive (cut_packets o) ≡ false
+cut_silent None = refl
+cut_silent (Some b) = of_written (channel b.packet) ERROR (5 ∷ [])
+
+time_noted : (c : Bool) (o : Option Begun) (w : Option Work) (l t : ℕ)
+    → keeps_alive (cond c (cut_packets o) (cond (keepalive_due w l t) (keepalive_packets w) [])) ≡ (not c && keepalive_due w l t)
+unfolding keepalive_due
+time_noted true o w l t = cut_silent o
+time_noted false o None l t = refl
+time_noted false o (Some w) l t = go (nat_le (l + 100) t)
+  where
+    go : (b : Bool) → keeps_alive (cond b (written w.cid KEEPALIVE (w.status ∷ [])) []) ≡ b
+    go true = of_written w.cid KEEPALIVE (w.status ∷ [])
+    go false = refl
+
+sent_noted : (start : Start) (e : Judged) (past : List Judged)
+    → keeps_alive (sent_at start e past)
+    ≡ ((not (is_cut (open_at past (end start past)) (open_at past e.at)) && keepalive_due (core start past).work (last_keepalive start past) e.at)
+    || event_keeps_alive (core start past) e.at (event_to (core start past) e past))
+unfolding sent_at service_packets time_packets
+sent_noted start e past =
+    let k = core start past in
+    let m = finished_at e past in
+    let table = table_packets (given past) (open_at past e.at) (working k) e.input in
+    let ev = event_packets k e.at (event_to k e past) in
+    list_any-append (is_command KEEPALIVE) _ _
+    ∙ ap₂ ◌||◌ (time_noted (is_cut (open_at past (end start past)) (open_at past e.at)) (open_at past (end start past)) k.work (last_keepalive start past) e.at)
+    (list_any-append (is_command KEEPALIVE) (table ++ ping_packets m) ev
+    ∙ ap₂ ◌||◌ (list_any-append (is_command KEEPALIVE) table (ping_packets m) ∙ ap₂ ◌||◌ (table_silent (given past) (open_at past e.at) (working k) e.input) (ping_silent m)) (event_noted k e.at (event_to k e past)))
+
+pub last_noted : (start : Start) (e : Judged) (past : List Judged) → last_keepalive start (e ∷ past) ≡ cond (keeps_alive (sent_at start e past)) e.at (last_keepalive start past)
+unfolding last_keepalive
+last_noted start e past =
+    let k = core start past in
+    let due = not (is_cut (open_at past (end start past)) (open_at past e.at)) && keepalive_due k.work (last_keepalive start past) e.at in
+    ap (λ b. cond b e.at (last_keepalive start past)) (or_swap (event_keeps_alive k e.at (event_to k e past)) due ∙ sym (sent_noted start e past))
