@@ -1,10 +1,11 @@
--- Reading a whole item, with all that is inside: the tree, or where it stops.
+-- Reading a whole item, with all that is inside, as a function: the tree, or where it stops. What the text is says
+-- Outcome.antt; that this function gives it is a law.
 use Rattle.std.proofs.Common.{ℕ, zero, suc, List, [], ◌∷◌, Option, Some, None, Result, Ok, Err}
 use Rattle.ctap_cbor.specs.declared.fault.Kind.{Kind}
 use Rattle.ctap_cbor.specs.Tree.{Null, Tree, Plain, Array, Map, Trees, no_trees, tree, Pairs, no_pairs, pair}
 use Rattle.ctap_cbor.specs.Grammar.{scalar_text}
 use Rattle.ctap_cbor.specs.Faults.{AnItem, AKey}
-use Rattle.ctap_cbor.specs.Outcome.{Open, InArray, AtKey, AtValue}
+use Rattle.ctap_cbor.specs.Outcome.{Open, InArray, AtKey, AtValue, Outcome, Whole, Longer, Stopped}
 use Rattle.ctap_cbor.specs.Parts.{Part, One, OpensArray, OpensMap, read}
 
 -- a tree and what follows, or the open arrays and maps with the fault behind them
@@ -74,3 +75,14 @@ then_inside sub room bytes (Ok (OpensMap n, rest)) = map_of n (pairs sub room n 
 unfoldable pub parse : ℕ → List ℕ → Parse
 parse zero bytes = then_inside (λ b. Done (Plain Null) b) zero bytes (read zero AnItem bytes)
 parse (suc room) bytes = then_inside (parse room) room bytes (read (suc room) AnItem bytes)
+
+-- a text, by what reading its item gives
+abbrev pub outcome_by : Parse → Outcome
+outcome_by (Done t []) = Whole t
+outcome_by (Done t (x ∷ rest)) = Longer t
+outcome_by (Halt os kind rest) = Stopped os kind
+
+-- the items, so far as they stand there
+abbrev pub ran_by : Run → Trees
+ran_by (Ran ts rest) = ts
+ran_by (Broke done os kind rest) = done
