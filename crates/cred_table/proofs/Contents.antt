@@ -8,7 +8,7 @@ use Rattle.ctap_cbor.specs.Head.{head}
 use Rattle.ctap_cbor.specs.Grammar.{text, texts, pair_texts, scalar_text, IsLawful, AreLawful, AreLawfulPairs, IsCanonical}
 use Rattle.ctap_cbor.specs.Parts.{One, OpensArray, OpensMap}
 use Rattle.ctap_cbor.specs.Reading.{Reading, rest_of}
-use Rattle.ctap_cbor.proofs.Parse.{Parse, Done, Halt, parse}
+use Rattle.ctap_cbor.specs.Parse.{Parse, Done, Halt, parse}
 use Rattle.ctap_cbor.proofs.Again.{parse_again}
 use Rattle.cred_table.specs.declared.row.Row.{Row}
 use Rattle.cred_table.specs.declared.fault.SnapshotFault.{SnapshotFault}

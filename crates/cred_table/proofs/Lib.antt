@@ -17,3 +17,4 @@ pub mod Composing
 pub mod SavedRows
 pub mod OneSnapshot
 mod SavedExamples
+pub mod CutNames
