@@ -1,5 +1,5 @@
 -- All that the transport needs to know of the authenticator.
-use Rattle.std.proofs.Common.{◌≡◌, ℕ, ◌+◌, List, [], ◌∷◌, Bool, true, false, nat_lt, Option, Some, None, option_map, is_some, Result, Ok, Err, refl}
+use Rattle.std.proofs.Common.{◌≡◌, ℕ, ◌+◌, ◌≤◌, List, [], ◌∷◌, Bool, true, false, nat_lt, Option, Some, None, option_map, is_some, Result, Ok, Err, refl, ◌∙◌, ap, subst, arith}
 use Rattle.std.specs.List.{find}
 use Rattle.cred_table.specs.declared.row.Row.{Row}
 use Rattle.cred_table.specs.Rows.{has_id, counter_of, ids}
@@ -15,11 +15,12 @@ use Rattle.authn_core.specs.declared.task.Task.{Task}
 use Rattle.authn_core.specs.declared.task.Task.TheVariants.{Resets, Selects, AsksMake, WantsKey, SignsMake, AsksAssert, SignsAssert}
 use Rattle.authn_core.specs.declared.task.Job.{Job}
 use Rattle.authn_core.specs.Hash.{rp_hash}
-use Rattle.authn_core.specs.State.{Setup, State, Event, Request, PresenceIs, KeyIs, SignatureIs, Cancel, Drop, Answer, Ignored, Nothing, Turned}
+use Rattle.authn_core.specs.State.{Setup, State, Event, Request, PresenceIs, KeyIs, SignatureIs, Cancel, Drop, Answer, Answered, Ignored, Nothing, Turned}
 use Rattle.authn_core.specs.Asking.{RESET_LIMIT}
 use Rattle.authn_core.specs.MakeCredential.{fits}
 use Rattle.authn_core.specs.GetAssertion.{applicable, MOST, begins, is_due, row_signs, next_signs, next_begins}
-use Rattle.authn_core.specs.Turn.{requested, presence_at, key_at, signature_at, presence_turn, key_turn, signature_turn, turn}
+use Rattle.ctap_message.specs.Answers.{info_answer}
+use Rattle.authn_core.specs.Turn.{CoreState, Work, as_work, working, core_after, core_answer, requested, presence_at, key_at, signature_at, presence_turn, key_turn, signature_turn, turn}
 use Rattle.authn_core.specs.Views.{wants_presence, wants_key, wants_signature}
 use Rattle.authn_core.proofs.Readiness.{cond_case}
 
@@ -183,3 +184,77 @@ signature_ignored u s t sig h = go s.work h
     go : (v : Option Job) → wants_signature v ≡ false → signature_turn u.aaguid s t v sig ≡ record { state = s; answer = Ignored }
     go None h = refl
     go (Some v) h = at v.cid v.task h
+
+-- ---- with channels that were given out
+
+-- a channel that was given out, where something is on one
+abbrev pub IsGiven : ℕ → Option ℕ → Type 0
+IsGiven given None = Unit {0}
+IsGiven given (Some cid) = (1 ≤ cid) × (cid ≤ given)
+
+-- a request comes on a channel that was given out
+abbrev pub EventIsGiven : ℕ → Event → Type 0
+EventIsGiven given (Request cid bytes) = (1 ≤ cid) × (cid ≤ given)
+EventIsGiven given e = Unit {0}
+
+abbrev channel_of : Option Job → Option ℕ
+channel_of work = option_map (λ (w : Work). w.cid) (option_map as_work work)
+
+channel_is : (w : Option Job) → channel_of w ≡ option_map (λ (j : Job). j.cid) w
+channel_is None = refl
+channel_is (Some job) = refl
+
+on_given : (given cid : ℕ) (w : Option Job) → ((job : Job) → w ≡ Some job → job.cid ≡ cid) → 1 ≤ cid → cid ≤ given → IsGiven given (channel_of w)
+on_given given cid None on low high = tt
+on_given given cid (Some job) on low high = let e : job.cid ≡ cid = on job refl in (omega (arith, e), omega (arith, e))
+
+kept_given : (given : ℕ) (before after : Option Job) → ((job : Job) → after ≡ Some job → option_map (λ (j : Job). j.cid) before ≡ Some job.cid) → IsGiven given (channel_of before)
+    → IsGiven given (channel_of after)
+kept_given given before None keeps h = tt
+kept_given given before (Some job) keeps h = subst (IsGiven given) (channel_is before ∙ keeps job refl) h
+
+-- Work is on the channel that it was on, or on the request's.
+pub work_stays_given : (given : ℕ) (core : CoreState) (at : ℕ) (e : Event) → IsGiven given (working core) → EventIsGiven given e
+    → IsGiven given (working (core_after core at e))
+unfolding turn
+work_stays_given given core at (Request cid bytes) w h =
+    on_given given cid _ (request_on core.setup core.state at cid bytes) h.0 h.1
+work_stays_given given core at (PresenceIs reply) w h =
+    kept_given given core.state.work _ (presence_keeps core.setup core.state at reply) w
+work_stays_given given core at (KeyIs key) w h =
+    kept_given given core.state.work _ (key_keeps core.setup core.state at key) w
+work_stays_given given core at (SignatureIs sig) w h =
+    kept_given given core.state.work _ (signature_keeps core.setup core.state at sig) w
+work_stays_given given core at Cancel w h = tt
+work_stays_given given core at Drop w h = tt
+
+idle_job : (w : Option Job) → channel_of w ≡ None → w ≡ None
+idle_job None h = refl
+idle_job (Some job) h = cc
+
+-- A reply where no work waits starts none.
+pub presence_starts_none : (core : CoreState) (at : ℕ) (reply : Presence) → working core ≡ None → working (core_after core at (PresenceIs reply)) ≡ None
+presence_starts_none core at reply h =
+    let idle = idle_job core.state.work h in
+    ap (λ (v : Turned). channel_of v.state.work) (presence_idle core.setup core.state at reply idle) ∙ h
+
+pub key_starts_none : (core : CoreState) (at : ℕ) (key : Option NewKey) → working core ≡ None → working (core_after core at (KeyIs key)) ≡ None
+key_starts_none core at key h =
+    let idle = idle_job core.state.work h in
+    ap (λ (v : Turned). channel_of v.state.work) (key_idle core.setup core.state at key idle) ∙ h
+
+pub signature_starts_none : (core : CoreState) (at : ℕ) (sig : Option (List ℕ)) → working core ≡ None → working (core_after core at (SignatureIs sig)) ≡ None
+signature_starts_none core at sig h =
+    let idle = idle_job core.state.work h in
+    ap (λ (v : Turned). channel_of v.state.work) (signature_idle core.setup core.state at sig idle) ∙ h
+
+-- A drop of an authenticator answers nothing.
+pub drop_answers_nothing : (core : CoreState) (at : ℕ) → core_answer core at Drop ≡ Nothing
+drop_answers_nothing core at = drop_is_silent core.setup core.state at
+
+-- authenticatorGetInfo is answered by its map, with the AAGUID.
+pub info_answered : (core : CoreState) (at cid : ℕ) (bytes : List ℕ) → read_of bytes ≡ Ok GetInfo
+    → core_answer core at (Request cid bytes) ≡ Answered (info_answer core.setup.aaguid)
+unfolding turn
+info_answered core at cid bytes asks =
+    ap (λ read. (requested core.setup core.state.rows core.state.pending at cid read).answer) asks

@@ -69,42 +69,54 @@ turn u s now (SignatureIs sig) = signature_turn u.aaguid s now s.work sig
 turn u s now Cancel = refuses s.rows None KEEPALIVE_CANCEL
 turn u s now Drop = record { state = record { rows = s.rows; pending = None; work = None }; answer = Nothing }
 
--- ---- with moments
+-- ---- an authenticator
 
--- An authenticator's whole state: what stays, the latest moment, and the rest.
+-- What stays, and the state between turns.
 pub record CoreState : Type 0 where
   pub setup : Setup
-  pub latest : ℕ
   pub state : State
 
--- What an authenticator begins with: its AAGUID, the moment, and the rows.
-abbrev pub first_state : Setup → List Row → CoreState
-first_state setup rows = record { setup = setup; latest = setup.began; state = record { rows = rows; pending = None; work = None } }
+-- What an authenticator begins with: its AAGUID, the moment in milliseconds, how many rows there is room for, and the rows in
+-- order of making.
+pub record Start : Type 0 where
+  pub aaguid : List ℕ
+  pub moment : ℕ
+  pub room : ℕ
+  pub rows : List Row
 
--- A cancel and a drop have no moment of their own.
-abbrev pub latest_behind : CoreState → (at : ℕ) → Event → ℕ
-latest_behind core at Cancel = core.latest
-latest_behind core at Drop = core.latest
-latest_behind core at e = max core.latest at
+-- It begins with nothing pending and no work.
+abbrev pub first_state : Start → CoreState
+first_state start = record {
+  setup = record { aaguid = start.aaguid; began = start.moment; room = start.room };
+  state = record { rows = start.rows; pending = None; work = None };
+}
 
--- A moment earlier than the latest counts as the latest.
-abbrev pub turned : CoreState → (at : ℕ) → Event → Turned
-turned core at e = turn core.setup core.state (latest_behind core at e) e
+-- the same after an event at this moment, and what it answers
+abbrev pub core_after : CoreState → (now : ℕ) → Event → CoreState
+core_after core now e = record { setup = core.setup; state = (turn core.setup core.state now e).state }
 
-abbrev pub core_after : CoreState → (at : ℕ) → Event → CoreState
-core_after core at e = record { setup = core.setup; latest = latest_behind core at e; state = (turned core at e).state }
+abbrev pub core_answer : CoreState → (now : ℕ) → Event → Answer
+core_answer core now e = (turn core.setup core.state now e).answer
 
-abbrev pub core_answer : CoreState → (at : ℕ) → Event → Answer
-core_answer core at e = (turned core at e).answer
+-- Waiting work as the transport sees it: the channel that asked, and the status that a KEEPALIVE carries (CTAP 2.1,
+-- section 11.2.9.1.7).
+pub record Work : Type 0 where
+  pub cid : ℕ
+  pub status : ℕ
 
--- the channel of waiting work, and its status
+abbrev pub as_work : Job → Work
+as_work job = record { cid = job.cid; status = status job.task }
+
+abbrev pub waiting : CoreState → Option Work
+waiting core = option_map as_work core.state.work
+
+-- the channel of waiting work
 abbrev pub working : CoreState → Option ℕ
-working core = option_map (λ (job : Job). job.cid) core.state.work
+working core = option_map (λ (w : Work). w.cid) (waiting core)
 
-abbrev pub status_now : CoreState → Option ℕ
-status_now core = option_map (λ (job : Job). status job.task) core.state.work
-
--- An authenticator between its turns: its state, and the steps of reading its last request, 0 before one.
+-- An authenticator between its turns: its state, the greatest moment of its start and of all events, and the steps of reading
+-- its last request, 0 before one.
 pub record Held : Type 0 where
   pub core : CoreState
+  pub latest : ℕ
   pub last_steps : ℕ

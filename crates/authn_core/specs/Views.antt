@@ -7,6 +7,8 @@ use Rattle.authn_core.specs.declared.authenticator.Need.{Need}
 use Rattle.authn_core.specs.declared.authenticator.Need.TheVariants as need
 use Rattle.authn_core.specs.declared.work.KeepaliveStatus.{KeepaliveStatus}
 use Rattle.authn_core.specs.declared.work.KeepaliveStatus.TheVariants.{Processing, PresenceNeeded}
+use Rattle.authn_core.specs.declared.work.Work.{Work as WaitingWork}
+use Rattle.authn_core.specs.Turn.{Work}
 use Rattle.authn_core.specs.declared.task.Task.{Task}
 use Rattle.authn_core.specs.declared.task.Task.TheVariants.{Resets, Selects, AsksMake, WantsKey, SignsMake, AsksAssert, SignsAssert}
 use Rattle.authn_core.specs.declared.task.Job.{Job}
@@ -16,6 +18,9 @@ use Rattle.authn_core.specs.State.{Answer, Answered, Waits, Ignored}
 abbrev pub status_number : KeepaliveStatus → ℕ
 status_number Processing = 1
 status_number PresenceNeeded = 2
+
+abbrev pub work_of : WaitingWork → Work
+work_of w = record { cid = w.cid; status = status_number w.status }
 
 abbrev pub answer_of : Turn → Answer
 answer_of (turns.Answer bytes) = Answered bytes.items

@@ -1,12 +1,12 @@
 //! The authenticator.
 
-ghost use Rattle.std.specs.Prelude.{◌≡◌, ◌≤◌, ℕ, None, min, option_map, length};
+ghost use Rattle.std.specs.Prelude.{◌≡◌, ◌≤◌, ℕ, max, min, option_map, length};
 ghost use Rattle.cred_table.specs.Waiting.{pending_count};
 ghost use Rattle.ctap_message.specs.Requests.{steps_of, LARGEST};
 ghost use Rattle.authn_core.specs.Bare.{bare_rows};
 ghost use Rattle.authn_core.specs.State.{Request as Asks, PresenceIs, KeyIs, SignatureIs, Cancel, Drop as DropWork};
-ghost use Rattle.authn_core.specs.Turn.{first_state, core_after, core_answer, working, status_now};
-ghost use Rattle.authn_core.specs.Views.{answer_of, needs, needed, status_number};
+ghost use Rattle.authn_core.specs.Turn.{first_state, core_after, core_answer, waiting};
+ghost use Rattle.authn_core.specs.Views.{answer_of, needs, needed, work_of};
 
 use crate::kept::Kept;
 use crate::parts::{Parts, need_of, status_of};
@@ -51,7 +51,8 @@ pub struct Config {
     pub aaguid: [u8; 16],
 }
 
-/// The authenticator over a table of at most `C` rows. No call takes memory.
+/// The authenticator over a table of at most `C` rows. The moment of an event, in milliseconds, is the greatest of the start
+/// and of all moments that were handed in so far. No call takes memory.
 #[derive(Drop)]
 pub struct Core<T: Table<C>, const C: usize> {
     config: Config,
@@ -69,7 +70,7 @@ impl<T: Table<C>, const C: usize> Model for Core<T, C> {
 
     ghost Value = { Held };
 
-    ghost view = { λ s. record { core = record { setup = record { aaguid = s.config.aaguid; began = s.began; room = C }; latest = s.latest; state = s.parts }; last_steps = s.last_steps } };
+    ghost view = { λ s. record { core = record { setup = record { aaguid = s.config.aaguid; began = s.began; room = C }; state = s.parts }; latest = s.latest; last_steps = s.last_steps } };
 
     ghost invariant = { λ s. (s.began ≤ s.latest) × Ready C s.parts };
 }
@@ -77,7 +78,8 @@ impl<T: Table<C>, const C: usize> Model for Core<T, C> {
 impl<T: Table<C>, const C: usize> Core<T, C> {
     /// An authenticator that begins at the moment `start`, in milliseconds, with these rows and no waiting work.
     pub fn new(config: Config, table: T, start: u64) -> Self
-        ensures core { result.core ≡ first_state (record { aaguid = config.aaguid; began = start; room = C }) (bare_rows (T.rows table)) }
+        ensures core { result.core ≡ first_state (record { aaguid = config.aaguid; moment = start; room = C; rows = bare_rows (T.rows table) }) }
+        ensures latest { result.latest ≡ start }
         ensures steps { result.last_steps ≡ 0 }
     {
         Core {
@@ -93,13 +95,13 @@ impl<T: Table<C>, const C: usize> Core<T, C> {
         }
     }
 
-    /// The turn of a request that came at `at` on the channel `cid`: `message` is its command byte and what follows. No work
-    /// waits.
+    /// The turn of a request that came at `at` on the channel `cid`: `message` is its command byte and what follows. Work
+    /// that waits ends with no answer of its own.
     #[tactic(auto, unfolding(crate::specs::Turn::turn))]
     pub fn request(&mut self, at: u64, cid: u32, message: &[u8]) -> Turn
-        requires idle { self.old.core.state.work ≡ None }
-        ensures core { self.new.core ≡ core_after self.old.core at (Asks cid message.now) }
-        ensures answer { answer_of result ≡ core_answer self.old.core at (Asks cid message.now) }
+        ensures core { self.new.core ≡ core_after self.old.core (max self.old.latest at) (Asks cid message.now) }
+        ensures answer { answer_of result ≡ core_answer self.old.core (max self.old.latest at) (Asks cid message.now) }
+        ensures latest { self.new.latest ≡ max self.old.latest at }
         ensures steps { self.new.last_steps ≡ min (steps_of message.now) LARGEST }
     {
         self.latest = self.latest.max(at);
@@ -112,8 +114,9 @@ impl<T: Table<C>, const C: usize> Core<T, C> {
     /// The turn of the reply of a test of user presence.
     #[tactic(auto, unfolding(crate::specs::Turn::turn))]
     pub fn presence(&mut self, at: u64, reply: Presence) -> Turn
-        ensures core { self.new.core ≡ core_after self.old.core at (PresenceIs reply) }
-        ensures answer { answer_of result ≡ core_answer self.old.core at (PresenceIs reply) }
+        ensures core { self.new.core ≡ core_after self.old.core (max self.old.latest at) (PresenceIs reply) }
+        ensures answer { answer_of result ≡ core_answer self.old.core (max self.old.latest at) (PresenceIs reply) }
+        ensures latest { self.new.latest ≡ max self.old.latest at }
         ensures steps { self.new.last_steps ≡ self.old.last_steps }
     {
         self.latest = self.latest.max(at);
@@ -123,8 +126,9 @@ impl<T: Table<C>, const C: usize> Core<T, C> {
     /// The turn of a new key; `None` refuses one.
     #[tactic(auto, unfolding(crate::specs::Turn::turn))]
     pub fn key(&mut self, at: u64, key: Option<NewKey>) -> Turn
-        ensures core { self.new.core ≡ core_after self.old.core at (KeyIs key) }
-        ensures answer { answer_of result ≡ core_answer self.old.core at (KeyIs key) }
+        ensures core { self.new.core ≡ core_after self.old.core (max self.old.latest at) (KeyIs key) }
+        ensures answer { answer_of result ≡ core_answer self.old.core (max self.old.latest at) (KeyIs key) }
+        ensures latest { self.new.latest ≡ max self.old.latest at }
         ensures steps { self.new.last_steps ≡ self.old.last_steps }
     {
         self.latest = self.latest.max(at);
@@ -134,8 +138,9 @@ impl<T: Table<C>, const C: usize> Core<T, C> {
     /// The turn of a signature; `None` refuses one.
     #[tactic(auto, unfolding(crate::specs::Turn::turn))]
     pub fn signature(&mut self, at: u64, signature: Option<Signature>) -> Turn
-        ensures core { self.new.core ≡ core_after self.old.core at (SignatureIs signature) }
-        ensures answer { answer_of result ≡ core_answer self.old.core at (SignatureIs signature) }
+        ensures core { self.new.core ≡ core_after self.old.core (max self.old.latest at) (SignatureIs signature) }
+        ensures answer { answer_of result ≡ core_answer self.old.core (max self.old.latest at) (SignatureIs signature) }
+        ensures latest { self.new.latest ≡ max self.old.latest at }
         ensures steps { self.new.last_steps ≡ self.old.last_steps }
     {
         self.latest = self.latest.max(at);
@@ -146,8 +151,9 @@ impl<T: Table<C>, const C: usize> Core<T, C> {
     /// The turn of a CANCEL of the waiting work.
     #[tactic(auto, unfolding(crate::specs::Turn::turn))]
     pub fn cancel(&mut self) -> Turn
-        ensures core { (at : ℕ) → self.new.core ≡ core_after self.old.core at Cancel }
-        ensures answer { (at : ℕ) → answer_of result ≡ core_answer self.old.core at Cancel }
+        ensures core { (now : ℕ) → self.new.core ≡ core_after self.old.core now Cancel }
+        ensures answer { (now : ℕ) → answer_of result ≡ core_answer self.old.core now Cancel }
+        ensures latest { self.new.latest ≡ self.old.latest }
         ensures steps { self.new.last_steps ≡ self.old.last_steps }
     {
         self.parts.cancel()
@@ -156,7 +162,8 @@ impl<T: Table<C>, const C: usize> Core<T, C> {
     /// Ends the waiting work with no answer.
     #[tactic(auto, unfolding(crate::specs::Turn::turn))]
     pub fn drop_work(&mut self)
-        ensures core { (at : ℕ) → self.new.core ≡ core_after self.old.core at DropWork }
+        ensures core { (now : ℕ) → self.new.core ≡ core_after self.old.core now DropWork }
+        ensures latest { self.new.latest ≡ self.old.latest }
         ensures steps { self.new.last_steps ≡ self.old.last_steps }
     {
         self.parts.drop_work();
@@ -171,8 +178,7 @@ impl<T: Table<C>, const C: usize> Core<T, C> {
 
     /// The work that waits.
     pub fn work(&self) -> Option<Work>
-        ensures cid { working self.now.core ≡ option_map (λ w. w.cid) result }
-        ensures status { status_now self.now.core ≡ option_map (λ w. status_number w.status) result }
+        ensures { waiting self.now.core ≡ option_map work_of result }
     {
         match &self.parts.work {
             Some(job) => Some(Work {
@@ -188,6 +194,14 @@ impl<T: Table<C>, const C: usize> Core<T, C> {
         ensures { bare_rows (T.rows result.now) ≡ self.now.core.state.rows }
     {
         self.parts.kept.table()
+    }
+
+    /// The number of credentials, at most `C`.
+    pub fn credentials(&self) -> usize
+        ensures value { result ≡ length self.now.core.state.rows }
+        ensures few { (result ≤ C) × (C ≤ 256) }
+    {
+        self.parts.kept.len()
     }
 
     /// The number of pending assertions.

@@ -77,6 +77,17 @@ impl<T: Table<C>, const C: usize> Kept<T, C> {
         known_room(&self.table);
     }
 
+    /// The number of rows.
+    #[tactic(auto, using(crate::proofs::BareRows::length_bare))]
+    pub(crate) fn len(&self) -> usize
+        ensures value { result ≡ length self.now }
+        ensures few { (result ≤ C) × (C ≤ 256) }
+    {
+        known_room(&self.table);
+        known_rows(&self.table);
+        self.table.len()
+    }
+
     /// Whether a row has the id.
     #[tactic(auto, using(crate::proofs::BareRows::has_bare))]
     pub(crate) fn has(&self, id: &[u8; 32]) -> bool
@@ -218,6 +229,13 @@ fn replaced<T: Table<C>, const C: usize>(table: &T, row: &Row) -> Option<[u8; 32
 fn known_room<T: Table<C>, const C: usize>(table: &T)
     ensures least { 1 ≤ C }
     ensures most { C ≤ 256 }
+{
+    let _ = table;
+}
+
+/// A table has at most as many rows as it has room for.
+fn known_rows<T: Table<C>, const C: usize>(table: &T)
+    ensures { length (T.rows table.now) ≤ C }
 {
     let _ = table;
 }
