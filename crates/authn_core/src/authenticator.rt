@@ -6,7 +6,7 @@ ghost use Rattle.ctap_message.specs.Requests.{steps_of, LARGEST};
 ghost use Rattle.authn_core.specs.Bare.{bare_rows};
 ghost use Rattle.authn_core.specs.State.{Request as Asks, PresenceIs, KeyIs, SignatureIs, Cancel, Drop as DropWork};
 ghost use Rattle.authn_core.specs.Turn.{first_state, core_after, core_answer, waiting};
-ghost use Rattle.authn_core.specs.Views.{answer_of, needs, needed, work_of};
+ghost use Rattle.authn_core.specs.Views.{answer_of, needs, needed, is_presence, is_key, is_sign, work_of};
 
 use crate::kept::Kept;
 use crate::parts::{Parts, need_of, status_of};
@@ -28,6 +28,7 @@ pub enum Turn {
 }
 
 /// What the authenticator needs of its caller before its work goes on.
+#[derive(Clone, Copy, Debug)]
 pub enum Need<'a> {
     /// Nothing.
     None,
@@ -42,6 +43,29 @@ pub enum Need<'a> {
         /// The bytes to sign.
         signed: &'a [u8],
     },
+}
+
+impl Need<'_> {
+    /// Whether the reply of a test of user presence is needed.
+    pub fn is_presence(&self) -> bool
+        ensures { result ≡ is_presence (needed self.now) }
+    {
+        matches!(self, Need::Presence)
+    }
+
+    /// Whether a new key pair is needed.
+    pub fn is_key(&self) -> bool
+        ensures { result ≡ is_key (needed self.now) }
+    {
+        matches!(self, Need::Key)
+    }
+
+    /// Whether a signature is needed.
+    pub fn is_sign(&self) -> bool
+        ensures { result ≡ is_sign (needed self.now) }
+    {
+        matches!(self, Need::Sign { .. })
+    }
 }
 
 /// What an authenticator is made with.
