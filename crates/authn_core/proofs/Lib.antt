@@ -2,3 +2,8 @@ pub mod BareRows
 pub mod Readiness
 pub mod Facts
 mod Examples
+pub mod Filtered
+pub mod Marked
+pub mod Rises
+pub mod Lawfulness
+pub mod Texts

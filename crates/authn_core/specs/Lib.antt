@@ -9,3 +9,4 @@ pub mod Turn
 pub mod Views
 pub mod Ready
 pub mod Padded
+pub mod Marks

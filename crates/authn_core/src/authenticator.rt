@@ -28,7 +28,7 @@ pub enum Turn {
 }
 
 /// What the authenticator needs of its caller before its work goes on.
-#[derive(Clone, Copy, Debug)]
+#[derive(Clone, Copy, Debug, PartialEq, Eq)]
 pub enum Need<'a> {
     /// Nothing.
     None,

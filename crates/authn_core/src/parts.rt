@@ -31,6 +31,12 @@ use fido_authdata::{AuthData, to_sign};
 use sha2::{Digest, Sha256};
 use std::marker::Model;
 
+/// How long after the start a reset may be asked for, in milliseconds (CTAP 2.1, section 6.6).
+const RESET_LIMIT: u64 = 10_000;
+
+/// How long after an assertion's answer the next one may be asked for, in milliseconds (CTAP 2.1, section 6.3).
+const NEXT_LIMIT: u64 = 30_000;
+
 /// The hash of an RP's id.
 #[tactic(auto, unfolding(crate::specs::Hash::rp_hash))]
 fn rp_hash_of(rp_id: &str) -> [u8; 32]
@@ -186,7 +192,7 @@ impl<T: Table<C>, const C: usize> Parts<T, C> {
         ensures state { self.new ≡ (reset_begins self.old.rows began now cid).state }
         ensures answer { answer_of result ≡ (reset_begins self.old.rows began now cid).answer }
     {
-        if now - began > 10000 {
+        if now - began > RESET_LIMIT {
             return self.refuse_all(refusals::NOT_ALLOWED);
         }
         self.pending.clear();
@@ -467,7 +473,7 @@ impl<T: Table<C>, const C: usize> Parts<T, C> {
         if self.pending.len() == 0 {
             return false;
         }
-        self.pending.cid() == cid && now.saturating_sub(self.pending.moment()) <= 30000
+        self.pending.cid() == cid && now.saturating_sub(self.pending.moment()) <= NEXT_LIMIT
     }
 
     /// A getNextAssertion.

@@ -1,0 +1,205 @@
+-- No two texts to sign of assertions by one row hold the same counter.
+use Rattle.std.proofs.Common.{◌≡◌, ℕ, ◌+◌, ◌≤◌, ◌<◌, ◌==◌, List, [], ◌∷◌, ◌++◌, length, flat_map, suc, Bool, true, false, cond, ◌&&◌, ◌||◌, not, Option, Some, None, option_to_list, is_some, refl, sym, ◌∙◌, ap, subst, arith, filter}
+use Rattle.std.specs.List.{find, list_any}
+use Rattle.std.specs.Str.{bytes_eq}
+use Rattle.cred_table.specs.declared.row.Row.{Row}
+use Rattle.cred_table.specs.Rows.{Lawful, has_id, same_id, no_two, raised, raised_row, counter_of, counter_in}
+use Rattle.authn_core.specs.declared.task.Job.{Job}
+use Rattle.authn_core.specs.Turn.{CoreState, core_after}
+use Rattle.authn_core.specs.Ready.{Ready}
+use Rattle.authn_core.specs.Marks.{Step, Orderly, core_behind, marks, mark, texts, text_of, same_text, all_differ, raised_by, task_raises, Mark, marked, left, stays, counted, is_raised, makes_id, row_has_id, makings, Text}
+use Rattle.authn_core.proofs.Rises.{IsRise, RisesTo, turn_rises}
+use Rattle.authn_core.proofs.Readiness.{and_both, and_is, turn_ready}
+use Rattle.authn_core.proofs.Lawfulness.{turn_lawful}
+use Rattle.authn_core.proofs.Marked.{turn_marked}
+use Rattle.std.proofs.lemmas.Bool.Decides.{nat_tests}
+use Rattle.std.proofs.lemmas.Slice.Eq.{bytes_eq-Decides}
+
+or_both : (a b : Bool) → (a || b) ≡ false → (a ≡ false) × (b ≡ false)
+or_both true b h = cc
+or_both false b h = (refl, h)
+
+or_is : (a b : Bool) → a ≡ false → b ≡ false → (a || b) ≡ false
+or_is true b h k = cc
+or_is false b h k = k
+
+not_is : (a : Bool) → not a ≡ true → a ≡ false
+not_is true h = cc
+not_is false h = refl
+
+-- every row with the id has a counter of at least n
+abbrev pub all_above : List ℕ → ℕ → List Row → Type 0
+all_above id n [] = Unit {0}
+all_above id n (r ∷ rows) = (has_id id r ≡ true → n ≤ r.counter) × all_above id n rows
+
+above_append : (id : List ℕ) (n : ℕ) (a b : List Row) → all_above id n a → all_above id n b → all_above id n (a ++ b)
+above_append id n [] b p q = q
+above_append id n (r ∷ a) b p q = (p.0, above_append id n a b p.1 q)
+
+-- a mark lowers no counter
+above_left : (id : List ℕ) (n : ℕ) (m : Mark) (rows : List Row) → all_above id n rows → all_above id n (flat_map (left (m ∷ [])) rows)
+above_left id n m [] h = tt
+above_left id n m (r ∷ rows) h = above_append id n (left (m ∷ []) r) (flat_map (left (m ∷ [])) rows) (one (stays (m ∷ []) r)) (above_left id n m rows h.1)
+  where
+    one : (b : Bool) → all_above id n (cond b (counted (m ∷ []) r ∷ []) [])
+    one true = ((λ e. let k = h.0 e in omega arith), tt)
+    one false = tt
+
+-- where the mark makes no row of the id, the counters stay above
+pub above_marked : (id : List ℕ) (n : ℕ) (m : Mark) (rows : List Row) → makes_id id m ≡ false → all_above id n rows → all_above id n (marked m rows)
+above_marked id n m rows e h = above_append id n (flat_map (left (m ∷ [])) rows) (option_to_list m.made) (above_left id n m rows h) (new m.made e)
+  where
+    new : (o : Option Row) → row_has_id id o ≡ false → all_above id n (option_to_list o)
+    new None e = tt
+    new (Some r) e = ((λ k. absurd (let f = k in cc)), tt)
+
+-- in rows that stand apart, the raised counter is above all of the id
+none_more : (q : List ℕ) (r : Row) (n : ℕ) (rows : List Row) → has_id q r ≡ true → list_any (same_id r) rows ≡ false → all_above q n rows
+none_more q r n [] e h = tt
+none_more q r n (s ∷ rows) e h =
+    let p = or_both (same_id r s) (list_any (same_id r) rows) h in
+    ((λ k. absurd (clashes k p.0)), none_more q r n rows e p.1)
+  where
+    clashes : has_id q s ≡ true → same_id r s ≡ false → ⊥
+    clashes k f =
+        let a : r.id ≡ q = (bytes_eq-Decides r.id q).0 e in
+        let b : s.id ≡ q = (bytes_eq-Decides s.id q).0 k in
+        let d : bytes_eq r.id s.id ≡ true = (bytes_eq-Decides r.id s.id).1 (a ∙ sym b) in cc
+
+pub raised_above : (id : List ℕ) (rows : List Row) → no_two same_id rows ≡ true → all_above id (counter_of id rows) rows
+raised_above id [] h = tt
+raised_above id (r ∷ rows) h =
+    let p = and_both (not (list_any (same_id r) rows)) (no_two same_id rows) h in
+    go (has_id id r) refl (not_is (list_any (same_id r) rows) p.0) (raised_above id rows p.1)
+  where
+    go : (b : Bool) → has_id id r ≡ b → list_any (same_id r) rows ≡ false → all_above id (counter_of id rows) rows →
+        (has_id id r ≡ true → counter_in (cond b (Some r) (find (has_id id) rows)) ≤ r.counter) × all_above id (counter_in (cond b (Some r) (find (has_id id) rows))) rows
+    go true e f ih = ((λ k. omega arith), none_more id r r.counter rows e f)
+    go false e f ih = ((λ k. absurd (let g = k in cc)), ih)
+
+-- What is above n in rows where the id is, is above in its counter.
+pub found_above : (id : List ℕ) (n : ℕ) (rows : List Row) → is_some (find (has_id id) rows) ≡ true → all_above id n rows → n ≤ counter_of id rows
+found_above id n [] e h = cc
+found_above id n (r ∷ rows) e h = go (has_id id r) refl e (λ k. found_above id n rows k h.1)
+  where
+    go : (b : Bool) → has_id id r ≡ b → is_some (cond b (Some r) (find (has_id id) rows)) ≡ true → (is_some (find (has_id id) rows) ≡ true → n ≤ counter_of id rows) → n ≤ counter_in (cond b (Some r) (find (has_id id) rows))
+    go true k f ih = h.0 k
+    go false k f ih = ih f
+
+-- All texts before were of earlier makings, or of counters that the rows are above.
+pub record Bounded (h : List Mark) (rows : List Row) (t : Text) : Type 0 where
+  pub earlier : t.making ≤ makings t.id h
+  pub above : t.making ≡ makings t.id h → all_above t.id t.counter rows
+
+pub bounded_more : (h : List Mark) (rows : List Row) (m : Mark) (t : Text) → Bounded h rows t → Bounded (m ∷ h) (marked m rows) t
+bounded_more h rows m t b = go (makes_id t.id m) refl
+  where
+    go : (v : Bool) → makes_id t.id m ≡ v → Bounded (m ∷ h) (marked m rows) t
+    go true e = record { earlier = (let k = b.earlier in rw e (omega arith)); above = λ f. absurd (let k = b.earlier in let g = rw e at f in omega arith) }
+    go false e = record { earlier = rw e b.earlier; above = λ f. above_marked t.id t.counter m rows e (b.above (rw e at f)) }
+
+-- a new text differs from each that is bounded
+pub new_differs : (h : List Mark) (rows : List Row) (id : List ℕ) (t : Text) → is_some (find (has_id id) rows) ≡ true → Bounded h rows t →
+    t.id ≡ id → t.making ≡ makings id h → t.counter < counter_of id rows + 1
+new_differs h rows id t e b i m =
+    let P : List ℕ → Type 0 = λ x. (t.making ≡ makings x h → all_above x t.counter rows) in
+    let k = found_above id t.counter rows e (subst P i b.above m) in omega arith
+
+above_raised : (id : List ℕ) (n : ℕ) (rows : List Row) → all_above id n rows → all_above id (n + 1) (raised id rows)
+above_raised id n [] h = tt
+above_raised id n (r ∷ rows) h = go (has_id id r) refl (above_raised id n rows h.1)
+  where
+    go : (b : Bool) → has_id id r ≡ b → all_above id (n + 1) (raised id rows) → all_above id (n + 1) (cond b (record r { counter = r.counter + 1 }) r ∷ raised id rows)
+    go true e ih = ((λ k. let f = h.0 e in omega arith), ih)
+    go false e ih = ((λ k. absurd (let g = k in cc)), ih)
+
+abbrev pub AllBounded : List Mark → List Row → List Text → Type 0
+AllBounded h rows [] = Unit {0}
+AllBounded h rows (t ∷ ts) = Bounded h rows t × AllBounded h rows ts
+
+all_more_bounded : (h : List Mark) (rows : List Row) (m : Mark) (ts : List Text) → AllBounded h rows ts → AllBounded (m ∷ h) (marked m rows) ts
+all_more_bounded h rows m [] b = tt
+all_more_bounded h rows m (t ∷ ts) b = (bounded_more h rows m t b.0, all_more_bounded h rows m ts b.1)
+
+makings_grow : (id : List ℕ) (m : Mark) (h : List Mark) → makings id h ≤ makings id (m ∷ h)
+makings_grow id m h = go (makes_id id m)
+  where
+    go : (b : Bool) → makings id h ≤ length (cond b (m ∷ filter (λ m. makes_id id m) h) (filter (λ m. makes_id id m) h))
+    go true = omega arith
+    go false = omega arith
+
+-- the new text differs from all before
+all_new : (h : List Mark) (rows : List Row) (id : List ℕ) (ts : List Text) → is_some (find (has_id id) rows) ≡ true → AllBounded h rows ts →
+    list_any (same_text (record { id = id; making = makings id h; counter = counter_of id rows + 1 })) ts ≡ false
+all_new h rows id [] e b = refl
+all_new h rows id (t ∷ ts) e b =
+    or_is (same_text (record { id = id; making = makings id h; counter = counter_of id rows + 1 }) t)
+    (list_any (same_text (record { id = id; making = makings id h; counter = counter_of id rows + 1 })) ts)
+    (go (bytes_eq id t.id) (makings id h == t.making) (counter_of id rows + 1 == t.counter) refl refl refl) (all_new h rows id ts e b.1)
+  where
+    go : (x y z : Bool) → bytes_eq id t.id ≡ x → (makings id h == t.making) ≡ y → (counter_of id rows + 1 == t.counter) ≡ z → (x && (y && z)) ≡ false
+    go false y z p q r = refl
+    go true false z p q r = refl
+    go true true false p q r = refl
+    go true true true p q r =
+        let a : id ≡ t.id = (bytes_eq-Decides id t.id).0 p in
+        let d : makings id h ≡ t.making = grind (arith, nat_tests) in
+        let f : counter_of id rows + 1 ≡ t.counter = grind (arith, nat_tests) in
+        let k = new_differs h rows id t e b.0 (sym a) (sym d) in
+        absurd (omega arith)
+
+-- The step: the texts of a longer history.
+one_text : (h : List Mark) (rows rows' : List Row) (m : Mark) (before behind : Option Job) (ts : List Text) →
+    rows' ≡ marked m rows → no_two same_id rows ≡ true → RisesTo rows before rows' behind → AllBounded h rows ts → all_differ ts ≡ true →
+    AllBounded (m ∷ h) rows' (option_to_list (text_of h (raised_by before behind) behind) ++ ts) × (all_differ (option_to_list (text_of h (raised_by before behind) behind) ++ ts) ≡ true)
+one_text h rows rows' m before None ts e l r b d =
+    let P : List Row → Type 0 = λ x. AllBounded (m ∷ h) x ts in (subst P (sym e) (all_more_bounded h rows m ts b), d)
+one_text h rows rows' m before (Some w) ts e l r b d = go (task_raises before w.task) refl
+  where
+    old : AllBounded (m ∷ h) rows' ts
+    old = let P : List Row → Type 0 = λ x. AllBounded (m ∷ h) x ts in subst P (sym e) (all_more_bounded h rows m ts b)
+
+    go : (o : Option (List ℕ)) → task_raises before w.task ≡ o →
+        AllBounded (m ∷ h) rows' (option_to_list (text_of h o (Some w)) ++ ts) × (all_differ (option_to_list (text_of h o (Some w)) ++ ts) ≡ true)
+    go None f = (old, d)
+    go (Some id) f =
+        let i = r id f in
+        let P : List Row → Type 0 = λ x. all_above id (counter_of id rows + 1) x in
+        let Q : ℕ → Type 0 = λ n. (Bounded (m ∷ h) rows' (record { id = id; making = makings id h; counter = n }) × AllBounded (m ∷ h) rows' ts)
+        × ((not (list_any (same_text (record { id = id; making = makings id h; counter = n })) ts) && all_differ ts) ≡ true) in
+        let new : Bounded (m ∷ h) rows' (record { id = id; making = makings id h; counter = counter_of id rows + 1 }) =
+        record { earlier = makings_grow id m h; above = λ k. subst P (sym i.raises) (above_raised id (counter_of id rows) rows (raised_above id rows l)) } in
+        subst Q (sym i.counter) ((new, old), and_is (not (list_any (same_text (record { id = id; making = makings id h; counter = counter_of id rows + 1 })) ts)) (all_differ ts) (ap not (all_new h rows id ts i.there b)) d)
+
+-- what holds of the authenticator after every history
+record Sound (k : CoreState) : Type 0 where
+  ready : Ready (k.setup).room k.state
+  lawful : Lawful (k.setup).room (k.state).rows
+
+core_sound : (start : CoreState) (h : List Step) → Ready (start.setup).room start.state → Lawful (start.setup).room (start.state).rows → Sound (core_behind start h)
+unfolding core_behind
+core_sound start [] r l = record { ready = r; lawful = l }
+core_sound start (x ∷ past) r l =
+    let k = core_behind start past in
+    let s = core_sound start past r l in
+    record { ready = turn_ready k.setup k.state x.at x.event s.ready; lawful = turn_lawful k.setup k.state x.at x.event s.ready s.lawful }
+
+pub rows_lawful : (start : CoreState) (h : List Step) → Ready (start.setup).room start.state → Lawful (start.setup).room (start.state).rows
+    → Lawful ((core_behind start h).setup).room ((core_behind start h).state).rows
+rows_lawful start h r l = (core_sound start h r l).lawful
+
+texts_bounded : (start : CoreState) (h : List Step) → Ready (start.setup).room start.state → Lawful (start.setup).room (start.state).rows → Orderly start h →
+    AllBounded (marks start h) (core_behind start h).state.rows (texts start h) × (all_differ (texts start h) ≡ true)
+unfolding core_behind marks texts Orderly
+texts_bounded start [] r l o = (tt, refl)
+texts_bounded start (x ∷ past) r l o =
+    let k = core_behind start past in
+    let ih = texts_bounded start past r l o.1 in
+    let sound = core_sound start past r l in
+    let after = core_after k x.at x.event in
+    one_text (marks start past) (k.state).rows (after.state).rows (mark (k.state).work x.event (after.state).work) (k.state).work (after.state).work (texts start past)
+    (turn_marked k.setup k.state x.at x.event o.0) (sound.lawful).distinct (turn_rises k.setup k.state x.at x.event o.0 sound.ready) ih.0 ih.1
+
+-- No two texts to sign of assertions by one row hold the same counter.
+pub texts_differ : (start : CoreState) (h : List Step) → Ready (start.setup).room start.state → Lawful (start.setup).room (start.state).rows → Orderly start h → all_differ (texts start h) ≡ true
+texts_differ start h r l o = (texts_bounded start h r l o).1

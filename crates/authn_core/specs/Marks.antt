@@ -1,0 +1,158 @@
+-- The credentials after a history of events, by filters and counts: what each event made, raised or reset (WebAuthn Level 2,
+-- sections 6.1.1 and 6.3), and the texts to sign of its assertions.
+use Rattle.std.specs.Prelude.{ℕ, ◌+◌, List, [], ◌∷◌, ◌++◌, length, flat_map, Bool, true, false, ◌&&◌, not, if◌then◌else◌, Option, Some, None, option_to_list, ◌≡◌, ◌==◌}
+use Rattle.std.specs.List.{filter, list_any}
+use Rattle.std.specs.Str.{bytes_eq}
+use Rattle.cred_table.specs.declared.row.Row.{Row}
+use Rattle.cred_table.specs.Rows.{has_id, replaces}
+use Rattle.authn_core.specs.declared.replies.Presence.{Presence}
+use Rattle.authn_core.specs.declared.replies.Presence.TheVariants.{Granted}
+use Rattle.authn_core.specs.declared.task.Task.{Task}
+use Rattle.authn_core.specs.declared.task.Task.TheVariants.{Resets, SignsMake, SignsAssert}
+use Rattle.authn_core.specs.declared.task.Job.{Job}
+use Rattle.authn_core.specs.MakeCredential.{new_row}
+use Rattle.authn_core.specs.State.{State, Event, Request, PresenceIs, SignatureIs}
+use Rattle.authn_core.specs.Turn.{CoreState, core_after}
+
+-- what an input does to the rows: it makes one, it raises one's counter, or it is a granted reset
+pub record Mark : Type 0 where
+  pub made : Option Row
+  pub raises : Option (List ℕ)
+  pub resets : Bool
+
+abbrev pub made_replaces : Option Row → Row → Bool
+made_replaces None r = false
+made_replaces (Some new) r = replaces new r
+
+abbrev pub is_raised : Option (List ℕ) → Row → Bool
+is_raised None r = false
+is_raised (Some id) r = bytes_eq r.id id
+
+-- a row stays where no granted reset and no row that replaces it was made behind it
+abbrev pub stays : List Mark → Row → Bool
+stays later r = not (list_any (λ m. m.resets) later) && not (list_any (λ m. made_replaces m.made r) later)
+
+-- its counter is that at its making and the number of its raises
+abbrev pub counted : List Mark → Row → Row
+counted later r = record r { counter = r.counter + length (filter (λ m. is_raised m.raises r) later) }
+
+abbrev pub left : List Mark → Row → List Row
+left later r = if stays later r then counted later r ∷ [] else []
+
+-- The rows of the start and the made ones in order, each with the marks behind it, of which the later ones are handed along
+-- in order of time. The history is newest first.
+unfoldable pub rows_among : List Row → List Mark → List Mark → List Row
+rows_among start later [] = flat_map (left later) start
+rows_among start later (m ∷ past) =
+    rows_among start (m ∷ later) past ++ flat_map (left later) (option_to_list m.made)
+
+abbrev pub rows_of : List Row → List Mark → List Row
+rows_of start h = rows_among start [] h
+
+-- one mark's change of the rows, and all of them one after another
+abbrev pub marked : Mark → List Row → List Row
+marked m rows = flat_map (left (m ∷ [])) rows ++ option_to_list m.made
+
+unfoldable pub folded : List Row → List Mark → List Row
+folded start [] = start
+folded start (m ∷ past) = marked m (folded start past)
+
+abbrev pub row_made : Task → Option Row
+row_made (SignsMake m key signed) = Some (new_row m key)
+row_made task = None
+
+abbrev pub task_resets : Task → Bool
+task_resets Resets = true
+task_resets task = false
+
+abbrev pub task_signs_by : List ℕ → Task → Bool
+task_signs_by id (SignsAssert a counter signed) = bytes_eq a.id id
+task_signs_by id task = false
+
+-- whether an assertion's signature by the id is waited for
+abbrev pub signs_by : List ℕ → Option Job → Bool
+signs_by id None = false
+signs_by id (Some w) = task_signs_by id w.task
+
+abbrev pub task_raises : Option Job → Task → Option (List ℕ)
+task_raises before (SignsAssert a counter signed) = if signs_by a.id before then None else Some a.id
+task_raises before task = None
+
+-- What an input does to the rows, read of the work before it and behind it.
+abbrev pub made_by : Option Job → Event → Option Row
+made_by (Some w) (SignatureIs (Some sig)) = row_made w.task
+made_by work e = None
+
+abbrev pub is_reset : Option Job → Event → Bool
+is_reset (Some w) (PresenceIs Granted) = task_resets w.task
+is_reset work e = false
+
+-- an id is raised where its assertion's signature is waited for behind the input, and not before it
+abbrev pub raised_by : Option Job → Option Job → Option (List ℕ)
+raised_by before None = None
+raised_by before (Some w) = task_raises before w.task
+
+abbrev pub mark : Option Job → Event → Option Job → Mark
+mark before e behind = record { made = made_by before e; raises = raised_by before behind; resets = is_reset before e }
+
+-- A history of events with their moments, newest first.
+pub record Step : Type 0 where
+  pub at : ℕ
+  pub event : Event
+
+unfoldable pub core_behind : CoreState → List Step → CoreState
+core_behind start [] = start
+core_behind start (x ∷ past) = core_after (core_behind start past) x.at x.event
+
+unfoldable pub marks : CoreState → List Step → List Mark
+marks start [] = []
+marks start (x ∷ past) =
+    mark (core_behind start past).state.work x.event (core_behind start (x ∷ past)).state.work ∷ marks start past
+
+-- a request comes only where no work waits
+abbrev pub Comes : Option Job → Event → Type 0
+Comes work (Request cid bytes) = work ≡ None
+Comes work e = Unit {0}
+
+unfoldable pub Orderly : CoreState → List Step → Type 0
+Orderly start [] = Unit {0}
+Orderly start (x ∷ past) = Comes (core_behind start past).state.work x.event × Orderly start past
+
+abbrev pub row_has_id : List ℕ → Option Row → Bool
+row_has_id id None = false
+row_has_id id (Some r) = has_id id r
+
+abbrev pub task_counter : Task → ℕ
+task_counter (SignsAssert a counter signed) = counter
+task_counter task = 0
+
+-- A text to sign of an assertion: the row's id, which of the makings of that id it was, and the counter that it holds.
+pub record Text : Type 0 where
+  pub id : List ℕ
+  pub making : ℕ
+  pub counter : ℕ
+
+abbrev pub makes_id : List ℕ → Mark → Bool
+makes_id id m = row_has_id id m.made
+
+abbrev pub makings : List ℕ → List Mark → ℕ
+makings id h = length (filter (λ m. makes_id id m) h)
+
+abbrev pub text_of : List Mark → Option (List ℕ) → Option Job → Option Text
+text_of past (Some id) (Some w) = Some (record { id = id; making = makings id past; counter = task_counter w.task })
+text_of past r w = None
+
+-- the texts to sign of a history
+unfoldable pub texts : CoreState → List Step → List Text
+texts start [] = []
+texts start (x ∷ past) =
+    option_to_list (text_of (marks start past) (raised_by (core_behind start past).state.work (core_behind start (x ∷ past)).state.work) (core_behind start (x ∷ past)).state.work)
+    ++ texts start past
+
+-- no two are equal
+abbrev pub same_text : Text → Text → Bool
+same_text a b = bytes_eq a.id b.id && (a.making == b.making && a.counter == b.counter)
+
+abbrev pub all_differ : List Text → Bool
+all_differ [] = true
+all_differ (t ∷ ts) = not (list_any (same_text t) ts) && all_differ ts
