@@ -6,4 +6,5 @@ pub mod Filtered
 pub mod Marked
 pub mod Rises
 pub mod Lawfulness
+pub mod PendingFew
 pub mod Texts

@@ -1,7 +1,8 @@
 //! What holds over the definitions alone. Each law is the contract of a function that does nothing.
 
-ghost use Rattle.std.specs.Prelude.{◌≡◌, ℕ, List, true};
+ghost use Rattle.std.specs.Prelude.{◌≡◌, ◌≤◌, ℕ, List, true};
 ghost use Rattle.cred_table.specs.Rows.{Lawful};
+ghost use Rattle.cred_table.specs.Waiting.{pending_count};
 ghost use Rattle.authn_core.specs.State.{Setup, State, Event as AnyEvent};
 ghost use Rattle.authn_core.specs.Turn.{CoreState, turn};
 ghost use Rattle.authn_core.specs.Ready.{Ready};
@@ -14,11 +15,13 @@ pub fn turns_keep_ready()
 
 /// The rows after any history are the start's and those that it made, in order, less what a granted reset or a replacing row
 /// took out since; each counter is that of the start, or 0 for a made row, and the raises of that row alone. They are lawful
-/// where the start's are: at most as many as there is room for.
+/// where the start's are: at most as many as there is room for. No more assertions are pending.
 pub fn rows_follow_history()
     ensures rows { (start : CoreState) (h : List Step) → Orderly start h → (core_behind start h).state.rows ≡ rows_of start.state.rows (marks start h) }
     ensures lawful { (start : CoreState) (h : List Step) → Ready start.setup.room start.state → Lawful start.setup.room start.state.rows
-        → Lawful (core_behind start h).setup.room (core_behind start h).state.rows }
+        → Lawful start.setup.room (core_behind start h).state.rows }
+    ensures pending { (start : CoreState) (h : List Step) → Ready start.setup.room start.state → Lawful start.setup.room start.state.rows
+        → pending_count start.state.pending ≤ start.setup.room → pending_count (core_behind start h).state.pending ≤ start.setup.room }
 {}
 
 /// No two texts to sign of assertions by one row hold the same counter.

@@ -16,3 +16,5 @@ pub mod Answering
 pub mod Noted
 pub mod Noise
 pub mod Drives
+pub mod Credentials
+pub mod Headline

@@ -1,5 +1,5 @@
 -- The meters that a history names go on by one input.
-use Rattle.std.proofs.Common.{◌≡◌, ℕ, ◌+◌, ◌-◌, ◌*◌, List, [], ◌∷◌, ◌++◌, length, max, min, sum_by, Option, Some, None, option_map, refl, sym, ◌∙◌, ap, arith}
+use Rattle.std.proofs.Common.{◌≡◌, ℕ, ◌+◌, ◌-◌, ◌*◌, ◌≤◌, List, [], ◌∷◌, ◌++◌, length, max, min, sum_by, Option, Some, None, option_map, refl, sym, ◌∙◌, ap, arith}
 use Rattle.std.proofs.lemmas.List.Sums.{sum_by-cons}
 use Rattle.hid_assemble.specs.Assembly.{held_bytes}
 use Rattle.ctap_message.specs.Requests.{steps_of}
@@ -14,7 +14,7 @@ use Rattle.token_session.specs.Machine.{State, Turn, turn, start_state}
 use Rattle.token_session.specs.History.{as_open}
 use Rattle.token_session.specs.Law.{named, event_at, Behind}
 use Rattle.cred_table.specs.Waiting.{pending_count}
-use Rattle.token_session.specs.Meters.{LARGEST, peak_rows, peak_pending, metered_by, listed, requests, peak_held, meters_of, one_more, bytes_in, steps_in, metered, SessionState, StandsBehind, stepped, session_of}
+use Rattle.token_session.specs.Meters.{AreBounded, LARGEST, peak_rows, peak_pending, metered_by, listed, requests, peak_held, meters_of, one_more, bytes_in, steps_in, metered, SessionState, StandsBehind, stepped, session_of}
 use Rattle.token_session.proofs.Runs.{turn_behind}
 
 -- the bytes held are those that the history names
@@ -95,3 +95,10 @@ machine_behind s start h b = ap (λ (v : SessionState). v.machine) b
 pub session_held : (start : Start) (h : List Judged) → held_bytes (session_of start h).machine.current ≡ held start h
 unfolding session_of
 session_held start h = held_named start h
+
+-- The meters stay bounded, where each message takes at most four steps for each byte after the first and two more.
+pub metered_bounded : (each : (m : List ℕ) → steps_of m ≤ 4 * (length m - 1) + 2) (m : Meters) (held rows pending : ℕ) (e : Option Event) → AreBounded m → AreBounded (metered m held rows pending (reading_in e))
+unfolding metered
+metered_bounded each m held rows pending None h = omega arith
+metered_bounded each m held rows pending (Some (Request cid bytes)) h = let few = each bytes in omega arith
+metered_bounded each m held rows pending (Some other) h = omega arith

@@ -8,3 +8,5 @@ pub mod Meters
 pub mod Carried
 pub mod Noise
 pub mod Drive
+pub mod Credentials
+pub mod Headline

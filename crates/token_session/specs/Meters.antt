@@ -1,5 +1,5 @@
 -- The meters of a session: what a history names, and what one turn adds.
-use Rattle.std.specs.Prelude.{◌≡◌, ℕ, ◌+◌, ◌-◌, ◌^◌, List, [], ◌∷◌, ◌++◌, length, max, min, sum_by, Option, Some, None}
+use Rattle.std.specs.Prelude.{◌≡◌, ◌≤◌, ℕ, ◌+◌, ◌-◌, ◌*◌, ◌^◌, List, [], ◌∷◌, ◌++◌, length, max, min, sum_by, Option, Some, None}
 use Rattle.hid_assemble.specs.Assembly.{held_bytes}
 use Rattle.authn_core.specs.Turn.{Start}
 use Rattle.cred_table.specs.Waiting.{pending_count}
@@ -72,6 +72,10 @@ metered m held rows pending request = record {
   bytes = min (m.bytes + bytes_in request) LARGEST;
   steps = min (m.steps + steps_in request) LARGEST;
 }
+
+-- Reading took at most four steps for each byte after a command byte, and two for each request.
+abbrev pub AreBounded : Meters → Type 0
+AreBounded m = m.steps ≤ 4 * m.bytes + 2 * m.requests
 
 -- A session: the composed turn's state, and its meters.
 pub record SessionState : Type 0 where

@@ -175,12 +175,7 @@ impl<const C: usize> Authenticator<C> {
     }
 
     /// The caller's signature, which came at `now`; `None` where it has none.
-    pub(crate) fn signature(
-        &mut self,
-        now: u64,
-        signature: Option<Signature>,
-        outbox: &mut Outbox,
-    )
+    pub(crate) fn signature(&mut self, now: u64, signature: Option<Signature>, outbox: &mut Outbox)
         requires room { length outbox.old ≤ 1 }
         requires moment { self.old.latest ≤ now }
         ensures core { self.new.core ≡ event_core self.old.core now (Some (SignatureIs signature)) }

@@ -5,7 +5,9 @@
 ghost use Rattle.std.specs.Prelude.{◌≡◌, ◌≤◌, ◌⊎◌, ◌+◌, ◌*◌, ℕ, List, [], ◌∷◌, length, max, true, Option, Some, None, option_to_list, if◌then◌else◌};
 ghost use Rattle.token_session.specs.declared.input.Timed.{Timed as OneInput};
 ghost use Rattle.authn_core.specs.State.{Request};
-ghost use Rattle.authn_core.specs.Turn.{Start, working};
+ghost use Rattle.cred_table.specs.Rows.{Lawful};
+ghost use Rattle.authn_core.specs.Turn.{Start, working, first_state};
+ghost use Rattle.authn_core.specs.Marks.{marks, rows_of, texts, all_differ};
 ghost use Rattle.ctap_message.specs.Answers.{info_answer};
 ghost use Rattle.hid_packet.specs.Commands.{CBOR, PING};
 ghost use Rattle.hid_packet.specs.Message.{written};
@@ -18,9 +20,12 @@ ghost use Rattle.token_session.specs.History.{finished_at, judge, judged, open_a
 ghost use Rattle.token_session.specs.Machine.{State, machine, turn, passed};
 ghost use Rattle.token_session.specs.Events.{event_packets};
 ghost use Rattle.token_session.specs.Law.{all_open, keeps_alive, Behind, sent_now, onto, sent_from, run_state, run_sent};
+ghost use Rattle.token_session.specs.Credentials.{steps};
+ghost use Rattle.token_session.specs.Headline.{IsAnswered};
 ghost use Rattle.token_session.specs.Meters.{SessionState, meters_of, session_of, stepped};
 ghost use Rattle.token_session.specs.Noise.{Quiet, is_noise_at, is_noise_behind, quiet_from, quiet_sent, tick_at};
 
+use authn_core::laws::{rows_follow_history, texts_to_sign_differ};
 use ctap_message::laws::steps_are_bounded;
 
 /// The composed turn, over any history, is in the state that the history names, and each input sends
@@ -115,3 +120,27 @@ pub fn quiet_histories_are_alike()
     ensures runs { (n : ℕ) (start : Start) (h g xs ys : List OneInput) → Quiet start h g → Quiet start (onto xs h) (onto ys g)
         → sent_from n start g ys ≡ quiet_from n start h xs ys }
 {}
+
+/// The credentials after any history are the start's and those that it made, in order, less what a granted reset or a
+/// replacing credential took out since; each counter is that of the start, or 0 for a made one, and the raises of that
+/// credential alone. They stay lawful, and no two texts to sign of assertions by one credential hold the same counter.
+pub fn credentials_follow_history()
+    ensures rows { (start : Start) (h : List OneInput) → (core start (judged start h)).state.rows ≡ rows_of start.rows (marks (first_state start) (steps start (judged start h))) }
+    ensures lawful { (start : Start) (h : List OneInput) → Lawful start.room start.rows → Lawful start.room (core start (judged start h)).state.rows }
+    ensures texts { (start : Start) (h : List OneInput) → Lawful start.room start.rows → all_differ (texts (first_state start) (steps start (judged start h))) ≡ true }
+{
+    rows_follow_history();
+    texts_to_sign_differ();
+}
+
+/// The headline. For every start and every list of inputs, the packets sent are exactly those that the history's definition
+/// names, each finished message being the bytes that its packets carried; and after every input the unfinished message holds
+/// at most 7609 bytes, the table and the pending assertions at most as many rows as there is room for, and reading a request
+/// of n bytes took at most 4n + 2 steps. Its premises: the start's rows are lawful, and each packet has 64 bytes, as each
+/// packet and each table of this program do.
+pub fn every_history_is_answered()
+    ensures { (start : Start) (h : List OneInput) → Lawful start.room start.rows → ArePackets h → IsAnswered start h }
+{
+    rows_follow_history();
+    steps_are_bounded();
+}

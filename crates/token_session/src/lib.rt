@@ -15,4 +15,8 @@ pub use input::{Input, Meters, Sent, Timed};
 pub use session::Session;
 
 #[cfg(test)]
+mod driving_tests;
+#[cfg(test)]
+mod registration_tests;
+#[cfg(test)]
 mod tests;

@@ -7,7 +7,7 @@ ghost use Rattle.authn_core.specs.Turn.{Start};
 ghost use Rattle.token_session.specs.declared.input.Timed.{Timed as OneInput};
 ghost use Rattle.token_session.specs.History.{judge, judged, held};
 ghost use Rattle.token_session.specs.Law.{sent_now};
-ghost use Rattle.token_session.specs.Meters.{SessionState, StandsBehind, stepped, sent_by, session_of, metered};
+ghost use Rattle.token_session.specs.Meters.{AreBounded, SessionState, StandsBehind, stepped, sent_by, session_of, metered};
 ghost use Rattle.token_session.specs.Noise.{is_noise_at, is_noise_behind};
 
 use crate::authenticator::Reading;
@@ -15,6 +15,7 @@ use crate::input::{Input, Meters};
 use crate::machine::Machine;
 use authn_core::{Config, Need};
 use cred_table::{Store, Table};
+use ctap_message::laws::steps_are_bounded;
 use hid_packet::Outbox;
 use std::marker::Model;
 
@@ -28,11 +29,13 @@ pub struct Session<const C: usize> {
 
 // Clauses see the state of the composed turn, and the meters.
 impl<const C: usize> Model for Session<C> {
-    ghost use Rattle.token_session.specs.Meters.{SessionState};
+    ghost use Rattle.token_session.specs.Meters.{SessionState, AreBounded};
 
     ghost Value = { SessionState };
 
     ghost view = { λ s. record { machine = s.machine; meters = s.meters } };
+
+    ghost invariant = { λ s. AreBounded s.meters };
 }
 
 /// The meters after an input, with what is held now and what reading the request took that it finished.
@@ -96,6 +99,7 @@ impl<const C: usize> Session<C> {
         ensures behind { (start : Start) (h : List OneInput) → StandsBehind self.old start h → StandsBehind self.new start (record { at = at; input = input } ∷ h) }
         ensures sent { (start : Start) (h : List OneInput) → StandsBehind self.old start h → outbox.new ≡ sent_now start h (record { at = at; input = input }) }
     {
+        steps_are_bounded();
         let reading = self.machine.step(at, input, outbox);
         let held = self.machine.held();
         let rows = self.machine.credentials() as u16;
@@ -156,9 +160,11 @@ impl<const C: usize> Session<C> {
         self.machine.table()
     }
 
-    /// What the session has held and served.
+    /// What the session has held and served. Reading its requests took at most four steps for each byte after a command
+    /// byte, and two for each request.
     pub fn meters(&self) -> Meters
-        ensures { result ≡ self.now.meters }
+        ensures value { result ≡ self.now.meters }
+        ensures bounded { AreBounded result }
     {
         self.meters
     }

@@ -6,7 +6,7 @@ use hid_packet::{Outbox, Packet};
 use std::process::Abort;
 
 /// The bytes, and zeros behind them.
-fn pad(bytes: &[u8]) -> Packet {
+pub(crate) fn pad(bytes: &[u8]) -> Packet {
     let mut packet = [0; 64];
     for (slot, byte) in packet.iter_mut().zip(bytes) {
         *slot = *byte;
@@ -15,7 +15,13 @@ fn pad(bytes: &[u8]) -> Packet {
 }
 
 /// Steps the session by a packet, and asserts what it sends.
-fn step(rt: &impl Abort, session: &mut Session<4>, at: u64, bytes: &[u8], expected: &[Packet]) {
+pub(crate) fn step(
+    rt: &impl Abort,
+    session: &mut Session<4>,
+    at: u64,
+    bytes: &[u8],
+    expected: &[Packet],
+) {
     step_by(rt, session, at, Input::Packet(pad(bytes)), expected);
 }
 
@@ -29,7 +35,7 @@ fn step_by(rt: &impl Abort, session: &mut Session<4>, at: u64, input: Input, exp
 }
 
 /// INIT with the nonce 08..08, and its answer.
-const INIT: [u8; 15] = [255, 255, 255, 255, 0x86, 0, 8, 8, 8, 8, 8, 8, 8, 8, 8];
+pub(crate) const INIT: [u8; 15] = [255, 255, 255, 255, 0x86, 0, 8, 8, 8, 8, 8, 8, 8, 8, 8];
 
 fn greeting(cid: u8) -> Packet {
     let start = [
@@ -39,18 +45,18 @@ fn greeting(cid: u8) -> Packet {
 }
 
 /// A session whose channels 1 and 2 were given out at the moment 0.
-fn two_channels(rt: &impl Abort) -> Session<4> {
+pub(crate) fn two_channels(rt: &impl Abort) -> Session<4> {
     let mut session = Session::bare([0; 16], 0);
     step(rt, &mut session, 0, &INIT, &[greeting(1)]);
     step(rt, &mut session, 0, &INIT, &[greeting(2)]);
     session
 }
 
-fn error(cid: u8, code: u8) -> Packet {
+pub(crate) fn error(cid: u8, code: u8) -> Packet {
     pad(&[0, 0, 0, cid, 0xbf, 0, 1, code])
 }
 
-fn held(bytes: u16) -> Meters {
+pub(crate) fn held(bytes: u16) -> Meters {
     Meters {
         held: bytes,
         rows: 0,
@@ -61,10 +67,10 @@ fn held(bytes: u16) -> Meters {
     }
 }
 
-const PING_100: [u8; 7] = [0, 0, 0, 1, 0x81, 0, 100];
+pub(crate) const PING_100: [u8; 7] = [0, 0, 0, 1, 0x81, 0, 100];
 
 /// The two packets that answer a PING of 100 zero bytes on channel 1.
-fn pong_100() -> [Packet; 2] {
+pub(crate) fn pong_100() -> [Packet; 2] {
     [pad(&PING_100), pad(&[0, 0, 0, 1])]
 }
 
@@ -136,7 +142,7 @@ fn info(aaguid: u8) -> [Packet; 2] {
 }
 
 /// The answer on channel 1 that is a status alone.
-fn refused(status: u8) -> Packet {
+pub(crate) fn refused(status: u8) -> Packet {
     pad(&[0, 0, 0, 1, 0x90, 0, 1, status])
 }
 

@@ -1,0 +1,138 @@
+-- The authenticator after a history is that of its events, so that the laws of its credentials hold of the history.
+use Rattle.std.proofs.Common.{◌≡◌, ℕ, ◌≤◌, max, nat_le, Bool, true, false, cond, ◌&&◌, ◌==◌, List, [], ◌∷◌, ◌++◌, Option, Some, None, option_map, refl, sym, ◌∙◌, ap, subst, arith}
+use Rattle.hid_assemble.specs.Assembly.{Message}
+use Rattle.hid_assemble.specs.Table.{is_on}
+use Rattle.hid_packet.specs.declared.packet.Packet.{Packet as Packet64}
+use Rattle.hid_packet.specs.Commands.{CANCEL, CBOR, INIT}
+use Rattle.hid_packet.specs.Packet.{channel, is_command, message_length}
+use Rattle.cred_table.specs.Rows.{Lawful}
+use Rattle.cred_table.specs.Waiting.{pending_count}
+use Rattle.authn_core.specs.declared.task.Job.{Job}
+use Rattle.authn_core.specs.State.{Event, Request, Cancel, Drop}
+use Rattle.authn_core.specs.Turn.{Start, CoreState, Work, as_work, working, waiting, first_state, core_after}
+use Rattle.authn_core.specs.Ready.{Ready}
+use Rattle.authn_core.specs.Marks.{Step, Comes, Orderly, core_behind, marks, rows_of, texts, all_differ}
+use Rattle.token_session.specs.declared.input.Input.{Input}
+use Rattle.token_session.specs.declared.input.Input.TheVariants.{Packet}
+use Rattle.token_session.specs.declared.input.Timed.{Timed}
+use Rattle.token_session.specs.History.{Begun, Judged, admits, core, end, event, event_to, finished, finished_long, given, is_last, judge, judged, open_at, packet_event}
+use Rattle.token_session.specs.Events.{event_core, reply_in}
+use Rattle.token_session.specs.Replies.{request_of}
+use Rattle.token_session.specs.Law.{event_at}
+use Rattle.token_session.specs.Credentials.{step_of, steps}
+use Rattle.token_session.proofs.Opens.{and_true}
+use Rattle.token_session.proofs.Serve.{Safe, OpenGiven, cond_case, says_admitted}
+use Rattle.token_session.proofs.Follows.{Good, good_judged, judged_at, safe_at}
+
+one_step : (start : CoreState) (at : ℕ) (e : Option Event) (past : List Step) → core_behind start (step_of at e ++ past) ≡ event_core (core_behind start past) at e
+unfolding core_behind
+one_step start at None past = refl
+one_step start at (Some e) past = refl
+
+pub core_is : (start : Start) (h : List Judged) → core start h ≡ core_behind (first_state start) (steps start h)
+unfolding core steps core_behind event_at
+core_is start [] = refl
+core_is start (e ∷ past) =
+    ap (λ k. event_core k e.at (event_at start e past)) (core_is start past)
+    ∙ sym (one_step (first_state start) e.at (event_at start e past) (steps start past))
+
+-- A request comes only where no work waits.
+abbrev AsksIdle : Option ℕ → Option Event → Type 0
+AsksIdle work None = Unit {0}
+AsksIdle work (Some (Request cid bytes)) = work ≡ None
+AsksIdle work (Some e) = Unit {0}
+
+asks_idle : (work : Option ℕ) (e : Option Event) → work ≡ None → AsksIdle work e
+asks_idle work None h = tt
+asks_idle work (Some (Request cid bytes)) h = h
+asks_idle work (Some e) h = tt
+
+-- what finishes a message comes where no work waits
+FinishesIdle : Option ℕ → Option Message → Type 0
+FinishesIdle work None = Unit {0}
+FinishesIdle work (Some m) = work ≡ None
+
+message_idle : (work : Option ℕ) (m : Option Message) → FinishesIdle work m → AsksIdle work (request_of m)
+unfolding FinishesIdle
+message_idle work None h = tt
+message_idle work (Some m) h = asks_idle work (request_of (Some m)) h
+
+long_idle : (g : ℕ) (o : Option Begun) (work : Option ℕ) (p : List ℕ) → OpenGiven g o work → FinishesIdle work (finished_long o p)
+unfolding FinishesIdle finished_long
+long_idle g None work p h = tt
+long_idle g (Some b) work p h = cond_case (FinishesIdle work) (is_last b p) _ _ (λ _. h.2) (λ _. tt)
+
+finished_idle : (g : ℕ) (o : Option Begun) (work : Option ℕ) (x : Packet64) → OpenGiven g o work → FinishesIdle work (finished o (admits g o work x.0) (Packet x))
+unfolding FinishesIdle finished
+finished_idle g o work x h =
+    cond_case (FinishesIdle work) (admits g o work x.0 && nat_le (message_length x.0) 57) _ _
+    (λ y. (says_admitted g o work x.0 (and_true (admits g o work x.0) (nat_le (message_length x.0) 57) y).0).idle)
+    (λ _. long_idle g o work x.0 h)
+
+packet_idle : (work : Option ℕ) (m : Option Message) (p : List ℕ) → FinishesIdle work m → AsksIdle work (packet_event work m p)
+unfolding packet_event
+packet_idle work m p h =
+    cond_case (AsksIdle work) (is_command CANCEL p && is_on work (channel p)) _ _ (λ _. tt)
+    (λ _. cond_case (AsksIdle work) (is_command INIT p && (message_length p == 8) && is_on work (channel p)) _ _ (λ _. tt) (λ _. message_idle work m h))
+
+event_idle : (start : Start) (t : ℕ) (h : List Judged) (i : Input) → Good start h → end start h ≤ t
+    → AsksIdle (working (core start h)) (event_at start (judged_at start t h i) h)
+unfolding event_at event
+event_idle start t h (Packet x) good le =
+    let s = safe_at start t h good le in
+    packet_idle (working (core start h)) _ x.0 (finished_idle (given h) (open_at h t) (working (core start h)) x s.opens)
+event_idle start t h other good le = tt
+
+no_job : (w : Option Job) → option_map (λ (v : Work). v.cid) (option_map as_work w) ≡ None → w ≡ None
+no_job None h = refl
+no_job (Some job) h = cc
+
+one_orderly : (k : CoreState) (at : ℕ) (e : Option Event) (past : List Step) → AsksIdle (working (core_behind k past)) e → Orderly k past → Orderly k (step_of at e ++ past)
+unfolding Orderly
+one_orderly k at None past a o = o
+one_orderly k at (Some (Request cid bytes)) past a o = (no_job (core_behind k past).state.work a, o)
+one_orderly k at (Some e) past a o = (tt, o)
+
+pub orderly : (start : Start) (h : List Timed) → Orderly (first_state start) (steps start (judged start h))
+unfolding judged judge steps Orderly
+orderly start [] = tt
+orderly start (x ∷ h) =
+    let past = judged start h in
+    let t = max (end start past) x.at in
+    let le : end start past ≤ t = omega arith in
+    let e = event_at start (judged_at start t past x.input) past in
+    one_orderly (first_state start) t e (steps start past)
+    (subst (λ k. AsksIdle (working k) e) (core_is start past) (event_idle start t past x.input (good_judged start h) le)) (orderly start h)
+
+first_ready : (start : Start) → Ready start.room (first_state start).state
+first_ready start = record { pending = tt; work = tt }
+
+-- The laws of the credentials over the authenticator's steps, lifted to the history.
+abbrev RowsLaw : Type 0
+RowsLaw = (start : CoreState) (h : List Step) → Orderly start h → (core_behind start h).state.rows ≡ rows_of start.state.rows (marks start h)
+
+abbrev LawfulLaw : Type 0
+LawfulLaw = (start : CoreState) (h : List Step) → Ready (start.setup).room start.state → Lawful (start.setup).room (start.state).rows → Lawful (start.setup).room ((core_behind start h).state).rows
+
+abbrev PendingLaw : Type 0
+PendingLaw = (start : CoreState) (h : List Step) → Ready (start.setup).room start.state → Lawful (start.setup).room (start.state).rows → pending_count (start.state).pending ≤ (start.setup).room
+    → pending_count ((core_behind start h).state).pending ≤ (start.setup).room
+
+abbrev TextsLaw : Type 0
+TextsLaw = (start : CoreState) (h : List Step) → Ready (start.setup).room start.state → Lawful (start.setup).room (start.state).rows → Orderly start h → all_differ (texts start h) ≡ true
+
+pub rows_are : RowsLaw → (start : Start) (h : List Timed) → (core start (judged start h)).state.rows ≡ rows_of start.rows (marks (first_state start) (steps start (judged start h)))
+rows_are law start h =
+    ap (λ (k : CoreState). (k.state).rows) (core_is start (judged start h)) ∙ law (first_state start) (steps start (judged start h)) (orderly start h)
+
+pub rows_lawful : LawfulLaw → (start : Start) (h : List Timed) → Lawful start.room start.rows → Lawful start.room (core start (judged start h)).state.rows
+rows_lawful law start h l =
+    subst (λ (k : CoreState). Lawful start.room (k.state).rows) (sym (core_is start (judged start h))) (law (first_state start) (steps start (judged start h)) (first_ready start) l)
+
+pub pending_few : PendingLaw → (start : Start) (h : List Timed) → Lawful start.room start.rows → pending_count (core start (judged start h)).state.pending ≤ start.room
+pending_few law start h l =
+    subst (λ (k : CoreState). pending_count (k.state).pending ≤ start.room) (sym (core_is start (judged start h)))
+    (law (first_state start) (steps start (judged start h)) (first_ready start) l (omega arith))
+
+pub texts_differ : TextsLaw → (start : Start) (h : List Timed) → Lawful start.room start.rows → all_differ (texts (first_state start) (steps start (judged start h))) ≡ true
+texts_differ law start h l = law (first_state start) (steps start (judged start h)) (first_ready start) l (orderly start h)

@@ -1,0 +1,16 @@
+use Rattle.std.proofs.Common.{◌≤◌, arith}
+use Rattle.token_session.specs.History.{held, judged}
+use Rattle.token_session.proofs.Bounds.{held_few}
+use Rattle.token_session.proofs.Credentials.{rows_lawful, pending_few}
+use Rattle.token_session.proofs.Headline.{turns_send_sent, all_carried, all_few}
+use Rattle.token_session.proofs.laws.every_history_is_answered.Goals as goal
+
+pub returns : goal.returns
+returns c = λ start h lawful packets. record {
+  sent = turns_send_sent start h;
+  carried = all_carried start h packets;
+  held = let few = held_few start (judged start h) in omega (arith, few);
+  rows = (rows_lawful c.rows_follow_history.ensures.lawful start h lawful).few;
+  pending = pending_few c.rows_follow_history.ensures.pending start h lawful;
+  steps = all_few c.steps_are_bounded.ensures start (judged start h);
+}

@@ -1,0 +1,37 @@
+-- What is promised of every start and every list of inputs.
+use Rattle.std.specs.Prelude.{◌≡◌, ℕ, ◌+◌, ◌-◌, ◌*◌, ◌≤◌, List, [], ◌∷◌, ◌++◌, length, Option, Some, None}
+use Rattle.std.specs.List.{AllByRecursion}
+use Rattle.hid_packet.specs.Carries.{CarriesMessage}
+use Rattle.hid_assemble.specs.Assembly.{Message}
+use Rattle.cred_table.specs.Waiting.{pending_count}
+use Rattle.ctap_message.specs.Requests.{steps_of}
+use Rattle.authn_core.specs.Turn.{Start}
+use Rattle.token_session.specs.declared.input.Timed.{Timed}
+use Rattle.token_session.specs.Carried.{carriers_at}
+use Rattle.token_session.specs.History.{Judged, judged, finished_at, sent, held, core}
+use Rattle.token_session.specs.Machine.{machine, turn}
+use Rattle.token_session.specs.Meters.{requests}
+
+-- The packets that the composed turn sends for the inputs of a history, in order.
+unfoldable pub turns_send : Start → List Timed → List (List ℕ)
+turns_send start [] = []
+turns_send start (x ∷ past) = turns_send start past ++ (turn (machine start past) x).packets
+
+-- Each message that an input finished was carried by its channel's packets.
+abbrev pub WasCarried : Judged → List Judged → Type 0
+WasCarried e past = (m : Message) → finished_at e past ≡ Some m → CarriesMessage (carriers_at e past) m.cid m.cmd m.bytes
+
+abbrev pub AllCarried : List Judged → Type 0
+AllCarried [] = Unit {0}
+AllCarried (e ∷ past) = WasCarried e past × AllCarried past
+
+-- After a history, newest first: the packets sent are exactly those that its definition names; each finished message is the
+-- bytes that its packets carried; the unfinished message holds at most 7609 bytes; at most as many rows stand and assertions
+-- are pending as there is room for; reading each request of n bytes took at most 4n + 2 steps.
+pub record IsAnswered (start : Start) (h : List Timed) : Type 0 where
+  pub sent : turns_send start h ≡ sent start (judged start h)
+  pub carried : AllCarried (judged start h)
+  pub held : held start (judged start h) ≤ 7609
+  pub rows : length (core start (judged start h)).state.rows ≤ start.room
+  pub pending : pending_count (core start (judged start h)).state.pending ≤ start.room
+  pub steps : AllByRecursion (λ m. steps_of m ≤ 4 * (length m - 1) + 2) (requests start (judged start h))
