@@ -1,8 +1,6 @@
-pub mod Composing
 pub mod Bounds
 pub mod Canonical
 pub mod Rows
-pub mod Walking
 pub mod Pushes
 pub mod Labelling
 pub mod Collecting

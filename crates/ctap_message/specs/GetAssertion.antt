@@ -1,9 +1,9 @@
 -- authenticatorGetAssertion (CTAP 2.1, section 6.2): the types of its parameters, what they tell, the checks of a request
 -- in their order, and what it asks. The order, and that pinUvAuthParam is refused, are this project's choice.
 use Rattle.std.specs.Prelude.{ℕ, ◌==◌, Bool, false, not, ◌&&◌, List, [], ◌∷◌, length, Option, Some, None, is_some, Result}
-use Rattle.ctap_cbor.specs.Tree.{Tree}
+use Rattle.ctap_cbor.specs.Tree.{Tree, is_map}
 use Rattle.ctap_message.specs.Statuses.{INVALID_PARAMETER, INVALID_LENGTH, CBOR_UNEXPECTED_TYPE, INVALID_CBOR, MISSING_PARAMETER, UNSUPPORTED_OPTION, INVALID_OPTION}
-use Rattle.ctap_message.specs.Members.{numbered, as_bytes, as_text, is_bytes, is_text, is_natural, is_map, array_of, map_by_name, map_by_number}
+use Rattle.ctap_message.specs.Members.{numbered, as_bytes, as_text, is_bytes, is_text, is_natural, array_of, map_by_name, map_by_number}
 use Rattle.ctap_message.specs.Checks.{Check, check, if_all_hold}
 use Rattle.ctap_message.specs.Asked.{Asked, GetAssertion}
 use Rattle.ctap_message.specs.Descriptors.{descriptor_types, option_types, DescriptorList, descriptors_in, Options, options_in, is_on, is_off}

@@ -16,7 +16,7 @@ use crate::descriptors::Descriptors;
 use crate::judge::{judge_assert, judge_make};
 use crate::make::{Make, read_make};
 use crate::status::Status;
-use ctap_cbor::laws::known_bytes;
+use ctap_cbor::laws::whole_readings;
 use ctap_cbor::{Cursor, Fault, read_whole};
 
 /// A request that passed all checks of its command. What it holds is lent from the message.
@@ -122,7 +122,7 @@ fn read_make_credential<'a>(behind: &'a [u8]) -> (Result<Request<'a>, Status>, u
     ensures fresh { IsFresh result.0 }
     ensures lens { HasLengths result.0 }
 {
-    known_bytes(behind);
+    whole_readings(behind);
     let mut cursor = Cursor::new(behind);
     if read_whole(&mut cursor).is_err() {
         return (Err(Status::INVALID_CBOR), cursor.steps());
@@ -152,7 +152,7 @@ fn read_get_assertion<'a>(behind: &'a [u8]) -> (Result<Request<'a>, Status>, u64
     ensures fresh { IsFresh result.0 }
     ensures lens { HasLengths result.0 }
 {
-    known_bytes(behind);
+    whole_readings(behind);
     let mut cursor = Cursor::new(behind);
     if read_whole(&mut cursor).is_err() {
         return (Err(Status::INVALID_CBOR), cursor.steps());
