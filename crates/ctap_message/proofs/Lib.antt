@@ -1,5 +1,6 @@
 pub mod Bounds
 pub mod Canonical
+pub mod Messages
 pub mod Rows
 pub mod Pushes
 pub mod Labelling
