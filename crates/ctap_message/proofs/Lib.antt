@@ -2,6 +2,7 @@ pub mod Bounds
 pub mod Canonical
 pub mod Messages
 pub mod Rows
+pub mod CheckedRows
 pub mod Pushes
 pub mod Labelling
 pub mod Collecting
