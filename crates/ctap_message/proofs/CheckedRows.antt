@@ -215,9 +215,9 @@ asking =
 
 -- what is taken: as it stands; with all that may be given; without the user's presence
 assertion_taken :
-    (assertion asking ≡ Ok (GetAssertion (codes "b") (replicate 32 0x11) no_trees true))
-    × (assertion (record asking { allow_list = Some empty; extensions = Some (Map no_pairs); options = Some (two (codes "up") (flag true) (codes "uv") (flag false)); pin_uv_auth_protocol = Some (int 2) }) ≡ Ok (GetAssertion (codes "b") (replicate 32 0x11) no_trees true))
-    × (assertion (record asking { options = Some (one (codes "up") (flag false)) }) ≡ Ok (GetAssertion (codes "b") (replicate 32 0x11) no_trees false))
+    (assertion asking ≡ Ok (GetAssertion (replicate 32 0x11) (codes "b") no_trees true))
+    × (assertion (record asking { allow_list = Some empty; extensions = Some (Map no_pairs); options = Some (two (codes "up") (flag true) (codes "uv") (flag false)); pin_uv_auth_protocol = Some (int 2) }) ≡ Ok (GetAssertion (replicate 32 0x11) (codes "b") no_trees true))
+    × (assertion (record asking { options = Some (one (codes "up") (flag false)) }) ≡ Ok (GetAssertion (replicate 32 0x11) (codes "b") no_trees false))
 unfolding value_at all_entries some_entry all_pairs
 assertion_taken = (refl, refl, refl)
 

@@ -98,7 +98,7 @@ nested : (read_of (message.make_and (0x18 ∷ 0x40 ∷ 0x81 ∷ 0x81 ∷ 0x80 �
 unfolding read_of steps_of outcome_of parse read first_faults body_faults argument_len argument least_argument item_len string_len passed fault_steps is_utf8 chars encode head value_at all_entries some_entry all_pairs
 nested = (refl, refl)
 
-assertion : Row message.assertion_message 50 (Ok (GetAssertion domain (replicate 32 0x22) no_trees true)) 102
+assertion : Row message.assertion_message 50 (Ok (GetAssertion (replicate 32 0x22) domain no_trees true)) 102
 unfolding read_of steps_of outcome_of parse read first_faults body_faults argument_len argument least_argument item_len string_len passed fault_steps is_utf8 chars encode head value_at all_entries some_entry all_pairs
 assertion = (refl, refl, refl)
 
@@ -106,11 +106,11 @@ assertion = (refl, refl, refl)
 abbrev allowed : Trees
 allowed = tree (Map (pair (text (codes "id")) (Plain (Bytes (replicate 32 0xaa))) (pair (text (codes "type")) (text public_key) no_pairs))) no_trees
 
-assertion_listed : Row message.assertion_listed 106 (Ok (GetAssertion domain (replicate 32 0x22) allowed true)) 226
+assertion_listed : Row message.assertion_listed 106 (Ok (GetAssertion (replicate 32 0x22) domain allowed true)) 226
 unfolding read_of steps_of outcome_of parse read first_faults body_faults argument_len argument least_argument item_len string_len passed fault_steps is_utf8 chars encode head value_at all_entries some_entry all_pairs
 assertion_listed = (refl, refl, refl)
 
-assertion_silent : Row message.assertion_silent 56 (Ok (GetAssertion domain (replicate 32 0x22) no_trees false)) 116
+assertion_silent : Row message.assertion_silent 56 (Ok (GetAssertion (replicate 32 0x22) domain no_trees false)) 116
 unfolding read_of steps_of outcome_of parse read first_faults body_faults argument_len argument least_argument item_len string_len passed fault_steps is_utf8 chars encode head value_at all_entries some_entry all_pairs
 assertion_silent = (refl, refl, refl)
 

@@ -76,14 +76,14 @@ make_is_whole m =
 
 abbrev pub make_checks : Bool → Bool → MakeParameters → List Check
 make_checks is_canonical is_typed m =
-    check is_canonical INVALID_CBOR
-    ∷ check is_typed CBOR_UNEXPECTED_TYPE  -- a map, with all its types
-    ∷ check (make_is_whole m) MISSING_PARAMETER
-    ∷ check (length (or_empty m.client_data_hash) == 32 && nat_le (length (or_empty m.user.id)) 64) INVALID_LENGTH
-    ∷ check (not m.has_pin_uv_auth_param) INVALID_PARAMETER
-    ∷ check m.parameters.has_es256 UNSUPPORTED_ALGORITHM
-    ∷ check (not (is_on m.options.uv) && not (is_off m.options.up)) INVALID_OPTION
-    ∷ check (not m.has_enterprise_attestation) INVALID_PARAMETER
+    check is_canonical INVALID_CBOR  -- 0x12: canonical CBOR, section 8
+    ∷ check is_typed CBOR_UNEXPECTED_TYPE  -- 0x11: a map, and the types of section 6.1
+    ∷ check (make_is_whole m) MISSING_PARAMETER  -- 0x14: what section 6.1 requires
+    ∷ check (length (or_empty m.client_data_hash) == 32 && nat_le (length (or_empty m.user.id)) 64) INVALID_LENGTH  -- 0x03: WebAuthn Level 2, section 5.4.3
+    ∷ check (not m.has_pin_uv_auth_param) INVALID_PARAMETER  -- 0x02: no PIN and no user verification
+    ∷ check m.parameters.has_es256 UNSUPPORTED_ALGORITHM  -- 0x26: section 6.1.2, pubKeyCredParams
+    ∷ check (not (is_on m.options.uv) && not (is_off m.options.up)) INVALID_OPTION  -- 0x2c: section 6.1.2, options
+    ∷ check (not m.has_enterprise_attestation) INVALID_PARAMETER  -- 0x02: section 6.1.2, enterpriseAttestation
     ∷ []
 
 abbrev pub make_asks : MakeParameters → Asked
