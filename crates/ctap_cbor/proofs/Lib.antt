@@ -17,3 +17,6 @@ pub mod Valuing
 pub mod Written
 pub mod Accepting
 pub mod Telling
+pub mod Collecting
+pub mod Onward
+pub mod Readings

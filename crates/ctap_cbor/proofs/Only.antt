@@ -1,16 +1,19 @@
 -- Where a tree's text stands, that tree alone is passed, and nothing halts. Where reading halts, it halts there alone.
-use Rattle.std.proofs.Common.{◌≡◌, ℕ, ◌+◌, List, length, Ok, Err, Result, refl, sym, ap, ◌∙◌}
+use Rattle.std.proofs.Common.{◌≡◌, ℕ, ◌+◌, List, [], ◌++◌, length, Ok, Err, Result, refl, sym, ap, ◌∙◌}
 use Rattle.std.specs.Prelude.{MatchResult}
 use Rattle.ctap_cbor.specs.declared.fault.Fault.{Fault}
 use Rattle.ctap_cbor.specs.declared.fault.Kind.{Kind}
 use Rattle.ctap_cbor.specs.Tree.{Tree}
 use Rattle.ctap_cbor.specs.Grammar.{text}
-use Rattle.ctap_cbor.specs.Faults.{passed, fault_steps}
-use Rattle.ctap_cbor.specs.Laws.{OneTreePasses, NothingHalts}
+use Rattle.ctap_cbor.specs.declared.item.Item.{Item}
+use Rattle.ctap_cbor.specs.Faults.{AnItem, passed, fault_steps}
+use Rattle.ctap_cbor.specs.Laws.{NoItemBeginsAnother, OneTreePasses, NothingHalts}
 use Rattle.ctap_cbor.specs.Outcome.{Open, fronts, later_keys, later_in_open}
-use Rattle.ctap_cbor.specs.Parts.{Part}
+use Rattle.ctap_cbor.specs.Parts.{Part, item_text, Suits, read}
+use Rattle.ctap_cbor.specs.Views.{part_of, TakesOnly}
 use Rattle.ctap_cbor.specs.Reading.{Reading, rest_of, advance, Passes, PassesAs, Halts, Only}
 use Rattle.ctap_cbor.specs.Parse.{Parse, Done, Halt, parse}
+use Rattle.ctap_cbor.proofs.Items.{read_again}
 use Rattle.ctap_cbor.proofs.Again.{parse_again, halt_again}
 
 abbrev tree_of : Tree → Parse → Tree
@@ -28,6 +31,33 @@ opens_of d (Halt os kind rest) = os
 abbrev kind_of : Kind → Parse → Kind
 kind_of d (Done t rest) = d
 kind_of d (Halt os kind rest) = kind
+
+-- ---- items without what is inside them
+
+abbrev part_in : Part → Result (Part × List ℕ) Kind → Part
+part_in d (Ok p) = p.0
+part_in d (Err k) = d
+
+abbrev rest_in : Result (Part × List ℕ) Kind → List ℕ
+rest_in (Ok p) = p.1
+rest_in (Err k) = []
+
+pub item_only : (room : ℕ) (old new : Reading) (item : Item) → read room AnItem (rest_of old) ≡ Ok (part_of item, rest_of new) → TakesOnly room old new (Ok item)
+item_only room old new item is i rest suits e =
+    let same : ◌≡◌ {A = Result (Part × List ℕ) Kind} (Ok (part_of item, rest_of new)) (Ok (i, rest)) = sym is ∙ ap (read room AnItem) e ∙ read_again room AnItem i rest suits in
+    (ap (part_in i) same, ap rest_in same)
+
+pub item_never : (room : ℕ) (i : Part) (rest : List ℕ) (old : Reading) (kind : Kind) → Suits room AnItem i → rest_of old ≡ item_text i ++ rest → read room AnItem (rest_of old) ≡ Err kind → ⊥
+item_never room i rest old kind suits e is =
+    let same : ◌≡◌ {A = Result (Part × List ℕ) Kind} (Err kind) (Ok (i, rest)) = sym is ∙ ap (read room AnItem) e ∙ read_again room AnItem i rest suits in
+    cc
+
+pub no_item_begins_another : NoItemBeginsAnother
+no_item_begins_another room i j x y p q e =
+    let same : ◌≡◌ {A = Result (Part × List ℕ) Kind} (Ok (i, x)) (Ok (j, y)) = sym (read_again room AnItem i x p) ∙ ap (read room AnItem) e ∙ read_again room AnItem j y q in
+    (ap (part_in i) same, ap rest_in same)
+
+-- ---- trees
 
 pub passes_only : OneTreePasses
 passes_only room t u x a c lawful flat e p =

@@ -1,17 +1,17 @@
 -- What bytes are, as a function of them.
 use Rattle.std.proofs.Common.{◌≡◌, ℕ, ◌+◌, ◌*◌, ◌<◌, ◌≤◌, Bool, true, false, List, [], ◌∷◌, ◌++◌, length, refl, arith, sym, ap, ◌∙◌}
 use Rattle.std.specs.Prelude.{◌&&◌, if◌then◌else◌, nat_lt}
-use Rattle.std.proofs.lemmas.Bool.{ltb-true}
+use Rattle.std.proofs.lemmas.Bool.{and_parts, ltb-true}
 use Rattle.std.proofs.lemmas.Bool.Decides.{nat_tests}
 use Rattle.std.proofs.lemmas.List.{append-nil}
 use Rattle.ctap_cbor.specs.declared.fault.Kind.TheVariants.{Reserved}
-use Rattle.ctap_cbor.specs.Tree.{Trees, no_trees, depth_all, count}
+use Rattle.ctap_cbor.specs.Tree.{count}
 use Rattle.ctap_cbor.specs.Head.{AreBytes}
-use Rattle.ctap_cbor.specs.Grammar.{texts, AreLawful}
+use Rattle.ctap_cbor.specs.Grammar.{texts}
 use Rattle.ctap_cbor.specs.Faults.{passed, fault_steps}
-use Rattle.ctap_cbor.specs.Outcome.{Outcome, Stopped, IsOutcome, steps}
-use Rattle.ctap_cbor.specs.Parse.{Run, Ran, items, parse, outcome_by, ran_by}
-use Rattle.ctap_cbor.specs.Telling.{are_bytes, outcome_of, check_steps, items_at}
+use Rattle.ctap_cbor.specs.Outcome.{Stopped, IsOutcome, steps}
+use Rattle.ctap_cbor.specs.Parse.{items, parse, outcome_by, ran_by}
+use Rattle.ctap_cbor.specs.Telling.{are_bytes, outcome_of, items_at}
 use Rattle.ctap_cbor.specs.Laws.{BytesTell, CheckStepsAreBounded, ItemsAreFound}
 use Rattle.ctap_cbor.proofs.Again.{items_again, all_ran}
 use Rattle.ctap_cbor.proofs.Sound.{parse_sound}
@@ -25,17 +25,11 @@ pub are_bytes_true : (b : List ℕ) → AreBytes b → are_bytes b ≡ true
 are_bytes_true [] h = refl
 are_bytes_true (x ∷ bs) h = ap (λ c. c && are_bytes bs) (below x h.0) ∙ are_bytes_true bs h.1
 
-and_left : (a b : Bool) → (a && b) ≡ true → a ≡ true
-and_left true b e = refl
-and_left false b e = e
-
-and_right : (a b : Bool) → (a && b) ≡ true → b ≡ true
-and_right true b e = e
-and_right false b e = absurd cc
-
 pub bytes_of_test : (b : List ℕ) → are_bytes b ≡ true → AreBytes b
 bytes_of_test [] e = tt
-bytes_of_test (x ∷ bs) e = (ltb-true x 256 (and_left (nat_lt x 256) (are_bytes bs) e), bytes_of_test bs (and_right (nat_lt x 256) (are_bytes bs) e))
+bytes_of_test (x ∷ bs) e =
+    let p = and_parts (nat_lt x 256) (are_bytes bs) e in
+    (ltb-true x 256 p.0, bytes_of_test bs p.1)
 
 outcome_parsed : (b : List ℕ) → AreBytes b → outcome_of b ≡ outcome_by (parse 4 b)
 unfolding outcome_of

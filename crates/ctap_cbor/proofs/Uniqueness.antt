@@ -33,6 +33,10 @@ abbrev tree_of : Tree → Parse → Tree
 tree_of d (Done t rest) = t
 tree_of d (Halt os kind rest) = d
 
+abbrev rest_from : Parse → List ℕ
+rest_from (Done t rest) = rest
+rest_from (Halt os kind rest) = rest
+
 pub none_begins_another : NoneBeginsAnother
 none_begins_another t u b c x y f g e =
     let room : ℕ = depth t + depth u in
@@ -40,7 +44,7 @@ none_begins_another t u b c x y f g e =
     let q : parse room (c ++ y) ≡ Done u y = ap (λ z. parse room (z ++ y)) g.spelled ∙ parse_again u room y g.lawful (omega arith) in
     let same : Done t x ≡ Done u y = sym p ∙ ap (parse room) e ∙ q in
     let trees : t ≡ u = ap (tree_of t) same in
-    (trees, f.spelled ∙ ap text trees ∙ sym g.spelled)
+    (trees, f.spelled ∙ ap text trees ∙ sym g.spelled, ap rest_from same)
 
 pub encoded_is_decoded : EncodedIsDecoded
 encoded_is_decoded t b c = (

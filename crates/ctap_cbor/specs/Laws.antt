@@ -6,16 +6,22 @@ use Rattle.ctap_cbor.specs.Head.{AreBytes}
 use Rattle.ctap_cbor.specs.Grammar.{text, texts, IsLawful, AreLawful, IsEncoding, IsCanonical}
 use Rattle.ctap_cbor.specs.Outcome.{Outcome, Whole, IsOutcome, result_of, steps}
 use Rattle.ctap_cbor.specs.Refusals.{refusal}
-use Rattle.ctap_cbor.specs.Telling.{outcome_of, check_steps, items_at}
-use Rattle.ctap_cbor.specs.Reading.{Reading, rest_of, Passes, Halts}
+use Rattle.ctap_cbor.specs.Faults.{AnItem}
+use Rattle.ctap_cbor.specs.Parts.{Part, item_text, Suits}
+use Rattle.ctap_cbor.specs.Telling.{outcome_of, canonical_tree, check_steps, items_at}
+use Rattle.ctap_cbor.specs.Reading.{Reading, at_front, rest_of, counted, Passes, Halts, Ends, GoesOn}
 
 -- each text is the text of one tree, or has one first fault, behind one list of open arrays and maps
 abbrev pub EachTextIsOne : Type 0
 EachTextIsOne = (b : List ℕ) → AreBytes b → (o : Outcome) × IsOutcome b o × ((p : Outcome) → IsOutcome b p → p ≡ o)
 
--- no text of a tree begins another, and none is that of two trees
+-- no text of a tree begins another, and none is that of two trees; so what follows is the same too
 abbrev pub NoneBeginsAnother : Type 0
-NoneBeginsAnother = (t u : Tree) (b c x y : List ℕ) → IsEncoding t b → IsEncoding u c → b ++ x ≡ c ++ y → (t ≡ u) × (b ≡ c)
+NoneBeginsAnother = (t u : Tree) (b c x y : List ℕ) → IsEncoding t b → IsEncoding u c → b ++ x ≡ c ++ y → (t ≡ u) × (b ≡ c) × (x ≡ y)
+
+-- and the same of items without what is inside them: heads, and heads with the bytes of a string
+abbrev pub NoItemBeginsAnother : Type 0
+NoItemBeginsAnother = (room : ℕ) (i j : Part) (x y : List ℕ) → Suits room AnItem i → Suits room AnItem j → item_text i ++ x ≡ item_text j ++ y → (i ≡ j) × (x ≡ y)
 
 -- reading n bytes takes at most 2 * n + 1 steps
 abbrev pub StepsAreBounded : Type 0
@@ -45,6 +51,23 @@ RefusedHasNoText = (t : Tree) (kind : Kind) → refusal 4 t ≡ Some kind → (b
 pub record BytesTell : Type 0 where
   pub told : (b : List ℕ) → AreBytes b → IsOutcome b (outcome_of b)
   pub only : (b : List ℕ) (o : Outcome) → AreBytes b → IsOutcome b o → outcome_of b ≡ o
+
+-- A cursor with so many steps behind it passed a tree from the first of these bytes up to their end: it is theirs.
+pub record TellsTree (b : List ℕ) (s : ℕ) (t : Tree) (new : Reading) : Type 0 where
+  pub tree_is : canonical_tree b ≡ Some t
+  pub moved : new ≡ record { bytes = b; place = length b; steps = counted s (check_steps b) }
+
+-- It found a fault, or bytes behind a tree: no tree is theirs.
+pub record TellsNone (b : List ℕ) (s : ℕ) (new : Reading) : Type 0 where
+  pub none : canonical_tree b ≡ None
+  pub bytes_stay : new.bytes ≡ b
+  pub steps_are : new.steps ≡ counted s (check_steps b)
+
+-- Reading these bytes whole tells what they are, whatever was counted before, and takes the steps of checking them.
+pub record WholeReadings (b : List ℕ) : Type 0 where
+  pub passed : (t : Tree) (s : ℕ) (middle new : Reading) → Passes 4 t (at_front b s) middle → Ends middle new → TellsTree b s t new
+  pub stopped : (s : ℕ) (new : Reading) (at : ℕ) (kind : Kind) → Halts 4 (at_front b s) new at kind → TellsNone b s new
+  pub longer : (t : Tree) (s : ℕ) (middle new : Reading) (at : ℕ) (kind : Kind) → Passes 4 t (at_front b s) middle → GoesOn middle new at kind → TellsNone b s new
 
 -- of every list, the steps that it names are at most 2 * n + 1
 abbrev pub CheckStepsAreBounded : Type 0

@@ -13,3 +13,5 @@ pub mod Writing
 pub mod Values
 pub mod Refusals
 pub mod Writes
+pub mod Collecting
+pub mod Composing

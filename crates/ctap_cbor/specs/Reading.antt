@@ -15,6 +15,10 @@ pub record Reading : Type 0 where
   pub place : ℕ
   pub steps : ℕ
 
+-- at the first byte, with so many steps behind it
+abbrev pub at_front : List ℕ → ℕ → Reading
+at_front b s = record { bytes = b; place = 0; steps = s }
+
 abbrev pub rest_of : Reading → List ℕ
 rest_of r = drop r.place r.bytes
 
@@ -25,6 +29,12 @@ counted n more = max n (min (n + more) 18446744073709551615)
 -- so many bytes on, and so many steps more
 abbrev pub advance : Reading → ℕ → ℕ → Reading
 advance r n s = record { bytes = r.bytes; place = r.place + n; steps = counted r.steps s }
+
+-- neither the place nor the steps fall
+pub record MovesOn (old new : Reading) : Type 0 where
+  pub same : new.bytes ≡ old.bytes
+  pub place : old.place ≤ new.place
+  pub steps : old.steps ≤ new.steps
 
 -- a head was taken, with the bytes of a string
 pub record Takes (room : ℕ) (old new : Reading) (part : Part) : Type 0 where

@@ -1,5 +1,5 @@
 -- Data items as trees (RFC 8949, section 2), and how deep they are.
-use Rattle.std.specs.Prelude.{ℕ, ◌+◌, ℤ, Bool, List, max}
+use Rattle.std.specs.Prelude.{ℕ, ◌+◌, ℤ, Bool, true, false, List, max}
 
 -- what is no array and no map; byte strings and texts by their bytes
 pub data Scalar : Type 0 where
@@ -37,6 +37,16 @@ abbrev mutual
   depth_pairs no_pairs = 0
   depth_pairs (pair k v ps) = max (max (depth k) (depth v)) (depth_pairs ps)
 
+-- what a tree is
+abbrev pub is_map : Tree → Bool
+is_map (Map ps) = true
+is_map _ = false
+
+abbrev pub is_array : Tree → Bool
+is_array (Array ts) = true
+is_array _ = false
+
+-- how many items or pairs it holds
 abbrev pub count : Trees → ℕ
 count no_trees = 0
 count (tree t ts) = count ts + 1

@@ -1,5 +1,6 @@
 -- What a lent item is, without where it lies in memory.
-use Rattle.std.specs.Prelude.{zero, suc, true, false, None, Some, nat_eq, pos, negsuc, if◌then◌else◌, ◌≡◌, ℕ, List, ◌∷◌, drop, Result, Ok, Err, ◌≤◌, length}
+use Rattle.std.specs.Prelude.{zero, suc, true, false, None, Some, nat_eq, pos, negsuc, if◌then◌else◌, ◌≡◌, ℕ, List, ◌∷◌, ◌++◌, drop, Result, Ok, Err, IsOkAnd, ◌≤◌, length}
+use Rattle.ctap_cbor.specs.declared.fault.Fault.{Fault}
 use Rattle.ctap_cbor.specs.declared.fault.Kind.{Kind}
 use Rattle.ctap_cbor.specs.declared.fault.Kind.TheVariants.{Truncated, KeyOrder}
 use Rattle.ctap_cbor.specs.declared.item.Item.{Item}
@@ -8,7 +9,8 @@ use Rattle.std.specs.Prelude.{Bool}
 use Rattle.ctap_cbor.specs.Faults.{Due, AnItem, AKey, first_of, later_faults, item_len, passed}
 use Rattle.ctap_cbor.specs.Head.{major}
 use Rattle.ctap_cbor.specs.Tree as tree
-use Rattle.ctap_cbor.specs.Parts.{Part, One, OpensArray, OpensMap, item_of}
+use Rattle.ctap_cbor.specs.Parts.{Part, One, OpensArray, OpensMap, item_text, item_of, Suits}
+use Rattle.ctap_cbor.specs.Reading.{Reading, rest_of}
 
 -- the item that a lent item shows
 abbrev pub part_of : Item → Part
@@ -19,6 +21,11 @@ part_of (Array n) = OpensArray n
 part_of (Map n) = OpensMap n
 part_of (Logical b) = One (tree.Flag b)
 part_of Null = One tree.Null
+
+-- Nothing else can be taken there: an item that stands at the place is the one that was taken.
+abbrev pub TakesOnly : ℕ → Reading → Reading → Result Item Fault → Type 0
+TakesOnly room old new result =
+    (i : Part) (rest : List ℕ) → Suits room AnItem i → rest_of old ≡ item_text i ++ rest → IsOkAnd result (λ j. (part_of j ≡ i) × (rest_of new ≡ rest))
 
 -- what a function found is what reading gives
 abbrev pub Finds : List ℕ → Result (Item × ℕ) (Kind × ℕ) → Result (Part × List ℕ) Kind → Type 0

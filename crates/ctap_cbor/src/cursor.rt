@@ -5,9 +5,9 @@ ghost use Rattle.std.specs.Option.{option_copied};
 ghost use Rattle.ctap_cbor.specs.Head.{AreBytes};
 ghost use Rattle.ctap_cbor.specs.Faults.{AnItem, AKey, is_above};
 ghost use Rattle.ctap_cbor.specs.Parts.{read, Suits};
-ghost use Rattle.ctap_cbor.specs.Views.{part_of, end_steps_of};
+ghost use Rattle.ctap_cbor.specs.Views.{part_of, TakesOnly, end_steps_of};
 ghost use Rattle.ctap_cbor.specs.Reading.{Reading, rest_of, advance, compared, Takes, Refuses, GivesKey, Ends, GoesOn};
-ghost use Rattle.ctap_cbor.specs.Reading.{PassesOne, PassesAs, PassesSome, PassesSomePairs, Halts, HaltsInAll, HaltsInPairs, Only};
+ghost use Rattle.ctap_cbor.specs.Reading.{PassesOne, PassesAs, PassesSome, PassesSomePairs, Halts, HaltsInAll, HaltsInPairs, Only, MovesOn};
 
 use crate::fault::{Fault, Kind};
 use crate::head::find;
@@ -77,6 +77,7 @@ impl<'a> Cursor<'a> {
         ensures exact { MatchResult result
             (λ i. read (5 - level) AnItem (rest_of self.old) ≡ Ok (part_of i, rest_of self.new))
             (λ f. read (5 - level) AnItem (rest_of self.old) ≡ Err f.kind) }
+        ensures only { TakesOnly (5 - level) self.old self.new result }
     {
         let at = self.place();
         let rest = self.rest();
@@ -153,13 +154,16 @@ impl<'a> Cursor<'a> {
 
     /// Passes what is inside an item whose head was taken just now, at this level.
     #[cycle(skip)]
-    pub fn inside(&mut self, item: Item<'a>, level: u8) -> Result<(), Fault>
+    pub(crate) fn inside(&mut self, item: Item<'a>, level: u8) -> Result<(), Fault>
         requires low { 1 ≤ level }
         requires high { level ≤ 5 }
         requires suits { Suits (5 - level) AnItem (part_of item) }
-        ensures { (start : Reading) → Takes (5 - level) start self.old (part_of item.entry) → MatchResult result
+        ensures passes { (start : Reading) → Takes (5 - level) start self.old (part_of item.entry) → MatchResult result
             (λ _. PassesAs (5 - level) (part_of item.entry) start self.new)
             (λ f. Halts (5 - level) start self.new f.at f.kind) }
+
+        // Whatever was read before.
+        ensures onward { MovesOn self.old self.new }
     {
         match item {
             Item::Array(count) => self.skip_items(level + 1, count),

@@ -9,36 +9,36 @@ use thiserror::Error;
 /// is named.
 #[derive(Clone, Copy, Debug, PartialEq, Eq, Error)]
 pub enum Kind {
-    /// 1: the text ends where an item is due, or within one.
+    /// The text ends where an item is due, or within one.
     #[error("the text ends early")]
-    Truncated,
-    /// 2: additional information 28 to 31, which is reserved or means an indefinite length.
+    Truncated = 1,
+    /// Additional information 28 to 31, which is reserved or means an indefinite length.
     #[error("reserved or indefinite length")]
-    Reserved,
-    /// 3: a head that a shorter one says.
+    Reserved = 2,
+    /// A head that a shorter one says.
     #[error("not the shortest head")]
-    NotShortest,
-    /// 4: an array or a map within four others.
+    NotShortest = 3,
+    /// An array or a map within four others.
     #[error("more than four levels deep")]
-    TooDeep,
-    /// 5: a map key that is no integer, byte string or text.
+    TooDeep = 4,
+    /// A map key that is no integer, byte string or text.
     #[error("not the type of a map key")]
-    KeyType,
-    /// 6: a map key that doesn't stand above the key before it, a repeated one too.
+    KeyType = 5,
+    /// A map key that doesn't stand above the key before it, a repeated one too.
     #[error("map keys out of order")]
-    KeyOrder,
-    /// 7: a text that isn't UTF-8.
+    KeyOrder = 6,
+    /// A text that isn't UTF-8.
     #[error("not UTF-8")]
-    NotUtf8,
-    /// 8: a tag, a float, or a simple value other than false, true and null.
+    NotUtf8 = 7,
+    /// A tag, a float, or a simple value other than false, true and null.
     #[error("not a type of this profile")]
-    Unsupported,
-    /// 9: bytes behind the item.
+    Unsupported = 8,
+    /// Bytes behind the item.
     #[error("bytes behind the item")]
-    Trailing,
-    /// 10: no memory. Neither [`check`](crate::check) nor a [`Cursor`](crate::Cursor) gives it.
+    Trailing = 9,
+    /// No memory. Neither [`check`](crate::check) nor a [`Cursor`](crate::Cursor) gives it.
     #[error("no memory")]
-    Memory,
+    Memory = 10,
 }
 
 impl Kind {
@@ -46,18 +46,7 @@ impl Kind {
     pub fn number(self) -> u8
         ensures { result ≡ number_of self }
     {
-        match self {
-            Kind::Truncated => 1,
-            Kind::Reserved => 2,
-            Kind::NotShortest => 3,
-            Kind::TooDeep => 4,
-            Kind::KeyType => 5,
-            Kind::KeyOrder => 6,
-            Kind::NotUtf8 => 7,
-            Kind::Unsupported => 8,
-            Kind::Trailing => 9,
-            Kind::Memory => 10,
-        }
+        self as u8
     }
 }
 

@@ -2,7 +2,7 @@
 //! law, and a caller has it by calling.
 
 ghost use Rattle.ctap_cbor.specs.Head.{AreBytes};
-ghost use Rattle.ctap_cbor.specs.Laws.{EachTextIsOne, NoneBeginsAnother, StepsAreBounded, WrittenIsReadAgain, OneTreePasses, NothingHalts, EncodedIsDecoded, RefusedHasNoText, BytesTell, CheckStepsAreBounded, ItemsAreFound};
+ghost use Rattle.ctap_cbor.specs.Laws.{EachTextIsOne, NoneBeginsAnother, NoItemBeginsAnother, StepsAreBounded, WrittenIsReadAgain, OneTreePasses, NothingHalts, EncodedIsDecoded, RefusedHasNoText, BytesTell, WholeReadings, CheckStepsAreBounded, ItemsAreFound};
 
 /// Each text is the encoding of one tree, or that and bytes behind it, or has one first fault, with one way to
 /// stand there.
@@ -21,6 +21,11 @@ pub fn none_begins_another()
     ensures { NoneBeginsAnother }
 {}
 
+/// No item's head, with the bytes of a string, begins another's.
+pub fn no_item_begins_another()
+    ensures { NoItemBeginsAnother }
+{}
+
 /// Reading n bytes takes at most 2 * n + 1 steps.
 pub fn steps_are_bounded()
     ensures { StepsAreBounded }
@@ -29,6 +34,11 @@ pub fn steps_are_bounded()
 /// What `outcome_of` of `specs/Telling.antt` names for bytes is what they are, and nothing else is.
 pub fn bytes_tell()
     ensures { BytesTell }
+{}
+
+/// Reading these bytes whole, by calls of a cursor, tells what they are and takes the steps of checking them.
+pub fn whole_readings(bytes: &[u8])
+    ensures { WholeReadings bytes.now }
 {}
 
 /// The steps that `check_steps` names are at most 2 * n + 1 for a list of n numbers, bytes or not.

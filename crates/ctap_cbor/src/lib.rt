@@ -17,6 +17,7 @@
 #![tactic(auto)]
 
 mod checking;
+mod collect;
 mod cursor;
 mod decoding;
 mod encoding;
@@ -32,6 +33,7 @@ mod value;
 mod value_tests;
 
 pub use checking::{Checked, check, read_whole};
+pub use collect::{Entries, Members, read_array, read_map};
 pub use cursor::Cursor;
 pub use decoding::decode_value;
 pub use encoding::encode_value;

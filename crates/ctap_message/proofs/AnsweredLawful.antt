@@ -1,9 +1,9 @@
 -- The maps of the answers of makeCredential and of assertions are written in canonical CBOR.
-use Rattle.std.proofs.Common.{◌≡◌, ℕ, ◌<◌, ◌≤◌, ◌^◌, List, drop, length, Option, Some, None, refl, arith, codes}
+use Rattle.std.proofs.Common.{ℕ, ◌≤◌, List, drop, Option, Some, None, refl, arith, codes}
 use Rattle.ctap_cbor.specs.Tree.{depth}
-use Rattle.ctap_cbor.specs.Head.{AreBytes, head}
+use Rattle.ctap_cbor.specs.Head.{head}
 use Rattle.ctap_cbor.specs.Grammar.{IsCanonical, IsLawful}
-use Rattle.ctap_message.specs.Answers.{name, byte_string, number, statement, created_tree, created_answer, credential, user_of, assertion_tree, assertion_answer}
+use Rattle.ctap_message.specs.Answers.{name, byte_string, statement, created_tree, created_answer, credential, user_of, assertion_tree, assertion_answer}
 use Rattle.ctap_message.specs.Answered.{AreShort, UserIsShort, NumberIsShort}
 use lib.Utf8.{encode}
 

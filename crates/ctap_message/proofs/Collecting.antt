@@ -1,16 +1,17 @@
 -- What is collected of maps and arrays, of one pair or one entry more; and what it tells of the tree that was passed.
 use Rattle.std.proofs.Common.{◌≡◌, ℕ, Bool, true, false, List, Option, Some, None, refl, sym, ap, ◌∙◌}
 use Rattle.std.specs.Prelude.{ℤ, ◌&&◌, ◌||◌}
-use Rattle.ctap_cbor.specs.Tree.{Scalar, Tree, Plain, Array, Map, Trees, no_trees, Pairs, no_pairs, push, push_pair}
+use Rattle.ctap_cbor.specs.Tree.{Scalar, Tree, Plain, Array, Map, Trees, no_trees, Pairs, no_pairs, push, push_pair, is_map, is_array}
 use Rattle.ctap_cbor.specs.Parts.{One}
 use Rattle.ctap_cbor.specs.Reading.{part_of_tree}
 use Rattle.ctap_message.specs.declared.item.Label.{Label}
 use Rattle.ctap_message.specs.declared.item.Label.TheVariants as label
-use Rattle.ctap_message.specs.Members.{is_map, is_array, all_pairs, value_at, all_entries, some_entry, as_bytes, as_text, as_int, as_flag, map_by_name}
+use Rattle.ctap_message.specs.Members.{all_pairs, value_at, all_entries, some_entry, as_bytes, as_text, as_int, as_flag, map_by_name}
 use Rattle.ctap_message.specs.Labels.{label_in, head_of}
 use Rattle.ctap_message.specs.Descriptors.{Options, Parameter, parameter_types, parameter_in, Parameters, is_whole_parameter, names_es256}
 use Rattle.ctap_message.specs.MakeCredential.{User}
-use Rattle.ctap_message.specs.Walks.{InMap, InArray, map_told, array_told}
+use Rattle.ctap_cbor.specs.Collecting.{InMap, InArray}
+use Rattle.ctap_message.specs.Walks.{map_told, array_told}
 use Rattle.ctap_message.specs.Collected.{rp_labels, rp_told, rp_step, user_labels, user_told, user_step, option_labels, options_told, options_step, parameter_labels, parameter_told, parameter_step, parameters_told}
 use Rattle.ctap_message.proofs.Pushes.{ap2, ap3, entries_push, some_push, head_bytes, head_text, head_int, head_flag, is_head_bytes, is_head_text, is_head_int, is_head_flag}
 use Rattle.ctap_message.proofs.Labelling.{head_push, types_push}

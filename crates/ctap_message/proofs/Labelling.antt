@@ -12,7 +12,7 @@ use Rattle.ctap_message.specs.declared.item.Label.TheVariants as label
 use Rattle.ctap_message.specs.Members.{is_name, value_at, all_pairs, suits_name}
 use Rattle.ctap_message.specs.Labels.{label_text, labels, first_labelled, label_in, label_number, same, head_of, label_suits}
 use Rattle.ctap_message.specs.Collected.{texts}
-use Rattle.ctap_message.specs.Walks.{Adds}
+use Rattle.ctap_cbor.specs.Collecting.{Adds}
 use Rattle.ctap_message.proofs.Pushes.{ap2, value_push, all_push, if_some}
 
 abbrev pub is_known : Label → Bool

@@ -1,8 +1,8 @@
-pub mod Composing
 pub mod Bounds
 pub mod Canonical
+pub mod Messages
 pub mod Rows
-pub mod Walking
+pub mod CheckedRows
 pub mod Pushes
 pub mod Labelling
 pub mod Collecting

@@ -2,17 +2,18 @@
 use Rattle.std.proofs.Common.{◌≡◌, ℕ, ◌-◌, ◌<◌, ◌≤◌, Bool, true, false, List, length, take, drop, Option, Some, None, refl, sym, ap, ◌∙◌, arith}
 use Rattle.std.specs.Prelude.{◌&&◌}
 use Rattle.std.proofs.lemmas.List.{take_at}
-use Rattle.ctap_cbor.specs.Tree.{Scalar, Tree, Plain, Array, Map, Trees, no_trees, tree, depth_all, Pairs, no_pairs, push, push_pair}
+use Rattle.ctap_cbor.specs.Tree.{Scalar, Tree, Plain, Array, Map, Trees, no_trees, tree, depth_all, Pairs, no_pairs, push, push_pair, is_array}
 use Rattle.ctap_cbor.specs.Grammar.{text}
 use Rattle.ctap_cbor.specs.Parts.{One}
 use Rattle.ctap_cbor.specs.Reading.{Reading, rest_of, Passes, part_of_tree}
 use Rattle.ctap_message.specs.declared.item.Label.{Label}
 use Rattle.ctap_message.specs.declared.item.Label.TheVariants as label
 use Rattle.ctap_message.specs.declared.descriptor.Texts.{Texts}
-use Rattle.ctap_message.specs.Members.{is_array, is_text, array_of, all_pairs, value_at, all_entries, has_entries, as_bytes, as_text, map_by_name, entries_of}
+use Rattle.ctap_message.specs.Members.{is_text, array_of, all_pairs, value_at, all_entries, has_entries, as_bytes, as_text, map_by_name, entries_of}
 use Rattle.ctap_message.specs.Labels.{label_in, head_of, label_suits}
 use Rattle.ctap_message.specs.Descriptors.{Descriptor, descriptor_types, descriptor_in, is_whole_descriptor, DescriptorList}
-use Rattle.ctap_message.specs.Walks.{InArray, map_told, array_told}
+use Rattle.ctap_cbor.specs.Collecting.{InArray}
+use Rattle.ctap_message.specs.Walks.{map_told, array_told}
 use Rattle.ctap_message.specs.CollectedLists.{descriptor_labels, plain_labels, descriptor_told, descriptor_step, listing_told, list_told}
 use Rattle.ctap_message.specs.DescriptorWalk.{DescriptorWalk, list_of, left_of, IsWhole, IsList}
 use Rattle.ctap_message.proofs.Pushes.{ap2, ap3, ap4, all_push, entries_push, head_bytes, head_text, is_head_bytes, is_head_text}

@@ -1,47 +1,46 @@
 -- From one entry of a list to the next, and the head of a list.
-use Rattle.std.proofs.Common.{◌≡◌, ℕ, ◌+◌, ◌-◌, ◌<◌, Bool, true, false, List, [], length, Option, Some, None, Result, Ok, Err, Bor, refl, sym, ap, subst, ◌∙◌, arith, length-append}
-use Rattle.std.specs.Prelude.{is_some}
+use Rattle.std.proofs.Common.{◌≡◌, ℕ, ◌+◌, ◌-◌, ◌<◌, Bool, true, false, List, [], ◌++◌, length, Option, Some, None, Ok, Err, Bor, refl, sym, ap, subst, ◌∙◌, arith, length-append}
+use Rattle.std.specs.Prelude.{is_some, if◌then◌else◌}
 use Rattle.std.specs.Option.{option_copied}
 use Rattle.ctap_cbor.specs.declared.fault.Kind.{Kind}
-use Rattle.ctap_cbor.specs.declared.fault.Kind.TheVariants.{Truncated}
+use Rattle.ctap_cbor.specs.declared.fault.Fault.{Fault}
 use Rattle.ctap_cbor.specs.declared.item.Item.{Item}
 use Rattle.ctap_cbor.specs.declared.item.Item.TheVariants as item
 use Rattle.ctap_cbor.specs.Tree.{Tree, Array, Trees, no_trees, tree, count}
 use Rattle.ctap_cbor.specs.Head.{AreBytes, head}
 use Rattle.ctap_cbor.specs.Grammar.{text, texts}
 use Rattle.ctap_cbor.specs.Faults.{AnItem}
-use Rattle.ctap_cbor.specs.Parts.{Part, OpensArray, read}
-use Rattle.ctap_cbor.specs.Outcome.{Whole, Stopped, later_keys}
-use Rattle.ctap_cbor.specs.Reading.{Reading, rest_of, Halts, Passes, Takes}
-use Rattle.ctap_cbor.specs.Telling.{canonical_tree, whole_tree, items_at}
-use Rattle.ctap_cbor.specs.Views.{part_of}
-use Rattle.ctap_cbor.proofs.Items.{read_again}
-use Rattle.ctap_cbor.proofs.Only.{passes_only, halts_never}
-use Rattle.ctap_cbor.proofs.Telling.{bytes_tell, items_are_found}
+use Rattle.ctap_cbor.specs.Parts.{Part, OpensArray, Suits, read}
+use Rattle.ctap_cbor.specs.Parse.{parse}
+use Rattle.ctap_cbor.specs.Laws.{OneTreePasses, NothingHalts, BytesTell, ItemsAreFound}
+use Rattle.ctap_cbor.specs.Outcome.{Whole, later_keys}
+use Rattle.ctap_cbor.specs.Reading.{Reading, at_front, rest_of, Halts, Passes, Takes}
+use Rattle.ctap_cbor.specs.Telling.{outcome_of, canonical_tree, whole_tree, items_at}
+use Rattle.ctap_cbor.specs.Views.{part_of, TakesOnly}
 use Rattle.ctap_message.specs.Members.{has_entries, entries_of}
 use Rattle.ctap_message.specs.Descriptors.{Descriptor, descriptor_in, named_id, in_front, ids_of}
 use Rattle.ctap_message.specs.Walks.{Reads, map_told}
 use Rattle.ctap_message.specs.CollectedLists.{descriptor_told}
-use Rattle.ctap_message.specs.DescriptorWalk.{DescriptorWalk, IsWhole, list_steps, entry_steps, NextId, Left, Walks, Gives, IsList, IsWalk}
-use Rattle.ctap_message.proofs.Walking.{opens_array}
+use Rattle.ctap_message.specs.DescriptorWalk.{DescriptorWalk, IsWhole, list_steps, entry_steps, behind_first, NextId, Left, Walks, Gives, IsList, IsWalk}
 
 -- as many ids are left as there were
 abbrev pub Sofar : Reading → ℕ → Reading → ℕ → Type 0
-Sofar r n s m = (ts : Trees) → Left r n ts → (us : Trees) × (more : ℕ) × Walks r s m ts us more × (ids_of ts ≡ ids_of us)
+Sofar r n s m = (ts : Trees) → Left r n ts → (us : Trees) × (more : ℕ) × Walks r s m ts us more × (ids_of ts ≡ ids_of us) × (behind_first ts ≡ behind_first us)
 
 pub sofar_none : (r : Reading) (n : ℕ) → Sofar r n r n
-sofar_none r n = λ ts h. (ts, 0, record { left = h; same = refl; cost = omega arith; steps = omega arith }, refl)
+sofar_none r n = λ ts h. (ts, 0, record { left = h; same = refl; cost = omega arith; steps = omega arith }, refl, refl)
 
 Onward : Reading → Reading → ℕ → Trees → Trees → Descriptor → Type 0
-Onward r s m ts us d = (vs : Trees) × (more : ℕ) × Walks r s m ts vs more × (ids_of us ≡ in_front (named_id d) (ids_of vs))
+Onward r s m ts us d =
+    (vs : Trees) × (more : ℕ) × Walks r s m ts vs more × (ids_of us ≡ in_front (named_id d) (ids_of vs)) × (behind_first us ≡ (if is_some (named_id d) then vs else behind_first vs))
 
-onward : (r s s' : Reading) (m : ℕ) (ts us : Trees) (more : ℕ) (d : Bool × Descriptor) → Walks r s m ts us more → 0 < m → Reads (map_told descriptor_told) 3 d s s' → Onward r s' (m - 1) ts us d.1
+onward : OneTreePasses → (r s s' : Reading) (m : ℕ) (ts us : Trees) (more : ℕ) (d : Bool × Descriptor) → Walks r s m ts us more → 0 < m → Reads (map_told descriptor_told) 3 d s s' → Onward r s' (m - 1) ts us d.1
 unfolding Onward
-onward r s s' m ts no_trees more d h lt k = absurd (omega (arith, h.left.number))
-onward r s s' m ts (tree u us) more d h lt k =
+onward law r s s' m ts no_trees more d h lt k = absurd (omega (arith, h.left.number))
+onward law r s s' m ts (tree u us) more d h lt k =
     let t : Tree = k.0 in
     let p : Passes 3 t s s' = k.1 in
-    let only = passes_only 3 u t (texts us) s s' h.left.lawful.0 (omega (arith, h.left.flat)) h.left.spelled p in
+    let only = law 3 u t (texts us) s s' h.left.lawful.0 (omega (arith, h.left.flat)) h.left.spelled p in
     let len : length (text t) ≡ length (text u) = ap (λ t. length (text t)) only.0 in
     let later = ap later_keys only.0 in (
       us,
@@ -53,25 +52,33 @@ onward r s s' m ts (tree u us) more d h lt k =
         steps = omega (arith, h.steps, ap (λ (r : Reading). r.steps) p.moved, len, later);
       },
       ap (λ t. in_front (named_id (descriptor_in (Some t))) (ids_of us)) (sym only.0) ∙ ap (λ x. in_front (named_id x.1) (ids_of us)) (sym k.2),
+      ap (λ t. if is_some (named_id (descriptor_in (Some t))) then us else behind_first us) (sym only.0) ∙ ap (λ x. if is_some (named_id x.1) then us else behind_first us) (sym k.2),
     )
 
-pub entry_never : (r s s' : Reading) (m : ℕ) (ts us : Trees) (more : ℕ) (at : ℕ) (kind : Kind) → Walks r s m ts us more → 0 < m → Halts 3 s s' at kind → ⊥
-entry_never r s s' m ts no_trees more at kind h lt k = omega (arith, h.left.number)
-entry_never r s s' m ts (tree u us) more at kind h lt k = halts_never 3 u (texts us) s s' at kind h.left.lawful.0 (omega (arith, h.left.flat)) h.left.spelled k
+pub entry_never : NothingHalts → (r s s' : Reading) (m : ℕ) (ts us : Trees) (more : ℕ) (at : ℕ) (kind : Kind) → Walks r s m ts us more → 0 < m → Halts 3 s s' at kind → ⊥
+entry_never law r s s' m ts no_trees more at kind h lt k = omega (arith, h.left.number)
+entry_never law r s s' m ts (tree u us) more at kind h lt k = law 3 u (texts us) s s' at kind h.left.lawful.0 (omega (arith, h.left.flat)) h.left.spelled k
 
-pub sofar_more : (r s s' : Reading) (n m : ℕ) (d : Bool × Descriptor) → Sofar r n s m → 0 < m → Reads (map_told descriptor_told) 3 d s s' → named_id d.1 ≡ None → Sofar r n s' (m - 1)
+pub sofar_more : OneTreePasses → (r s s' : Reading) (n m : ℕ) (d : Bool × Descriptor) → Sofar r n s m → 0 < m → Reads (map_told descriptor_told) 3 d s s' → named_id d.1 ≡ None → Sofar r n s' (m - 1)
 unfolding Onward
-sofar_more r s s' n m d h lt k e = λ ts l.
+sofar_more law r s s' n m d h lt k e = λ ts l.
     let g = h ts l in
-    let o = onward r s s' m ts g.0 g.1 d g.2 lt k in
-    (o.0, o.1, o.2, g.3 ∙ o.3 ∙ ap (λ x. in_front x (ids_of o.0)) e)
+    let o = onward law r s s' m ts g.0 g.1 d g.2 lt k in
+    (o.0, o.1, o.2, g.3 ∙ o.3 ∙ ap (λ x. in_front x (ids_of o.0)) e, g.4 ∙ o.4 ∙ ap (λ x. if is_some x then o.0 else behind_first o.0) e)
 
-pub gives_some : (r s s' : Reading) (n m : ℕ) (d : Bool × Descriptor) (id : Option (List ℕ)) → Sofar r n s m → 0 < m → Reads (map_told descriptor_told) 3 d s s' → id ≡ named_id d.1 → is_some id ≡ true → Gives r n s' (m - 1) id
+pub gives_some : OneTreePasses → (r s s' : Reading) (n m : ℕ) (d : Bool × Descriptor) (id : Option (List ℕ)) → Sofar r n s m → 0 < m → Reads (map_told descriptor_told) 3 d s s' → id ≡ named_id d.1 → is_some id ≡ true → Gives r n s' (m - 1) id
 unfolding Onward
-gives_some r s s' n m d id h lt k e there = λ ts l.
+gives_some law r s s' n m d id h lt k e there = λ ts l.
     let g = h ts l in
-    let o = onward r s s' m ts g.0 g.1 d g.2 lt k in
-    (o.0, o.1, o.2, g.3 ∙ o.3 ∙ ap (λ x. in_front x (ids_of o.0)) (sym e), λ (none : id ≡ None). absurd (let f : true ≡ false = sym there ∙ ap is_some none in cc))
+    let o = onward law r s s' m ts g.0 g.1 d g.2 lt k in
+    (
+      o.0,
+      o.1,
+      o.2,
+      g.3 ∙ o.3 ∙ ap (λ x. in_front x (ids_of o.0)) (sym e),
+      λ (none : id ≡ None). absurd (let f : true ≡ false = sym there ∙ ap is_some none in cc),
+      sym (g.4 ∙ o.4 ∙ ap (λ b. if b then o.0 else behind_first o.0) (ap is_some (sym e) ∙ there)),
+    )
 
 empty : (us : Trees) → count us ≡ 0 → us ≡ no_trees
 empty no_trees e = refl
@@ -80,7 +87,8 @@ empty (tree u us) e = absurd (omega arith)
 pub gives_none : (r s : Reading) (n m : ℕ) → Sofar r n s m → m ≡ 0 → Gives r n s m None
 gives_none r s n m h e = λ ts l.
     let g = h ts l in
-    (g.0, g.1, g.2, g.3, λ _. empty g.0 (g.2.left.number ∙ e))
+    let none : g.0 ≡ no_trees = empty g.0 (g.2.left.number ∙ e) in
+    (g.0, g.1, g.2, g.3, λ _. none, none ∙ sym (g.4 ∙ ap behind_first none))
 
 pub copied_some : (o : Option (Bor (List ℕ))) → is_some (option_copied o) ≡ is_some o
 copied_some None = refl
@@ -101,20 +109,20 @@ entries_in r = entries_of (canonical_tree r.bytes)
 abbrev left_at : Reading → ℕ → Trees
 left_at r n = items_at 3 n (rest_of r)
 
-left_found : (r : Reading) (n : ℕ) (ts : Trees) → Left r n ts → left_at r n ≡ ts
-left_found r n ts h = ap (λ m. items_at 3 m (rest_of r)) (sym h.number) ∙ ap (items_at 3 (count ts)) h.spelled ∙ items_are_found 3 ts h.lawful h.flat
+left_found : ItemsAreFound → (r : Reading) (n : ℕ) (ts : Trees) → Left r n ts → left_at r n ≡ ts
+left_found law r n ts h = ap (λ m. items_at 3 m (rest_of r)) (sym h.number) ∙ ap (items_at 3 (count ts)) h.spelled ∙ law 3 ts h.lawful h.flat
 
 -- what looking for an id makes of a walk
 abbrev Moves : Reading → ℕ → Bool → Reading → ℕ → Option (List ℕ) → Type 0
 Moves r n given s m id =
-    IsWalk (walk_at s m) given × (entries_in s ≡ entries_in r) × (ids_of (left_at r n) ≡ in_front id (ids_of (left_at s m))) × (id ≡ None → left_at s m ≡ no_trees)
+    IsWalk (walk_at s m) given × (entries_in s ≡ entries_in r) × (ids_of (left_at r n) ≡ in_front id (ids_of (left_at s m))) × (id ≡ None → left_at s m ≡ no_trees) × (left_at s m ≡ behind_first (left_at r n))
 
-moves : (r s : Reading) (n m : ℕ) (given : Bool) (id : Option (List ℕ)) → IsWalk (walk_at r n) given → Gives r n s m id → Moves r n given s m id
-moves r s n m given id w g =
+moves : ItemsAreFound → (r s : Reading) (n m : ℕ) (given : Bool) (id : Option (List ℕ)) → IsWalk (walk_at r n) given → Gives r n s m id → Moves r n given s m id
+moves law r s n m given id w g =
     let h = g (left_at r n) w.stands in
     let us : Trees = h.0 in
     let k : Walks r s m (left_at r n) us h.1 = h.2 in
-    let found : left_at s m ≡ us = left_found s m us k.left in
+    let found : left_at s m ≡ us = left_found law s m us k.left in
     let same : entries_in s ≡ entries_in r = ap (λ b. entries_of (canonical_tree b)) k.same in
     let cost : entry_steps (left_at s m) ≡ entry_steps us = ap entry_steps found in
     let whole : list_steps (entries_in s) ≡ list_steps (entries_in r) = ap list_steps same in (
@@ -127,58 +135,55 @@ moves r s n m given id w g =
       same,
       h.3 ∙ ap (λ x. in_front id (ids_of x)) (sym found),
       λ e. found ∙ h.4 e,
+      found ∙ h.5,
     )
 
-pub still_walk : (r s : Reading) (n m : ℕ) (given : Bool) (id : Option (List ℕ)) → IsWalk (walk_at r n) given → Gives r n s m id → IsWalk (walk_at s m) given
-still_walk r s n m given id w g = (moves r s n m given id w g).0
+pub still_walk : ItemsAreFound → (r s : Reading) (n m : ℕ) (given : Bool) (id : Option (List ℕ)) → IsWalk (walk_at r n) given → Gives r n s m id → IsWalk (walk_at s m) given
+still_walk law r s n m given id w g = (moves law r s n m given id w g).0
 
 empty_ids : (ts : Trees) (us : Trees) → ids_of ts ≡ ids_of us → us ≡ no_trees → ids_of ts ≡ []
 empty_ids ts us e h = e ∙ ap ids_of h
 
-pub next_gives : (r s : Reading) (n m : ℕ) (given : Bool) (id : Option (Bor (List ℕ))) → IsWalk (walk_at r n) given → Gives r n s m (option_copied id) → NextId (walk_at r n) id (walk_at s m)
-next_gives r s n m given None w g =
-    let h = moves r s n m given None w g in
-    record { first = (h.2 ∙ ap ids_of (h.3 refl), ap ids_of (h.3 refl)); same = h.1; ended = λ _. h.3 refl }
-next_gives r s n m given (Some x) w g =
-    let h = moves r s n m given (Some x.now) w g in
-    record { first = h.2; same = h.1; ended = λ e. absurd cc }
+pub next_gives : ItemsAreFound → (r s : Reading) (n m : ℕ) (given : Bool) (id : Option (Bor (List ℕ))) → IsWalk (walk_at r n) given → Gives r n s m (option_copied id) → NextId (walk_at r n) id (walk_at s m)
+next_gives law r s n m given None w g =
+    let h = moves law r s n m given None w g in
+    record { first = (h.2 ∙ ap ids_of (h.3 refl), ap ids_of (h.3 refl)); same = h.1; left = h.4; ended = λ _. h.3 refl }
+next_gives law r s n m given (Some x) w g =
+    let h = moves law r s n m given (Some x.now) w g in
+    record { first = h.2; same = h.1; left = h.4; ended = λ e. absurd cc }
 
 -- ---- the head of a list
 
-list_head : (l : List ℕ) (ts : Trees) (r : Reading) → IsList l ts → r ≡ record { bytes = l; place = 0; steps = 0 } → read 4 AnItem (rest_of r) ≡ Ok (OpensArray (count ts), texts ts)
-list_head l ts r h e =
-    ap (λ r. read 4 AnItem (rest_of r)) e ∙ ap (read 4 AnItem) h.spelled ∙ read_again 4 AnItem (OpensArray (count ts)) (texts ts) (omega arith, h.lawful.0)
+-- the list's head stands at the first byte
+abbrev pub HeadStands : Reading → Trees → Type 0
+HeadStands r ts = Suits 4 AnItem (OpensArray (count ts)) × (rest_of r ≡ head 4 (count ts) ++ texts ts)
 
-abbrev part_at : Result (Part × List ℕ) Kind → Part
-part_at (Ok p) = p.0
-part_at (Err k) = OpensArray 0
-
-abbrev rest_at : Result (Part × List ℕ) Kind → List ℕ
-rest_at (Ok p) = p.1
-rest_at (Err k) = []
+pub head_stands : (l : List ℕ) (ts : Trees) (r : Reading) → IsList l ts → r ≡ at_front l 0 → HeadStands r ts
+head_stands l ts r h e = ((omega arith, h.lawful.0), ap rest_of e ∙ h.spelled)
 
 abbrev size_of : Part → ℕ
 size_of (OpensArray n) = n
 size_of _ = 0
 
-list_tree : (l : List ℕ) (ts : Trees) → AreBytes l → IsList l ts → canonical_tree l ≡ Some (Array ts)
-list_tree l ts fits h =
-    ap whole_tree (bytes_tell.only l (Whole (Array ts)) fits (record { enc = record { lawful = h.lawful; spelled = h.spelled }; flat = omega (arith, h.flat) }))
+list_tree : BytesTell → (l : List ℕ) (ts : Trees) → AreBytes l → IsList l ts → canonical_tree l ≡ Some (Array ts)
+list_tree law l ts fits h =
+    ap whole_tree (law.only l (Whole (Array ts)) fits (record { enc = record { lawful = h.lawful; spelled = h.spelled }; flat = omega (arith, h.flat) }))
 
 list_costs : (ts : Trees) → has_entries ts ≡ true → list_steps ts ≡ length (head 4 (count ts)) + entry_steps ts
 list_costs no_trees e = absurd cc
 list_costs (tree t ts) e = omega (arith, length-append (head 4 (count (tree t ts))) (texts (tree t ts)))
 
 -- behind its head a list's walk begins
-pub begins : (l : List ℕ) (ts : Trees) (r s : Reading) (n : ℕ) → AreBytes l → IsList l ts → r ≡ record { bytes = l; place = 0; steps = 0 } → read 4 AnItem (rest_of r) ≡ Ok (OpensArray n, rest_of s) → Takes 4 r s (OpensArray n)
+pub begins : BytesTell → ItemsAreFound → (l : List ℕ) (ts : Trees) (r s : Reading) (n : ℕ) → AreBytes l → IsList l ts → r ≡ at_front l 0 → TakesOnly 4 r s (Ok (item.Array n)) → Takes 4 r s (OpensArray n)
     → IsWalk (walk_at s n) true × IsWhole (walk_at s n) ts
-begins l ts r s n fits h e k t =
-    let same : ◌≡◌ {A = Result (Part × List ℕ) Kind} (Ok (OpensArray n, rest_of s)) (Ok (OpensArray (count ts), texts ts)) = sym k ∙ list_head l ts r h e in
-    let size : n ≡ count ts = ap (λ x. size_of (part_at x)) same in
-    let stands : Left s n ts = record { spelled = ap rest_at same; number = sym size; lawful = h.lawful.1; flat = h.flat } in
-    let found : left_at s n ≡ ts = left_found s n ts stands in
+begins tell found_law l ts r s n fits h e only t =
+    let there = head_stands l ts r h e in
+    let same = only (OpensArray (count ts)) (texts ts) there.0 there.1 in
+    let size : n ≡ count ts = ap size_of same.0 in
+    let stands : Left s n ts = record { spelled = same.1; number = sym size; lawful = h.lawful.1; flat = h.flat } in
+    let found : left_at s n ≡ ts = left_found found_law s n ts stands in
     let bytes : s.bytes ≡ l = ap (λ (r : Reading). r.bytes) t.moved ∙ ap (λ (r : Reading). r.bytes) e in
-    let entries : entries_in s ≡ ts = ap (λ b. entries_of (canonical_tree b)) bytes ∙ ap entries_of (list_tree l ts fits h) in
+    let entries : entries_in s ≡ ts = ap (λ b. entries_of (canonical_tree b)) bytes ∙ ap entries_of (list_tree tell l ts fits h) in
     let headed : length (head 4 n) ≡ length (head 4 (count ts)) = ap (λ n. length (head 4 n)) size in
     let costs = list_costs ts h.given in
     let left_cost : entry_steps (left_at s n) ≡ entry_steps ts = ap entry_steps found in
@@ -192,23 +197,34 @@ begins l ts r s n fits h e k t =
       (entries, found),
     )
 
-pub no_fault : (l : List ℕ) (ts : Trees) (r : Reading) (kind : Kind) → IsList l ts → r ≡ record { bytes = l; place = 0; steps = 0 } → read 4 AnItem (rest_of r) ≡ Err kind → ⊥
-no_fault l ts r kind h e k = let same : ◌≡◌ {A = Result (Part × List ℕ) Kind} (Err kind) (Ok (OpensArray (count ts), texts ts)) = sym k ∙ list_head l ts r h e in cc
+pub no_fault : (l : List ℕ) (ts : Trees) (r s : Reading) (f : Fault) → IsList l ts → r ≡ at_front l 0 → TakesOnly 4 r s (Err f) → ⊥
+no_fault l ts r s f h e only = let there = head_stands l ts r h e in only (OpensArray (count ts)) (texts ts) there.0 there.1
 
-pub no_other : (l : List ℕ) (ts : Trees) (r s : Reading) (i : Item) → IsList l ts → r ≡ record { bytes = l; place = 0; steps = 0 } → read 4 AnItem (rest_of r) ≡ Ok (part_of i, rest_of s) → ((n : ℕ) → i ≡ item.Array n → ⊥) → ⊥
-no_other l ts r s i h e k other =
-    opens_array i other (count ts) (ap part_at (sym k ∙ list_head l ts r h e))
+no_part : (i : Item) (n : ℕ) → ((n : ℕ) → i ≡ item.Array n → ⊥) → part_of i ≡ OpensArray n → ⊥
+no_part (item.Array m) n other e = other m refl
+no_part (item.Map m) n other e = cc
+no_part (item.Int m) n other e = cc
+no_part (item.Bytes m) n other e = cc
+no_part (item.Text m) n other e = cc
+no_part (item.Bool m) n other e = cc
+no_part item.Null n other e = cc
+
+pub no_other : (l : List ℕ) (ts : Trees) (r s : Reading) (i : Item) → IsList l ts → r ≡ at_front l 0 → TakesOnly 4 r s (Ok i) → ((n : ℕ) → i ≡ item.Array n → ⊥) → ⊥
+no_other l ts r s i h e only other =
+    let there = head_stands l ts r h e in
+    no_part i (count ts) other (only (OpensArray (count ts)) (texts ts) there.0 there.1).0
 
 -- ---- no list
 
 no_tree : canonical_tree [] ≡ None
-no_tree = ap whole_tree (bytes_tell.only [] (Stopped [] Truncated) tt ([], refl, refl))
+unfolding outcome_of parse read
+no_tree = refl
 
 none_left : (r : Reading) → left_at r 0 ≡ no_trees
 unfolding items_at
 none_left r = refl
 
-pub no_list : (r : Reading) (l : List ℕ) → l ≡ [] → r ≡ record { bytes = l; place = 0; steps = 0 } → IsWalk (walk_at r 0) false × IsWhole (walk_at r 0) no_trees
+pub no_list : (r : Reading) (l : List ℕ) → l ≡ [] → r ≡ at_front l 0 → IsWalk (walk_at r 0) false × IsWhole (walk_at r 0) no_trees
 no_list r l nothing e =
     let bytes : r.bytes ≡ [] = ap (λ (r : Reading). r.bytes) e ∙ nothing in
     let entries : entries_in r ≡ no_trees = ap (λ b. entries_of (canonical_tree b)) bytes ∙ ap entries_of no_tree in

@@ -3,17 +3,17 @@ use Rattle.std.proofs.lemmas.Bool.Decides.{nat_tests}
 use Rattle.std.proofs.Common.{◌≡◌, ◌≢◌, ℕ, Bool, true, false, List, Option, None, Result, Ok, Err, refl, sym, ap, ◌∙◌, arith}
 use Rattle.std.specs.Prelude.{MatchResult, is_some, nat_eq, codes}
 use Rattle.ctap_cbor.specs.declared.fault.Fault.{Fault}
-use Rattle.ctap_cbor.specs.Tree.{Tree, Plain, Array, Map, Scalar, Trees, no_trees, Pairs, no_pairs, push_pair}
+use Rattle.ctap_cbor.specs.Tree.{Tree, Plain, Array, Map, Scalar, Trees, no_trees, Pairs, no_pairs, push_pair, is_map}
 use Rattle.ctap_cbor.specs.Parts.{Part, One}
 use Rattle.ctap_cbor.specs.Reading.{Reading, PassesOne, Halts, part_of_tree}
 use Rattle.ctap_message.specs.declared.make.Make.{Make}
 use Rattle.ctap_message.specs.declared.assert.Assert.{Assert}
-use Rattle.ctap_message.specs.Members.{named, as_bytes, as_text, is_map, is_natural, all_pairs, value_at, all_entries, some_entry, entries_of}
+use Rattle.ctap_message.specs.Members.{named, as_bytes, as_text, is_natural, all_pairs, value_at, all_entries, some_entry, entries_of}
 use Rattle.ctap_message.specs.Descriptors.{Parameters, parameters_in, DescriptorList, descriptors_in, Options, options_in}
 use Rattle.ctap_message.specs.MakeCredential.{User, user_in, make_types, MakeParameters}
 use Rattle.ctap_message.specs.GetAssertion.{assertion_types, AssertionParameters}
 use Rattle.ctap_message.specs.Labels.{number_in, head_of}
-use Rattle.ctap_message.specs.Walks.{Adds}
+use Rattle.ctap_cbor.specs.Collecting.{Adds}
 use Rattle.ctap_message.specs.DescriptorWalk.{DescriptorWalk, list_of, left_of, IsWhole}
 use Rattle.ctap_message.specs.CollectedRequests.{MakeTold, make_told, shown_make, make_step, TakesMake, AssertTold, assert_told, shown_assert, assert_step, TakesAssert}
 use Rattle.ctap_message.proofs.Pushes.{ap2, ap3, and_true, number_push, numbers_push, Small}

@@ -1,6 +1,6 @@
 -- A walk over a list of descriptors, which is the one stated second look at a part of a message: what is left of the list, and
 -- the walk's own steps.
-use Rattle.std.specs.Prelude.{◌≡◌, ℕ, ◌+◌, ◌-◌, ◌≤◌, min, Bool, true, List, length, Option, None}
+use Rattle.std.specs.Prelude.{◌≡◌, ℕ, ◌+◌, ◌-◌, ◌≤◌, min, Bool, true, List, length, Option, Some, None, is_some, if◌then◌else◌}
 use Rattle.std.specs.Borrow.{Bor}
 use Rattle.std.specs.Iterator.{YieldsFirstBy}
 use Rattle.ctap_cbor.specs.Tree.{Array, Trees, no_trees, tree, depth_all, count}
@@ -9,7 +9,7 @@ use Rattle.ctap_cbor.specs.Outcome.{Whole, steps, later_in_all}
 use Rattle.ctap_cbor.specs.Reading.{Reading, rest_of, counted}
 use Rattle.ctap_cbor.specs.Telling.{canonical_tree, items_at}
 use Rattle.ctap_message.specs.Members.{entries_of, has_entries}
-use Rattle.ctap_message.specs.Descriptors.{ids_of, in_front}
+use Rattle.ctap_message.specs.Descriptors.{descriptor_in, named_id, ids_of, in_front}
 
 -- a cursor at the next entry, and how many entries are left
 pub record DescriptorWalk : Type 0 where
@@ -41,10 +41,16 @@ entry_steps ts = length (texts ts) + later_in_all ts
 abbrev pub walked : DescriptorWalk → ℕ
 walked w = min (list_steps (list_of w) - entry_steps (left_of w)) 18446744073709551615
 
+-- the entries behind the first one that names an id
+abbrev pub behind_first : Trees → Trees
+behind_first no_trees = no_trees
+behind_first (tree t ts) = if is_some (named_id (descriptor_in (Some t))) then ts else behind_first ts
+
 -- what a call of `next` gives: the next id of an entry of type `public-key`, or nothing once no entry is left
 pub record NextId (old : DescriptorWalk) (id : Option (Bor (List ℕ))) (new : DescriptorWalk) : Type 0 where
   pub first : YieldsFirstBy {A = Bor (List ℕ)} (λ x. x.now) (λ (w : DescriptorWalk). ids_of (left_of w)) old id new
   pub same : list_of new ≡ list_of old
+  pub left : left_of new ≡ behind_first (left_of old)
   pub ended : id ≡ None → left_of new ≡ no_trees
 
 -- ---- the cursor behind a walk
@@ -66,7 +72,7 @@ pub record Walks (r s : Reading) (n : ℕ) (ts us : Trees) (more : ℕ) : Type 0
 -- what looking for the next id gives
 abbrev pub Gives : Reading → ℕ → Reading → ℕ → Option (List ℕ) → Type 0
 Gives r n s m id =
-    (ts : Trees) → Left r n ts → (us : Trees) × (more : ℕ) × Walks r s m ts us more × (ids_of ts ≡ in_front id (ids_of us)) × (id ≡ None → us ≡ no_trees)
+    (ts : Trees) → Left r n ts → (us : Trees) × (more : ℕ) × Walks r s m ts us more × (ids_of ts ≡ in_front id (ids_of us)) × (id ≡ None → us ≡ no_trees) × (us ≡ behind_first ts)
 
 -- the bytes of a list with entries, as they stand in a request
 pub record IsList (l : List ℕ) (ts : Trees) : Type 0 where

@@ -1,9 +1,9 @@
 -- authenticatorMakeCredential (CTAP 2.1, section 6.1): the types of its parameters, what they tell, the checks of a
 -- request in their order, and what it asks. The order, and that pinUvAuthParam is refused, are this project's choice.
 use Rattle.std.specs.Prelude.{ℕ, ◌==◌, nat_le, Bool, false, not, ◌&&◌, List, [], ◌∷◌, length, Option, Some, None, is_some, unwrap_or, Result, codes}
-use Rattle.ctap_cbor.specs.Tree.{Tree}
+use Rattle.ctap_cbor.specs.Tree.{Tree, is_map}
 use Rattle.ctap_message.specs.Statuses.{INVALID_PARAMETER, INVALID_LENGTH, CBOR_UNEXPECTED_TYPE, INVALID_CBOR, MISSING_PARAMETER, UNSUPPORTED_ALGORITHM, INVALID_OPTION}
-use Rattle.ctap_message.specs.Members.{numbered, named, as_bytes, as_text, is_bytes, is_text, is_natural, is_map, array_of, map_by_name, map_by_number}
+use Rattle.ctap_message.specs.Members.{numbered, named, as_bytes, as_text, is_bytes, is_text, is_natural, array_of, map_by_name, map_by_number}
 use Rattle.ctap_message.specs.Checks.{Check, check, if_all_hold}
 use Rattle.ctap_message.specs.Asked.{Asked, MakeCredential}
 use Rattle.ctap_message.specs.Descriptors.{descriptor_types, option_types, parameter_types, DescriptorList, descriptors_in, Options, options_in, is_on, is_off, Parameters, parameters_in}
@@ -76,14 +76,14 @@ make_is_whole m =
 
 abbrev pub make_checks : Bool → Bool → MakeParameters → List Check
 make_checks is_canonical is_typed m =
-    check is_canonical INVALID_CBOR
-    ∷ check is_typed CBOR_UNEXPECTED_TYPE  -- a map, with all its types
-    ∷ check (make_is_whole m) MISSING_PARAMETER
-    ∷ check (length (or_empty m.client_data_hash) == 32 && nat_le (length (or_empty m.user.id)) 64) INVALID_LENGTH
-    ∷ check (not m.has_pin_uv_auth_param) INVALID_PARAMETER
-    ∷ check m.parameters.has_es256 UNSUPPORTED_ALGORITHM
-    ∷ check (not (is_on m.options.uv) && not (is_off m.options.up)) INVALID_OPTION
-    ∷ check (not m.has_enterprise_attestation) INVALID_PARAMETER
+    check is_canonical INVALID_CBOR  -- 0x12: canonical CBOR, section 8
+    ∷ check is_typed CBOR_UNEXPECTED_TYPE  -- 0x11: a map, and the types of section 6.1
+    ∷ check (make_is_whole m) MISSING_PARAMETER  -- 0x14: what section 6.1 requires
+    ∷ check (length (or_empty m.client_data_hash) == 32 && nat_le (length (or_empty m.user.id)) 64) INVALID_LENGTH  -- 0x03: WebAuthn Level 2, section 5.4.3
+    ∷ check (not m.has_pin_uv_auth_param) INVALID_PARAMETER  -- 0x02: no PIN and no user verification
+    ∷ check m.parameters.has_es256 UNSUPPORTED_ALGORITHM  -- 0x26: section 6.1.2, pubKeyCredParams
+    ∷ check (not (is_on m.options.uv) && not (is_off m.options.up)) INVALID_OPTION  -- 0x2c: section 6.1.2, options
+    ∷ check (not m.has_enterprise_attestation) INVALID_PARAMETER  -- 0x02: section 6.1.2, enterpriseAttestation
     ∷ []
 
 abbrev pub make_asks : MakeParameters → Asked

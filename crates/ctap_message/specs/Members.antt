@@ -2,7 +2,7 @@
 -- and the types that they are to have.
 use Rattle.std.specs.Prelude.{ℕ, ℤ, pos, ◌==◌, Bool, true, false, ◌&&◌, ◌||◌, List, [], ◌∷◌, Option, Some, None, is_some, if◌then◌else◌}
 use Rattle.std.specs.Str.{bytes_eq}
-use Rattle.ctap_cbor.specs.Tree.{Int, Bytes, Text, Flag, Tree, Plain, Array, Map, Trees, no_trees, tree, Pairs, no_pairs, pair}
+use Rattle.ctap_cbor.specs.Tree.{Int, Bytes, Text, Flag, Tree, Plain, Array, Map, Trees, no_trees, tree, Pairs, no_pairs, pair, is_map, is_array}
 
 -- ---- members and entries
 
@@ -94,14 +94,6 @@ is_flag t = is_some (as_flag (Some t))
 abbrev pub is_natural : Tree → Bool
 is_natural (Plain (Int (pos n))) = true
 is_natural _ = false
-
-abbrev pub is_map : Tree → Bool
-is_map (Map ps) = true
-is_map _ = false
-
-abbrev pub is_array : Tree → Bool
-is_array (Array ts) = true
-is_array _ = false
 
 -- an array of entries of a type
 abbrev pub array_of : (Tree → Bool) → Tree → Bool

@@ -9,7 +9,7 @@ use Rattle.ctap_message.specs.DescriptorWalk.{list_of, left_of}
 
 abbrev pub asked : Request → Asked
 asked (request.Make hash rp_id user_id user_name discoverable exclude) = asks.MakeCredential hash.now rp_id.now user_id.now user_name.now discoverable (left_of exclude)
-asked (request.Assert hash rp_id allow presence) = asks.GetAssertion rp_id.now hash.now (left_of allow) presence
+asked (request.Assert hash rp_id allow presence) = asks.GetAssertion hash.now rp_id.now (left_of allow) presence
 asked request.Info = asks.GetInfo
 asked request.Reset = asks.Reset
 asked request.Next = asks.GetNextAssertion

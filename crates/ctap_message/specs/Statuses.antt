@@ -13,7 +13,7 @@ INVALID_COMMAND = 0x01
 abbrev pub INVALID_PARAMETER : ℕ
 INVALID_PARAMETER = 0x02
 
--- CTAP1_ERR_INVALID_LENGTH: the message hasn't the length that its command asks for
+-- CTAP1_ERR_INVALID_LENGTH: the message, the client data hash or the user id hasn't the length that is asked for
 abbrev pub INVALID_LENGTH : ℕ
 INVALID_LENGTH = 0x03
 

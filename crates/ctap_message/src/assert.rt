@@ -12,8 +12,7 @@ use crate::item::{
     both, bytes_of, is_a_byte_string, is_a_map, is_a_natural, is_a_text, number_of, text_of,
 };
 use crate::options::{Options, read_options};
-use crate::walk::{Members, read_map};
-use ctap_cbor::{Cursor, Fault, Item};
+use ctap_cbor::{Cursor, Fault, Item, Members, read_map};
 
 /// What is known of the parameters of authenticatorGetAssertion.
 #[derive(Drop)]

@@ -12,8 +12,7 @@ ghost use Rattle.ctap_message.specs.CollectedLists.{descriptor_told, shown_descr
 
 use crate::descriptors::Descriptors;
 use crate::item::{Label, both, bytes_of, is_a_text, is_public_key, label_of, text_of};
-use crate::walk::{Entries, Members, read_array, read_map};
-use ctap_cbor::{Cursor, Fault, Item};
+use ctap_cbor::{Cursor, Entries, Fault, Item, Members, read_array, read_map};
 
 /// An array whose entries are to be texts.
 #[derive(Drop)]

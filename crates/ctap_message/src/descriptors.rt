@@ -9,7 +9,7 @@ ghost use Rattle.ctap_message.specs.Descriptors.{ids_of};
 ghost use Rattle.ctap_message.specs.DescriptorWalk.{DescriptorWalk, list_of, left_of, IsWhole, walked, NextId, Left, Gives, IsList};
 
 use crate::descriptor::read_descriptor;
-use ctap_cbor::laws::known_bytes;
+use ctap_cbor::laws::{bytes_tell, items_are_found, known_bytes, nothing_halts, one_tree_passes};
 use ctap_cbor::{Cursor, Item};
 use std::marker::Model;
 
@@ -27,6 +27,8 @@ impl<'a> Entry<'a> {
         ensures gives { Gives self.old.cursor self.old.left self.new.cursor self.new.left (option_copied result) }
         ensures fewer { MatchOption result (self.new.left ≡ 0) (λ _. self.new.left < self.old.left) }
     {
+        one_tree_passes();
+        nothing_halts();
         while self.left > 0 {
             self.left -= 1;
             let Ok(descriptor) = read_descriptor(&mut self.cursor, 2) else {
@@ -82,6 +84,8 @@ impl<'a> Descriptors<'a> {
         ensures { (ts : Trees) → IsList list.now ts → IsWhole result ts }
     {
         known_bytes(list);
+        bytes_tell();
+        items_are_found();
         let mut cursor = Cursor::new(list);
         let Ok(item) = cursor.item(1) else {
             unreachable!()
@@ -119,6 +123,7 @@ impl<'a> Iterator for Descriptors<'a> {
     ghost remaining = { λ w. at_most w.count };
 
     fn next(&mut self) -> Option<&'a [u8]> {
+        items_are_found();
         self.entry.next_id()
     }
 }

@@ -3,7 +3,8 @@
 ghost use Rattle.std.specs.Prelude.{◌≡◌, ◌&&◌, ◌||◌, Some};
 ghost use Rattle.std.specs.Option.{option_copied};
 ghost use Rattle.ctap_cbor.specs.Views.{part_of};
-ghost use Rattle.ctap_message.specs.Members.{as_bytes, as_text, as_int, as_flag, is_bytes, is_text, is_map, is_natural};
+ghost use Rattle.ctap_cbor.specs.Tree.{is_map};
+ghost use Rattle.ctap_message.specs.Members.{as_bytes, as_text, as_int, as_flag, is_bytes, is_text, is_natural};
 ghost use Rattle.ctap_message.specs.Descriptors.{is_public_key as is_known_type};
 ghost use Rattle.ctap_message.specs.Labels.{label_in, number_in, head_of};
 

@@ -1,4 +1,5 @@
-//! What holds over the definitions alone. Each law is the contract of a function that does nothing.
+//! What holds over the definitions alone. Each law is the contract of a function that does nothing, but for calling the
+//! laws that it rests on.
 
 ghost use Rattle.std.specs.Prelude.{◌≡◌, ℕ, ◌+◌, ◌-◌, ◌*◌, ◌≤◌, List, length, drop, min, Option};
 ghost use Rattle.ctap_cbor.specs.Tree.{Array, Trees, no_trees};
@@ -8,6 +9,8 @@ ghost use Rattle.ctap_cbor.specs.Head.{AreBytes};
 ghost use Rattle.ctap_cbor.specs.Grammar.{IsCanonical};
 ghost use Rattle.ctap_message.specs.Requests.{steps_of, LARGEST};
 ghost use Rattle.ctap_message.specs.Answers.{info_tree, info_answer, created_tree, created_answer, assertion_tree, assertion_answer};
+
+use ctap_cbor::laws as encoding;
 
 /// Behind its status, the answer of authenticatorGetInfo is the canonical CBOR encoding of its map; it has 81 bytes.
 pub fn info_is_canonical()
@@ -19,7 +22,9 @@ pub fn info_is_canonical()
 /// Reading a message takes at most 4 * n + 2 steps for n bytes behind its command byte.
 pub fn steps_are_bounded()
     ensures { (message : List ℕ) → steps_of message ≤ 4 * (length message - 1) + 2 }
-{}
+{
+    encoding::check_steps_are_bounded();
+}
 
 /// Behind its status, the answer of authenticatorMakeCredential is the canonical CBOR encoding of its map.
 pub fn created_is_canonical()
@@ -37,4 +42,6 @@ pub fn assertion_is_canonical()
 pub fn walks_are_bounded()
     ensures bound { (ts : Trees) (l : List ℕ) → IsCanonical (Array ts) l → list_steps ts ≤ 2 * length l }
     ensures ended { (w : DescriptorWalk) → left_of w ≡ no_trees → walked w ≡ min (list_steps (list_of w)) LARGEST }
-{}
+{
+    encoding::steps_are_bounded();
+}

@@ -35,7 +35,6 @@ mod status;
 #[cfg(test)]
 mod tests;
 mod user;
-mod walk;
 
 pub use answer::{Answer, write_status};
 pub use assertion::write_assertion;

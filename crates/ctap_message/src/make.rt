@@ -13,8 +13,7 @@ use crate::options::{Options, read_options};
 use crate::parameters::{Parameters, read_parameters};
 use crate::rp::read_rp;
 use crate::user::{User, read_user};
-use crate::walk::{Members, read_map};
-use ctap_cbor::{Cursor, Fault, Item};
+use ctap_cbor::{Cursor, Fault, Item, Members, read_map};
 
 /// What is known of the parameters of authenticatorMakeCredential.
 #[derive(Drop)]

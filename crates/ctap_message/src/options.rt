@@ -8,8 +8,7 @@ ghost use Rattle.ctap_message.specs.Labels.{head_of};
 ghost use Rattle.ctap_message.specs.Collected.{options_told, shown_options, options_step};
 
 use crate::item::{Label, both, flag_of, label_of};
-use crate::walk::{Members, read_map};
-use ctap_cbor::{Cursor, Fault, Item};
+use ctap_cbor::{Cursor, Fault, Item, Members, read_map};
 
 /// What is known of options.
 #[derive(Clone, Copy, Drop)]

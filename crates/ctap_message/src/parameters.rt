@@ -9,8 +9,7 @@ ghost use Rattle.ctap_message.specs.Collected.{parameter_told, shown_parameter, 
 ghost use Rattle.ctap_message.specs.Descriptors.{is_es256, is_whole_parameter, names_es256};
 
 use crate::item::{Label, both, either, int_of, is_public_key, label_of, text_of};
-use crate::walk::{Entries, Members, read_array, read_map};
-use ctap_cbor::{Cursor, Fault, Item};
+use ctap_cbor::{Cursor, Entries, Fault, Item, Members, read_array, read_map};
 
 /// ES256 as a COSE algorithm.
 const ES256: i128 = -7;

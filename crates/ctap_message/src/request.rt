@@ -1,6 +1,6 @@
 //! What a message asks.
 
-ghost use Rattle.std.specs.Prelude.{◌≡◌, ◌⊎◌, min, Ok, MatchResult};
+ghost use Rattle.std.specs.Prelude.{◌≡◌, ◌⊎◌, ◌≤◌, length, min, Ok, MatchResult};
 ghost use Rattle.ctap_cbor.specs.Reading.{Reading, PassesOne, Halts, Ends, GoesOn};
 ghost use Rattle.ctap_cbor.specs.Telling.{canonical_tree};
 ghost use Rattle.ctap_message.specs.Walks.{Reads, map_told};
@@ -13,10 +13,11 @@ ghost use Rattle.ctap_message.specs.Shown.{shown, asked, IsFresh, HasLengths};
 use crate::assert::{Assert, read_assert};
 use crate::command::Command;
 use crate::descriptors::Descriptors;
+use crate::laws::steps_are_bounded;
 use crate::judge::{judge_assert, judge_make};
 use crate::make::{Make, read_make};
 use crate::status::Status;
-use ctap_cbor::laws::known_bytes;
+use ctap_cbor::laws::whole_readings;
 use ctap_cbor::{Cursor, Fault, read_whole};
 
 /// A request that passed all checks of its command. What it holds is lent from the message.
@@ -70,10 +71,13 @@ pub enum Request<'a> {
 pub fn read_request<'a>(message: &'a [u8]) -> (Result<Request<'a>, Status>, u64)
     ensures request { shown result.0 ≡ read_of message.now }
     ensures steps { result.1 ≡ min (steps_of message.now) LARGEST }
+    // The count of steps doesn't stop at a message that the transport hands on.
+    ensures exact { length message.now ≤ 7609 → result.1 ≡ steps_of message.now }
     // Each walk over a list has all of it before it.
     ensures fresh { IsFresh result.0 }
     ensures lens { HasLengths result.0 }
 {
+    steps_are_bounded();
     let Some((byte, behind)) = message.split_first() else {
         return (Err(Status::INVALID_LENGTH), 0);
     };
@@ -122,7 +126,7 @@ fn read_make_credential<'a>(behind: &'a [u8]) -> (Result<Request<'a>, Status>, u
     ensures fresh { IsFresh result.0 }
     ensures lens { HasLengths result.0 }
 {
-    known_bytes(behind);
+    whole_readings(behind);
     let mut cursor = Cursor::new(behind);
     if read_whole(&mut cursor).is_err() {
         return (Err(Status::INVALID_CBOR), cursor.steps());
@@ -152,7 +156,7 @@ fn read_get_assertion<'a>(behind: &'a [u8]) -> (Result<Request<'a>, Status>, u64
     ensures fresh { IsFresh result.0 }
     ensures lens { HasLengths result.0 }
 {
-    known_bytes(behind);
+    whole_readings(behind);
     let mut cursor = Cursor::new(behind);
     if read_whole(&mut cursor).is_err() {
         return (Err(Status::INVALID_CBOR), cursor.steps());

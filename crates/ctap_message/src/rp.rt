@@ -8,8 +8,7 @@ ghost use Rattle.ctap_message.specs.Labels.{head_of};
 ghost use Rattle.ctap_message.specs.Collected.{rp_told, shown_rp, rp_step};
 
 use crate::item::{Label, both, is_a_text, label_of, text_of};
-use crate::walk::{Members, read_map};
-use ctap_cbor::{Cursor, Fault, Item};
+use ctap_cbor::{Cursor, Fault, Item, Members, read_map};
 
 /// What is known of rp.
 #[derive(Clone, Copy, Drop)]

@@ -1,7 +1,7 @@
 use Rattle.std.proofs.Common.{arith, ap}
 use Rattle.ctap_cbor.specs.Head.{head}
 use Rattle.std.specs.Option.{option_copied}
-use Rattle.ctap_message.proofs.Composing.{then, done, sized, spelled}
+use Rattle.ctap_cbor.specs.Composing.{then, done, sized, spelled}
 use Rattle.ctap_message.proofs.Pairing.{whole}
 use Rattle.ctap_message.proofs.assertion.put_assertion.Goals as goal
 

@@ -1,5 +1,5 @@
 use Rattle.std.proofs.Common.{arith}
-use Rattle.ctap_message.proofs.Composing.{then, done, sized}
+use Rattle.ctap_cbor.specs.Composing.{then, done, sized}
 use Rattle.ctap_message.proofs.assertion.put_user_id.Goals as goal
 
 pub returns-clause-appends : goal.returns-clause-appends

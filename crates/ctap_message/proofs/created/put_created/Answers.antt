@@ -1,6 +1,6 @@
 use Rattle.std.proofs.Common.{arith}
 use Rattle.ctap_message.specs.Answers.{created_tree}
-use Rattle.ctap_message.proofs.Composing.{then, done, sized}
+use Rattle.ctap_cbor.specs.Composing.{then, done, sized}
 use Rattle.ctap_message.proofs.created.put_created.Goals as goal
 
 pub returns-clause-appends : goal.returns-clause-appends

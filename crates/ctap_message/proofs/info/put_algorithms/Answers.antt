@@ -1,4 +1,4 @@
-use Rattle.ctap_message.proofs.Composing.{then, done}
+use Rattle.ctap_cbor.specs.Composing.{then, done}
 use Rattle.ctap_message.proofs.info.put_algorithms.Goals as goal
 
 pub returns-clause-appends : goal.returns-clause-appends

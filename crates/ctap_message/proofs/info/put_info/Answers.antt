@@ -1,5 +1,5 @@
 use Rattle.ctap_message.specs.Answers.{info_tree}
-use Rattle.ctap_message.proofs.Composing.{then, done}
+use Rattle.ctap_cbor.specs.Composing.{then, done}
 use Rattle.ctap_message.proofs.info.put_info.Goals as goal
 
 pub returns-clause-appends : goal.returns-clause-appends

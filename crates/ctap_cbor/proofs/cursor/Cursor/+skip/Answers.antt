@@ -1,10 +1,11 @@
-use Rattle.std.proofs.Common.{◌-◌}
+use Rattle.std.proofs.Common.{◌+◌, ◌-◌}
 use Rattle.std.proofs.lemmas.Result.{err_from_is_err_and, MatchResult-weaker}
 use Rattle.std.specs.Option.{option_copied}
 use Rattle.ctap_cbor.specs.Views.{part_of}
 use Rattle.ctap_cbor.proofs.Moves.{passes_none, passes_more, pairs_none}
 use Rattle.ctap_cbor.proofs.Skipping.{array_whole, array_stops, map_whole, map_stops, plain_passes, refused_halts, given_more}
 use Rattle.ctap_cbor.proofs.Only.{only_halts, only_matches}
+use Rattle.ctap_cbor.proofs.Onward.{items_onward, pairs_onward}
 use Rattle.ctap_cbor.proofs.cursor.Cursor.+skip.Goals as goal
 
 -- ---- an item
@@ -16,10 +17,10 @@ skip-returns-in_err-item-clause-only t c =
     rw (p.1, p.2) (only_halts (5 - c.args.level) c.args.self.now c.item.new.self f (refused_halts (5 - c.args.level) c.args.self.now c.item.new.self f.at f.kind c.in_err-item.ensures.takes))
 
 pub skip-returns-clause-only : goal.skip-returns-clause-only
-skip-returns-clause-only t c = only_matches (5 - c.args.level) (part_of c.in_ok-item.item) c.args.self.now c.inside.new.self c.inside.result (c.inside.ensures c.args.self.now c.in_ok-item.ensures.takes)
+skip-returns-clause-only t c = only_matches (5 - c.args.level) (part_of c.in_ok-item.item) c.args.self.now c.inside.new.self c.inside.result (c.inside.ensures.passes c.args.self.now c.in_ok-item.ensures.takes)
 
-pub inside-returns-in-Array : goal.inside-returns-in-Array
-inside-returns-in-Array t c = rw c.in-Array.is (λ start takes.
+pub inside-returns-in-Array-clause-passes : goal.inside-returns-in-Array-clause-passes
+inside-returns-in-Array-clause-passes t c = rw c.in-Array.is (λ start takes.
     MatchResult-weaker c.skip_items.result c.skip_items.ensures
     (λ _ h. array_whole c.args.level c.in-Array.count start c.args.self.now c.skip_items.new.self takes h)
     (λ f h. array_stops c.args.level c.in-Array.count start c.args.self.now c.skip_items.new.self f.at f.kind takes h))
@@ -37,11 +38,17 @@ pub skip_pairs-loop-done-preserved : goal.skip_pairs-loop-done-preserved
 skip_pairs-loop-done-preserved t c =
     (_, given_more (5 - c.args.level) c.loop-done.done c.loop-done.invariant.0 c.in_ok-skip.ensures.passes.0 (option_copied c.loop-done.previous) c.args.self.now c.loop-done.self c.key.new.self c.skip.new.self (part_of c.in_ok-key.key.item) c.in_ok-key.key.bytes.now c.loop-done.invariant.1 c.in_ok-key.ensures.gives c.in_ok-skip.ensures.passes.1)
 
-pub inside-returns-in-Map : goal.inside-returns-in-Map
-inside-returns-in-Map t c = rw c.in-Map.is (λ start takes.
+pub inside-returns-in-Array-clause-onward : goal.inside-returns-in-Array-clause-onward
+inside-returns-in-Array-clause-onward t c = items_onward (5 - (c.args.level + 1)) c.in-Array.count c.args.self.now c.skip_items.new.self c.skip_items.result c.skip_items.ensures
+
+pub inside-returns-in-Map-clause-onward : goal.inside-returns-in-Map-clause-onward
+inside-returns-in-Map-clause-onward t c = pairs_onward (5 - (c.args.level + 1)) c.in-Map.count c.args.self.now c.skip_pairs.new.self c.skip_pairs.result c.skip_pairs.ensures
+
+pub inside-returns-in-Map-clause-passes : goal.inside-returns-in-Map-clause-passes
+inside-returns-in-Map-clause-passes t c = rw c.in-Map.is (λ start takes.
     MatchResult-weaker c.skip_pairs.result c.skip_pairs.ensures
     (λ _ h. map_whole c.args.level c.in-Map.count start c.args.self.now c.skip_pairs.new.self takes h)
     (λ f h. map_stops c.args.level c.in-Map.count start c.args.self.now c.skip_pairs.new.self f.at f.kind takes h))
 
-pub inside-returns-in_default : goal.inside-returns-in_default
-inside-returns-in_default t c = λ start takes. plain_passes (5 - c.args.level) start c.args.self.now c.args.item c.in_default.not-Array c.in_default.not-Map takes
+pub inside-returns-in_default-clause-passes : goal.inside-returns-in_default-clause-passes
+inside-returns-in_default-clause-passes t c = λ start takes. plain_passes (5 - c.args.level) start c.args.self.now c.args.item c.in_default.not-Array c.in_default.not-Map takes

@@ -3,8 +3,8 @@ use Rattle.std.proofs.lemmas.Result.{err_from_is_err_and}
 use Rattle.ctap_cbor.specs.Views.{part_of}
 use Rattle.ctap_cbor.specs.Reading.{Takes}
 use Rattle.ctap_cbor.proofs.Skipping.{map_stops}
-use Rattle.ctap_message.proofs.Walking.{map_read}
-use Rattle.ctap_message.proofs.walk.read_map.Goals as goal
+use Rattle.ctap_cbor.proofs.Collecting.{map_read}
+use Rattle.ctap_cbor.proofs.collect.read_map.Goals as goal
 
 pub returns-in_err-read_pairs-in-Map : goal.returns-in_err-read_pairs-in-Map
 returns-in_err-read_pairs-in-Map g c =

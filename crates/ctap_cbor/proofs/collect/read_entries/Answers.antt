@@ -1,8 +1,8 @@
 use Rattle.std.proofs.Common.{◌-◌, arith, ◌≡◌, subst}
 use Rattle.std.proofs.lemmas.Result.{err_from_is_err_and}
-use Rattle.ctap_message.specs.Walks.{AddsAll}
-use Rattle.ctap_message.proofs.Walking.{all_none, all_more, entry_ends}
-use Rattle.ctap_message.proofs.walk.read_entries.Goals as goal
+use Rattle.ctap_cbor.specs.Collecting.{AddsAll}
+use Rattle.ctap_cbor.proofs.Collecting.{all_none, all_more, entry_ends}
+use Rattle.ctap_cbor.proofs.collect.read_entries.Goals as goal
 
 pub loop-done-init : goal.loop-done-init
 loop-done-init g c = all_none g.M.Entries.HoldsAll (5 - c.args.level) c.args.entries.now c.args.cursor.now

@@ -1,4 +1,4 @@
--- What a sink appends in several calls.
+-- What several calls of a sink append, by what each appends.
 use Rattle.std.proofs.Common.{◌≡◌, ℕ, ◌+◌, List, [], ◌++◌, drop, arith, refl, sym, ap, subst, ◌∙◌, append_assoc, append-nil}
 use Rattle.std.proofs.lemmas.List.{drop-drop}
 use Rattle.ctap_cbor.specs.declared.sink.Sink.{Sink}
@@ -16,10 +16,6 @@ then {a = a} {x = x} {y = y} {m = m} {n = n} p q = record {
 -- nothing
 pub done : {a : Sink} → Appends a a [] 0
 done {a = a} = record { grows = sym (append-nil (written a)); len_is = omega arith; room_is = omega arith; keeps = refl }
-
--- a last piece
-pub ends : {a b : Sink} {x : List ℕ} {m : ℕ} → Appends a b x m → Appends a b (x ++ []) (m + 0)
-ends p = then p done
 
 -- so many bytes, by another sum
 pub sized : {a b : Sink} {x : List ℕ} {m n : ℕ} → m ≡ n → Appends a b x m → Appends a b x n

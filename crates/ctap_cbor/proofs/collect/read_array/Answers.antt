@@ -3,8 +3,8 @@ use Rattle.std.proofs.lemmas.Result.{err_from_is_err_and}
 use Rattle.ctap_cbor.specs.Views.{part_of}
 use Rattle.ctap_cbor.specs.Reading.{Takes}
 use Rattle.ctap_cbor.proofs.Skipping.{array_stops}
-use Rattle.ctap_message.proofs.Walking.{array_read}
-use Rattle.ctap_message.proofs.walk.read_array.Goals as goal
+use Rattle.ctap_cbor.proofs.Collecting.{array_read}
+use Rattle.ctap_cbor.proofs.collect.read_array.Goals as goal
 
 pub returns-in_err-read_entries-in-Array : goal.returns-in_err-read_entries-in-Array
 returns-in_err-read_entries-in-Array g c =

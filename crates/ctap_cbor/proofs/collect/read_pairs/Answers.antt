@@ -2,9 +2,9 @@ use Rattle.std.proofs.Common.{◌-◌, arith, ◌≡◌, subst}
 use Rattle.std.proofs.lemmas.Result.{err_from_is_err_and}
 use Rattle.std.specs.Option.{option_copied}
 use Rattle.ctap_cbor.specs.Views.{part_of}
-use Rattle.ctap_message.specs.Walks.{AddsPairs}
-use Rattle.ctap_message.proofs.Walking.{adds_none, adds_more, key_ends, value_ends}
-use Rattle.ctap_message.proofs.walk.read_pairs.Goals as goal
+use Rattle.ctap_cbor.specs.Collecting.{AddsPairs}
+use Rattle.ctap_cbor.proofs.Collecting.{adds_none, adds_more, key_ends, value_ends}
+use Rattle.ctap_cbor.proofs.collect.read_pairs.Goals as goal
 
 pub loop-done-init : goal.loop-done-init
 loop-done-init g c = adds_none g.M.Members.Holds (5 - c.args.level) c.args.members.now c.args.cursor.now

@@ -1,7 +1,7 @@
--- One pair or one entry more, and from these to the map or the array.
+-- What is collected: one pair or one entry more, and from these to the map or the array.
 use Rattle.std.proofs.Common.{◌≡◌, ℕ, ◌+◌, ◌-◌, ◌<◌, true, false, List, Option, Some, None, refl}
 use Rattle.ctap_cbor.specs.declared.fault.Kind.{Kind}
-use Rattle.ctap_cbor.specs.Tree.{Tree, Plain, Array, Map, Trees, no_trees, Pairs, no_pairs, push, push_pair}
+use Rattle.ctap_cbor.specs.Tree.{Tree, Plain, Array, Map, Trees, no_trees, Pairs, no_pairs, is_map, is_array, push, push_pair}
 use Rattle.ctap_cbor.specs.Faults.{AKey}
 use Rattle.ctap_cbor.specs.Parts.{Part, OpensArray, OpensMap}
 use Rattle.ctap_cbor.specs.declared.item.Item.{Item}
@@ -10,8 +10,7 @@ use Rattle.ctap_cbor.specs.Views.{part_of}
 use Rattle.ctap_cbor.specs.Reading.{part_of_tree, Reading, Takes, PassesAs, Halts, HaltsInAll, HaltsInPairs, Refuses, GivesKey}
 use Rattle.ctap_cbor.proofs.Moves.{passes_none, passes_more, pairs_none}
 use Rattle.ctap_cbor.proofs.Skipping.{given_more, key_stops, value_stops, item_stops, map_then, array_then}
-use Rattle.ctap_message.specs.Members.{is_map, is_array}
-use Rattle.ctap_message.specs.Walks.{InMap, InArray, Adds, AddsEntry, AddsPairs, AddsAll, ReadsMap, ReadsArray}
+use Rattle.ctap_cbor.specs.Collecting.{InMap, InArray, Adds, AddsEntry, AddsPairs, AddsAll, ReadsMap, ReadsArray}
 
 pub adds_none : {M : Type 0} (H : M → Pairs → Type 0) (room : ℕ) (m : M) (r : Reading) → AddsPairs H room 0 None m m r r
 adds_none H room m r = (no_pairs, pairs_none room r, λ h. h)

@@ -1,20 +1,22 @@
-//! Walks over maps and arrays: one loop for each, whatever is collected.
+//! Reading maps and arrays whole: one loop for each, whatever is collected of them.
 
 ghost use Rattle.std.specs.Prelude.{ℕ, ◌-◌, ◌≤◌, List, Option, MatchResult};
 ghost use Rattle.ctap_cbor.specs.Views.{part_of};
 ghost use Rattle.ctap_cbor.specs.Reading.{Halts, HaltsInPairs, HaltsInAll};
-ghost use Rattle.ctap_message.specs.Walks.{Adds, AddsEntry, AddsPairs, AddsAll, ReadsMap, ReadsArray};
+ghost use Rattle.ctap_cbor.specs.Collecting.{Adds, AddsEntry, AddsPairs, AddsAll, ReadsMap, ReadsArray};
 
-use ctap_cbor::{Cursor, Fault, Item};
+use crate::cursor::Cursor;
+use crate::fault::Fault;
+use crate::item::Item;
 
-/// What is collected of a map, pair by pair.
+/// What is collected of a map, pair by pair, by [`read_map`].
 pub trait Members<'a> {
     ghost use Rattle.ctap_cbor.specs.Tree.{Pairs as AllPairs};
 
     /// It tells of these pairs.
     ghost Holds: { Self → AllPairs → Type 0 };
 
-    /// Takes the value behind a key.
+    /// Takes the value behind a key, one whole item at this level.
     fn member(&mut self, cursor: &mut Cursor<'a>, key: Item<'a>, level: u8) -> Result<(), Fault>
         requires low { 1 ≤ level }
         requires high { level ≤ 5 }
@@ -23,14 +25,14 @@ pub trait Members<'a> {
             (λ f. Halts (5 - level) cursor.old cursor.new f.at f.kind) };
 }
 
-/// What is collected of an array, entry by entry.
+/// What is collected of an array, entry by entry, by [`read_array`].
 pub trait Entries<'a> {
     ghost use Rattle.ctap_cbor.specs.Tree.{Trees as AllTrees};
 
     /// It tells of these entries.
     ghost HoldsAll: { Self → AllTrees → Type 0 };
 
-    /// Takes an entry.
+    /// Takes an entry, one whole item at this level.
     fn entry(&mut self, cursor: &mut Cursor<'a>, level: u8) -> Result<(), Fault>
         requires low { 1 ≤ level }
         requires high { level ≤ 5 }
@@ -80,8 +82,10 @@ fn read_entries<'a, M: Entries<'a>>(
     Ok(())
 }
 
-/// Takes an item, and its pairs where it is a map; tells whether it is one.
-pub(crate) fn read_map<'a, M: Members<'a>>(
+/// Takes a whole item at this level, from 1 to 5, and hands the pairs of a map to `members`. Gives whether it is a map.
+///
+/// The first fault that is met ends the reading; the cursor then stands as [`Cursor::skip`] leaves it.
+pub fn read_map<'a, M: Members<'a>>(
     members: &mut M,
     cursor: &mut Cursor<'a>,
     level: u8,
@@ -104,8 +108,11 @@ pub(crate) fn read_map<'a, M: Members<'a>>(
     }
 }
 
-/// Takes an item, and its entries where it is an array; tells whether it is one.
-pub(crate) fn read_array<'a, M: Entries<'a>>(
+/// Takes a whole item at this level, from 1 to 5, and hands the entries of an array to `entries`. Gives whether it is an
+/// array.
+///
+/// The first fault that is met ends the reading; the cursor then stands as [`Cursor::skip`] leaves it.
+pub fn read_array<'a, M: Entries<'a>>(
     entries: &mut M,
     cursor: &mut Cursor<'a>,
     level: u8,
