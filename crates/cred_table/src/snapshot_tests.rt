@@ -193,17 +193,3 @@ fn keeps_names(rt: HostRuntime) -> Result<(), Fail> {
     assert_eq!(rt; same.as_slice(), text.as_slice());
     Ok(())
 }
-
-#[test]
-fn cuts_names(rt: HostRuntime) {
-    let whole = "aaaaaaaaaaaaaaaaaaaaaaaaaaaaaaaaaaaaaaaaaaaaaaaaaaaaaaaaaaaaaaaa";
-    assert_eq!(rt; whole.len(), 64);
-    assert_eq!(rt; cut_name(whole), whole);
-    assert_eq!(rt; cut_name(""), "");
-    let accent = "aaaaaaaaaaaaaaaaaaaaaaaaaaaaaaaaaaaaaaaaaaaaaaaaaaaaaaaaaaaaaaaé";
-    assert_eq!(rt; accent.len(), 65);
-    assert_eq!(rt; cut_name(accent).len(), 63);
-    let euros = "€€€€€€€€€€€€€€€€€€€€€€";
-    assert_eq!(rt; euros.len(), 66);
-    assert_eq!(rt; cut_name(euros).len(), 63);
-}

@@ -17,7 +17,10 @@ const B: [u8; 32] = [0xAB; 32];
 
 const C: [u8; 32] = [0xAC; 32];
 
-/// A row of `example.com` with a user handle of one byte.
+/// The names of users by their handles.
+const NAMES: [&str; 3] = ["", "Ann", "Zoë"];
+
+/// A row of `example.com` with a user handle of one byte, and the name that goes with it.
 fn made(id: [u8; 32], user: u8, discoverable: bool) -> Row {
     let mut row = Row {
         rp: RP,
@@ -26,6 +29,7 @@ fn made(id: [u8; 32], user: u8, discoverable: bool) -> Row {
         ..Row::default()
     };
     row.user.push(user);
+    row.name.push_str(NAMES[usize::from(user % 3)]);
     row
 }
 
@@ -43,7 +47,6 @@ fn put<T: Table<N>, const N: usize>(rt: &impl Abort, table: &mut T, row: Row) {
 fn replace<T: Table<N>, const N: usize>(rt: &impl Abort, table: &mut T, old: &[u8; 32], new: Row) {
     let taken = table.find(&new.id).is_some();
     assert!(rt; !taken);
-    assert!(rt; new.discoverable);
     assert_eq!(rt; table.same_user(&new.rp, new.user.as_slice()), Some(*old));
     table.replace(old, new);
 }
@@ -86,6 +89,7 @@ fn come_and_go<T: Table<2>>(rt: &impl Abort, table: &mut T, discoverable: bool) 
     assert!(rt; table.find(&A).is_none());
     assert_eq!(rt; raise(rt, table, &B), 1);
     assert_eq!(rt; table.find(&B).map(|row| row.counter), Some(1));
+    assert_eq!(rt; table.find(&B).map(|row| row.name.as_str()), Some("Zoë"));
     names_b(rt, table);
 
     table.clear();
@@ -96,6 +100,23 @@ fn come_and_go<T: Table<2>>(rt: &impl Abort, table: &mut T, discoverable: bool) 
 fn rows_come_and_go(rt: HostRuntime) {
     come_and_go(&rt, &mut Store::<2>::new(), true);
     come_and_go(&rt, &mut Store::<2>::new(), false);
+}
+
+/// A row that isn't discoverable takes the place of one that is.
+fn hides<T: Table<2>>(rt: &impl Abort, table: &mut T) {
+    put(rt, table, made(A, 1, true));
+    put(rt, table, made(B, 2, true));
+    replace(rt, table, &A, made(C, 1, false));
+    lists(rt, table, &[B]);
+    assert_eq!(rt; table.len(), 2);
+    assert_eq!(rt; table.row(1).id, C);
+    assert!(rt; table.find(&A).is_none());
+    assert!(rt; table.same_user(&RP, &[1]).is_none());
+}
+
+#[test]
+fn hidden_rows_replace(rt: HostRuntime) {
+    hides(&rt, &mut Store::<2>::new());
 }
 
 /// Fills a table with one discoverable row for each of its places.
