@@ -1,8 +1,7 @@
 -- A name is cut in one way.
-use Rattle.std.proofs.Common.{◌≡◌, ℕ, zero, suc, ◌≤◌, ◌<◌, nat_le, nat_lt, Bool, true, false, cond, ◌&&◌, ◌||◌, List, length, take, slice_index, refl, sym, ◌∙◌, ap, arith}
+use Rattle.std.proofs.Common.{◌≡◌, ℕ, zero, suc, ◌≤◌, nat_le, Bool, true, false, cond, List, length, take, refl, sym, ◌∙◌, ap, arith}
 use Rattle.std.proofs.lemmas.Bool.Decides.{nat_tests}
 use Rattle.std.specs.Str.{IsCharBoundary}
-use Rattle.std.proofs.lemmas.Bool.{and_parts}
 use Rattle.cred_table.specs.Names.{IsCut, is_boundary, boundary_to, cut}
 
 boundary_is : (text : List ℕ) (i : ℕ) → is_boundary text i ≡ true → IsCharBoundary text i

@@ -1,5 +1,5 @@
 -- The row that a new one replaces, in lawful rows.
-use Rattle.std.proofs.Common.{◌≡◌, ℕ, ◌+◌, ◌<◌, List, [], ◌∷◌, ◌++◌, length, Bool, true, false, cond, ◌&&◌, not, inl, Some, None, is_some, IsTrue, option_map, refl, sym, ◌∙◌, ap, arith, subst, filter}
+use Rattle.std.proofs.Common.{◌≡◌, ℕ, ◌<◌, List, [], ◌∷◌, ◌++◌, length, Bool, true, false, cond, ◌&&◌, not, inl, Some, None, is_some, IsTrue, option_map, refl, sym, ◌∙◌, ap, arith, subst, filter}
 use Rattle.std.proofs.lemmas.List.{length-append}
 use Rattle.std.specs.List.{find, list_any}
 use Rattle.std.specs.Str.{bytes_eq}

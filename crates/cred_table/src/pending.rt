@@ -125,16 +125,21 @@ mod tests {
     use super::*;
     use std::process::Abort;
 
+    /// Fills a list with ids that differ.
+    fn number<const N: usize>(rt: &impl Abort, ids: &mut ArrayVec<[u8; 32], N>) {
+        for place in 0..N {
+            assert!(rt; ids.len() < N);
+            ids.push([(place % 256) as u8; 32]);
+        }
+    }
+
     /// Fills it with `N` ids, and takes them from the first on.
     fn holds<const N: usize>(
         rt: &impl Abort,
         pending: &mut Pending<N>,
         ids: &mut ArrayVec<[u8; 32], N>,
     ) {
-        for place in 0..N {
-            assert!(rt; ids.len() < N);
-            ids.push([(place % 256) as u8; 32]);
-        }
+        number(rt, ids);
         pending.stamp(900);
         assert_eq!(rt; pending.next(), None);
 

@@ -5,6 +5,7 @@ ghost use Rattle.std.specs.List.{find};
 ghost use Rattle.cred_table.specs.Rows.{has_id, is_named, is_user, replaces, stored, without, raised, listed, ids, counter_of, Lawful};
 
 use crate::row::Row;
+use crate::rows::Rows;
 use arrayvec::ArrayVec;
 
 /// A table of at most `C` credentials, `1 <= C <= 256`. A contract sees `rows`, the list of its rows in order of
@@ -26,6 +27,10 @@ pub trait Table<const C: usize> {
     fn row(&self, place: usize) -> &Row
         requires { place < length (rows self.now) }
         ensures { result.now ≡ slice_index_or (rows self.now) place result.now };
+
+    /// Its rows in order of making.
+    fn iter(&self) -> Rows<'_>
+        ensures { result ≡ rows self.now };
 
     /// The row with the id, `None` where there is none.
     fn find(&self, id: &[u8; 32]) -> Option<&Row>
