@@ -1,26 +1,9 @@
 -- Tests that are true or false, and what a list has under one.
-use Rattle.std.proofs.Common.{◌≡◌, ℕ, List, [], ◌∷◌, Bool, true, false, cond, ◌&&◌, ◌||◌, not, Some, None, is_some, refl, sym, ◌∙◌, ap, filter}
+use Rattle.std.proofs.Common.{◌≡◌, ℕ, List, [], ◌∷◌, Bool, true, false, cond, ◌||◌, not, Some, None, is_some, refl, sym, ◌∙◌, ap, filter}
 use Rattle.std.specs.List.{find, list_any}
 use Rattle.std.specs.Str.{bytes_eq}
 use Rattle.std.proofs.lemmas.Slice.Eq.{bytes_eq-Decides}
-
-pub and_both : (a b : Bool) → (a && b) ≡ true → (a ≡ true) × (b ≡ true)
-and_both true b h = (refl, h)
-and_both false b h = cc
-
-pub and_is : (a b : Bool) → a ≡ true → b ≡ true → (a && b) ≡ true
-and_is a b p q = rw (p, q) refl
-
-pub or_both : (a b : Bool) → (a || b) ≡ false → (a ≡ false) × (b ≡ false)
-or_both true b h = cc
-or_both false b h = (refl, h)
-
-pub or_is : (a b : Bool) → a ≡ false → b ≡ false → (a || b) ≡ false
-or_is a b p q = rw (p, q) refl
-
-pub not_is : (a : Bool) → not a ≡ true → a ≡ false
-not_is true h = cc
-not_is false h = refl
+use Rattle.std.proofs.lemmas.Bool.{or_parts}
 
 pub same_bytes : (xs : List ℕ) → bytes_eq xs xs ≡ true
 same_bytes xs = (bytes_eq-Decides xs xs).1 refl
@@ -52,4 +35,4 @@ none_passes q xs h = any_is_found q xs ∙ ap is_some h
 -- where none passes, all are kept
 pub all_stay : {X : Type 0} (q : X → Bool) (xs : List X) → list_any q xs ≡ false → filter (λ x. not (q x)) xs ≡ xs
 all_stay q [] h = refl
-all_stay q (x ∷ xs) h = let e = or_both (q x) (list_any q xs) h in rw e.0 (ap (λ ys. x ∷ ys) (all_stay q xs e.1))
+all_stay q (x ∷ xs) h = let e = or_parts (q x) (list_any q xs) h in rw e.0 (ap (λ ys. x ∷ ys) (all_stay q xs e.1))

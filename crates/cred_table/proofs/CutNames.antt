@@ -1,9 +1,8 @@
 -- A name is cut in one way.
-use Rattle.std.proofs.Common.{◌≡◌, ℕ, zero, suc, ◌≤◌, ◌<◌, nat_le, nat_lt, Bool, true, false, cond, ◌&&◌, ◌||◌, List, length, take, slice_index, refl, sym, ◌∙◌, ap, arith}
+use Rattle.std.proofs.Common.{◌≡◌, ℕ, zero, suc, ◌≤◌, nat_le, Bool, true, false, cond, List, length, take, refl, sym, ◌∙◌, ap, arith}
 use Rattle.std.proofs.lemmas.Bool.Decides.{nat_tests}
 use Rattle.std.specs.Str.{IsCharBoundary}
 use Rattle.cred_table.specs.Names.{IsCut, is_boundary, boundary_to, cut}
-use Rattle.cred_table.proofs.Basics.{and_both}
 
 boundary_is : (text : List ℕ) (i : ℕ) → is_boundary text i ≡ true → IsCharBoundary text i
 boundary_is text i h = (grind (arith, nat_tests), λ less high. grind (arith, nat_tests))

@@ -1,4 +1,20 @@
 pub mod Basics
+pub mod Chain
+pub mod Walks
+pub mod Links
+pub mod Holding
+pub mod Before
+pub mod Without
+pub mod Unlinked
+pub mod Found
+pub mod New
+pub mod Numbered
+pub mod RaisedSlot
+pub mod Nth
+pub mod Slotted
+pub mod NewestFirst
+pub mod Taken
+pub mod Filled
 mod Examples
 pub mod NoTwo
 pub mod Stored

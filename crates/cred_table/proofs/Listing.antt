@@ -9,7 +9,7 @@ use Rattle.cred_table.specs.Rows.{is_listed, listed, ids}
 use Rattle.cred_table.proofs.Stored.{length-filter}
 
 -- no more rows are listed than there are
-length-listed : (rp : List ℕ) (rows : List Row) → length (ids (listed rp rows)) ≤ length rows
+pub length-listed : (rp : List ℕ) (rows : List Row) → length (ids (listed rp rows)) ≤ length rows
 length-listed rp rows =
     let mapped = length-map (listed rp rows) (λ (row : Row). row.id) in
     let turned = length-reverse (filter (is_listed rp) rows) in

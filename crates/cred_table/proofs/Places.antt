@@ -1,22 +1,23 @@
 -- The row with an id and its place, in rows whose ids are distinct.
-use Rattle.std.proofs.Common.{◌≡◌, ℕ, ◌+◌, ◌<◌, suc, List, [], ◌∷◌, length, Bool, true, false, cond, not, Some, is_some, refl, sym, ◌∙◌, ap, arith, get_or, set}
+use Rattle.std.proofs.Common.{◌≡◌, ℕ, ◌+◌, ◌<◌, suc, List, [], ◌∷◌, ◌++◌, length, Bool, true, false, cond, not, Some, is_some, refl, sym, ◌∙◌, ap, arith, get_or, set}
 use Rattle.std.specs.List.{find, list_any, position, position_or_len, refill, remove}
 use Rattle.std.specs.Str.{bytes_eq}
 use Rattle.std.proofs.lemmas.Bool.Decides.{nat_tests}
 use Rattle.std.proofs.Math.ListN.{length-set}
+use Rattle.std.proofs.lemmas.Bool.{and_parts, or_parts, or_from, not-true}
 use Rattle.arrayvec.proofs.ArrayVecLemmas.{items-with_items}
 use Rattle.cred_table.specs.declared.row.Row.{Row}
 use Rattle.cred_table.specs.Rows.{has_id, same_id, no_two, without, raised, counter_in, counter_of}
-use Rattle.cred_table.proofs.Basics.{and_both, or_both, or_is, not_is, bytes_sym, bytes_from, all_stay}
+use Rattle.cred_table.proofs.Basics.{bytes_sym, bytes_from, all_stay}
 
 -- no other row has the id of a row
 pub no_other : (id : List ℕ) (r : Row) (rows : List Row) → has_id id r ≡ true → list_any (same_id r) rows ≡ false → list_any (has_id id) rows ≡ false
 no_other id r [] h n = refl
 no_other id r (s ∷ rows) h n =
-    let e = or_both (same_id r s) (list_any (same_id r) rows) n in
+    let e = or_parts (same_id r s) (list_any (same_id r) rows) n in
     let i : r.id ≡ id = bytes_from r.id id h in
     let f : has_id id s ≡ false = bytes_sym s.id id ∙ (ap (λ (x : List ℕ). bytes_eq x s.id) (sym i) ∙ e.0) in
-    or_is (has_id id s) (list_any (has_id id) rows) f (no_other id r rows h e.1)
+    or_from (has_id id s) (list_any (has_id id) rows) f (no_other id r rows h e.1)
 
 -- a row that is found stands at a place
 pub found_within : {X : Type 0} (p : X → Bool) (xs : List X) → is_some (find p xs) ≡ true → position_or_len p xs < length xs
@@ -41,8 +42,8 @@ found_there p (r ∷ rows) x h e = go (p r) (λ i j. found_there p rows x i j) h
 pub remove_is : (id : List ℕ) (rows : List Row) → no_two same_id rows ≡ true → is_some (find (has_id id) rows) ≡ true → remove rows (position_or_len (has_id id) rows) ≡ without id rows
 remove_is id [] d h = cc
 remove_is id (r ∷ rows) d h =
-    let e = and_both (not (list_any (same_id r) rows)) (no_two same_id rows) d in
-    go (has_id id r) refl (not_is (list_any (same_id r) rows) e.0) (λ i. remove_is id rows e.1 i) h
+    let e = and_parts (not (list_any (same_id r) rows)) (no_two same_id rows) d in
+    go (has_id id r) refl (not-true (list_any (same_id r) rows) e.0) (λ i. remove_is id rows e.1 i) h
   where
     go : (b : Bool) → has_id id r ≡ b → list_any (same_id r) rows ≡ false → (is_some (find (has_id id) rows) ≡ true → remove rows (position_or_len (has_id id) rows) ≡ without id rows) →
         is_some (cond b (Some r) (find (has_id id) rows)) ≡ true →
@@ -52,17 +53,23 @@ remove_is id (r ∷ rows) d h =
         let s : 1 + position_or_len (has_id id) rows ≡ suc (position_or_len (has_id id) rows) = omega arith in
         rw s (ap (λ (ys : List Row). r ∷ ys) (ih h))
 
+-- so the rows that have the new one last, once the one at that place is taken out, are these
+pub replaced_rows : (id : List ℕ) (new : Row) (rows kept after : List Row) (place : ℕ) → is_some (find (has_id id) rows) ≡ true → no_two same_id rows ≡ true →
+    place ≡ position_or_len (has_id id) rows → kept ≡ remove rows place → after ≡ kept ++ new ∷ [] → after ≡ without id rows ++ new ∷ []
+replaced_rows id new rows kept after place there distinct at taken last =
+    last ∙ ap (λ (left : List Row). left ++ new ∷ []) (taken ∙ ap (remove rows) at ∙ remove_is id rows distinct there)
+
 raised_none : (id : List ℕ) (rows : List Row) → list_any (has_id id) rows ≡ false → raised id rows ≡ rows
 raised_none id [] h = refl
-raised_none id (r ∷ rows) h = let e = or_both (has_id id r) (list_any (has_id id) rows) h in rw e.0 (ap (λ (ys : List Row). r ∷ ys) (raised_none id rows e.1))
+raised_none id (r ∷ rows) h = let e = or_parts (has_id id r) (list_any (has_id id) rows) h in rw e.0 (ap (λ (ys : List Row). r ∷ ys) (raised_none id rows e.1))
 
 -- raising the counter of the row at the place of the id raises that of the row with the id
 pub set_raised : (id : List ℕ) (rows : List Row) (x : Row) → no_two same_id rows ≡ true → is_some (find (has_id id) rows) ≡ true → x ≡ get_or rows (position_or_len (has_id id) rows) x →
     set rows (position_or_len (has_id id) rows) (record x { counter = x.counter + 1 }) ≡ raised id rows
 set_raised id [] x d h j = cc
 set_raised id (r ∷ rows) x d h j =
-    let e = and_both (not (list_any (same_id r) rows)) (no_two same_id rows) d in
-    go (has_id id r) refl (not_is (list_any (same_id r) rows) e.0) (λ i k. set_raised id rows x e.1 i k) h j
+    let e = and_parts (not (list_any (same_id r) rows)) (no_two same_id rows) d in
+    go (has_id id r) refl (not-true (list_any (same_id r) rows) e.0) (λ i k. set_raised id rows x e.1 i k) h j
   where
     go : (b : Bool) → has_id id r ≡ b → list_any (same_id r) rows ≡ false →
         (is_some (find (has_id id) rows) ≡ true → x ≡ get_or rows (position_or_len (has_id id) rows) x → set rows (position_or_len (has_id id) rows) (record x { counter = x.counter + 1 }) ≡ raised id rows) →

@@ -1,19 +1,22 @@
 -- The row that a new one replaces, in lawful rows.
-use Rattle.std.proofs.Common.{◌≡◌, ℕ, ◌<◌, List, [], ◌∷◌, ◌++◌, length, Bool, true, false, cond, ◌&&◌, not, inl, inr, Option, Some, None, is_some, IsTrue, option_map, refl, sym, ◌∙◌, ap, subst, filter}
-use Rattle.std.specs.List.{find, list_any, position_or_len, remove}
+use Rattle.std.proofs.Common.{◌≡◌, ℕ, ◌<◌, List, [], ◌∷◌, ◌++◌, length, Bool, true, false, cond, ◌&&◌, not, inl, Some, None, is_some, IsTrue, option_map, refl, sym, ◌∙◌, ap, arith, subst, filter}
+use Rattle.std.proofs.lemmas.List.{length-append}
+use Rattle.std.specs.List.{find, list_any}
 use Rattle.std.specs.Str.{bytes_eq}
+use Rattle.std.proofs.lemmas.Bool.{and_parts, or_parts, or_from, not-true}
 use Rattle.cred_table.specs.declared.row.Row.{Row}
 use Rattle.cred_table.specs.Rows.{has_id, same_id, is_user, replaces, no_two, without, stored, Lawful}
-use Rattle.cred_table.proofs.Basics.{and_both, or_both, or_is, not_is, same_bytes, bytes_from, any_is_found, all_stay}
-use Rattle.cred_table.proofs.Places.{no_other, remove_is}
-use Rattle.cred_table.proofs.Stored.{Lawful-stored, stored_last, one_replaced}
+use Rattle.cred_table.proofs.Basics.{same_bytes, bytes_from, any_is_found, none_passes, all_stay}
+use Rattle.cred_table.proofs.NoTwo.{no_two-filter, no_two-append}
+use Rattle.cred_table.proofs.Places.{no_other}
+use Rattle.cred_table.proofs.Stored.{Lawful-stored, replaces_sym, stored_last, one_replaced, one_less, fresh_stays, others_stay}
 
 -- what a new row replaces, it would be replaced by as well
 same_account : (new a b : Row) → replaces new a ≡ true → replaces new b ≡ replaces a b
 same_account new a b h =
-    let outer = and_both new.discoverable (is_user new.rp new.user.items a) h in
-    let inner = and_both (a.discoverable && bytes_eq a.rp new.rp) (bytes_eq a.user.items new.user.items) outer.1 in
-    let first = and_both a.discoverable (bytes_eq a.rp new.rp) inner.0 in
+    let outer = and_parts new.discoverable (is_user new.rp new.user.items a) h in
+    let inner = and_parts (a.discoverable && bytes_eq a.rp new.rp) (bytes_eq a.user.items new.user.items) outer.1 in
+    let first = and_parts a.discoverable (bytes_eq a.rp new.rp) inner.0 in
     let rp : a.rp ≡ new.rp = bytes_from a.rp new.rp first.1 in
     let user : a.user.items ≡ new.user.items = bytes_from a.user.items new.user.items inner.1 in
     rw (outer.0, first.0, rp, user) refl
@@ -22,8 +25,8 @@ same_account new a b h =
 no_second : (new r : Row) (rows : List Row) → replaces new r ≡ true → list_any (replaces r) rows ≡ false → list_any (replaces new) rows ≡ false
 no_second new r [] h n = refl
 no_second new r (s ∷ rows) h n =
-    let e = or_both (replaces r s) (list_any (replaces r) rows) n in
-    or_is (replaces new s) (list_any (replaces new) rows) (same_account new r s h ∙ e.0) (no_second new r rows h e.1)
+    let e = or_parts (replaces r s) (list_any (replaces r) rows) n in
+    or_from (replaces new s) (list_any (replaces new) rows) (same_account new r s h ∙ e.0) (no_second new r rows h e.1)
 
 -- the id of a row that is found is the id of a row
 pub id_found : (q : Row → Bool) (id : List ℕ) (rows : List Row) → option_map (λ (r : Row). r.id) (find q rows) ≡ Some id → is_some (find (has_id id) rows) ≡ true
@@ -43,9 +46,9 @@ pub without_is : (id : List ℕ) (new : Row) (rows : List Row) → no_two same_i
     without id rows ≡ filter (λ old. not (replaces new old)) rows
 without_is id new [] d o h = cc
 without_is id new (r ∷ rows) d o h =
-    let d2 = and_both (not (list_any (same_id r) rows)) (no_two same_id rows) d in
-    let o2 = and_both (not (list_any (replaces r) rows)) (no_two replaces rows) o in
-    go (replaces new r) refl (not_is (list_any (same_id r) rows) d2.0) (not_is (list_any (replaces r) rows) o2.0) (λ e. without_is id new rows d2.1 o2.1 e) h
+    let d2 = and_parts (not (list_any (same_id r) rows)) (no_two same_id rows) d in
+    let o2 = and_parts (not (list_any (replaces r) rows)) (no_two replaces rows) o in
+    go (replaces new r) refl (not-true (list_any (same_id r) rows) d2.0) (not-true (list_any (replaces r) rows) o2.0) (λ e. without_is id new rows d2.1 o2.1 e) h
   where
     kept : List Row → List Row
     kept rows = filter (λ old. not (replaces new old)) rows
@@ -71,24 +74,34 @@ Lawful-put room new rows lawful space fresh alone =
     let P : List Row → Type 0 = λ after. Lawful room after in
     subst P (stored_last new rows alone) (Lawful-stored room new rows lawful fresh (inl space))
 
-found_some : (o : Option Row) (id : List ℕ) → option_map (λ (r : Row). r.id) o ≡ Some id → is_some o ≡ true
-found_some None id h = cc
-found_some (Some r) id h = refl
-
--- the rows behind a `replace`: the one at the place of the id is taken out, and the new one is put last
-pub replaced_rows : (id : List ℕ) (new : Row) (rows kept after : List Row) (place : ℕ) → is_some (find (has_id id) rows) ≡ true → no_two same_id rows ≡ true →
-    place ≡ position_or_len (has_id id) rows → kept ≡ remove rows place → after ≡ kept ++ new ∷ [] → after ≡ without id rows ++ new ∷ []
-replaced_rows id new rows kept after place there distinct at taken last =
-    last ∙ ap (λ (left : List Row). left ++ new ∷ []) (taken ∙ ap (remove rows) at ∙ remove_is id rows distinct there)
-
-pub replaced_stored : (room : ℕ) (id : List ℕ) (new : Row) (rows kept after : List Row) (place : ℕ) → Lawful room rows → IsTrue new.discoverable → option_map (λ (r : Row). r.id) (find (is_user new.rp new.user.items) rows) ≡ Some id →
-    place ≡ position_or_len (has_id id) rows → kept ≡ remove rows place → after ≡ kept ++ new ∷ [] → after ≡ stored new rows
-replaced_stored room id new rows kept after place lawful discoverable there at taken last =
+-- where it is taken out and the new one is discoverable, these are the rows behind the new one's making
+pub replaced_is : (room : ℕ) (id : List ℕ) (new : Row) (rows : List Row) → Lawful room rows → IsTrue new.discoverable → option_map (λ (r : Row). r.id) (find (is_user new.rp new.user.items) rows) ≡ Some id → without id rows ++ new ∷ [] ≡ stored new rows
+replaced_is room id new rows lawful discoverable there =
     let found = ap (option_map (λ (r : Row). r.id)) (one_replaced new rows discoverable) ∙ there in
-    replaced_rows id new rows kept after place (id_found (replaces new) id rows found) lawful.distinct at taken last
-    ∙ ap (λ (left : List Row). left ++ new ∷ []) (without_is id new rows lawful.distinct lawful.one_each found)
+    ap (λ (left : List Row). left ++ new ∷ []) (without_is id new rows lawful.distinct lawful.one_each found)
 
-pub Lawful-replace : (room : ℕ) (id : List ℕ) (new : Row) (rows : List Row) → Lawful room rows → find (has_id new.id) rows ≡ None → IsTrue new.discoverable → option_map (λ (r : Row). r.id) (find (is_user new.rp new.user.items) rows) ≡ Some id → Lawful room (stored new rows)
-Lawful-replace room id new rows lawful fresh discoverable there =
-    let found = ap (option_map (λ (r : Row). r.id)) (one_replaced new rows discoverable) ∙ there in
-    Lawful-stored room new rows lawful fresh (inr (found_some (find (replaces new) rows) id found))
+-- and no row that stays clashes with the new one, discoverable or not
+none_clashes : (room : ℕ) (id : List ℕ) (new : Row) (rows : List Row) → Lawful room rows → option_map (λ (r : Row). r.id) (find (is_user new.rp new.user.items) rows) ≡ Some id → list_any (λ r. replaces r new) (without id rows) ≡ false
+none_clashes room id new rows lawful there = go new.discoverable refl
+  where
+    hidden : new.discoverable ≡ false → (left : List Row) → list_any (λ r. replaces r new) left ≡ false
+    hidden h [] = refl
+    hidden h (r ∷ left) = or_from (replaces r new) (list_any (λ r. replaces r new) left) (replaces_sym r new ∙ rw h refl) (hidden h left)
+
+    go : (b : Bool) → new.discoverable ≡ b → list_any (λ r. replaces r new) (without id rows) ≡ false
+    go true h =
+        let found = ap (option_map (λ (r : Row). r.id)) (one_replaced new rows h) ∙ there in
+        ap (list_any (λ r. replaces r new)) (without_is id new rows lawful.distinct lawful.one_each found) ∙ others_stay new rows
+    go false h = hidden h (without id rows)
+
+-- the rows behind a `replace`
+pub Lawful-replace : (room : ℕ) (id : List ℕ) (new : Row) (rows : List Row) → Lawful room rows → find (has_id new.id) rows ≡ None → option_map (λ (r : Row). r.id) (find (is_user new.rp new.user.items) rows) ≡ Some id → Lawful room (without id rows ++ new ∷ [])
+Lawful-replace room id new rows lawful fresh there = record {
+  distinct = no_two-append same_id new (without id rows) (no_two-filter same_id (λ row. not (has_id id row)) rows lawful.distinct) (fresh_stays new.id new (λ row. not (has_id id row)) rows refl (none_passes (has_id new.id) rows fresh));
+  one_each = no_two-append replaces new (without id rows) (no_two-filter replaces (λ row. not (has_id id row)) rows lawful.one_each) (none_clashes room id new rows lawful there);
+  few =
+      let l = length-append (without id rows) (new ∷ []) in
+      let k = one_less (has_id id) rows (id_found (is_user new.rp new.user.items) id rows there) in
+      let few = lawful.few in
+      omega arith;
+}

@@ -1,6 +1,7 @@
 -- Rows by their trees: each has a text, and a tree tells its row.
 use Rattle.std.proofs.Common.{◌≡◌, ℕ, Bool, true, false, not, ◌&&◌, ◌||◌, cond, List, [], ◌∷◌, ◌++◌, Option, Some, None, is_some, IsTrue, option_map, refl, arith, sym, ap, ◌∙◌}
 use Rattle.std.specs.List.{find, list_any}
+use Rattle.std.proofs.lemmas.Bool.{or_parts}
 use Rattle.ctap_cbor.specs.Tree.{Bytes, Flag, Null, Tree, Plain, Map, Pairs, no_pairs, pair, depth}
 use Rattle.ctap_cbor.specs.Head.{head}
 use Rattle.ctap_cbor.specs.Grammar.{IsLawful, IsEncoding}
@@ -10,7 +11,7 @@ use Rattle.cred_table.specs.declared.row.Row.{Row}
 use Rattle.cred_table.specs.Rows.{has_id, is_user, replaces}
 use Rattle.cred_table.specs.Snapshots.{IsRow, row_tree, clashes}
 use Rattle.cred_table.specs.Parsing.{Reads, row_text, ReadsEntry}
-use Rattle.cred_table.proofs.Basics.{or_both, any_is_found, none_passes}
+use Rattle.cred_table.proofs.Basics.{any_is_found, none_passes}
 use Rattle.cred_table.proofs.Stored.{none_replaced, one_replaced}
 
 pub row_lawful : (named : Bool) (row : Row) → IsRow named row → IsLawful (row_tree named row)
@@ -161,7 +162,7 @@ none_is (Some x) e = cc
 -- what may be put where nothing clashes
 pub no_clash : (row : Row) (rows : List Row) → clashes row rows ≡ false → (find (has_id row.id) rows ≡ None) × (IsTrue row.discoverable → find (is_user row.rp row.user.items) rows ≡ None)
 no_clash row rows e =
-    let both = or_both (list_any (has_id row.id) rows) (list_any (replaces row) rows) e in (
+    let both = or_parts (list_any (has_id row.id) rows) (list_any (replaces row) rows) e in (
       none_is (find (has_id row.id) rows) (sym (any_is_found (has_id row.id) rows) ∙ both.0),
       λ shown. sym (one_replaced row rows shown) ∙ none_is (find (replaces row) rows) (sym (any_is_found (replaces row) rows) ∙ both.1),
     )

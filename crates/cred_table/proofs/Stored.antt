@@ -3,9 +3,10 @@ use Rattle.std.proofs.Common.{◌≡◌, ℕ, ◌+◌, ◌<◌, ◌≤◌, suc, 
 use Rattle.std.proofs.lemmas.List.{length-append}
 use Rattle.std.specs.List.{find, list_any}
 use Rattle.std.specs.Str.{bytes_eq}
+use Rattle.std.proofs.lemmas.Bool.{or_parts, or_from}
 use Rattle.cred_table.specs.declared.row.Row.{Row}
 use Rattle.cred_table.specs.Rows.{has_id, is_user, replaces, same_id, stored, Lawful}
-use Rattle.cred_table.proofs.Basics.{or_both, or_is, bytes_sym, none_passes, all_stay}
+use Rattle.cred_table.proofs.Basics.{bytes_sym, none_passes, all_stay}
 use Rattle.cred_table.proofs.NoTwo.{no_two-filter, no_two-append}
 
 swapped : (a b c d : Bool) → (a && ((b && c) && d)) ≡ (b && ((a && c) && d))
@@ -60,24 +61,24 @@ one_less q (r ∷ rows) h = go (λ e. one_less q rows e) (q r) h
     go ih false e = let k = ih e in omega arith
 
 -- no row that stays has the new one's id, where none had it
-fresh_stays : (id : List ℕ) (new : Row) (p : Row → Bool) (rows : List Row) → new.id ≡ id → list_any (has_id id) rows ≡ false → list_any (λ r. same_id r new) (filter p rows) ≡ false
+pub fresh_stays : (id : List ℕ) (new : Row) (p : Row → Bool) (rows : List Row) → new.id ≡ id → list_any (has_id id) rows ≡ false → list_any (λ r. same_id r new) (filter p rows) ≡ false
 fresh_stays id new p [] i h = refl
 fresh_stays id new p (r ∷ rows) i h =
-    let e = or_both (has_id id r) (list_any (has_id id) rows) h in go (p r) e.0 (fresh_stays id new p rows i e.1)
+    let e = or_parts (has_id id r) (list_any (has_id id) rows) h in go (p r) e.0 (fresh_stays id new p rows i e.1)
   where
     go : (b : Bool) → has_id id r ≡ false → list_any (λ r. same_id r new) (filter p rows) ≡ false → list_any (λ r. same_id r new) (cond b (r ∷ filter p rows) (filter p rows)) ≡ false
-    go true e ih = or_is (same_id r new) (list_any (λ r. same_id r new) (filter p rows)) (rw i e) ih
+    go true e ih = or_from (same_id r new) (list_any (λ r. same_id r new) (filter p rows)) (rw i e) ih
     go false e ih = ih
 
 -- no row that stays is replaced by the new one
-others_stay : (new : Row) (rows : List Row) → list_any (λ r. replaces r new) (filter (λ old. not (replaces new old)) rows) ≡ false
+pub others_stay : (new : Row) (rows : List Row) → list_any (λ r. replaces r new) (filter (λ old. not (replaces new old)) rows) ≡ false
 others_stay new [] = refl
 others_stay new (r ∷ rows) = go (replaces new r) refl (others_stay new rows)
   where
     go : (b : Bool) → replaces new r ≡ b → list_any (λ r. replaces r new) (filter (λ old. not (replaces new old)) rows) ≡ false →
         list_any (λ r. replaces r new) (cond (not b) (r ∷ filter (λ old. not (replaces new old)) rows) (filter (λ old. not (replaces new old)) rows)) ≡ false
     go true e ih = ih
-    go false e ih = or_is (replaces r new) (list_any (λ r. replaces r new) (filter (λ old. not (replaces new old)) rows)) (replaces_sym r new ∙ e) ih
+    go false e ih = or_from (replaces r new) (list_any (λ r. replaces r new) (filter (λ old. not (replaces new old)) rows)) (replaces_sym r new ∙ e) ih
 
 -- Lawful rows stay lawful as a new one is stored: its id is new, and there is room or it replaces one.
 pub Lawful-stored : (room : ℕ) (new : Row) (rows : List Row) → Lawful room rows → find (has_id new.id) rows ≡ None → (length rows < room) ⊎ (is_some (find (replaces new) rows) ≡ true) → Lawful room (stored new rows)

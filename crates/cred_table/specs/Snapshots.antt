@@ -5,7 +5,7 @@ use Rattle.std.specs.List.{AllByRecursion, list_any}
 use Rattle.std.specs.Str.{IsUtf8}
 use Rattle.ctap_cbor.specs.Head.{AreBytes}
 use Rattle.ctap_cbor.specs.Tree.{Int, Bytes, Text, Flag, Tree, Plain, Array, Map, Trees, no_trees, tree, Pairs, no_pairs, pair, count}
-use Rattle.ctap_cbor.specs.Grammar.{IsCanonical}
+use Rattle.ctap_cbor.specs.Grammar.{text, IsCanonical}
 use Rattle.cred_table.specs.declared.row.Row.{Row}
 use Rattle.cred_table.specs.declared.fault.SnapshotFault.{SnapshotFault}
 use Rattle.cred_table.specs.declared.fault.SnapshotFault.TheVariants.{NotSnapshot, TooMany, RowBroken, Memory}
@@ -86,6 +86,10 @@ pub record IsSnapshot (named : Bool) (room : ℕ) (rows : List Row) (text : List
 -- the rows' snapshot, of version 2, was written at the end
 abbrev pub Saves : (room : ℕ) → List Row → (old new : List ℕ) → Type 0
 Saves room rows old new = (saved : List ℕ) × IsSnapshot true room rows saved × (new ≡ old ++ saved)
+
+-- the number of its bytes
+abbrev pub saved_len : List Row → ℕ
+saved_len rows = length (text (snapshot true rows))
 
 -- ---- loading
 

@@ -1,6 +1,8 @@
 //! The credential table of an authenticator: rows in order of making, whatever keeps them.
 #![tactic(auto)]
 
+mod chained;
+mod chains;
 mod cutting;
 mod fault;
 pub mod laws;
@@ -9,20 +11,24 @@ mod loading;
 mod parsing;
 mod pending;
 mod row;
+mod rows;
 mod saving;
+mod slot;
 mod table;
 
+pub use chained::Chained;
 pub use cutting::cut_name;
 pub use fault::SnapshotFault;
 pub use listed::Listed;
 pub use loading::load;
 pub use pending::Pending;
 pub use row::Row;
+pub use rows::Rows;
 pub use saving::save;
 pub use table::Table;
 
 /// The table that the authenticator uses.
-pub type Store<const C: usize> = Listed<C>;
+pub type Store<const C: usize> = Chained<C>;
 
 #[cfg(test)]
 mod snapshot_tests;

@@ -5,6 +5,7 @@ ghost use Rattle.std.specs.List.{find, position, position_or_len};
 ghost use Rattle.cred_table.specs.Rows.{has_id, Lawful};
 
 use crate::row::Row;
+use crate::rows::Rows;
 use crate::table::Table;
 use arrayvec::ArrayVec;
 
@@ -59,6 +60,10 @@ impl<const C: usize> Table<C> for Listed<C> {
 
     fn row(&self, place: usize) -> &Row {
         &self.list.as_slice()[place]
+    }
+
+    fn iter(&self) -> Rows<'_> {
+        Rows::listed(self.list.as_slice())
     }
 
     fn find(&self, id: &[u8; 32]) -> Option<&Row> {

@@ -41,22 +41,15 @@ impl<const C: usize> Pending<C> {
     }
 
     /// Keeps these ids, at most `C`, in place of what was there. With none of them nothing is pending.
-    pub fn fill(
-        &mut self,
-        cid: u32,
-        hash: &[u8; 32],
-        presence: bool,
-        at: u64,
-        ids: &[[u8; 32]],
-    )
+    pub fn fill(&mut self, cid: u32, hash: &[u8; 32], presence: bool, moment: u64, ids: &[[u8; 32]])
         requires { length ids.now ≤ C }
-        ensures { self.new ≡ pending_of cid hash.now presence at ids.now }
+        ensures { self.new ≡ pending_of cid hash.now presence moment ids.now }
     {
+        self.clear();
         self.cid = cid;
         self.hash = *hash;
         self.presence = presence;
-        self.moment = at;
-        self.ids.clear();
+        self.moment = moment;
         self.ids.try_extend_from_slice(ids).unwrap();
     }
 
@@ -124,5 +117,70 @@ impl<const C: usize> Pending<C> {
         ensures { result ≡ moment_of self.now }
     {
         self.moment
+    }
+}
+
+#[cfg(test)]
+mod tests {
+    use super::*;
+    use std::process::Abort;
+
+    /// Fills a list with ids that differ.
+    fn number<const N: usize>(rt: &impl Abort, ids: &mut ArrayVec<[u8; 32], N>) {
+        for place in 0..N {
+            assert!(rt; ids.len() < N);
+            ids.push([(place % 256) as u8; 32]);
+        }
+    }
+
+    /// Fills it with `N` ids, and takes them from the first on.
+    fn holds<const N: usize>(
+        rt: &impl Abort,
+        pending: &mut Pending<N>,
+        ids: &mut ArrayVec<[u8; 32], N>,
+    ) {
+        number(rt, ids);
+        pending.stamp(900);
+        assert_eq!(rt; pending.next(), None);
+
+        assert!(rt; ids.len() <= N);
+        pending.fill(7, &[0x22; 32], true, 1000, ids.as_slice());
+        for (place, id) in ids.as_slice().iter().enumerate() {
+            assert!(rt; pending.len() > 0);
+            assert_eq!(rt; pending.len().saturating_add(place), N);
+            assert_eq!(rt; pending.cid(), 7);
+            assert_eq!(rt; pending.hash(), [0x22; 32]);
+            assert!(rt; pending.presence());
+            assert_eq!(rt; pending.moment(), if place == 0 { 1000 } else { 1500 });
+            assert_eq!(rt; pending.next(), Some(*id));
+            pending.stamp(1500);
+        }
+        assert_eq!(rt; pending.len(), 0);
+        assert_eq!(rt; pending.next(), None);
+    }
+
+    #[test]
+    fn holds_so_many_ids(rt: HostRuntime) {
+        holds(&rt, &mut Pending::<1>::new(), &mut ArrayVec::new());
+        holds(&rt, &mut Pending::<2>::new(), &mut ArrayVec::new());
+        holds(&rt, &mut Pending::<256>::new(), &mut ArrayVec::new());
+    }
+
+    #[test]
+    fn is_filled_anew(rt: HostRuntime) {
+        let mut pending = Pending::<2>::new();
+        pending.fill(7, &[0x22; 32], true, 1000, &[[1; 32], [2; 32]]);
+        pending.fill(8, &[0x33; 32], false, 2000, &[[3; 32]]);
+        assert_eq!(rt; pending.len(), 1);
+        assert_eq!(rt; pending.cid(), 8);
+        assert!(rt; !pending.presence());
+        assert_eq!(rt; pending.next(), Some([3; 32]));
+
+        pending.fill(7, &[0x22; 32], true, 1000, &[[1; 32]]);
+        pending.fill(8, &[0x33; 32], false, 2000, &[]);
+        assert_eq!(rt; pending.len(), 0);
+        pending.fill(7, &[0x22; 32], true, 1000, &[[1; 32]]);
+        pending.clear();
+        assert_eq!(rt; pending.next(), None);
     }
 }

@@ -1,11 +1,11 @@
 //! Saving snapshots.
 
-ghost use Rattle.std.specs.Prelude.{◌≡◌, ◌≤◌, ◌+◌, ◌++◌, pos, true, length, take, OnOk, OnErr, IfErr, MatchResult};
+ghost use Rattle.std.specs.Prelude.{◌≡◌, ◌<◌, ◌≤◌, ◌+◌, ◌++◌, pos, true, length, take, vec_capacity, OnOk, OnErr, IfErr};
 ghost use Rattle.ctap_cbor.specs.Tree.{Int, Bytes, Text};
 ghost use Rattle.ctap_cbor.specs.Grammar.{scalar_text};
 ghost use Rattle.ctap_cbor.specs.Writing.{room_of, Appends, SameBuffer};
 ghost use Rattle.cred_table.specs.declared.fault.SnapshotFault.TheVariants.{Memory};
-ghost use Rattle.cred_table.specs.Snapshots.{IsRow, IsHash, IsShort, IsName, Saves};
+ghost use Rattle.cred_table.specs.Snapshots.{IsRow, IsHash, IsShort, IsName, Saves, saved_len};
 ghost use Rattle.cred_table.specs.Parsing.{row_text, heads_text};
 ghost use Rattle.cred_table.specs.Saving.{AppendsUpTo, Extends};
 
@@ -170,6 +170,8 @@ fn heads_into(buffer: &mut [u8], count: u64) -> usize
 fn write_row(row: &Row, out: &mut Vec<u8>) -> Result<(), AllocError>
     ensures ok { OnOk result (out.new.items ≡ out.old.items ++ row_text true row.now) }
     ensures err { OnErr result (out.new.items ≡ out.old.items) }
+    ensures full { OnErr result (vec_capacity out.old < length out.old.items + length (row_text true row.now)) }
+    ensures room { vec_capacity out.old ≤ vec_capacity out.new }
 {
     let mut buffer = [0; LONGEST_ROW];
     let len = row_into(&mut buffer, row);
@@ -180,6 +182,8 @@ fn write_row(row: &Row, out: &mut Vec<u8>) -> Result<(), AllocError>
 fn write_heads(count: u64, out: &mut Vec<u8>) -> Result<(), AllocError>
     ensures ok { OnOk result (out.new.items ≡ out.old.items ++ heads_text (true, count)) }
     ensures err { OnErr result (out.new.items ≡ out.old.items) }
+    ensures full { OnErr result (vec_capacity out.old < length out.old.items + length (heads_text (true, count))) }
+    ensures room { vec_capacity out.old ≤ vec_capacity out.new }
 {
     let mut buffer = [0; LONGEST_HEADS];
     let len = heads_into(&mut buffer, count);
@@ -191,13 +195,13 @@ fn write_rows<T: Table<C>, const C: usize>(
     table: &T,
     out: &mut Vec<u8>,
 ) -> Result<(), SnapshotFault>
-    ensures { MatchResult result
-        (λ _. Saves C (T.rows table.now) out.old.items out.new.items)
-        (λ fault. (fault ≡ Memory) × Extends out.old.items out.new.items) }
+    ensures saved { OnOk result (Saves C (T.rows table.now) out.old.items out.new.items) }
+    ensures memory { IfErr result (λ fault. fault ≡ Memory) }
+    ensures extends { OnErr result (Extends out.old.items out.new.items) }
+    ensures full { OnErr result (vec_capacity out.old < length out.old.items + saved_len (T.rows table.now)) }
 {
     write_heads(table.len() as u64, out)?;
-    for place in 0..table.len() {
-        let row = table.row(place);
+    for row in table.iter() {
         known_row(row);
         write_row(row, out)?;
     }
@@ -206,10 +210,12 @@ fn write_rows<T: Table<C>, const C: usize>(
 
 /// Appends a snapshot of a table's rows, with the vector's own allocator.
 ///
-/// It is refused only where memory is. The vector then holds what it held before.
+/// It is refused only where memory is, and never where the vector has room for the snapshot. The vector then holds what
+/// it held before.
 pub fn save<T: Table<C>, const C: usize>(table: &T, out: &mut Vec<u8>) -> Result<(), SnapshotFault>
     ensures saved { OnOk result (Saves C (T.rows table.now) out.old.items out.new.items) }
     ensures memory { IfErr result (λ fault. fault ≡ Memory) }
+    ensures full { OnErr result (vec_capacity out.old < length out.old.items + saved_len (T.rows table.now)) }
     ensures unchanged { OnErr result (out.new.items ≡ out.old.items) }
 {
     let len = out.len();

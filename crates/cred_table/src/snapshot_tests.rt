@@ -1,7 +1,9 @@
 //! Snapshots that are loaded and saved, with bytes from outside.
 //!
-//! `rt try --test --fail-alloc N` refuses the Nth allocation of each test. Whichever it is, the tests hold: the answer is
-//! Memory, the vector is unchanged, and the same call with memory succeeds.
+//! `rt try --test --fail-alloc N` refuses the Nth allocation of each test. Whichever it is, all tests but `saves_at_once`
+//! hold: the answer is Memory, the vector is unchanged, and the same call with memory succeeds.
+
+mod changed_bytes;
 
 use super::*;
 use arrayvec::ArrayVec;
@@ -45,17 +47,15 @@ fn one_row(rt: &impl Abort, heads: &[u8], rest: &[u8]) -> Bytes {
     out
 }
 
-/// Loads into an empty table, which is given a row of its own before, and gives the result and the number of rows.
+/// Loads into a table that has a row of its own, and gives the result and the number of rows.
 fn loaded<T: Table<N>, const N: usize>(
     rt: &impl Abort,
     table: &mut T,
     bytes: &[u8],
 ) -> (Result<(), SnapshotFault>, usize) {
-    let own = Row::default();
     assert!(rt; N > 0);
-    assert!(rt; table.find(&own.id).is_none());
-    assert!(rt; table.len() == 0);
-    table.put(own);
+    table.clear();
+    table.put(Row::default());
     let result = load(bytes, table);
     (result, table.len())
 }
@@ -80,106 +80,145 @@ fn saved<T: Table<N>, const N: usize>(
     Ok(out)
 }
 
+/// Loads texts whose heads alone matter.
+fn load_heads<T: Table<64>>(rt: &impl Abort, table: &mut T) {
+    let refused = (Err(SnapshotFault::NotSnapshot), 1);
+    for (text, want) in [
+        (b"\xa0".as_slice(), refused),
+        (b"\xa2\x01\x00\x02\x80", refused),
+        (b"\xa2\x01\x03\x02\x80", refused),
+        (b"\xa2\x01\x01\x02\x80\x00", refused),
+        (b"\xa2\x01\x01\x02\x80", (Ok(()), 0)),
+        (b"\xa2\x01\x02\x02\x80", (Ok(()), 0)),
+    ] {
+        assert_eq!(rt; loaded(rt, table, text), want);
+    }
+}
+
 #[test]
 fn refuses_heads(rt: HostRuntime) {
-    let not = (Err(SnapshotFault::NotSnapshot), 1);
-    assert_eq!(rt; loaded(&rt, &mut Store::<64>::new(), b"\xa0"), not);
-    assert_eq!(rt;
-        loaded(&rt, &mut Store::<64>::new(), b"\xa2\x01\x03\x02\x80"),
-        not
+    load_heads(&rt, &mut Listed::new());
+    load_heads(&rt, &mut Chained::new());
+}
+
+/// The row's entry twice, of version 1.
+fn twice(rt: &impl Abort) -> Bytes {
+    let mut text = one_row(
+        rt,
+        b"\xa2\x01\x01\x02\x82\xa7",
+        b"\x06\xf5\x07\x1a\xff\xff\xff\xff\xa7",
     );
-    assert_eq!(rt;
-        loaded(&rt, &mut Store::<64>::new(), b"\xa2\x01\x01\x02\x80\x00"),
-        not
-    );
-    assert_eq!(rt;
-        loaded(&rt, &mut Store::<64>::new(), b"\xa2\x01\x01\x02\x80"),
-        (Ok(()), 0)
-    );
-    assert_eq!(rt;
-        loaded(&rt, &mut Store::<64>::new(), b"\xa2\x01\x02\x02\x80"),
-        (Ok(()), 0)
-    );
+    push_row(rt, &mut text);
+    push(rt, &mut text, b"\x06\xf5\x07\x1a\xff\xff\xff\xff");
+    text
+}
+
+#[test]
+fn refuses_too_many(rt: HostRuntime) {
+    let text = twice(&rt);
+    let refused = (Err(SnapshotFault::TooMany), 1);
+    assert_eq!(rt; loaded(&rt, &mut Listed::<1>::new(), &text), refused);
+    assert_eq!(rt; loaded(&rt, &mut Chained::<1>::new(), &text), refused);
+}
+
+/// Loads texts of rows that can't stand where they stand.
+fn load_rows<T: Table<64>>(rt: &impl Abort, table: &mut T) {
+    let text = twice(rt);
+    let second = (Err(SnapshotFault::RowBroken(1)), 1);
+    assert_eq!(rt; loaded(rt, table, &text), second);
+
+    let first = (Err(SnapshotFault::RowBroken(0)), 1);
+    let name_of_version_1 = b"\xa2\x01\x01\x02\x81\xa8";
+    let no_name = b"\xa2\x01\x02\x02\x81\xa7";
+    let one = b"\xa2\x01\x01\x02\x81\xa7";
+    let named = b"\xa2\x01\x02\x02\x81\xa8";
+    for (heads, rest, want) in [
+        (
+            name_of_version_1,
+            b"\x06\xf5\x07\x00\x08\x60".as_slice(),
+            first,
+        ),
+        (no_name, b"\x06\xf5\x07\x00", first),
+        (
+            one,
+            b"\x06\xf5\x07\x1b\x00\x00\x00\x01\x00\x00\x00\x00",
+            first,
+        ),
+        (
+            one,
+            b"\x06\xf5\x07\x18\x05",
+            (Err(SnapshotFault::NotSnapshot), 1),
+        ),
+        (named, b"\x06\xf5\x07\x00\x08\x40", first),
+    ] {
+        let text = one_row(rt, heads, rest);
+        assert_eq!(rt; loaded(rt, table, &text), want);
+    }
 }
 
 #[test]
 fn refuses_rows(rt: HostRuntime) {
-    let mut twice = one_row(
-        &rt,
-        b"\xa2\x01\x01\x02\x82\xa7",
-        b"\x06\xf5\x07\x1a\xff\xff\xff\xff\xa7",
-    );
-    push_row(&rt, &mut twice);
-    push(&rt, &mut twice, b"\x06\xf5\x07\x1a\xff\xff\xff\xff");
-    assert_eq!(rt;
-        loaded(&rt, &mut Store::<1>::new(), &twice),
-        (Err(SnapshotFault::TooMany), 1)
-    );
-    assert_eq!(rt;
-        loaded(&rt, &mut Store::<64>::new(), &twice),
-        (Err(SnapshotFault::RowBroken(1)), 1)
-    );
+    load_rows(&rt, &mut Listed::new());
+    load_rows(&rt, &mut Chained::new());
+}
 
-    let named = one_row(
-        &rt,
-        b"\xa2\x01\x01\x02\x81\xa8",
-        b"\x06\xf5\x07\x00\x08\x60",
-    );
-    assert_eq!(rt;
-        loaded(&rt, &mut Store::<64>::new(), &named),
-        (Err(SnapshotFault::RowBroken(0)), 1)
-    );
-    let nameless = one_row(&rt, b"\xa2\x01\x02\x02\x81\xa7", b"\x06\xf5\x07\x00");
-    assert_eq!(rt;
-        loaded(&rt, &mut Store::<64>::new(), &nameless),
-        (Err(SnapshotFault::RowBroken(0)), 1)
-    );
-    let large = one_row(
-        &rt,
-        b"\xa2\x01\x01\x02\x81\xa7",
-        b"\x06\xf5\x07\x1b\x00\x00\x00\x01\x00\x00\x00\x00",
-    );
-    assert_eq!(rt;
-        loaded(&rt, &mut Store::<64>::new(), &large),
-        (Err(SnapshotFault::RowBroken(0)), 1)
-    );
-    let long = one_row(&rt, b"\xa2\x01\x01\x02\x81\xa7", b"\x06\xf5\x07\x18\x05");
-    assert_eq!(rt;
-        loaded(&rt, &mut Store::<64>::new(), &long),
-        (Err(SnapshotFault::NotSnapshot), 1)
-    );
+/// Loads a row with a name of so many letters.
+fn load_name<T: Table<2>>(
+    rt: &impl Abort,
+    table: &mut T,
+    letters: usize,
+) -> Result<(), SnapshotFault> {
+    assert!(rt; letters < 256);
+    let heads = b"\xa2\x01\x02\x02\x81\xa8";
+    let mut text = one_row(rt, heads, b"\x06\xf5\x07\x00\x08\x78");
+    push(rt, &mut text, &[letters as u8]);
+    for _ in 0..letters {
+        push(rt, &mut text, b"a");
+    }
+    load(&text, table)
 }
 
 #[test]
-fn migrates(rt: HostRuntime) -> Result<(), Fail> {
+fn refuses_long_names(rt: HostRuntime) {
+    let mut table = Store::<2>::new();
+    assert_eq!(rt; load_name(&rt, &mut table, 64), Ok(()));
+    let first = Err(SnapshotFault::RowBroken(0));
+    assert_eq!(rt; load_name(&rt, &mut table, 65), first);
+}
+
+/// A snapshot of version 1 is saved as one of version 2, which is loaded again.
+fn migrate<T: Table<64>>(rt: &impl Abort, alloc: Global, table: &mut T) -> Result<(), Fail> {
     let old = one_row(
-        &rt,
+        rt,
         b"\xa2\x01\x01\x02\x81\xa7",
         b"\x06\xf5\x07\x1a\xff\xff\xff\xff",
     );
     assert_eq!(rt; old.len(), 157);
-    let mut table = Store::<64>::new();
-    load(&old, &mut table)?;
-    let new = saved(&rt, rt.alloc(), &table)?;
+    load(&old, table)?;
+    let new = saved(rt, alloc, table)?;
     let want = one_row(
-        &rt,
+        rt,
         b"\xa2\x01\x02\x02\x81\xa8",
         b"\x06\xf5\x07\x1a\xff\xff\xff\xff\x08\x60",
     );
     assert_eq!(rt; new.len(), 159);
     assert_eq!(rt; new.as_slice(), want.as_slice());
 
-    let mut again = Store::<64>::new();
-    load(&new, &mut again)?;
-    let same = saved(&rt, rt.alloc(), &again)?;
-    assert_eq!(rt; same.as_slice(), want.as_slice());
     table.clear();
-    let empty = saved(&rt, rt.alloc(), &table)?;
+    let empty = saved(rt, alloc, table)?;
     assert_eq!(rt; empty.as_slice(), b"\xa2\x01\x02\x02\x80".as_slice());
+    load(&new, table)?;
+    let same = saved(rt, alloc, table)?;
+    assert_eq!(rt; same.as_slice(), want.as_slice());
     Ok(())
 }
 
-/// Saves a row with this name, and gives how it ends.
+#[test]
+fn migrates(rt: HostRuntime) -> Result<(), Fail> {
+    migrate(&rt, rt.alloc(), &mut Listed::new())?;
+    migrate(&rt, rt.alloc(), &mut Chained::new())
+}
+
 #[test]
 fn keeps_names(rt: HostRuntime) -> Result<(), Fail> {
     let mut table = Store::<256>::new();
@@ -188,6 +227,7 @@ fn keeps_names(rt: HostRuntime) -> Result<(), Fail> {
         b"\xa2\x01\x02\x02\x81\xa8",
         b"\x06\xf5\x07\x00\x08\x61\x62",
     );
+    assert_eq!(rt; text.len(), 156);
     load(&text, &mut table)?;
     let same = saved(&rt, rt.alloc(), &table)?;
     assert_eq!(rt; same.as_slice(), text.as_slice());
@@ -195,15 +235,22 @@ fn keeps_names(rt: HostRuntime) -> Result<(), Fail> {
 }
 
 #[test]
-fn cuts_names(rt: HostRuntime) {
-    let whole = "aaaaaaaaaaaaaaaaaaaaaaaaaaaaaaaaaaaaaaaaaaaaaaaaaaaaaaaaaaaaaaaa";
-    assert_eq!(rt; whole.len(), 64);
-    assert_eq!(rt; cut_name(whole), whole);
-    assert_eq!(rt; cut_name(""), "");
-    let accent = "aaaaaaaaaaaaaaaaaaaaaaaaaaaaaaaaaaaaaaaaaaaaaaaaaaaaaaaaaaaaaaaé";
-    assert_eq!(rt; accent.len(), 65);
-    assert_eq!(rt; cut_name(accent).len(), 63);
-    let euros = "€€€€€€€€€€€€€€€€€€€€€€";
-    assert_eq!(rt; euros.len(), 66);
-    assert_eq!(rt; cut_name(euros).len(), 63);
+fn keeps_counters(rt: HostRuntime) -> Result<(), Fail> {
+    let mut table = Store::<64>::new();
+    let old = one_row(&rt, b"\xa2\x01\x01\x02\x81\xa7", b"\x06\xf5\x07\x00");
+    load(&old, &mut table)?;
+    let counter = table.find(&[0xAA; 32]).map(|row| row.counter);
+    assert_eq!(rt; counter, Some(0));
+    assert_eq!(rt; table.raise(&[0xAA; 32]), 1);
+    let new = saved(&rt, rt.alloc(), &table)?;
+    assert!(rt; new.as_slice().ends_with(b"\x07\x01\x08\x60"));
+    Ok(())
+}
+
+/// With ample memory a call is made once, into an empty vector too.
+#[test]
+fn saves_at_once(rt: HostRuntime) {
+    let mut out = Vec::new(rt.alloc());
+    assert_eq!(rt; save(&Store::<2>::new(), &mut out), Ok(()));
+    assert_eq!(rt; out.as_slice(), b"\xa2\x01\x02\x02\x80".as_slice());
 }

@@ -5,6 +5,7 @@ ghost use Rattle.std.specs.List.{find};
 ghost use Rattle.cred_table.specs.Rows.{has_id, is_named, is_user, replaces, stored, without, raised, listed, ids, counter_of, Lawful};
 
 use crate::row::Row;
+use crate::rows::Rows;
 use arrayvec::ArrayVec;
 
 /// A table of at most `C` credentials, `1 <= C <= 256`. A contract sees `rows`, the list of its rows in order of
@@ -26,6 +27,10 @@ pub trait Table<const C: usize> {
     fn row(&self, place: usize) -> &Row
         requires { place < length (rows self.now) }
         ensures { result.now ≡ slice_index_or (rows self.now) place result.now };
+
+    /// Its rows in order of making.
+    fn iter(&self) -> Rows<'_>
+        ensures { result ≡ rows self.now };
 
     /// The row with the id, `None` where there is none.
     fn find(&self, id: &[u8; 32]) -> Option<&Row>
@@ -53,14 +58,13 @@ pub trait Table<const C: usize> {
         ensures appended { rows self.new ≡ rows self.old ++ row ∷ [] }
         ensures stored { rows self.new ≡ stored row (rows self.old) };
 
-    /// Takes the row `old` out and puts the new one last, in a full table too. The new one's id is new, it is
-    /// discoverable, and `old` is the id that `same_user` gives for its RP and user.
+    /// Takes the row `old` out and puts the new one last, in a full table too. The new one's id is new, and `old` is the
+    /// id that `same_user` gives for its RP and user.
     fn replace(&mut self, old: &[u8; 32], new: Row)
         requires fresh { find (has_id new.id) (rows self.old) ≡ None }
-        requires discoverable { IsTrue new.discoverable }
         requires same_user { option_map (λ row. row.id) (find (is_user new.rp new.user.items) (rows self.old)) ≡ Some old.now }
         ensures appended { rows self.new ≡ without old.now (rows self.old) ++ new ∷ [] }
-        ensures stored { rows self.new ≡ stored new (rows self.old) };
+        ensures stored { IsTrue new.discoverable → rows self.new ≡ stored new (rows self.old) };
 
     /// Adds one to the counter of the row with the id, and gives it. The row is there, its counter below 2^32-1.
     fn raise(&mut self, id: &[u8; 32]) -> u32

@@ -1,0 +1,291 @@
+-- A slot is taken out of the age chain and the chain of its id.
+use Rattle.std.proofs.Common.{◌≡◌, ℕ, ◌+◌, ◌<◌, List, [], ◌∷◌, ◌++◌, length, map, reverse, Bool, true, false, cond, ◌&&◌, ◌||◌, not, Option, Some, None, refl, sym, ◌∙◌, ap, subst, arith, nat_eq, get_or, set}
+use Rattle.std.proofs.lemmas.List.{length-append, length-map, get_or-set_same, get_or-set_other, reverse-append}
+use Rattle.std.proofs.Math.Bool.{and-true, and-false}
+use Rattle.std.proofs.lemmas.Bool.{and_parts, and_from}
+use Rattle.cred_table.specs.declared.row.Row.{Row}
+use Rattle.cred_table.specs.declared.slot.Slot.{Slot}
+use Rattle.cred_table.specs.declared.slot.Along.{Along}
+use Rattle.cred_table.specs.declared.slot.Along.TheVariants.{Next, Newer, Older}
+use Rattle.cred_table.specs.declared.chains.Chains.{Chains}
+use Rattle.cred_table.specs.Slots.{links, has, but, distinct, slot_at, led_slots, begun, before, within, bucket}
+use Rattle.cred_table.specs.Linked.{Linked, age, free_slots, id_slots, head, row_at, rows_in}
+use Rattle.cred_table.proofs.Chain.{Leads, Leads-split, Leads-without, Leads-distinct, EndsWith, led, eq_is, eq_test, ne_test, lt_is, has-split, distinct-split, but_is}
+use Rattle.cred_table.proofs.Links.{links-led, links-led_other, length-led, link_at, row-led, map_same}
+use Rattle.cred_table.proofs.Before.{before_ends, before_has}
+use Rattle.cred_table.proofs.Holding.{Holds, opened, closed, age_is, ends_newest, has-reverse}
+use Rattle.cred_table.proofs.Without.{and_swap, eq_turned, has-but, has-front, has-rear, within_ends, within_long, starts, Leads-led}
+
+-- The table behind it.
+abbrev pub unlinked : {C : ℕ} → Chains C → ℕ → Slot → Option ℕ → Chains C
+unlinked chains k slot prior = record {
+  slots = led_slots Older slot.newer slot.older (led_slots Newer slot.older slot.newer (led_slots Next prior slot.next chains.slots));
+  heads = set chains.heads (bucket slot.row.id) (begun prior slot.next (head (bucket slot.row.id) chains));
+  free = chains.free;
+  oldest = begun slot.older slot.newer chains.oldest;
+  newest = begun slot.newer slot.older chains.newest;
+}
+
+-- The chains of the ids behind it.
+abbrev left : (k b : ℕ) → (ℕ → List ℕ) → ℕ → List ℕ
+left k b ids c = cond (nat_eq c b) (but k (ids c)) (ids c)
+
+holds : {C : ℕ} (chains : Chains C) (k : ℕ) (prior : Option ℕ) (held spare : List ℕ) (ids : ℕ → List ℕ) → Holds [] chains held spare ids → has k held ≡ true → bucket (row_at chains.slots k).id < length chains.heads →
+    prior ≡ before k (ids (bucket (row_at chains.slots k).id)) →
+    Holds (k ∷ []) (unlinked chains k (slot_at chains.slots k) prior) (but k held) spare (left k (bucket (row_at chains.slots k).id) ids)
+    × ((j : ℕ) → row_at (unlinked chains k (slot_at chains.slots k) prior).slots j ≡ row_at chains.slots j)
+    × (within prior chains.slots ≡ true) × (within (slot_at chains.slots k).older chains.slots ≡ true) × (within (slot_at chains.slots k).newer chains.slots ≡ true)
+holds {C = C} chains k prior held spare ids h is_held bound is_prior = (
+  record {
+    aged = subst (λ (ks : List ℕ). Leads (links Newer after.slots) after.oldest ks None) (sym held_left) (subst (λ (to : List (Option ℕ)). Leads to after.oldest (fs ++ rs) None) (sym newers) newer_after);
+    back = subst (λ (ks : List ℕ). Leads (links Older after.slots) after.newest (reverse ks) None) (sym held_left)
+        (subst (λ (ks : List ℕ). Leads (links Older after.slots) after.newest ks None) (sym (reverse-append fs rs)) (subst (λ (to : List (Option ℕ)). Leads to after.newest (reverse rs ++ reverse fs) None) (sym olders) older_after));
+    freed = subst (λ (to : List (Option ℕ)). Leads to chains.free spare None) (sym nexts) (Leads-led next chains.free spare prior slot.next not_spare h.freed);
+    found = λ c. subst (λ (to : List (Option ℕ)). Leads to (head c after) (left k b ids c) None) (sym nexts) (found c (nat_eq c b) refl);
+    by_id = λ c j. by_id c j (nat_eq c b) refl ∙ ap (λ (r : Row). has j (but k held) && nat_eq (bucket r.id) c) (sym (rows j));
+    in_free = λ j. h.in_free j ∙ rw (in_away j, long) refl;
+    apart = and_from (not (has k (but k held))) (distinct (but k held)) (rw (has-but k held k, eq_is k k refl, and-false (has k held)) refl) distinct_left;
+    inside = λ j i. rw long (h.inside j (in_away j ∙ i));
+    all = let a = h.all in let l = ap length held_left in let m = ap length is_split in let n = length-append fs rs in let o = length-append fs (k ∷ rs) in let p = long in omega arith;
+  },
+  rows,
+  named_prior,
+  named_older,
+  named_newer,
+)
+  where
+    slots : List Slot
+    slots = chains.slots
+
+    slot : Slot
+    slot = slot_at slots k
+
+    b : ℕ
+    b = bucket slot.row.id
+
+    next : List (Option ℕ)
+    next = links Next slots
+
+    newer : List (Option ℕ)
+    newer = links Newer slots
+
+    older : List (Option ℕ)
+    older = links Older slots
+
+    after : Chains C
+    after = unlinked chains k slot prior
+
+    parts : (fs : List ℕ) × (rs : List ℕ) × (held ≡ fs ++ k ∷ rs)
+    parts = has-split k held is_held
+
+    fs : List ℕ
+    fs = parts.0
+
+    rs : List ℕ
+    rs = parts.1
+
+    is_split : held ≡ fs ++ k ∷ rs
+    is_split = parts.2
+
+    there : k < length slots
+    there = h.inside k is_held
+
+    aged : Leads newer chains.oldest (fs ++ k ∷ rs) None
+    aged = subst (λ (ks : List ℕ). Leads newer chains.oldest ks None) is_split h.aged
+
+    held_left : but k held ≡ fs ++ rs
+    held_left = ap (but k) is_split ∙ but_is newer chains.oldest fs k rs aged
+
+    is_turned : reverse held ≡ reverse rs ++ k ∷ reverse fs
+    is_turned = ap reverse is_split ∙ (reverse-append fs (k ∷ rs) ∙ (ap (λ (ks : List ℕ). ks ++ reverse fs) (reverse-append (k ∷ []) rs) ∙ moved (reverse rs)))
+      where
+        moved : (ls : List ℕ) → (ls ++ k ∷ []) ++ reverse fs ≡ ls ++ k ∷ reverse fs
+        moved [] = refl
+        moved (l ∷ ls) = ap (λ (ks : List ℕ). l ∷ ks) (moved ls)
+
+    back : Leads older chains.newest (reverse rs ++ k ∷ reverse fs) None
+    back = subst (λ (ks : List ℕ). Leads older chains.newest ks None) is_turned h.back
+
+    is_newer : get_or newer k None ≡ slot.newer
+    is_newer = link_at Newer slots k there
+
+    is_older : get_or older k None ≡ slot.older
+    is_older = link_at Older slots k there
+
+    is_next : get_or next k None ≡ slot.next
+    is_next = link_at Next slots k there
+
+    ends_older : EndsWith fs slot.older
+    ends_older =
+        let s = Leads-split older chains.newest None (reverse rs) (k ∷ reverse fs) back in
+        ends_newest older slot.older fs (subst (λ (o : Option ℕ). Leads older o (reverse fs) None) is_older s.2.2)
+
+    ends_newer : EndsWith (reverse rs) slot.newer
+    ends_newer =
+        let s = Leads-split newer chains.oldest None fs (k ∷ rs) aged in
+        starts newer slot.newer rs (subst (λ (o : Option ℕ). Leads newer o rs None) is_newer s.2.2)
+
+    newer_after : Leads (led slot.older slot.newer newer) (begun slot.older slot.newer chains.oldest) (fs ++ rs) None
+    newer_after =
+        subst (λ (o : Option ℕ). Leads (led slot.older o newer) (begun slot.older o chains.oldest) (fs ++ rs) None) is_newer (Leads-without newer chains.oldest fs k rs slot.older aged ends_older)
+
+    older_after : Leads (led slot.newer slot.older older) (begun slot.newer slot.older chains.newest) (reverse rs ++ reverse fs) None
+    older_after =
+        subst (λ (o : Option ℕ). Leads (led slot.newer o older) (begun slot.newer o chains.newest) (reverse rs ++ reverse fs) None) is_older
+        (Leads-without older chains.newest (reverse rs) k (reverse fs) slot.newer back ends_newer)
+
+    -- the slots that are named
+    named_older : within slot.older slots ≡ true
+    named_older = within_ends fs slot.older slots ends_older (λ j i. h.inside j (ap (has j) is_split ∙ has-front fs k rs j i))
+
+    named_newer : within slot.newer slots ≡ true
+    named_newer = within_ends (reverse rs) slot.newer slots ends_newer (λ j i. h.inside j (ap (has j) is_split ∙ has-rear fs k rs j (sym (has-reverse j rs) ∙ i)))
+
+    prior_held : (p : ℕ) → prior ≡ Some p → (has p held ≡ true) × (nat_eq (bucket (row_at slots p).id) b ≡ true)
+    prior_held p e = and_parts (has p held) (nat_eq (bucket (row_at slots p).id) b) (sym (h.by_id b p) ∙ before_has k (ids b) p (sym is_prior ∙ e))
+
+    named_prior : within prior slots ≡ true
+    named_prior = go prior refl
+      where
+        go : (o : Option ℕ) → prior ≡ o → within o slots ≡ true
+        go None e = refl
+        go (Some p) e = lt_is p (length slots) (h.inside p (prior_held p e).0)
+
+    -- the links behind it
+    slots1 : List Slot
+    slots1 = led_slots Next prior slot.next slots
+
+    slots2 : List Slot
+    slots2 = led_slots Newer slot.older slot.newer slots1
+
+    long1 : length slots1 ≡ length slots
+    long1 = length-led Next prior slot.next slots
+
+    long2 : length slots2 ≡ length slots
+    long2 = length-led Newer slot.older slot.newer slots1 ∙ long1
+
+    long : length after.slots ≡ length slots
+    long = length-led Older slot.newer slot.older slots2 ∙ long2
+
+    named1 : within slot.older slots1 ≡ true
+    named1 = within_long slot.older slots1 slots long1 named_older
+
+    named2 : within slot.newer slots2 ≡ true
+    named2 = within_long slot.newer slots2 slots long2 named_newer
+
+    newers : links Newer after.slots ≡ led slot.older slot.newer newer
+    newers =
+        links-led_other Older Newer slot.newer slot.older slots2 (λ s. refl) named2
+        ∙ (links-led Newer slot.older slot.newer slots1 ∙ ap (led slot.older slot.newer) (links-led_other Next Newer prior slot.next slots (λ s. refl) named_prior))
+
+    olders : links Older after.slots ≡ led slot.newer slot.older older
+    olders =
+        links-led Older slot.newer slot.older slots2
+        ∙ ap (led slot.newer slot.older) (links-led_other Newer Older slot.older slot.newer slots1 (λ s. refl) named1 ∙ links-led_other Next Older prior slot.next slots (λ s. refl) named_prior)
+
+    nexts : links Next after.slots ≡ led prior slot.next next
+    nexts =
+        links-led_other Older Next slot.newer slot.older slots2 (λ s. refl) named2
+        ∙ (links-led_other Newer Next slot.older slot.newer slots1 (λ s. refl) named1 ∙ links-led Next prior slot.next slots)
+
+    rows : (j : ℕ) → row_at after.slots j ≡ row_at slots j
+    rows j = row-led Older slot.newer slot.older slots2 j named2 ∙ (row-led Newer slot.older slot.newer slots1 j named1 ∙ row-led Next prior slot.next slots j named_prior)
+
+    -- the chains by id, and the free chain
+    is_found : has k (ids b) ≡ true
+    is_found = h.by_id b k ∙ and_from (has k held) (nat_eq b b) is_held (eq_is b b refl)
+
+    not_spare : (p : ℕ) → prior ≡ Some p → has p spare ≡ false
+    not_spare p e = h.in_free p ∙ rw (prior_held p e).0 refl
+
+    not_found : (c : ℕ) → nat_eq c b ≡ false → (p : ℕ) → prior ≡ Some p → has p (ids c) ≡ false
+    not_found c n p e =
+        let f = prior_held p e in
+        let g : nat_eq (bucket (row_at slots p).id) c ≡ false = ap (λ (m : ℕ). nat_eq m c) (eq_test (bucket (row_at slots p).id) b f.1) ∙ (eq_turned b c ∙ n) in
+        h.by_id c p ∙ rw g (and-false (has p held))
+
+    own : Leads (led prior slot.next next) (begun prior slot.next (head b chains)) (but k (ids b)) None
+    own =
+        let s = has-split k (ids b) is_found in
+        let chain_b = subst (λ (ks : List ℕ). Leads next (head b chains) ks None) s.2 (h.found b) in
+        let d = distinct-split s.0 k s.1 (Leads-distinct next (head b chains) (s.0 ++ k ∷ s.1) chain_b) in
+        let e = subst (EndsWith s.0) (sym (is_prior ∙ ap (before k) s.2)) (before_ends s.0 k s.1 d.0 d.1) in
+        let w = Leads-without next (head b chains) s.0 k s.1 prior chain_b e in
+        let is_left = ap (but k) s.2 ∙ but_is next (head b chains) s.0 k s.1 chain_b in
+        subst (λ (ks : List ℕ). Leads (led prior slot.next next) (begun prior slot.next (head b chains)) ks None) (sym is_left)
+        (subst (λ (o : Option ℕ). Leads (led prior o next) (begun prior o (head b chains)) (s.0 ++ s.1) None) is_next w)
+
+    found : (c : ℕ) (p : Bool) → nat_eq c b ≡ p → Leads (led prior slot.next next) (head c after) (cond p (but k (ids c)) (ids c)) None
+    found c true e =
+        let same = eq_test c b e in
+        let begins : head b after ≡ begun prior slot.next (head b chains) = get_or-set_same chains.heads b (begun prior slot.next (head b chains)) None bound in
+        let P : ℕ → Type 0 = λ i. Leads (led prior slot.next next) (head i after) (but k (ids i)) None in
+        subst P (sym same) (subst (λ (o : Option ℕ). Leads (led prior slot.next next) o (but k (ids b)) None) (sym begins) own)
+    found c false e =
+        let begins : head c after ≡ head c chains = get_or-set_other chains.heads b c (begun prior slot.next (head b chains)) None (ne_test c b e) in
+        subst (λ (o : Option ℕ). Leads (led prior slot.next next) o (ids c) None) (sym begins) (Leads-led next (head c chains) (ids c) prior slot.next (not_found c e) (h.found c))
+
+    by_id : (c j : ℕ) (p : Bool) → nat_eq c b ≡ p → has j (cond p (but k (ids c)) (ids c)) ≡ (has j (but k held) && nat_eq (bucket (row_at slots j).id) c)
+    by_id c j true e =
+        has-but k (ids c) j
+        ∙ (ap (λ (t : Bool). t && not (nat_eq k j)) (h.by_id c j)
+        ∙ (and_swap (has j held) (nat_eq (bucket (row_at slots j).id) c) (not (nat_eq k j)) ∙ ap (λ (t : Bool). t && nat_eq (bucket (row_at slots j).id) c) (sym (has-but k held j))))
+    by_id c j false e = h.by_id c j ∙ (go (nat_eq k j) refl ∙ ap (λ (t : Bool). t && nat_eq (bucket (row_at slots j).id) c) (sym (has-but k held j)))
+      where
+        go : (q : Bool) → nat_eq k j ≡ q → (has j held && nat_eq (bucket (row_at slots j).id) c) ≡ ((has j held && not (nat_eq k j)) && nat_eq (bucket (row_at slots j).id) c)
+        go true f =
+            let same = eq_test k j f in
+            let g : nat_eq (bucket (row_at slots j).id) c ≡ false = ap (λ (i : ℕ). nat_eq (bucket (row_at slots i).id) c) (sym same) ∙ (eq_turned b c ∙ e) in
+            rw (g, and-false (has j held)) (sym (and-false (has j held && not (nat_eq k j))))
+        go false f = rw (f, and-true (has j held)) refl
+
+    in_away : (j : ℕ) → has j held ≡ (nat_eq j k || has j (but k held))
+    in_away j = go (nat_eq j k) refl
+      where
+        go : (q : Bool) → nat_eq j k ≡ q → has j held ≡ (q || has j (but k held))
+        go true f = ap (λ (i : ℕ). has i held) (eq_test j k f) ∙ is_held
+        go false f = sym (has-but k held j ∙ (ap (λ (t : Bool). has j held && not t) (eq_turned k j ∙ f) ∙ and-true (has j held)))
+
+    distinct_left : distinct (but k held) ≡ true
+    distinct_left = ap distinct held_left ∙ Leads-distinct (led slot.older slot.newer newer) (begun slot.older slot.newer chains.oldest) (fs ++ rs) newer_after
+
+pub unlink : {C : ℕ} (chains : Chains C) (k : ℕ) (prior : Option ℕ) → Linked [] chains → has k (age chains) ≡ true → bucket (row_at chains.slots k).id < length chains.heads →
+    prior ≡ before k (id_slots (bucket (row_at chains.slots k).id) chains) →
+    Linked (k ∷ []) (unlinked chains k (slot_at chains.slots k) prior)
+    × (rows_in (unlinked chains k (slot_at chains.slots k) prior) ≡ map (row_at chains.slots) (but k (age chains)))
+    × (within prior chains.slots ≡ true) × (within (slot_at chains.slots k).older chains.slots ≡ true) × (within (slot_at chains.slots k).newer chains.slots ≡ true)
+unlink chains k prior l i bound p =
+    let held = age chains in
+    let b = bucket (row_at chains.slots k).id in
+    let r = holds chains k prior held (free_slots chains) (λ c. id_slots c chains) (opened [] chains l) i bound p in
+    let after = unlinked chains k (slot_at chains.slots k) prior in
+    let ids = left k b (λ c. id_slots c chains) in (
+      closed (k ∷ []) after (but k held) (free_slots chains) ids r.0,
+      ap (map (row_at after.slots)) (age_is (k ∷ []) after (but k held) (free_slots chains) ids r.0) ∙ map_same (row_at after.slots) (row_at chains.slots) (but k held) (λ j _. r.1 j),
+      r.2,
+      r.3,
+      r.4,
+    )
+
+-- as the code writes it
+pub unlink_code : {C : ℕ} (chains : Chains C) (k b : ℕ) (slot : Slot) (prior : Option ℕ) (slots1 slots2 slots3 : List Slot) (start oldest newest : Option ℕ) → slot ≡ slot_at chains.slots k → b ≡ bucket slot.row.id →
+    slots1 ≡ led_slots Next prior slot.next chains.slots → start ≡ begun prior slot.next (head b chains) →
+    slots2 ≡ led_slots Newer slot.older slot.newer slots1 → oldest ≡ begun slot.older slot.newer chains.oldest →
+    slots3 ≡ led_slots Older slot.newer slot.older slots2 → newest ≡ begun slot.newer slot.older chains.newest →
+    record { slots = slots3; heads = set chains.heads b start; free = chains.free; oldest = oldest; newest = newest } ≡ unlinked chains k (slot_at chains.slots k) prior
+unlink_code chains k b slot prior slots1 slots2 slots3 start oldest newest r e s1 st s2 o s3 n = rw (s3, s2, s1, o, n, st, e, r) refl
+
+pub within_led : (o : Option ℕ) (along : Along) (prior next : Option ℕ) (slots after : List Slot) → after ≡ led_slots along prior next slots → within o slots ≡ true → within o after ≡ true
+within_led o along prior next slots after e h = within_long o after slots (ap length e ∙ length-led along prior next slots) h
+
+pub one_less : {C : ℕ} (chains : Chains C) (k : ℕ) → Linked [] chains → has k (age chains) ≡ true → length (map (row_at chains.slots) (but k (age chains))) + 1 ≡ length (rows_in chains)
+one_less chains k l i =
+    let h = opened [] chains l in
+    let s = has-split k (age chains) i in
+    let kept = ap length (ap (but k) s.2 ∙ but_is (links Newer chains.slots) chains.oldest s.0 k s.1 (subst (λ (ks : List ℕ). Leads (links Newer chains.slots) chains.oldest ks None) s.2 h.aged)) in
+    let whole = ap length s.2 in
+    let a = length-append s.0 s.1 in
+    let b = length-append s.0 (k ∷ s.1) in
+    let m = length-map (but k (age chains)) (row_at chains.slots) in
+    let n = length-map (age chains) (row_at chains.slots) in
+    omega arith

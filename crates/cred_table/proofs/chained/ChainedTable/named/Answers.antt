@@ -1,0 +1,23 @@
+use Rattle.std.proofs.Common.{ℕ, List, refl, ◌∙◌, ap, rules, tests}
+use Rattle.std.specs.List.{find}
+use Rattle.std.proofs.lemmas.Iterator.Consumers.{YieldsList-from_first}
+use Rattle.std.proofs.lemmas.Iterator.Search.{find_from_yields_List}
+use Rattle.cred_table.specs.declared.slot.Slot.{Slot}
+use Rattle.cred_table.specs.Rows.{is_named}
+use Rattle.cred_table.specs.Slots.{bucket}
+use Rattle.cred_table.specs.Linked.{id_slots}
+use Rattle.std.specs.Str.{bytes_eq}
+use Rattle.std.proofs.lemmas.Bool.{and_parts}
+use Rattle.cred_table.proofs.Found.{seen, found_row, found_alike}
+use Rattle.cred_table.proofs.chained.ChainedTable.named.Goals as goal
+
+pub returns : goal.returns
+returns g c =
+    let table = c.args.self.now in
+    let id = c.args.id.now in
+    let rp = c.args.rp.now in
+    let test : (ℕ × Slot) → _ = λ item. is_named rp id item.1.row in
+    let found = find_from_yields_List test _ _ c.find.result c.find.ensures.ran (YieldsList-from_first seen (λ (l : List (ℕ × Slot)). l) c.like.result refl) (λ x b q k. search (rules, tests)) in
+    c.row_of.ensures
+    ∙ (found_row table.chains.slots (id_slots (bucket id) table.chains) (is_named rp id) c.find.result (found ∙ ap (find test) c.like.ensures)
+    ∙ found_alike table.chains (is_named rp id) id table.linked table.lawful.distinct (λ r h. (and_parts (bytes_eq r.id id) (bytes_eq r.rp rp) h).0))

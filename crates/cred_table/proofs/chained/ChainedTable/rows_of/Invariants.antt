@@ -1,0 +1,9 @@
+use Rattle.std.proofs.Common.{◌≡◌, ◌++◌}
+use Rattle.cred_table.specs.Rows.{listed, ids}
+use Rattle.cred_table.specs.Linked.{rows_in}
+use Rattle.cred_table.proofs.NewestFirst.{listed_left}
+use Rattle.cred_table.proofs.chained.ChainedTable.rows_of.Given as goal
+
+-- what was written, and what the slots that are left list
+abbrev pub invariant-loop-slot : goal.invariant-loop-slot
+invariant-loop-slot g l = l.out.items ++ listed_left l.rp l.slot-iterator ≡ ids (listed l.rp (rows_in l.self.chains))

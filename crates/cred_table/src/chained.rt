@@ -1,0 +1,109 @@
+//! A table that chains its rows by age and by id.
+
+ghost use Rattle.std.specs.Prelude.{◌≡◌, ◌≤◌, [], length};
+ghost use Rattle.cred_table.specs.Rows.{Lawful};
+ghost use Rattle.cred_table.specs.Linked.{Linked, rows_in};
+
+use crate::chains::Chains;
+use crate::row::Row;
+use crate::rows::Rows;
+use crate::slot;
+use crate::table::Table;
+use arrayvec::ArrayVec;
+
+/// A table that keeps its rows in slots, chained by age and by id.
+#[derive(Debug, Drop)]
+pub struct Chained<const C: usize> {
+    chains: Chains<C>,
+    count: usize,
+    ghost linked: { Linked [] chains },
+    ghost lawful: { Lawful C (rows_in chains) },
+    ghost counted: { count ≡ length (rows_in chains) },
+    ghost some: { 1 ≤ C },
+    ghost few: { C ≤ 256 },
+}
+
+impl<const C: usize> Chained<C> {
+    /// A table without rows, for 1 to 256 rows. It takes no memory.
+    pub fn new() -> Self
+        requires some { 1 ≤ C }
+        requires few { C ≤ 256 }
+        ensures { ⟦<Chained<C> as Table<C>>⟧.rows result ≡ [] }
+    {
+        Chained {
+            chains: Chains::new(),
+            count: 0,
+        }
+    }
+}
+
+impl<const C: usize> Table<C> for Chained<C> {
+    ghost rows = { λ table. rows_in table.chains };
+
+    ghost lawful = { λ table. table.lawful };
+
+    ghost capacity = { λ table. (table.some, table.few) };
+
+    fn len(&self) -> usize {
+        self.count
+    }
+
+    fn row(&self, place: usize) -> &Row {
+        self.chains.row(place)
+    }
+
+    fn iter(&self) -> Rows<'_> {
+        Rows::chained(self.chains.oldest_first())
+    }
+
+    fn find(&self, id: &[u8; 32]) -> Option<&Row> {
+        slot::row_of(self.chains.like(id).find(|item| item.1.row.id == *id))
+    }
+
+    fn named(&self, rp: &[u8; 32], id: &[u8]) -> Option<&Row> {
+        slot::row_of(
+            self.chains
+                .like(id)
+                .find(|item| item.1.row.is_named(rp, id)),
+        )
+    }
+
+    fn same_user(&self, rp: &[u8; 32], user: &[u8]) -> Option<[u8; 32]> {
+        let row = slot::row_of(
+            self.chains
+                .oldest_first()
+                .find(|item| item.1.row.is_user(rp, user)),
+        )?;
+        Some(row.id)
+    }
+
+    fn rows_of(&self, rp: &[u8; 32], out: &mut ArrayVec<[u8; 32], C>) {
+        out.clear();
+        for (_, slot) in self.chains.newest_first() {
+            if slot.row.is_listed(rp) {
+                out.push(slot.row.id);
+            }
+        }
+    }
+
+    fn put(&mut self, row: Row) {
+        let number = self.chains.take_free();
+        self.chains.fill(number, row);
+        self.count += 1;
+    }
+
+    fn replace(&mut self, old: &[u8; 32], new: Row) {
+        let number = self.chains.number(old);
+        self.chains.unlink(number);
+        self.chains.fill(number, new);
+    }
+
+    fn raise(&mut self, id: &[u8; 32]) -> u32 {
+        let number = self.chains.number(id);
+        self.chains.raise(number)
+    }
+
+    fn clear(&mut self) {
+        *self = Chained::new();
+    }
+}

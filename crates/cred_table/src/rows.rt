@@ -1,0 +1,68 @@
+//! The rows of a table, one after another.
+
+ghost use Rattle.std.specs.Prelude.{◌≡◌, map};
+ghost use Rattle.std.specs.Iterator.{YieldsFirstBy, item_count};
+
+use crate::row::Row;
+use crate::slot::{self, Walk};
+use std::marker::Model;
+use std::slice;
+
+/// The rows of a table in order of making, as [`Table::iter`](crate::Table::iter) gives them. A contract sees those that
+/// are left.
+#[derive(Debug, Drop)]
+pub struct Rows<'a> {
+    left: Left<'a>,
+}
+
+/// The rows that are left, by how their table keeps them.
+#[derive(Debug, Drop)]
+enum Left<'a> {
+    Listed(slice::Iter<'a, Row>),
+    Chained(Walk<'a>),
+}
+
+impl<'a> Model for Rows<'a> {
+    ghost use Rattle.std.specs.Prelude.{List};
+    ghost use Rattle.cred_table.specs.declared.row.Row.{Row as AnyRow};
+    ghost use Rattle.cred_table.specs.Left.{rows_left};
+
+    ghost Value = { List AnyRow };
+
+    ghost view = { λ rows. rows_left rows.left };
+}
+
+impl<'a> Rows<'a> {
+    /// The rows of a list.
+    pub(crate) fn listed(list: &'a [Row]) -> Self
+        ensures { result ≡ list.now }
+    {
+        Rows {
+            left: Left::Listed(list.iter()),
+        }
+    }
+
+    /// The rows in the slots of a walk.
+    pub(crate) fn chained(walk: Walk<'a>) -> Self
+        ensures { result ≡ map (λ item. item.1.row) walk.entry }
+    {
+        Rows {
+            left: Left::Chained(walk),
+        }
+    }
+}
+
+impl<'a> Iterator for Rows<'a> {
+    type Item = &'a Row;
+
+    ghost next_gives = { YieldsFirstBy (λ row. row.now) (λ left. left) };
+
+    ghost remaining = { item_count (λ left. left) };
+
+    fn next(&mut self) -> Option<&'a Row> {
+        match &mut self.left {
+            Left::Listed(rows) => rows.next(),
+            Left::Chained(walk) => slot::row_of(walk.next()),
+        }
+    }
+}

@@ -1,0 +1,211 @@
+//! The slots of a chained table.
+
+ghost use Rattle.std.specs.Prelude.{◌≡◌, ◌+◌, ◌-◌, ◌^◌, ◌<◌, ◌≤◌, true, length, EachIndex, option_map, slice_set};
+ghost use Rattle.std.specs.Iterator.{YieldsFirstBy, item_count};
+ghost use Rattle.cred_table.specs.Slots.{within, led_slots, begun, bucket, slot_at, next_free, raised_slot};
+
+use crate::row::Row;
+use std::marker::Model;
+
+/// The number of a slot, where there is one.
+pub(crate) type Link = Option<u16>;
+
+/// A place for a row.
+#[derive(Debug, Default, Drop)]
+pub(crate) struct Slot {
+    /// The row, where the slot isn't free.
+    pub(crate) row: Row,
+    /// The next slot of the chain that the slot stands in: that of its id, or the free chain.
+    pub(crate) next: Link,
+    /// The slot of the row that was made next.
+    pub(crate) newer: Link,
+    /// The slot of the row that was made before.
+    pub(crate) older: Link,
+}
+
+/// The links that a walk follows.
+#[derive(Clone, Copy, Debug)]
+pub(crate) enum Along {
+    Next,
+    Newer,
+    Older,
+}
+
+impl Slot {
+    ghost use Rattle.cred_table.specs.Slots.{link_of};
+
+    /// The link of one kind.
+    pub(crate) fn link(&self, along: Along) -> Link
+        ensures { result ≡ link_of along self.now }
+    {
+        match along {
+            Along::Next => self.next,
+            Along::Newer => self.newer,
+            Along::Older => self.older,
+        }
+    }
+}
+
+impl Slot {
+    ghost use Rattle.cred_table.specs.Slots.{with_link};
+
+    /// Changes the link of one kind.
+    fn set_link(&mut self, along: Along, to: Link)
+        ensures { self.new ≡ with_link along to self.old }
+    {
+        match along {
+            Along::Next => self.next = to,
+            Along::Newer => self.newer = to,
+            Along::Older => self.older = to,
+        }
+    }
+}
+
+impl Slot {
+    ghost use Rattle.cred_table.specs.Slots.{raised_slot};
+
+    /// Adds one to the counter of the row, and gives it.
+    fn raise(&mut self) -> u32
+        requires { self.old.row.counter < 2 ^ 32 - 1 }
+        ensures raised { self.new ≡ raised_slot self.old }
+        ensures value { result ≡ self.old.row.counter + 1 }
+    {
+        self.row.counter += 1;
+        self.row.counter
+    }
+}
+
+impl Slot {
+    ghost use Rattle.cred_table.specs.Slots.{is_to};
+
+    /// Whether its link leads to a slot, along the chain that it stands in.
+    fn leads_to(&self, number: u16) -> bool
+        ensures { result ≡ is_to number self.now.next }
+    {
+        match self.next {
+            Some(next) => next == number,
+            None => false,
+        }
+    }
+}
+
+/// Makes a chain that begins at `start` lead to `next` behind the slot `before`, or begin there, and gives where it
+/// begins.
+pub(crate) fn lead(slots: &mut [Slot], along: Along, before: Link, next: Link, start: Link) -> Link
+    requires { within before slots.old ≡ true }
+    ensures slots { slots.new ≡ led_slots along before next slots.old }
+    ensures start { result ≡ begun before next start }
+{
+    match before {
+        Some(number) => {
+            slots[usize::from(number)].set_link(along, next);
+            start
+        }
+        None => next,
+    }
+}
+
+/// Adds one to the counter of the row in a slot, and gives it.
+pub(crate) fn raise(slots: &mut [Slot], number: u16) -> u32
+    requires there { number < length slots.old }
+    requires below { (slot_at slots.old number).row.counter < 2 ^ 32 - 1 }
+    ensures slots { slots.new ≡ slice_set slots.old number (raised_slot (slot_at slots.old number)) }
+    ensures value { result ≡ (slot_at slots.old number).row.counter + 1 }
+{
+    slots[usize::from(number)].raise()
+}
+
+/// Chains all slots in their order.
+pub(crate) fn chain_all(slots: &mut [Slot])
+    requires { length slots.old ≤ 256 }
+    ensures { EachIndex slots.new (λ k. (slot_at slots.new k).next ≡ next_free (length slots.new) k) }
+{
+    let room = slots.len();
+    for place in 0..room {
+        let next = if place + 1 < room {
+            Some(place as u16 + 1)
+        } else {
+            None
+        };
+        slots[place].set_link(Along::Next, next);
+    }
+}
+
+/// The row of a slot that was found.
+pub(crate) fn row_of<'a>(found: Option<(u16, &'a Slot)>) -> Option<&'a Row>
+    ensures { option_map (λ row. row.now) result ≡ option_map (λ item. item.1.now.row) found.entry }
+{
+    let item = found?;
+    Some(&item.1.row)
+}
+
+/// The chain that an id stands in: the low five bits of its first byte.
+pub(crate) fn bucket(id: &[u8]) -> usize
+    ensures value { result ≡ bucket id.now }
+    ensures bound { result < 32 }
+{
+    usize::from(id.first().map_or(0, |byte| byte % 32))
+}
+
+/// The slots of a chain from one on, each with its number.
+#[derive(Debug, Drop)]
+pub(crate) struct Walk<'a> {
+    slots: &'a [Slot],
+    along: Along,
+    at: Link,
+}
+
+// Clauses see the slots that are left.
+impl<'a> Model for Walk<'a> {
+    ghost use Rattle.std.specs.Prelude.{ℕ, List, ◌≡◌, true};
+    ghost use Rattle.cred_table.specs.Slots.{links, chain, is_chain, numbered};
+    ghost use Rattle.cred_table.specs.declared.slot.Slot.{Slot as AnySlot};
+
+    ghost Value = { List (ℕ × AnySlot) };
+
+    ghost view = { λ walk. numbered walk.slots.now (chain (links walk.along walk.slots.now) walk.at) };
+
+    ghost invariant = { λ walk. is_chain (links walk.along walk.slots.now) walk.at ≡ true };
+}
+
+impl<'a> Walk<'a> {
+    ghost use Rattle.cred_table.specs.Slots.{links, chain, is_chain, numbered};
+
+    /// The slots that the links lead to.
+    pub(crate) fn new(slots: &'a [Slot], along: Along, at: Link) -> Self
+        requires { is_chain (links along slots.now) at ≡ true }
+        ensures { result ≡ numbered slots.now (chain (links along slots.now) at) }
+    {
+        Walk { slots, along, at }
+    }
+}
+
+impl<'a> Walk<'a> {
+    ghost use Rattle.std.specs.Prelude.{option_map};
+    ghost use Rattle.std.specs.List.{find};
+    ghost use Rattle.cred_table.specs.Slots.{leads_to};
+
+    /// The first slot whose link along its chain leads to a slot.
+    pub(crate) fn leader(mut self, number: u16) -> Link
+        ensures { result ≡ option_map (λ found. found.0) (find (leads_to number) self.entry) }
+    {
+        let found = self.find(|item| item.1.leads_to(number))?;
+        Some(found.0)
+    }
+}
+
+impl<'a> Iterator for Walk<'a> {
+    type Item = (u16, &'a Slot);
+
+    ghost next_gives = { YieldsFirstBy (λ item. (item.0, item.1.now)) (λ left. left) };
+
+    ghost remaining = { item_count (λ left. left) };
+
+    fn next(&mut self) -> Option<(u16, &'a Slot)> {
+        let number = self.at?;
+        let slots: &'a [Slot] = self.slots;
+        let slot = &slots[usize::from(number)];
+        self.at = slot.link(self.along);
+        Some((number, slot))
+    }
+}
