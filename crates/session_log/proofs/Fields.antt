@@ -7,7 +7,7 @@ use Rattle.std.proofs.Math.Seq.{take-append_seam, drop-append-add, drop-cons}
 use Rattle.std.specs.Char.{digit_value}
 use Rattle.std.specs.List.{position_or_len}
 use Rattle.std.specs.Str.Parse.{AllDigits}
-use Rattle.session_log.specs.Reading.{first_field}
+use Rattle.session_log.specs.Said.{first_field}
 
 abbrev is_space : ℕ → Bool
 is_space b = b == 32

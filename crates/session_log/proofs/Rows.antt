@@ -8,8 +8,8 @@ use Rattle.session_log.specs.declared.fault.LogFault.TheVariants.{BadLine, TooLo
 use Rattle.session_log.specs.declared.line.Line.TheVariants.{Input, Sent, Remark, Count}
 use Rattle.session_log.specs.Lines.{lines, whole_lines, last_piece}
 use Rattle.session_log.specs.Log.{fault_at, playing, log}
-use Rattle.session_log.specs.Reading.{moment, said}
-use Rattle.session_log.specs.World.{World}
+use Rattle.session_log.specs.Said.{moment, said}
+use Rattle.session_log.specs.World.{World, replaying}
 
 -- lines, with and without a last line feed
 row-lines : lines (codes "a\nb") ≡ codes "a" ∷ codes "b" ∷ []
@@ -107,29 +107,29 @@ row-one_field : said (codes "> " ++ replicate 128 48) ≡ None
 unfolding moment digits hex_on_literals
 row-one_field = refl
 
--- faults: a line of 256 bytes is too long before it is read, and line 2^32 is one too many before that
-row-longest : fault_at 7 (35 ∷ replicate 254 120) ≡ None
-row-longest = refl
-
-row-too_long : fault_at 7 (replicate 256 120) ≡ Some (TooLong 7)
-row-too_long = refl
-
-row-bad : fault_at 7 (replicate 255 120) ≡ Some (BadLine 7)
-row-bad = refl
-
-row-last_line : fault_at (2 ^ 32 - 1) [] ≡ None
-row-last_line = refl
-
-row-too_many : fault_at (2 ^ 32) (replicate 256 120) ≡ Some TooManyLines
-row-too_many = refl
-
 -- a world that sends each packet back and counts its inputs as requests
 came_back : AnyInput → List (List ℕ)
 came_back (Packet packet) = packet.0 ∷ []
 came_back Tick = []
 
 abbrev echo : World ℕ
-echo = record { turned = λ s x. s + 1; sends = λ s x. came_back x.input; counts = λ s. record { held = 0; rows = 0; pending = 0; requests = s; bytes = 0; steps = 0 } }
+echo = replaying (record { turned = λ s x. s + 1; sends = λ s x. came_back x.input; counts = λ s. record { held = 0; rows = 0; pending = 0; requests = s; bytes = 0; steps = 0 } })
+
+-- faults: a line of 256 bytes is too long before it is read, and line 2^32 is one too many before that
+row-longest : fault_at echo 7 0 (35 ∷ replicate 254 120) ≡ None
+row-longest = refl
+
+row-too_long : fault_at echo 7 0 (replicate 256 120) ≡ Some (TooLong 7)
+row-too_long = refl
+
+row-bad : fault_at echo 7 0 (replicate 255 120) ≡ Some (BadLine 7)
+row-bad = refl
+
+row-last_line : fault_at echo (2 ^ 32 - 1) 0 [] ≡ None
+row-last_line = refl
+
+row-too_many : fault_at echo (2 ^ 32) 0 (replicate 256 120) ≡ Some TooManyLines
+row-too_many = refl
 
 -- the log of a log: inputs and remarks again, with what was sent, and the meters line in place of the old one
 row-log : log echo 0 (codes "#\nt 5\n= held 9\n") ≡ codes "#\nt 5\n= held 0 rows 0 pending 0 requests 1 bytes 0 steps 0\n"

@@ -6,21 +6,21 @@ use Rattle.token_session.specs.declared.input.Input.{Input as AnyInput}
 use Rattle.token_session.specs.declared.input.Input.TheVariants.{Packet, Tick}
 use Rattle.session_log.specs.declared.line.Line.{Line}
 use Rattle.session_log.specs.declared.line.Line.TheVariants.{Input, Sent, Remark, Count}
-use Rattle.session_log.specs.Grammar.{Writes, SpellsInput, Spells}
-use Rattle.session_log.specs.Reading.{◌>>=◌, ok_of, first_field, moment, packet_of, packet_line, tick_line, sent_line, said_by, said}
+use Rattle.session_log.specs.Grammar.{IsHexOf, SpellsInput, Spells}
+use Rattle.session_log.specs.Said.{◌>>=◌, ok_of, first_field, moment, bytes_of, packet_line, tick_line, sent_line, said_by, said}
 use Rattle.session_log.proofs.Fields.{eq_is, fields_of, fields_are}
 use Rattle.session_log.proofs.Moments.{moment_of, moment_is}
 
 -- From the grammar to the reading.
 
-digits_of : (digits : List ℕ) (packet : Packet64) → Writes digits packet → packet_of digits ≡ Some packet.0
-digits_of digits packet h = ap ok_of h
+digits_of : (digits : List ℕ) (n : ℕ) (bytes : List ℕ) → IsHexOf digits n bytes → bytes_of n digits ≡ Some bytes
+digits_of digits n bytes h = ap ok_of h
 
-packet_read : (at : ℕ) (digits : List ℕ) (packet : Packet64) → at < 2 ^ 64 → Writes digits packet → packet_line (decimal at ++ 32 ∷ digits) ≡ Some (Input (record { at = at; input = Packet packet }))
+packet_read : (at : ℕ) (digits : List ℕ) (packet : Packet64) → at < 2 ^ 64 → IsHexOf digits 64 packet.0 → packet_line (decimal at ++ 32 ∷ digits) ≡ Some (Input (record { at = at; input = Packet packet }))
 packet_read at digits packet fits h =
-    ap (λ (o : Option (List ℕ × List ℕ)). o >>= (λ parts. moment parts.0 >>= (λ m. packet_of parts.1 >>= (λ p. Some (Input (record { at = m; input = Packet (record { 0 = p }) })))))) (fields_of at digits fits)
-    ∙ ap (λ (o : Option ℕ). o >>= (λ m. packet_of digits >>= (λ p. Some (Input (record { at = m; input = Packet (record { 0 = p }) }))))) (moment_of (decimal at) at fits refl)
-    ∙ ap (λ (o : Option (List ℕ)). o >>= (λ p. Some (Input (record { at = at; input = Packet (record { 0 = p }) })))) (digits_of digits packet h)
+    ap (λ (o : Option (List ℕ × List ℕ)). o >>= (λ parts. moment parts.0 >>= (λ m. bytes_of 64 parts.1 >>= (λ p. Some (Input (record { at = m; input = Packet (record { 0 = p }) })))))) (fields_of at digits fits)
+    ∙ ap (λ (o : Option ℕ). o >>= (λ m. bytes_of 64 digits >>= (λ p. Some (Input (record { at = m; input = Packet (record { 0 = p }) }))))) (moment_of (decimal at) at fits refl)
+    ∙ ap (λ (o : Option (List ℕ)). o >>= (λ p. Some (Input (record { at = at; input = Packet (record { 0 = p }) })))) (digits_of digits 64 packet.0 h)
 
 input_read : (line : List ℕ) (at : ℕ) (input : AnyInput) → at < 2 ^ 64 → SpellsInput line at input → said line ≡ Some (Input (record { at = at; input = input }))
 input_read line at (Packet packet) fits h = ap said h.1 ∙ packet_read at h.0 packet fits h.2
@@ -36,7 +36,7 @@ count_rest (x ∷ xs) = refl
 
 pub spelled_is_read : (line : List ℕ) (l : Line) → Spells line l → said line ≡ Some l
 spelled_is_read line (Input timed) h = input_read line timed.at timed.input h.0 h.1
-spelled_is_read line (Sent packet) h = ap said h.1 ∙ ap (λ (o : Option (List ℕ)). o >>= (λ p. Some (Sent (record { 0 = p })))) (digits_of h.0 packet h.2)
+spelled_is_read line (Sent packet) h = ap said h.1 ∙ ap (λ (o : Option (List ℕ)). o >>= (λ p. Some (Sent (record { 0 = p })))) (digits_of h.0 64 packet.0 h.2)
 spelled_is_read line Remark (inl e) = ap said e
 spelled_is_read line Remark (inr h) = ap said h.1 ∙ remark_rest h.0
 spelled_is_read line Count h = ap said h.1 ∙ count_rest h.0
@@ -56,9 +56,9 @@ ok_is (Err x) a e = cc
 
 packet_spelled : (fields : List ℕ) (l : Line) → packet_line fields ≡ Some l → Spells (62 ∷ 32 ∷ fields) l
 packet_spelled fields l e =
-    let parts = bind_is (first_field fields) (λ parts. moment parts.0 >>= (λ m. packet_of parts.1 >>= (λ p. Some (Input (record { at = m; input = Packet (record { 0 = p }) }))))) l e in
-    let at = bind_is (moment parts.0.0) (λ m. packet_of parts.0.1 >>= (λ p. Some (Input (record { at = m; input = Packet (record { 0 = p }) })))) l parts.2 in
-    let packet = bind_is (packet_of parts.0.1) (λ p. Some (Input (record { at = at.0; input = Packet (record { 0 = p }) }))) l at.2 in
+    let parts = bind_is (first_field fields) (λ parts. moment parts.0 >>= (λ m. bytes_of 64 parts.1 >>= (λ p. Some (Input (record { at = m; input = Packet (record { 0 = p }) }))))) l e in
+    let at = bind_is (moment parts.0.0) (λ m. bytes_of 64 parts.0.1 >>= (λ p. Some (Input (record { at = m; input = Packet (record { 0 = p }) })))) l parts.2 in
+    let packet = bind_is (bytes_of 64 parts.0.1) (λ p. Some (Input (record { at = at.0; input = Packet (record { 0 = p }) }))) l at.2 in
     let number = moment_is parts.0.0 at.0 at.1 in
     let whole : fields ≡ decimal at.0 ++ 32 ∷ parts.0.1 = fields_are fields parts.0 parts.1 ∙ ap (λ (d : List ℕ). d ++ 32 ∷ parts.0.1) number.1 in
     subst (Spells (62 ∷ 32 ∷ fields)) (some_is _ l packet.2)
@@ -72,7 +72,7 @@ tick_spelled fields l e =
 
 sent_spelled : (fields : List ℕ) (l : Line) → sent_line fields ≡ Some l → Spells (60 ∷ 32 ∷ fields) l
 sent_spelled fields l e =
-    let packet = bind_is (packet_of fields) (λ p. Some (Sent (record { 0 = p }))) l e in
+    let packet = bind_is (bytes_of 64 fields) (λ p. Some (Sent (record { 0 = p }))) l e in
     subst (Spells (60 ∷ 32 ∷ fields)) (some_is _ l packet.2) (fields, refl, ok_is (decode_sized fields 64) packet.0 packet.1)
 
 -- by the letter in front, as it is told apart

@@ -1,6 +1,7 @@
 //! What a line says.
 ghost use Rattle.std.specs.Prelude.{◌≡◌, ◌<◌, ◌==◌, length, position, Option, None, Some, IfSome, MatchOption};
-ghost use Rattle.session_log.specs.Reading.{first_field, moment, packet_line, packet_of, said};
+ghost use Rattle.session_log.specs.Letters.{space};
+ghost use Rattle.session_log.specs.Said.{bytes_of, first_field, moment, packet_line, said};
 
 use hid_packet::Packet;
 use itoa::Buffer;
@@ -42,7 +43,7 @@ fn read_moment(digits: &[u8]) -> Option<u64>
 /// The packet that 128 hexadecimal digits write, in either case.
 fn read_packet(digits: &[u8]) -> Option<Packet>
     ensures { MatchOption result
-        (packet_of digits.now ≡ None) (λ packet. packet_of digits.now ≡ Some packet.0) }
+        (bytes_of 64 digits.now ≡ None) (λ packet. bytes_of 64 digits.now ≡ Some packet.0) }
 {
     let mut bytes = [0; 64];
     match hex::decode_to_slice(digits, &mut bytes) {
@@ -53,13 +54,13 @@ fn read_packet(digits: &[u8]) -> Option<Packet>
 
 /// Where the first space stands.
 fn first_space(fields: &[u8]) -> Option<usize>
-    ensures value { result ≡ position (λ b. b == 32) fields.now }
+    ensures value { result ≡ position (λ b. b == space) fields.now }
     ensures within { IfSome result (λ end. end < length fields.now) }
 {
     fields.iter().position(|b| *b == b' ')
 }
 
-/// The parts before and behind the first space.
+/// The parts before and after the first space.
 fn split_field(fields: &[u8]) -> Option<(&[u8], &[u8])>
     ensures { MatchOption result (first_field fields.now ≡ None) (λ parts.
         first_field fields.now ≡ Some record { 0 = parts.0.now; 1 = parts.1.now }) }

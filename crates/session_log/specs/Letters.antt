@@ -1,0 +1,26 @@
+-- The first byte of a line says what the line is.
+use Rattle.std.specs.Prelude.{ℕ}
+
+-- `>`, a packet that the host sends
+abbrev pub host_letter : ℕ
+host_letter = 62
+
+-- `<`, a packet that the key sent
+abbrev pub key_letter : ℕ
+key_letter = 60
+
+-- `t`, a tick
+abbrev pub tick_letter : ℕ
+tick_letter = 116
+
+-- `#`, a remark
+abbrev pub remark_letter : ℕ
+remark_letter = 35
+
+-- `=`, what was counted
+abbrev pub count_letter : ℕ
+count_letter = 61
+
+-- the space between fields
+abbrev pub space : ℕ
+space = 32
