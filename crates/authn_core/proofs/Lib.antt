@@ -1,1 +1,4 @@
+pub mod BareRows
+pub mod Readiness
 pub mod Facts
+mod Examples

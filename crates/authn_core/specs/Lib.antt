@@ -1,4 +1,11 @@
+pub mod Statuses
+pub mod Bare
+pub mod Hash
+pub mod State
+pub mod Asking
+pub mod MakeCredential
+pub mod GetAssertion
 pub mod Turn
-pub mod Status
-pub mod Answers
-pub mod Needs
+pub mod Views
+pub mod Ready
+pub mod Padded

@@ -1,69 +1,122 @@
 -- The authenticator's turns: what each event makes of its state, and what it answers (CTAP 2.1, section 6).
-use Rattle.std.specs.Prelude.{ℕ, List, Option, None, option_map, Result, Ok, Err}
-use Rattle.ctap_message.specs.Answers.{refusal, info_answer}
-use Rattle.ctap_message.specs.Requests.{Asked, GetInfo, read_of}
+use Rattle.std.specs.Prelude.{ℕ, max, List, Option, Some, None, option_map, Result, Ok, Err}
+use Rattle.cred_table.specs.declared.row.Row.{Row}
+use Rattle.cred_table.specs.Waiting.{Waiting}
+use Rattle.ctap_message.specs.Asked.{Asked, MakeCredential, GetAssertion, GetInfo, Reset, GetNextAssertion, Selection}
+use Rattle.ctap_message.specs.Answers.{info_answer}
+use Rattle.ctap_message.specs.Members.{has_entries}
+use Rattle.ctap_message.specs.Descriptors.{ids_of}
+use Rattle.ctap_message.specs.Requests.{read_of}
 use Rattle.ctap_message.specs.Statuses.{KEEPALIVE_CANCEL}
+use Rattle.authn_core.specs.declared.replies.Presence.{Presence}
+use Rattle.authn_core.specs.declared.replies.NewKey.{NewKey}
+use Rattle.authn_core.specs.declared.task.Task.{Task}
+use Rattle.authn_core.specs.declared.task.Task.TheVariants.{Resets, Selects, AsksMake, WantsKey, SignsMake, AsksAssert, SignsAssert}
+use Rattle.authn_core.specs.declared.task.Job.{Job}
+use Rattle.authn_core.specs.Hash.{rp_hash}
+use Rattle.authn_core.specs.State.{Setup, State, Event, Request, PresenceIs, KeyIs, SignatureIs, Cancel, Drop, Answer, Nothing, Turned, answers, refuses, ignores, status}
+use Rattle.authn_core.specs.Asking.{reset_begins, reset_asked, selection_begins, selection_asked}
+use Rattle.authn_core.specs.MakeCredential.{making, make_begins, make_asked, key_wanted, make_signed}
+use Rattle.authn_core.specs.GetAssertion.{assert_begins, assert_asked, assert_signed, next_begins}
 
--- What an authenticator begins with: its AAGUID, and the moment, in milliseconds.
+-- Every request empties pending first, but a getNextAssertion that begins work.
+abbrev pub requested : Setup → List Row → Option Waiting → (now cid : ℕ) → Result Asked ℕ → Turned
+requested u rows pending now cid (Err code) = refuses rows None code
+requested u rows pending now cid (Ok GetInfo) = answers rows None (info_answer u.aaguid)
+requested u rows pending now cid (Ok Reset) = reset_begins rows u.began now cid
+requested u rows pending now cid (Ok Selection) = selection_begins rows cid
+requested u rows pending now cid (Ok (MakeCredential hash rp_id user_id user_name discoverable exclude)) =
+    make_begins rows cid (making hash rp_id user_id user_name discoverable) (ids_of exclude)
+requested u rows pending now cid (Ok (GetAssertion rp_id hash allow presence)) =
+    assert_begins rows now cid hash (rp_hash rp_id) (has_entries allow) (ids_of allow) presence
+requested u rows pending now cid (Ok GetNextAssertion) = next_begins rows pending now cid
+
+-- A reply that the work doesn't need is ignored.
+abbrev pub presence_at : (room : ℕ) → State → (cid : ℕ) → Task → Presence → Turned
+presence_at room s cid Resets reply = reset_asked s.rows s.pending reply
+presence_at room s cid Selects reply = selection_asked s.rows s.pending reply
+presence_at room s cid (AsksMake m excluded) reply = make_asked room s.rows s.pending cid m excluded reply
+presence_at room s cid (AsksAssert a) reply = assert_asked s.rows s.pending cid a reply
+presence_at room s cid task reply = ignores s
+
+abbrev pub key_at : (aaguid : List ℕ) → State → (cid : ℕ) → Task → Option NewKey → Turned
+key_at aaguid s cid (WantsKey m) key = key_wanted aaguid s.rows s.pending cid m key
+key_at aaguid s cid task key = ignores s
+
+abbrev pub signature_at : (aaguid : List ℕ) → State → (now : ℕ) → Task → Option (List ℕ) → Turned
+signature_at aaguid s now (SignsMake m key signed) sig = make_signed aaguid s.rows s.pending m key sig
+signature_at aaguid s now (SignsAssert a counter signed) sig = assert_signed s.rows s.pending now a counter sig
+signature_at aaguid s now task sig = ignores s
+
+abbrev pub presence_turn : (room : ℕ) → State → Option Job → Presence → Turned
+presence_turn room s None reply = ignores s
+presence_turn room s (Some job) reply = presence_at room s job.cid job.task reply
+
+abbrev pub key_turn : (aaguid : List ℕ) → State → Option Job → Option NewKey → Turned
+key_turn aaguid s None key = ignores s
+key_turn aaguid s (Some job) key = key_at aaguid s job.cid job.task key
+
+abbrev pub signature_turn : (aaguid : List ℕ) → State → (now : ℕ) → Option Job → Option (List ℕ) → Turned
+signature_turn aaguid s now None sig = ignores s
+signature_turn aaguid s now (Some job) sig = signature_at aaguid s now job.task sig
+
+-- the turn at a moment
+unfoldable pub turn : Setup → State → (now : ℕ) → Event → Turned
+turn u s now (Request cid bytes) = requested u s.rows s.pending now cid (read_of bytes)
+turn u s now (PresenceIs reply) = presence_turn u.room s s.work reply
+turn u s now (KeyIs key) = key_turn u.aaguid s s.work key
+turn u s now (SignatureIs sig) = signature_turn u.aaguid s now s.work sig
+turn u s now Cancel = refuses s.rows None KEEPALIVE_CANCEL
+turn u s now Drop = record { state = record { rows = s.rows; pending = None; work = None }; answer = Nothing }
+
+-- ---- an authenticator
+
+-- What stays, and the state between turns.
+pub record CoreState : Type 0 where
+  pub setup : Setup
+  pub state : State
+
+-- What an authenticator begins with: its AAGUID, the moment in milliseconds, how many rows there is room for, and the rows in
+-- order of making.
 pub record Start : Type 0 where
   pub aaguid : List ℕ
   pub moment : ℕ
+  pub room : ℕ
+  pub rows : List Row
 
--- Waiting work: the channel that asked, and its status, 1 while the authenticator is processing and 2 while it waits for the
--- user's presence (CTAP 2.1, section 11.2.9.1.7).
+-- It begins with nothing pending and no work.
+abbrev pub first_state : Start → CoreState
+first_state start = record {
+  setup = record { aaguid = start.aaguid; began = start.moment; room = start.room };
+  state = record { rows = start.rows; pending = None; work = None };
+}
+
+-- the same after an event at this moment, and what it answers
+abbrev pub core_after : CoreState → (now : ℕ) → Event → CoreState
+core_after core now e = record { setup = core.setup; state = (turn core.setup core.state now e).state }
+
+abbrev pub core_answer : CoreState → (now : ℕ) → Event → Answer
+core_answer core now e = (turn core.setup core.state now e).answer
+
+-- Waiting work as the transport sees it: the channel that asked, and the status that a KEEPALIVE carries (CTAP 2.1,
+-- section 11.2.9.1.7).
 pub record Work : Type 0 where
   pub cid : ℕ
   pub status : ℕ
 
--- The AAGUID and the moment of the start, which stay, and the work that waits.
-pub record CoreState : Type 0 where
-  pub aaguid : List ℕ
-  pub began : ℕ
-  pub work : Option Work
+abbrev pub as_work : Job → Work
+as_work job = record { cid = job.cid; status = status job.task }
+
+abbrev pub waiting : CoreState → Option Work
+waiting core = option_map as_work core.state.work
 
 -- the channel of waiting work
 abbrev pub working : CoreState → Option ℕ
-working core = option_map (λ w. w.cid) core.work
+working core = option_map (λ (w : Work). w.cid) (waiting core)
 
--- A request with its channel and message, the command byte first; a cancel; a drop, which isn't answered.
-pub data Event : Type 0 where
-  Request : (cid : ℕ) → (bytes : List ℕ) → Event
-  Cancel : Event
-  Drop : Event
-
--- An answer's message, or that work waits with this status, or that nothing is answered.
-pub data Answer : Type 0 where
-  Answered : (bytes : List ℕ) → Answer
-  Waits : (status : ℕ) → Answer
-  Nothing : Answer
-
-pub record Turned : Type 0 where
-  pub state : CoreState
-  pub answer : Answer
-
--- no work waits
-abbrev pub first_state : Start → CoreState
-first_state start = record { aaguid = start.aaguid; began = start.moment; work = None }
-
--- the work has ended
-abbrev pub idle : CoreState → CoreState
-idle core = record core { work = None }
-
--- Every answer ends the work.
-abbrev pub answers : CoreState → List ℕ → Turned
-answers core bytes = record { state = idle core; answer = Answered bytes }
-
--- A request that fails a check is answered by its status; authenticatorGetInfo is answered at once (section 6.4).
-abbrev pub answers_request : CoreState → Result Asked ℕ → Turned
-answers_request core (Err status) = answers core (refusal status)
-answers_request core (Ok GetInfo) = answers core (info_answer core.aaguid)
-
-unfoldable pub core_turn : CoreState → ℕ → Event → Turned
-core_turn core at (Request cid bytes) = answers_request core (read_of bytes)
-core_turn core at Cancel = answers core (refusal KEEPALIVE_CANCEL)
-core_turn core at Drop = record { state = idle core; answer = Nothing }
-
--- An authenticator between its turns: its state, and the steps of reading its last request, 0 before one.
+-- An authenticator between its turns: its state, the greatest moment of its start and of all events, and the steps of reading
+-- its last request, 0 before one.
 pub record Held : Type 0 where
-  pub state : CoreState
+  pub core : CoreState
+  pub latest : ℕ
   pub last_steps : ℕ

@@ -1,3 +1,8 @@
+//! Waiting work, as its channel sees it.
+
+ghost use Rattle.std.specs.Prelude.{◌≡◌};
+ghost use Rattle.authn_core.specs.Views.{status_number};
+
 /// What waiting work waits for, the byte that a KEEPALIVE carries (CTAP 2.1, section 11.2.9.1.7).
 #[derive(Clone, Copy, Debug, PartialEq, Eq)]
 pub enum KeepaliveStatus {
@@ -8,9 +13,6 @@ pub enum KeepaliveStatus {
 }
 
 impl KeepaliveStatus {
-    ghost use Rattle.std.specs.Prelude.{◌≡◌};
-    ghost use Rattle.authn_core.specs.Status.{status_number};
-
     /// The status as the byte that a KEEPALIVE carries.
     pub fn number(self) -> u8
         ensures { result ≡ status_number self }

@@ -14,7 +14,7 @@ swapped true false c d = refl
 swapped false true c d = refl
 swapped false false c d = refl
 
-replaces_sym : (r s : Row) → replaces r s ≡ replaces s r
+pub replaces_sym : (r s : Row) → replaces r s ≡ replaces s r
 replaces_sym r s = rw (bytes_sym s.rp r.rp, bytes_sym s.user.items r.user.items) (swapped r.discoverable s.discoverable (bytes_eq r.rp s.rp) (bytes_eq r.user.items s.user.items))
 
 none_found : {X : Type 0} (xs : List X) → find (λ _. false) xs ≡ None

@@ -11,7 +11,7 @@ use arrayvec::ArrayVec;
 /// A table that keeps its rows in a list, and looks through it.
 #[derive(Debug, Drop)]
 pub struct Listed<const C: usize> {
-    list: ArrayVec<Row, C>,
+    pub(crate) list: ArrayVec<Row, C>,
     ghost lawful: { Lawful C list.items },
     ghost some: { 1 ≤ C },
     ghost few: { C ≤ 256 },

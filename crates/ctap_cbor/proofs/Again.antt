@@ -8,7 +8,7 @@ use Rattle.ctap_cbor.specs.Faults.{AnItem, AKey, fault}
 use Rattle.ctap_cbor.specs.Outcome.{Open, InArray, AtKey, AtValue, fronts, last_key, HaltsIn}
 use Rattle.ctap_cbor.specs.Parts.{One, OpensArray, OpensMap, read}
 use Rattle.ctap_cbor.proofs.Items.{read_again, read_fault}
-use Rattle.ctap_cbor.proofs.Parse.{Parse, Done, Halt, Run, Ran, Broke, Walk, Walked, BadKey, BadValue, array_of, map_of, before, before_pair, then_items, items, then_pairs, then_value, pairs, then_inside, parse}
+use Rattle.ctap_cbor.specs.Parse.{Parse, Done, Halt, Run, Ran, Broke, Walk, Walked, BadKey, BadValue, array_of, map_of, before, before_pair, then_items, items, then_pairs, then_value, pairs, then_inside, parse}
 
 pub parse_suc : (room : ℕ) (bytes : List ℕ) → parse (suc room) bytes ≡ then_inside (parse room) room bytes (read (suc room) AnItem bytes)
 unfolding parse
@@ -38,7 +38,7 @@ abbrev pub pairs_before : Pairs → Walk → Walk
 pairs_before no_pairs r = r
 pairs_before (pair k v ps) r = before_pair k v (pairs_before ps r)
 
-all_ran : (ts : Trees) (rest : List ℕ) → all_before ts (Ran no_trees rest) ≡ Ran ts rest
+pub all_ran : (ts : Trees) (rest : List ℕ) → all_before ts (Ran no_trees rest) ≡ Ran ts rest
 all_ran no_trees rest = refl
 all_ran (tree t ts) rest = ap (before t) (all_ran ts rest)
 

@@ -1,7 +1,6 @@
 pub mod Rows
 pub mod Heads
 pub mod Items
-pub mod Parse
 pub mod Again
 pub mod Sound
 pub mod Uniqueness
@@ -17,3 +16,4 @@ pub mod Appending
 pub mod Valuing
 pub mod Written
 pub mod Accepting
+pub mod Telling

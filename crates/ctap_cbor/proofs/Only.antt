@@ -10,7 +10,7 @@ use Rattle.ctap_cbor.specs.Laws.{OneTreePasses, NothingHalts}
 use Rattle.ctap_cbor.specs.Outcome.{Open, fronts, later_keys, later_in_open}
 use Rattle.ctap_cbor.specs.Parts.{Part}
 use Rattle.ctap_cbor.specs.Reading.{Reading, rest_of, advance, Passes, PassesAs, Halts, Only}
-use Rattle.ctap_cbor.proofs.Parse.{Parse, Done, Halt, parse}
+use Rattle.ctap_cbor.specs.Parse.{Parse, Done, Halt, parse}
 use Rattle.ctap_cbor.proofs.Again.{parse_again, halt_again}
 
 abbrev tree_of : Tree → Parse → Tree

@@ -8,7 +8,7 @@ use Rattle.ctap_cbor.specs.Faults.{AnItem, AKey, fault}
 use Rattle.ctap_cbor.specs.Outcome.{fronts, last_key, HaltsIn}
 use Rattle.ctap_cbor.specs.Parts.{Part, One, OpensArray, OpensMap, read}
 use Rattle.ctap_cbor.proofs.Items.{read_sound, fault_read}
-use Rattle.ctap_cbor.proofs.Parse.{Parse, Done, Halt, Run, Ran, Broke, Walk, Walked, BadKey, BadValue, array_of, map_of, before, before_pair, then_items, items, then_pairs, then_value, pairs, then_inside, parse}
+use Rattle.ctap_cbor.specs.Parse.{Parse, Done, Halt, Run, Ran, Broke, Walk, Walked, BadKey, BadValue, array_of, map_of, before, before_pair, then_items, items, then_pairs, then_value, pairs, then_inside, parse}
 
 abbrev pub IsParse : ℕ → List ℕ → Parse → Type 0
 IsParse room bytes (Done t rest) = IsLawful t × (depth t ≤ room) × (bytes ≡ text t ++ rest) × AreBytes rest

@@ -5,31 +5,26 @@ use Rattle.ctap_cbor.specs.Tree.{Tree, depth}
 use Rattle.ctap_cbor.specs.Grammar.{text, IsCanonical}
 use Rattle.ctap_cbor.specs.Outcome.{Outcome, Whole, Longer, Stopped, IsOutcome, result_of}
 use Rattle.ctap_cbor.specs.Laws.{EachTextIsOne, NoneBeginsAnother, WrittenIsReadAgain, EncodedIsDecoded}
-use Rattle.ctap_cbor.proofs.Parse.{Parse, Done, Halt, parse}
+use Rattle.ctap_cbor.specs.Parse.{Parse, Done, Halt, parse, outcome_by}
 use Rattle.ctap_cbor.proofs.Again.{parse_again, halt_again}
 use Rattle.ctap_cbor.proofs.Sound.{IsParse, parse_sound}
 
-abbrev pub outcome_of : Parse → Outcome
-outcome_of (Done t []) = Whole t
-outcome_of (Done t (x ∷ rest)) = Longer t
-outcome_of (Halt os kind rest) = Stopped os kind
-
-pub outcome_sound : (b : List ℕ) (p : Parse) → IsParse 4 b p → IsOutcome b (outcome_of p)
+pub outcome_sound : (b : List ℕ) (p : Parse) → IsParse 4 b p → IsOutcome b (outcome_by p)
 outcome_sound b (Done t []) h = record { enc = record { lawful = h.0; spelled = h.2 ∙ append-nil (text t) }; flat = h.1 }
 outcome_sound b (Done t (x ∷ rest)) h = (text t, x ∷ rest, record { enc = record { lawful = h.0; spelled = refl }; flat = h.1 }, omega arith, h.2)
 outcome_sound b (Halt os kind rest) h = (rest, h.0, h.1)
 
-pub outcome_only : (b : List ℕ) (o : Outcome) → IsOutcome b o → outcome_of (parse 4 b) ≡ o
-outcome_only b (Whole t) h = ap (λ x. outcome_of (parse 4 x)) (h.enc.spelled ∙ sym (append-nil (text t))) ∙ ap outcome_of (parse_again t 4 [] h.enc.lawful h.flat)
+pub outcome_only : (b : List ℕ) (o : Outcome) → IsOutcome b o → outcome_by (parse 4 b) ≡ o
+outcome_only b (Whole t) h = ap (λ x. outcome_by (parse 4 x)) (h.enc.spelled ∙ sym (append-nil (text t))) ∙ ap outcome_by (parse_again t 4 [] h.enc.lawful h.flat)
 outcome_only b (Longer t) h = longer h.0 h.1 h.2 h.3 h.4
   where
-    longer : (whole rest : List ℕ) → IsCanonical t whole → 0 < length rest → b ≡ whole ++ rest → outcome_of (parse 4 b) ≡ Longer t
+    longer : (whole rest : List ℕ) → IsCanonical t whole → 0 < length rest → b ≡ whole ++ rest → outcome_by (parse 4 b) ≡ Longer t
     longer whole [] c lt e = absurd (omega arith)
-    longer whole (x ∷ rest) c lt e = ap (λ y. outcome_of (parse 4 y)) (e ∙ ap (λ y. y ++ x ∷ rest) c.enc.spelled) ∙ ap outcome_of (parse_again t 4 (x ∷ rest) c.enc.lawful c.flat)
-outcome_only b (Stopped os kind) h = ap (λ x. outcome_of (parse 4 x)) h.2 ∙ ap outcome_of (halt_again os 4 kind h.0 h.1)
+    longer whole (x ∷ rest) c lt e = ap (λ y. outcome_by (parse 4 y)) (e ∙ ap (λ y. y ++ x ∷ rest) c.enc.spelled) ∙ ap outcome_by (parse_again t 4 (x ∷ rest) c.enc.lawful c.flat)
+outcome_only b (Stopped os kind) h = ap (λ x. outcome_by (parse 4 x)) h.2 ∙ ap outcome_by (halt_again os 4 kind h.0 h.1)
 
 pub each_text_is_one : EachTextIsOne
-each_text_is_one b fits = (outcome_of (parse 4 b), outcome_sound b (parse 4 b) (parse_sound 4 b fits), λ p h. sym (outcome_only b p h))
+each_text_is_one b fits = (outcome_by (parse 4 b), outcome_sound b (parse 4 b) (parse_sound 4 b fits), λ p h. sym (outcome_only b p h))
 
 pub written_is_read_again : WrittenIsReadAgain
 written_is_read_again t b c o is = sym (outcome_only b o is) ∙ outcome_only b (Whole t) c

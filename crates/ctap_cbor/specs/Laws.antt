@@ -1,11 +1,12 @@
 -- What holds of the encoding and of reading it, over the definitions alone.
 use Rattle.std.specs.Prelude.{◌≡◌, ℕ, ◌+◌, ◌*◌, ◌≤◌, List, ◌++◌, length, Some, None}
 use Rattle.ctap_cbor.specs.declared.fault.Kind.{Kind}
-use Rattle.ctap_cbor.specs.Tree.{Tree, depth}
+use Rattle.ctap_cbor.specs.Tree.{Tree, Trees, depth, depth_all, count}
 use Rattle.ctap_cbor.specs.Head.{AreBytes}
-use Rattle.ctap_cbor.specs.Grammar.{text, IsLawful, IsEncoding, IsCanonical}
+use Rattle.ctap_cbor.specs.Grammar.{text, texts, IsLawful, AreLawful, IsEncoding, IsCanonical}
 use Rattle.ctap_cbor.specs.Outcome.{Outcome, Whole, IsOutcome, result_of, steps}
 use Rattle.ctap_cbor.specs.Refusals.{refusal}
+use Rattle.ctap_cbor.specs.Telling.{outcome_of, check_steps, items_at}
 use Rattle.ctap_cbor.specs.Reading.{Reading, rest_of, Passes, Halts}
 
 -- each text is the text of one tree, or has one first fault, behind one list of open arrays and maps
@@ -39,3 +40,16 @@ EncodedIsDecoded = (t : Tree) (b : List ℕ) → IsCanonical t b → ((u : Tree)
 -- a tree that is refused has no canonical text
 abbrev pub RefusedHasNoText : Type 0
 RefusedHasNoText = (t : Tree) (kind : Kind) → refusal 4 t ≡ Some kind → (b : List ℕ) → IsCanonical t b → ⊥
+
+-- of bytes, the function that tells what they are tells it
+pub record BytesTell : Type 0 where
+  pub told : (b : List ℕ) → AreBytes b → IsOutcome b (outcome_of b)
+  pub only : (b : List ℕ) (o : Outcome) → AreBytes b → IsOutcome b o → outcome_of b ≡ o
+
+-- of every list, the steps that it names are at most 2 * n + 1
+abbrev pub CheckStepsAreBounded : Type 0
+CheckStepsAreBounded = (b : List ℕ) → check_steps b ≤ 2 * length b + 1
+
+-- items that stand one behind another are found there
+abbrev pub ItemsAreFound : Type 0
+ItemsAreFound = (room : ℕ) (ts : Trees) → AreLawful ts → depth_all ts ≤ room → items_at room (count ts) (texts ts) ≡ ts

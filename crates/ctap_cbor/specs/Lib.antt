@@ -4,6 +4,8 @@ pub mod Grammar
 pub mod Faults
 pub mod Parts
 pub mod Outcome
+pub mod Parse
+pub mod Telling
 pub mod Views
 pub mod Laws
 pub mod Reading

@@ -2,7 +2,7 @@
 //! law, and a caller has it by calling.
 
 ghost use Rattle.ctap_cbor.specs.Head.{AreBytes};
-ghost use Rattle.ctap_cbor.specs.Laws.{EachTextIsOne, NoneBeginsAnother, StepsAreBounded, WrittenIsReadAgain, OneTreePasses, NothingHalts, EncodedIsDecoded, RefusedHasNoText};
+ghost use Rattle.ctap_cbor.specs.Laws.{EachTextIsOne, NoneBeginsAnother, StepsAreBounded, WrittenIsReadAgain, OneTreePasses, NothingHalts, EncodedIsDecoded, RefusedHasNoText, BytesTell, CheckStepsAreBounded, ItemsAreFound};
 
 /// Each text is the encoding of one tree, or that and bytes behind it, or has one first fault, with one way to
 /// stand there.
@@ -24,6 +24,21 @@ pub fn none_begins_another()
 /// Reading n bytes takes at most 2 * n + 1 steps.
 pub fn steps_are_bounded()
     ensures { StepsAreBounded }
+{}
+
+/// What `outcome_of` of `specs/Telling.antt` names for bytes is what they are, and nothing else is.
+pub fn bytes_tell()
+    ensures { BytesTell }
+{}
+
+/// The steps that `check_steps` names are at most 2 * n + 1 for a list of n numbers, bytes or not.
+pub fn check_steps_are_bounded()
+    ensures { CheckStepsAreBounded }
+{}
+
+/// Items that stand one behind another are found by `items_at`.
+pub fn items_are_found()
+    ensures { ItemsAreFound }
 {}
 
 /// Where a tree's encoding stands at a cursor's place, that tree alone can be passed there.

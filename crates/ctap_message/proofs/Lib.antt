@@ -2,3 +2,14 @@ pub mod Composing
 pub mod Bounds
 pub mod Canonical
 pub mod Rows
+pub mod Walking
+pub mod Pushes
+pub mod Labelling
+pub mod Collecting
+pub mod Listing
+pub mod Naming
+pub mod Taking
+pub mod Asking
+pub mod Pairing
+pub mod AnsweredLawful
+pub mod WalkBounds

@@ -1,7 +1,8 @@
 -- Worked messages and answers, by computation.
 use Rattle.std.proofs.Common.{◌≡◌, [], ◌∷◌, Ok, Err, replicate, refl}
 use Rattle.ctap_cbor.specs.Head.{head}
-use Rattle.ctap_message.specs.Requests.{GetInfo, read_of, steps_of}
+use Rattle.ctap_message.specs.Asked.{GetInfo}
+use Rattle.ctap_message.specs.Requests.{read_of, steps_of}
 use Rattle.ctap_message.specs.Answers.{refusal, info_tree, info_answer}
 
 -- 04 asks authenticatorGetInfo

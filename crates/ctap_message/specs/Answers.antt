@@ -1,6 +1,7 @@
 -- Answers: a status byte, and behind status 0x00 a map in canonical CBOR (CTAP 2.1, section 8, "Message Encoding").
-use Rattle.std.specs.Prelude.{ℕ, pos, negsuc, Bool, true, false, List, [], ◌∷◌, codes}
-use Rattle.ctap_cbor.specs.Tree.{Int, Bytes, Text, Flag, Tree, Plain, Array, Map, no_trees, tree, no_pairs, pair}
+use Rattle.std.specs.Prelude.{ℕ, ◌+◌, pos, negsuc, Bool, true, false, List, [], ◌∷◌, ◌++◌, length, Option, Some, None, codes}
+use Rattle.ctap_cbor.specs.Tree.{Int, Bytes, Text, Flag, Tree, Plain, Array, Map, no_trees, tree, no_pairs, pair, Pairs, count_pairs}
+use Rattle.ctap_cbor.specs.Head.{head_len}
 use Rattle.ctap_cbor.specs.Grammar.{text}
 use Rattle.ctap_message.specs.Statuses.{OK}
 
@@ -12,12 +13,15 @@ refusal status = status ∷ []
 abbrev pub success : Tree → List ℕ
 success map = OK ∷ text map
 
--- an integer of at least 0, a text, a truth value
+-- an integer of at least 0, a text, a byte string, a truth value
 abbrev pub number : ℕ → Tree
 number n = Plain (Int (pos n))
 
 abbrev pub name : List ℕ → Tree
 name bytes = Plain (Text bytes)
+
+abbrev pub byte_string : List ℕ → Tree
+byte_string bytes = Plain (Bytes bytes)
 
 abbrev pub flag : Bool → Tree
 flag is_set = Plain (Flag is_set)
@@ -71,3 +75,87 @@ info_tree aaguid =
 -- The answer of authenticatorGetInfo (CTAP 2.1, section 6.4).
 unfoldable pub info_answer : List ℕ → List ℕ
 info_answer aaguid = success (info_tree aaguid)
+
+-- ---- authenticatorMakeCredential
+
+-- attStmt (0x03): packed self attestation (WebAuthn Level 2, section 8.2), ES256 and the signature
+abbrev pub statement : List ℕ → Tree
+statement sig =
+    Map (pair (name (codes "alg")) (Plain (Int (negsuc 6)))
+    (pair (name (codes "sig")) (byte_string sig) no_pairs))
+
+-- the map: fmt (0x01), authData (0x02) and attStmt
+unfoldable pub created_tree : (auth sig : List ℕ) → Tree
+created_tree auth sig =
+    Map (pair (number 0x01) (name (codes "packed"))
+    (pair (number 0x02) (byte_string auth)
+    (pair (number 0x03) (statement sig) no_pairs)))
+
+-- The answer of authenticatorMakeCredential (CTAP 2.1, section 6.1.2), by its authenticator data and signature.
+unfoldable pub created_answer : (auth sig : List ℕ) → List ℕ
+created_answer auth sig = success (created_tree auth sig)
+
+-- ---- authenticatorGetAssertion and authenticatorGetNextAssertion
+
+-- credential (0x01): its id, and the type `public-key`
+abbrev pub credential : List ℕ → Tree
+credential id =
+    Map (pair (name (codes "id")) (byte_string id)
+    (pair (name (codes "type")) (name (codes "public-key")) no_pairs))
+
+-- user (0x04), where it is given: its id alone
+abbrev pub user_of : List ℕ → Tree
+user_of id = Map (pair (name (codes "id")) (byte_string id) no_pairs)
+
+abbrev pub with_user : Option (List ℕ) → Pairs → Pairs
+with_user None rest = rest
+with_user (Some id) rest = pair (number 0x04) (user_of id) rest
+
+-- numberOfCredentials (0x05), where it is given
+abbrev pub with_number : Option ℕ → Pairs
+with_number None = no_pairs
+with_number (Some n) = pair (number 0x05) (number n) no_pairs
+
+-- the map: credential, authData (0x02), signature (0x03), and these
+unfoldable pub assertion_tree : (id auth sig : List ℕ) → (user : Option (List ℕ)) → (credentials : Option ℕ) → Tree
+assertion_tree id auth sig user credentials =
+    Map (pair (number 0x01) (credential id)
+    (pair (number 0x02) (byte_string auth)
+    (pair (number 0x03) (byte_string sig) (with_user user (with_number credentials)))))
+
+-- The answer of an assertion (CTAP 2.1, sections 6.2.2 and 6.3).
+unfoldable pub assertion_answer : (id auth sig : List ℕ) → (user : Option (List ℕ)) → (credentials : Option ℕ) → List ℕ
+assertion_answer id auth sig user credentials = success (assertion_tree id auth sig user credentials)
+
+-- ---- lengths
+
+-- how long a byte string's text is
+abbrev pub bytes_len : List ℕ → ℕ
+bytes_len s = head_len (length s) + length s
+
+abbrev pub user_len : Option (List ℕ) → ℕ
+user_len None = 0
+user_len (Some id) = 5 + bytes_len id
+
+abbrev pub number_len : Option ℕ → ℕ
+number_len None = 0
+number_len (Some n) = 1 + head_len n
+
+-- ---- parts, as they are written
+
+abbrev pub user_member : List ℕ → Pairs
+user_member id = pair (number 0x04) (user_of id) no_pairs
+
+abbrev pub number_member : ℕ → Pairs
+number_member n = pair (number 0x05) (number n) no_pairs
+
+abbrev pub member_count : Option (List ℕ) → Option ℕ → ℕ
+member_count user credentials = count_pairs (with_user user (with_number credentials)) + 1 + 1 + 1
+
+-- the members that every assertion's answer has
+abbrev pub signed_text : (id auth sig : List ℕ) → List ℕ
+signed_text id auth sig =
+    text (number 0x01) ++ (text (credential id) ++ (text (number 0x02) ++ (text (byte_string auth) ++ (text (number 0x03) ++ text (byte_string sig)))))
+
+abbrev pub assertion_len : (id auth sig : List ℕ) → Option (List ℕ) → Option ℕ → ℕ
+assertion_len id auth sig user credentials = 24 + bytes_len id + bytes_len auth + bytes_len sig + user_len user + number_len credentials

@@ -1,3 +1,17 @@
 pub mod Statuses
+pub mod Members
+pub mod Checks
+pub mod Asked
+pub mod Descriptors
+pub mod MakeCredential
+pub mod GetAssertion
+pub mod Walks
+pub mod Labels
+pub mod Collected
+pub mod DescriptorWalk
+pub mod CollectedLists
+pub mod CollectedRequests
 pub mod Requests
+pub mod Shown
 pub mod Answers
+pub mod Answered

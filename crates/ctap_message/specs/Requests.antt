@@ -1,45 +1,38 @@
 -- What a message asks, or the status of the first check that it fails; and the steps of reading it.
-use Rattle.std.specs.Prelude.{ℕ, ◌==◌, Bool, List, [], ◌∷◌, length, Option, Some, None, Result, Ok, Err, if◌then◌else◌}
+use Rattle.std.specs.Prelude.{ℕ, ◌*◌, ◌==◌, List, [], ◌∷◌, length, Option, Some, None, is_some, Result, Err, if◌then◌else◌}
+use Rattle.ctap_cbor.specs.Telling.{canonical_tree, check_steps}
 use Rattle.ctap_message.specs.Statuses.{INVALID_COMMAND, INVALID_LENGTH}
 use Rattle.ctap_message.specs.declared.command.Command.{Command}
 use Rattle.ctap_message.specs.declared.command.Command.TheVariants as served
-use Rattle.ctap_message.specs.declared.request.Request.{Request}
-use Rattle.ctap_message.specs.declared.request.Request.TheVariants.{Info}
-use Rattle.ctap_message.specs.declared.status.Status.{Status}
+use Rattle.ctap_message.specs.Checks.{check, if_all_hold}
+use Rattle.ctap_message.specs.Asked.{Asked}
+use Rattle.ctap_message.specs.Asked as asks
+use Rattle.ctap_message.specs.MakeCredential.{make_request}
+use Rattle.ctap_message.specs.GetAssertion.{assertion_request}
 
--- The command that a byte names (CTAP 2.1, section 8.1, "Commands"): authenticatorGetInfo alone is served.
+-- The command that a byte names (CTAP 2.1, section 8.1, "Commands").
 abbrev pub command : ℕ → Option Command
-command byte = if byte == 0x04 then Some served.GetInfo else None
+command byte =
+    if byte == 0x01 then Some served.MakeCredential
+    else (if byte == 0x02 then Some served.GetAssertion
+    else (if byte == 0x04 then Some served.GetInfo
+    else (if byte == 0x07 then Some served.Reset
+    else (if byte == 0x08 then Some served.GetNextAssertion
+    else (if byte == 0x0b then Some served.Selection else None)))))
 
--- a request
-pub data Asked : Type 0 where
-  GetInfo : Asked
+-- What takes no parameters (CTAP 2.1, sections 6.3, 6.4, 6.6 and 6.9) asks by its command byte alone. That bytes which stand there
+-- are a wrong length is this project's choice.
+abbrev pub alone : List ℕ → Asked → Result Asked ℕ
+alone behind asked = if_all_hold (check (length behind == 0) INVALID_LENGTH ∷ []) asked
 
--- a condition on a message, with the status of a message that fails it
-pub record Check : Type 0 where
-  pub holds : Bool
-  pub status : ℕ
-
--- the status of the first check that fails
-abbrev pub first_failing : List Check → Option ℕ
-first_failing [] = None
-first_failing (check ∷ checks) = if check.holds then first_failing checks else Some check.status
-
--- The checks of a command, in their order, on the bytes behind the command byte. authenticatorGetInfo takes no
--- inputs (CTAP 2.1, section 6.4); that bytes which stand there are a wrong length is this project's choice.
-abbrev pub checks : Command → List ℕ → List Check
-checks served.GetInfo behind = record { holds = length behind == 0; status = INVALID_LENGTH } ∷ []
-
--- what a command asks, once its checks hold
-abbrev pub asks : Command → List ℕ → Asked
-asks served.GetInfo behind = GetInfo
-
-abbrev pub unless_refused : Option ℕ → Asked → Result Asked ℕ
-unless_refused None asked = Ok asked
-unless_refused (Some status) asked = Err status
-
+-- what a command asks with these bytes behind it
 abbrev pub request_of : Command → List ℕ → Result Asked ℕ
-request_of c behind = unless_refused (first_failing (checks c behind)) (asks c behind)
+request_of served.MakeCredential behind = make_request (canonical_tree behind)
+request_of served.GetAssertion behind = assertion_request (canonical_tree behind)
+request_of served.GetInfo behind = alone behind asks.GetInfo
+request_of served.Reset behind = alone behind asks.Reset
+request_of served.GetNextAssertion behind = alone behind asks.GetNextAssertion
+request_of served.Selection behind = alone behind asks.Selection
 
 abbrev pub served_request : Option Command → List ℕ → Result Asked ℕ
 served_request None behind = Err INVALID_COMMAND
@@ -51,9 +44,16 @@ unfoldable pub read_of : List ℕ → Result Asked ℕ
 read_of [] = Err INVALID_LENGTH
 read_of (byte ∷ behind) = served_request (command byte) behind
 
+-- The steps of reading parameters: those of checking them, and as many again where they are canonical, for they are walked once
+-- more.
+abbrev pub reading_steps : List ℕ → ℕ
+reading_steps behind = if is_some (canonical_tree behind) then 2 * check_steps behind else check_steps behind
+
 -- The steps of reading what stands behind a command byte: none where nothing may stand there.
 abbrev pub command_steps : Command → List ℕ → ℕ
-command_steps served.GetInfo behind = 0
+command_steps served.MakeCredential behind = reading_steps behind
+command_steps served.GetAssertion behind = reading_steps behind
+command_steps c behind = 0
 
 abbrev pub served_steps : Option Command → List ℕ → ℕ
 served_steps None behind = 0
@@ -64,10 +64,6 @@ unfoldable pub steps_of : List ℕ → ℕ
 steps_of [] = 0
 steps_of (byte ∷ behind) = served_steps (command byte) behind
 
--- what the code's requests ask
-abbrev pub asked : Request → Asked
-asked Info = GetInfo
-
-abbrev pub shown : Result Request Status → Result Asked ℕ
-shown (Ok request) = Ok (asked request)
-shown (Err status) = Err status.0
+-- a count of steps stops at 2^64-1
+abbrev pub LARGEST : ℕ
+LARGEST = 18446744073709551615

@@ -6,8 +6,18 @@ ghost use Rattle.ctap_message.specs.Requests.{command};
 /// A command that is served, by the first byte of its message (CTAP 2.1, section 8.1, "Commands").
 #[derive(Clone, Copy, Debug, PartialEq, Eq)]
 pub enum Command {
+    /// 0x01, authenticatorMakeCredential.
+    MakeCredential,
+    /// 0x02, authenticatorGetAssertion.
+    GetAssertion,
     /// 0x04, authenticatorGetInfo.
     GetInfo,
+    /// 0x07, authenticatorReset.
+    Reset,
+    /// 0x08, authenticatorGetNextAssertion.
+    GetNextAssertion,
+    /// 0x0b, authenticatorSelection.
+    Selection,
 }
 
 impl Command {
@@ -16,7 +26,12 @@ impl Command {
         ensures { result ≡ command byte }
     {
         match byte {
+            0x01 => Some(Command::MakeCredential),
+            0x02 => Some(Command::GetAssertion),
             0x04 => Some(Command::GetInfo),
+            0x07 => Some(Command::Reset),
+            0x08 => Some(Command::GetNextAssertion),
+            0x0b => Some(Command::Selection),
             _ => None,
         }
     }

@@ -15,7 +15,7 @@ const VERSION: &str = "FIDO_2_0";
 const LONGEST_MESSAGE: u64 = 7609;
 
 /// ES256 as a COSE algorithm.
-const ES256: i128 = -7;
+pub(crate) const ES256: i128 = -7;
 
 /// The answer of authenticatorGetInfo (CTAP 2.1, section 6.4), 81 bytes: status 0x00 and the map
 /// `{1: ["FIDO_2_0"], 3: aaguid, 4: {"rk": true, "up": true, "plat": false}, 5: 7609, 9: ["usb"],

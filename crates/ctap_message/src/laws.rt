@@ -1,10 +1,13 @@
 //! What holds over the definitions alone. Each law is the contract of a function that does nothing.
 
-ghost use Rattle.std.specs.Prelude.{◌≡◌, ℕ, ◌+◌, ◌-◌, ◌*◌, ◌≤◌, List, length, drop};
+ghost use Rattle.std.specs.Prelude.{◌≡◌, ℕ, ◌+◌, ◌-◌, ◌*◌, ◌≤◌, List, length, drop, min, Option};
+ghost use Rattle.ctap_cbor.specs.Tree.{Array, Trees, no_trees};
+ghost use Rattle.ctap_message.specs.DescriptorWalk.{DescriptorWalk, list_of, left_of, list_steps, walked};
+ghost use Rattle.ctap_message.specs.Answered.{AreShort, UserIsShort, NumberIsShort};
 ghost use Rattle.ctap_cbor.specs.Head.{AreBytes};
 ghost use Rattle.ctap_cbor.specs.Grammar.{IsCanonical};
-ghost use Rattle.ctap_message.specs.Requests.{steps_of};
-ghost use Rattle.ctap_message.specs.Answers.{info_tree, info_answer};
+ghost use Rattle.ctap_message.specs.Requests.{steps_of, LARGEST};
+ghost use Rattle.ctap_message.specs.Answers.{info_tree, info_answer, created_tree, created_answer, assertion_tree, assertion_answer};
 
 /// Behind its status, the answer of authenticatorGetInfo is the canonical CBOR encoding of its map; it has 81 bytes.
 pub fn info_is_canonical()
@@ -16,4 +19,22 @@ pub fn info_is_canonical()
 /// Reading a message takes at most 4 * n + 2 steps for n bytes behind its command byte.
 pub fn steps_are_bounded()
     ensures { (message : List ℕ) → steps_of message ≤ 4 * (length message - 1) + 2 }
+{}
+
+/// Behind its status, the answer of authenticatorMakeCredential is the canonical CBOR encoding of its map.
+pub fn created_is_canonical()
+    ensures { (auth sig : List ℕ) → AreShort auth → AreShort sig → IsCanonical (created_tree auth sig) (drop 1 (created_answer auth sig)) }
+{}
+
+/// Behind its status, the answer of an assertion is the canonical CBOR encoding of its map.
+pub fn assertion_is_canonical()
+    ensures { (id auth sig : List ℕ) (user : Option (List ℕ)) (credentials : Option ℕ) → AreShort id → AreShort auth → AreShort sig → UserIsShort user → NumberIsShort credentials
+        → IsCanonical (assertion_tree id auth sig user credentials) (drop 1 (assertion_answer id auth sig user credentials)) }
+{}
+
+/// A walk over a list of n bytes takes at most 2 * n steps, and at the list's end exactly those of checking its bytes, less
+/// the one that finds their end.
+pub fn walks_are_bounded()
+    ensures bound { (ts : Trees) (l : List ℕ) → IsCanonical (Array ts) l → list_steps ts ≤ 2 * length l }
+    ensures ended { (w : DescriptorWalk) → left_of w ≡ no_trees → walked w ≡ min (list_steps (list_of w)) LARGEST }
 {}

@@ -3,25 +3,45 @@
 //!
 //! - [`read_request`] tells what a message asks, or the status of the first check that it fails, and how many
 //!   steps reading took.
-//! - [`write_status`] and [`write_info`] write answers: a status alone, or status 0x00 and a map in canonical CBOR.
+//! - [`Descriptors`] walks a request's list of credentials, in place.
+//! - [`write_status`], [`write_info`], [`write_created`] and [`write_assertion`] write answers: a status alone, or status
+//!   0x00 and a map in canonical CBOR.
 //! - [`laws`] has what holds of the definitions themselves.
 //!
-//! The command authenticatorGetInfo (0x04) is served. Nothing here takes memory.
+//! The commands authenticatorMakeCredential (0x01), GetAssertion (0x02), GetInfo (0x04), Reset (0x07),
+//! GetNextAssertion (0x08) and Selection (0x0b) are served. Nothing here takes memory.
 //!
-//! What a message asks is stated in `specs/Requests.antt`, and what an answer holds in `specs/Answers.antt`.
+//! What a message asks is stated in `specs/Requests.antt`, `specs/MakeCredential.antt` and
+//! `specs/GetAssertion.antt`, and what an answer holds in `specs/Answers.antt`.
 #![tactic(auto)]
 
 mod answer;
+mod assert;
+mod assertion;
 mod command;
+mod created;
+mod descriptor;
+mod descriptors;
 mod info;
+mod item;
+mod judge;
 pub mod laws;
+mod make;
+mod options;
+mod parameters;
 mod request;
+mod rp;
 mod status;
 #[cfg(test)]
 mod tests;
+mod user;
+mod walk;
 
 pub use answer::{Answer, write_status};
+pub use assertion::write_assertion;
 pub use command::Command;
+pub use created::write_created;
+pub use descriptors::Descriptors;
 pub use info::write_info;
 pub use request::{Request, read_request};
 pub use status::Status;

@@ -1,16 +1,58 @@
 //! What a message asks.
 
-ghost use Rattle.std.specs.Prelude.{◌≡◌};
-ghost use Rattle.ctap_message.specs.Requests.{shown, read_of, steps_of, request_of, command_steps};
+ghost use Rattle.std.specs.Prelude.{◌≡◌, ◌⊎◌, min, Ok, MatchResult};
+ghost use Rattle.ctap_cbor.specs.Reading.{Reading, PassesOne, Halts, Ends, GoesOn};
+ghost use Rattle.ctap_cbor.specs.Telling.{canonical_tree};
+ghost use Rattle.ctap_message.specs.Walks.{Reads, map_told};
+ghost use Rattle.ctap_message.specs.CollectedRequests.{make_told, shown_make, assert_told, shown_assert};
+ghost use Rattle.ctap_message.specs.MakeCredential.{make_request};
+ghost use Rattle.ctap_message.specs.GetAssertion.{assertion_request};
+ghost use Rattle.ctap_message.specs.Requests.{read_of, steps_of, alone as alone_of, request_of, reading_steps, command_steps, LARGEST};
+ghost use Rattle.ctap_message.specs.Shown.{shown, asked, IsFresh, HasLengths};
 
+use crate::assert::{Assert, read_assert};
 use crate::command::Command;
+use crate::descriptors::Descriptors;
+use crate::judge::{judge_assert, judge_make};
+use crate::make::{Make, read_make};
 use crate::status::Status;
+use ctap_cbor::laws::known_bytes;
+use ctap_cbor::{Cursor, Fault, read_whole};
 
-/// A request that passed all checks of its command.
-#[derive(Clone, Copy, Debug, PartialEq, Eq)]
-pub enum Request {
+/// A request that passed all checks of its command. What it holds is lent from the message.
+#[derive(Drop)]
+pub enum Request<'a> {
+    /// authenticatorMakeCredential (CTAP 2.1, section 6.1).
+    Make {
+        /// clientDataHash, of 32 bytes.
+        hash: &'a [u8],
+        rp_id: &'a str,
+        /// At most 64 bytes.
+        user_id: &'a [u8],
+        /// Empty where none was given.
+        user_name: &'a str,
+        discoverable: bool,
+        /// The credentials of which none may be there.
+        exclude: Descriptors<'a>,
+    },
+    /// authenticatorGetAssertion (CTAP 2.1, section 6.2).
+    Assert {
+        /// clientDataHash, of 32 bytes.
+        hash: &'a [u8],
+        rp_id: &'a str,
+        /// The credentials of which one is to be used.
+        allow: Descriptors<'a>,
+        /// Whether the user's presence is asked for.
+        presence: bool,
+    },
     /// authenticatorGetInfo (CTAP 2.1, section 6.4).
     Info,
+    /// authenticatorGetNextAssertion (CTAP 2.1, section 6.3).
+    Next,
+    /// authenticatorReset (CTAP 2.1, section 6.6).
+    Reset,
+    /// authenticatorSelection (CTAP 2.1, section 6.9).
+    Select,
 }
 
 /// What a message asks, its command byte first, or the status of the first check that it fails; and the steps of
@@ -20,12 +62,17 @@ pub enum Request {
 /// |---|---|---|
 /// | empty | 0x03 | 0 |
 /// | a command that isn't served | 0x01 | 0 |
-/// | 0x04 alone | `Info` | 0 |
-/// | 0x04 and bytes behind it | 0x03 | 0 |
+/// | 0x04, 0x07, 0x08 or 0x0b alone | `Info`, `Reset`, `Next` or `Select` | 0 |
+/// | one of these and bytes behind it | 0x03 | 0 |
+/// | 0x01 or 0x02 and canonical parameters | `Make` or `Assert`, or the first failing check's status | twice those of checking them |
+/// | 0x01 or 0x02 and others | 0x12 | those of checking them |
 #[tactic(auto, unfolding(crate::specs::Requests::read_of, crate::specs::Requests::steps_of))]
-pub fn read_request(message: &[u8]) -> (Result<Request, Status>, u64)
+pub fn read_request<'a>(message: &'a [u8]) -> (Result<Request<'a>, Status>, u64)
     ensures request { shown result.0 ≡ read_of message.now }
-    ensures steps { result.1 ≡ steps_of message.now }
+    ensures steps { result.1 ≡ min (steps_of message.now) LARGEST }
+    // Each walk over a list has all of it before it.
+    ensures fresh { IsFresh result.0 }
+    ensures lens { HasLengths result.0 }
 {
     let Some((byte, behind)) = message.split_first() else {
         return (Err(Status::INVALID_LENGTH), 0);
@@ -37,22 +84,93 @@ pub fn read_request(message: &[u8]) -> (Result<Request, Status>, u64)
 }
 
 /// What a command asks with these bytes behind it.
-fn read_command(command: Command, behind: &[u8]) -> (Result<Request, Status>, u64)
+fn read_command<'a>(command: Command, behind: &'a [u8]) -> (Result<Request<'a>, Status>, u64)
     ensures request { shown result.0 ≡ request_of command behind.now }
-    ensures steps { result.1 ≡ command_steps command behind.now }
+    ensures steps { result.1 ≡ min (command_steps command behind.now) LARGEST }
+    ensures fresh { IsFresh result.0 }
+    ensures lens { HasLengths result.0 }
 {
     match command {
-        Command::GetInfo => (read_info(behind), 0),
+        Command::MakeCredential => read_make_credential(behind),
+        Command::GetAssertion => read_get_assertion(behind),
+        Command::GetInfo => (alone(behind, Request::Info), 0),
+        Command::Reset => (alone(behind, Request::Reset), 0),
+        Command::GetNextAssertion => (alone(behind, Request::Next), 0),
+        Command::Selection => (alone(behind, Request::Select), 0),
     }
 }
 
-/// authenticatorGetInfo takes no parameters, so nothing stands behind its command byte.
-fn read_info(behind: &[u8]) -> Result<Request, Status>
-    ensures { shown result ≡ request_of Command.GetInfo behind.now }
+/// What takes no parameters has nothing behind its command byte.
+fn alone<'a>(behind: &[u8], request: Request<'a>) -> Result<Request<'a>, Status>
+    requires fresh { IsFresh (Ok request) }
+    requires lens { HasLengths (Ok request) }
+    ensures request { shown result ≡ alone_of behind.now (asked request.entry) }
+    ensures fresh { IsFresh result }
+    ensures lens { HasLengths result }
 {
     if behind.is_empty() {
-        Ok(Request::Info)
+        Ok(request)
     } else {
         Err(Status::INVALID_LENGTH)
     }
+}
+
+/// authenticatorMakeCredential: the parameters are checked whole, and then read by the same cursor.
+fn read_make_credential<'a>(behind: &'a [u8]) -> (Result<Request<'a>, Status>, u64)
+    ensures request { shown result.0 ≡ make_request (canonical_tree behind.now) }
+    ensures steps { result.1 ≡ min (reading_steps behind.now) LARGEST }
+    ensures fresh { IsFresh result.0 }
+    ensures lens { HasLengths result.0 }
+{
+    known_bytes(behind);
+    let mut cursor = Cursor::new(behind);
+    if read_whole(&mut cursor).is_err() {
+        return (Err(Status::INVALID_CBOR), cursor.steps());
+    }
+    cursor.rewind();
+    match read_make_again(&mut cursor) {
+        Ok(make) => (judge_make(make), cursor.steps()),
+        Err(_) => unreachable!(),
+    }
+}
+
+/// The parameters of a makeCredential, up to their end.
+fn read_make_again<'a>(cursor: &mut Cursor<'a>) -> Result<Make<'a>, Fault>
+    ensures { MatchResult result
+        (λ m. (middle : Reading) × Reads (map_told make_told) 4 (shown_make m) cursor.old middle × Ends middle cursor.new)
+        (λ f. Halts 4 cursor.old cursor.new f.at f.kind ⊎ ((middle : Reading) × PassesOne 4 cursor.old middle × GoesOn middle cursor.new f.at f.kind)) }
+{
+    let make = read_make(cursor)?;
+    cursor.end()?;
+    Ok(make)
+}
+
+/// authenticatorGetAssertion: the parameters are checked whole, and then read by the same cursor.
+fn read_get_assertion<'a>(behind: &'a [u8]) -> (Result<Request<'a>, Status>, u64)
+    ensures request { shown result.0 ≡ assertion_request (canonical_tree behind.now) }
+    ensures steps { result.1 ≡ min (reading_steps behind.now) LARGEST }
+    ensures fresh { IsFresh result.0 }
+    ensures lens { HasLengths result.0 }
+{
+    known_bytes(behind);
+    let mut cursor = Cursor::new(behind);
+    if read_whole(&mut cursor).is_err() {
+        return (Err(Status::INVALID_CBOR), cursor.steps());
+    }
+    cursor.rewind();
+    match read_assert_again(&mut cursor) {
+        Ok(assert) => (judge_assert(assert), cursor.steps()),
+        Err(_) => unreachable!(),
+    }
+}
+
+/// The parameters of a getAssertion, up to their end.
+fn read_assert_again<'a>(cursor: &mut Cursor<'a>) -> Result<Assert<'a>, Fault>
+    ensures { MatchResult result
+        (λ a. (middle : Reading) × Reads (map_told assert_told) 4 (shown_assert a) cursor.old middle × Ends middle cursor.new)
+        (λ f. Halts 4 cursor.old cursor.new f.at f.kind ⊎ ((middle : Reading) × PassesOne 4 cursor.old middle × GoesOn middle cursor.new f.at f.kind)) }
+{
+    let assert = read_assert(cursor)?;
+    cursor.end()?;
+    Ok(assert)
 }

@@ -11,8 +11,29 @@ impl Status {
     /// 0x01, CTAP1_ERR_INVALID_COMMAND: the command isn't served.
     pub const INVALID_COMMAND: Status = Status(0x01);
 
+    /// 0x02, CTAP1_ERR_INVALID_PARAMETER: a parameter that isn't taken was given.
+    pub const INVALID_PARAMETER: Status = Status(0x02);
+
     /// 0x03, CTAP1_ERR_INVALID_LENGTH: the message hasn't the length that its command asks for.
     pub const INVALID_LENGTH: Status = Status(0x03);
+
+    /// 0x11, CTAP2_ERR_CBOR_UNEXPECTED_TYPE: a parameter, or a member inside, is of another type.
+    pub const CBOR_UNEXPECTED_TYPE: Status = Status(0x11);
+
+    /// 0x12, CTAP2_ERR_INVALID_CBOR: the parameters aren't in canonical CBOR.
+    pub const INVALID_CBOR: Status = Status(0x12);
+
+    /// 0x14, CTAP2_ERR_MISSING_PARAMETER: a parameter, or a member inside, isn't there.
+    pub const MISSING_PARAMETER: Status = Status(0x14);
+
+    /// 0x26, CTAP2_ERR_UNSUPPORTED_ALGORITHM: no algorithm that is served was named.
+    pub const UNSUPPORTED_ALGORITHM: Status = Status(0x26);
+
+    /// 0x2b, CTAP2_ERR_UNSUPPORTED_OPTION: an option that isn't taken was given.
+    pub const UNSUPPORTED_OPTION: Status = Status(0x2b);
+
+    /// 0x2c, CTAP2_ERR_INVALID_OPTION: an option has a value that isn't taken.
+    pub const INVALID_OPTION: Status = Status(0x2c);
 
     /// 0x2d, CTAP2_ERR_KEEPALIVE_CANCEL: the host cancelled the command while it waited.
     pub const KEEPALIVE_CANCEL: Status = Status(0x2d);

@@ -1,7 +1,7 @@
 -- The reply table: which of its rows a packet falls under (CTAP 2.1, sections 11.2.4 to 11.2.5 and 11.2.9, with this
 -- project's choices). It looks at the packet's fields, at how many channels were given out, at the open message and at the
 -- channel of waiting work.
-use Rattle.std.specs.Prelude.{ℕ, ◌+◌, ◌*◌, Bool, false, not, ◌&&◌, ◌||◌, ◌==◌, nat_le, nat_lt, List, [], ◌∷◌, Option, Some, None, option_map, if◌then◌else◌}
+use Rattle.std.specs.Prelude.{ℕ, ◌+◌, ◌*◌, Bool, true, false, not, ◌&&◌, ◌||◌, ◌==◌, nat_le, nat_lt, List, [], ◌∷◌, Option, Some, None, option_map, if◌then◌else◌}
 use Rattle.hid_packet.specs.Commands.{PING, INIT, CBOR, CANCEL, BROADCAST, LONGEST}
 use Rattle.hid_packet.specs.Packet.{Fields, initialization, continuation}
 use Rattle.hid_assemble.specs.declared.table.Row.{Row}
@@ -82,3 +82,13 @@ pub data Ruling : Type 0 where
 unfoldable pub ruling_of : ℕ → Option Open → Option ℕ → Fields → Ruling
 ruling_of given current work (initialization cid cmd len part) = Begins (initialization_row given (option_map (λ m. m.cid) current) work cid cmd len)
 ruling_of given current work (continuation cid number part) = Continues (continuation_row current cid number)
+
+-- A packet is noise, which changes nothing, where it is a CANCEL for which no work waits, where its channel was never given out,
+-- where its channel or another is busy, and where it continues no open message.
+abbrev pub is_noise : Ruling → Bool
+is_noise (Begins CancelsNothing) = true
+is_noise (Begins NoSuchChannel) = true
+is_noise (Begins BusyElsewhere) = true
+is_noise (Begins BusyHere) = true
+is_noise (Continues Stray) = true
+is_noise _ = false

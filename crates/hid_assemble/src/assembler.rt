@@ -3,6 +3,7 @@
 ghost use Rattle.std.specs.Prelude.{◌≡◌, ℕ, ◌+◌, ◌*◌, ◌≤◌, ◌<◌, ◌++◌, List, [], length, take, drop, Option, None, Some, option_map, if◌then◌else◌};
 ghost use Rattle.hid_packet.specs.Packet.{fields, initialization, continuation};
 ghost use Rattle.hid_assemble.specs.Assembly.{IsLawful, is_overdue, still_open, held_bytes, accepted, drop_on};
+ghost use Rattle.hid_assemble.specs.Table.{is_noise, ruling_of};
 ghost use Rattle.hid_assemble.specs.Verdicts.{verdict, greeted_again};
 
 use crate::code::ErrorCode;
@@ -177,6 +178,21 @@ impl Assembler {
                 part,
             } => self.begin(at, working, cid, cmd, len, part),
             View::More { cid, seq, part } => self.go_on(at, cid, seq, part),
+        }
+    }
+
+    /// Whether a packet that comes at `at`, while work waits on the channel `working` or none does, is noise: after
+    /// [`pass`](Self::pass) it would change nothing, and its host would be sent an ERROR or nothing.
+    pub fn is_noise(&self, at: u64, packet: &Packet, working: Option<u32>) -> bool
+        ensures { result ≡ is_noise (ruling_of self.now.given (still_open self.now.current at) working (fields packet.now.0)) }
+    {
+        let overdue = self.overdue(at);
+        match packet.view() {
+            View::Start { cid, cmd, len, .. } => {
+                let current = if overdue { None } else { self.open_on() };
+                initialization_row(self.given(), current, working, cid, cmd, len).is_noise()
+            }
+            View::More { cid, .. } => overdue || self.open_on() != Some(cid),
         }
     }
 

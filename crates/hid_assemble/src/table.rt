@@ -1,5 +1,6 @@
 ghost use Rattle.std.specs.Prelude.{◌≡◌};
 ghost use Rattle.hid_assemble.specs.Table as spec;
+ghost use Rattle.hid_assemble.specs.Table.{Begins};
 
 use crate::assembler::OpenMessage;
 use hid_packet::command::{CANCEL, CBOR, INIT, PING};
@@ -39,6 +40,19 @@ pub enum Row {
     Short,
     /// The message is open from now on.
     Long,
+}
+
+impl Row {
+    /// Whether a packet under this row is noise, which changes nothing. Other rows may change nothing too, where there is
+    /// nothing to change.
+    pub(crate) fn is_noise(self) -> bool
+        ensures { result ≡ spec.is_noise (Begins self) }
+    {
+        matches!(
+            self,
+            Row::CancelsNothing | Row::NoSuchChannel | Row::BusyElsewhere | Row::BusyHere
+        )
+    }
 }
 
 /// What a continuation packet is to the open message.

@@ -9,9 +9,10 @@ use Rattle.session_log.specs.Replay.{Logs}
 use Rattle.session_log.specs.Session.{history}
 use Rattle.session_log.specs.Streams.{Counts, IsAllRead, Moves}
 
--- the start of the program's session: an AAGUID of sixteen zero bytes, and the moment 0
+-- the start of the program's session: an AAGUID of sixteen zero bytes, the moment 0, and room for 64 credentials, none of
+-- which is there
 abbrev pub program_start : Start
-program_start = record { aaguid = replicate 16 0; moment = 0 }
+program_start = record { aaguid = replicate 16 0; moment = 0; room = 64; rows = [] }
 
 abbrev pub Status : Type 0
 Status = Result (Unit {0}) ℕ

@@ -13,6 +13,18 @@ key_letter = 60
 abbrev pub tick_letter : ℕ
 tick_letter = 116
 
+-- `p`, a reply to a test of the user's presence
+abbrev pub presence_letter : ℕ
+presence_letter = 112
+
+-- `k`, a new key pair
+abbrev pub new_key_letter : ℕ
+new_key_letter = 107
+
+-- `s`, a signature
+abbrev pub signature_letter : ℕ
+signature_letter = 115
+
 -- `#`, a remark
 abbrev pub remark_letter : ℕ
 remark_letter = 35

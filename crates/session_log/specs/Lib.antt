@@ -3,6 +3,7 @@ pub mod Ending
 pub mod Streams
 pub mod Lines
 pub mod Letters
+pub mod Words
 pub mod Grammar
 pub mod Said
 pub mod Text

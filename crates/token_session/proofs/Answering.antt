@@ -2,9 +2,11 @@
 use Rattle.std.proofs.Common.{◌≡◌, ℕ, ◌≤◌, ◌==◌, ◌⊎◌, inl, inr, ◌&&◌, ◌||◌, true, nat_le, List, [], ◌∷◌, length, max, Option, Some, None, option_map, Ok, refl, sym, ◌∙◌, ap, subst, arith}
 use Rattle.std.proofs.lemmas.Bool.Decides.{nat_tests}
 use Rattle.ctap_message.specs.Answers.{info_answer}
-use Rattle.ctap_message.specs.Requests.{GetInfo, read_of}
-use Rattle.authn_core.specs.Turn.{Start, Event, Request, working}
-use Rattle.authn_core.proofs.Facts.{aaguid_stays, info_answered}
+use Rattle.ctap_message.specs.Asked.{GetInfo}
+use Rattle.ctap_message.specs.Requests.{read_of}
+use Rattle.authn_core.specs.State.{Event, Request}
+use Rattle.authn_core.specs.Turn.{Start, working, waiting}
+use Rattle.authn_core.proofs.Facts.{info_answered}
 use Rattle.hid_assemble.specs.Table.{Begins, Continues, Open, Ruling, is_given, ruling_of}
 use Rattle.hid_assemble.specs.Assembly.{Message, message_after}
 use Rattle.hid_assemble.specs.declared.table.Row.TheVariants.{BadLength, BrokenOff, BusyElsewhere, BusyHere, CancelsNothing, CancelsWork, InitAgain, InitFull, InitLength, InitNew, Long, NoSuchChannel, NoSuchCommand, Short}
@@ -21,7 +23,7 @@ use Rattle.token_session.specs.Machine.{event_after}
 use Rattle.token_session.specs.Events.{event_core, event_packets}
 use Rattle.token_session.specs.Replies.{answer_packets, asker, ping_packets, request_of, row_packets, status_of}
 use Rattle.token_session.specs.declared.input.Input.{Input}
-use Rattle.token_session.specs.declared.input.Input.TheVariants.{Packet, Tick}
+use Rattle.token_session.specs.declared.input.Input.TheVariants.{Packet}
 use Rattle.token_session.specs.declared.input.Timed.{Timed}
 use Rattle.token_session.proofs.Follows.{Good, good_judged, judged_at, safe_at}
 use Rattle.token_session.proofs.Serve.{Serves, new_open, serves}
@@ -74,17 +76,17 @@ request_at start t h (Packet x) m good le fin is =
     let happened : packet_event w (Some m) x.0 ≡ event_after w f (Some m) row = subst (λ v. packet_event w v x.0 ≡ event_after w f v row) after s.event in
     let asks : packet_event w (Some m) x.0 ≡ Some (Request m.cid m.bytes) = happened ∙ e.asks ∙ asked m is in
     rw (e.quiet, fin, no_ping m is, asks) refl
-request_at start t h Tick m good le fin is = cc
+request_at start t h other m good le fin is = cc
 
 -- The AAGUID behind every history is that of the start.
-pub core_aaguid : (start : Start) (h : List Judged) → (core start h).aaguid ≡ start.aaguid
+pub core_aaguid : (start : Start) (h : List Judged) → (core start h).setup.aaguid ≡ start.aaguid
 unfolding core
 core_aaguid start [] = refl
 core_aaguid start (e ∷ h) = go (event (working (core start h)) (finished (open_at h e.at) e.admitted e.input) e.input) (core_aaguid start h)
   where
-    go : (happens : Option Event) → (core start h).aaguid ≡ start.aaguid → (event_core (core start h) e.at happens).aaguid ≡ start.aaguid
+    go : (happens : Option Event) → (core start h).setup.aaguid ≡ start.aaguid → (event_core (core start h) e.at happens).setup.aaguid ≡ start.aaguid
     go None stays = stays
-    go (Some x) stays = aaguid_stays (core start h) e.at x ∙ stays
+    go (Some x) stays = stays
 
 -- A request is answered on its channel, as the authenticator's turn says.
 pub requests_answered : (start : Start) (h : List Timed) (x : Timed) (m : Message)
@@ -108,7 +110,7 @@ info_is_answered start h x m fin is bytes =
     let t = (judge start x past).at in
     let asks : read_of m.bytes ≡ Ok GetInfo = ap read_of bytes in
     requests_answered start h x m fin is
-    ∙ ap (answer_packets (asker k.work (Request m.cid m.bytes)) (status_of k.work)) (info_answered k t m.cid m.bytes asks)
+    ∙ ap (answer_packets (asker (waiting k) (Request m.cid m.bytes)) (status_of (waiting k))) (info_answered k t m.cid m.bytes asks)
     ∙ ap (λ aaguid. written m.cid CBOR (info_answer aaguid)) (core_aaguid start past)
 
 -- A packet that carries a whole message is admitted and finishes it, where nothing is open and no work waits.

@@ -14,7 +14,7 @@ use Rattle.hid_packet.specs.Commands.{CANCEL}
 use Rattle.hid_packet.specs.Packet.{channel, command, continuation_data, initialization_data, is_command, is_initialization, message_length, sequence}
 use Rattle.token_session.specs.History.{finished_at, Begun, Judged, admits, end, finished, finished_long, goes_on, is_last, is_long, is_next, is_open, is_own, is_own_packet, is_packet, judge, judged, message, open_among, open_at, own, packet, packets_of}
 use Rattle.token_session.specs.declared.input.Input.{Input}
-use Rattle.token_session.specs.declared.input.Input.TheVariants.{Packet, Tick}
+use Rattle.token_session.specs.declared.input.Input.TheVariants.{Packet}
 use Rattle.token_session.specs.declared.input.Timed.{Timed}
 
 -- each is a packet of channel c
@@ -43,7 +43,7 @@ next_of c m b (Packet x) o n =
     let two = and_true (not (is_initialization x.0) && (sequence x.0 == m)) b n in
     let both = and_true (not (is_initialization x.0)) (sequence x.0 == m) two.0 in
     (not_is (is_initialization x.0) true both.0, sym (is_eq c (channel x.0) own.0), is_eq (sequence x.0) m both.1)
-next_of c m b Tick o n = cc
+next_of c m b other o n = cc
 
 next_is : (c len m : ℕ) (e : Judged) → is_own c e ≡ true → is_next len m e ≡ true → Next c m e
 unfolding is_own is_next
@@ -118,7 +118,7 @@ packets_whole c (e ∷ es) h = go (is_packet (is_own_packet c) e.input) refl (pa
   where
     whole : (i : Input) → IsWhole i → is_packet (is_own_packet c) i ≡ true → length (packet i) ≡ 64
     whole (Packet p) w t = w
-    whole Tick w t = cc
+    whole other w t = cc
 
     go : (b : Bool) → is_packet (is_own_packet c) e.input ≡ b → Are64 (packets_of (filter (λ v. is_packet (is_own_packet c) v.input) es))
         → Are64 (packets_of (cond b (e ∷ filter (λ v. is_packet (is_own_packet c) v.input) es) (filter (λ v. is_packet (is_own_packet c) v.input) es)))
@@ -209,7 +209,7 @@ carried o t admitted (Packet p) m k whole starts h = go (admitted && nat_le (mes
         let two = and_true admitted (nat_le (message_length p.0) 57) short in
         subst (λ x. Carries p.0 [] x.cid x.cmd x.bytes) (some_is _ m q) (short_carries p.0 (starts two.0) whole (is_le (message_length p.0) 57 two.1))
     go false short q = long_carried o t p.0 m k whole q
-carried o t admitted Tick m k whole starts h = cc
+carried o t admitted other m k whole starts h = cc
 
 -- a judged history's inputs
 whole_judged : (start : Start) (h : List Timed) → ArePackets h → AreWhole (judged start h)
@@ -219,7 +219,7 @@ whole_judged start (x ∷ h) w = (w.0, whole_judged start h w.1)
 
 admitted_starts : (g : ℕ) (o : Option Begun) (w : Option ℕ) (i : Input) → IsWhole i → is_packet (admits g o w) i ≡ true → (is_initialization (packet i) ≡ true) × (length (packet i) ≡ 64)
 admitted_starts g o w (Packet p) whole h = ((says_admitted g o w p.0 h).start, whole)
-admitted_starts g o w Tick whole h = cc
+admitted_starts g o w other whole h = cc
 
 starts_judged : (start : Start) (h : List Timed) → ArePackets h → AdmitsStarts (judged start h)
 unfolding judged judge

@@ -7,7 +7,7 @@ use Rattle.hid_assemble.specs.declared.table.Continuation.TheVariants.{Kept, Who
 use Rattle.hid_assemble.specs.declared.verdict.Verdict.TheVariants.{Greet, GreetAndDrop}
 use Rattle.hid_assemble.specs.Assembly.{Message, message_after, bytes_of}
 use Rattle.hid_assemble.specs.Verdicts.{ruling_verdict, finished_verdict}
-use Rattle.authn_core.specs.Turn.{Drop}
+use Rattle.authn_core.specs.State.{Drop}
 use Rattle.token_session.specs.Replies.{row_packets, ping_packets, request_of, greeting}
 use Rattle.token_session.specs.Machine.{event_after}
 use Rattle.token_session.specs.Effects.{verdict_packets, verdict_event}

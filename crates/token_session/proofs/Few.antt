@@ -3,8 +3,9 @@ use Rattle.std.proofs.Common.{◌∙◌, ◌≡◌, ℕ, ◌+◌, ◌≤◌, ◌
 use Rattle.std.proofs.lemmas.List.{drop_all}
 use Rattle.hid_packet.proofs.Carrying.{few_written}
 use Rattle.token_session.proofs.Serve.{cond_case, is_eq}
-use Rattle.authn_core.proofs.Facts.{drop_is_silent}
-use Rattle.authn_core.specs.Turn.{Answer, Answered, Cancel, CoreState, Drop, Event, Nothing, Request, Waits, Work, working}
+use Rattle.authn_core.proofs.Facts.{drop_answers_nothing}
+use Rattle.authn_core.specs.State.{Answer, Answered, Cancel, Drop, Event, Nothing, Request, Waits, Ignored}
+use Rattle.authn_core.specs.Turn.{CoreState, Work, working, waiting}
 use Rattle.hid_assemble.specs.Table.{Begins, Continues, Open, Ruling, is_on, ruling_of}
 use Rattle.hid_assemble.specs.Assembly.{Message, is_overdue, message_after}
 use Rattle.hid_assemble.specs.declared.table.Row.TheVariants.{BadLength, BrokenOff, BusyElsewhere, BusyHere, CancelsNothing, CancelsWork, InitAgain, InitFull, InitLength, InitNew, Long, NoSuchChannel, NoSuchCommand, Short}
@@ -13,10 +14,10 @@ use Rattle.hid_packet.specs.Commands.{BROADCAST, CBOR, ERROR, INIT, KEEPALIVE, P
 use Rattle.hid_packet.specs.Message.{continuation_packets, written}
 use Rattle.hid_packet.specs.Packet.{Fields, channel_of, data_of, fields}
 use Rattle.token_session.specs.Machine.{State, Turn, event_after, overdue_packets, passed, served, turn}
-use Rattle.token_session.specs.Events.{event_keeps_alive, event_packets, keepalive_due, keepalive_packets}
+use Rattle.token_session.specs.Events.{reply_in, event_keeps_alive, event_packets, keepalive_due, keepalive_packets}
 use Rattle.token_session.specs.Replies.{answer_keeps_alive, answer_packets, asker, greeting, is_status, ping_packets, request_of, row_packets, status_of}
 use Rattle.token_session.specs.declared.input.Input.{Input}
-use Rattle.token_session.specs.declared.input.Input.TheVariants.{Packet, Tick}
+use Rattle.token_session.specs.declared.input.Input.TheVariants.{Packet}
 use Rattle.token_session.specs.declared.input.Timed.{Timed}
 
 no_more : (c : ℕ) → suc (length (continuation_packets 128 c 0 [])) ≤ 1
@@ -32,6 +33,7 @@ unfolding answer_packets
 answer_few None s a = omega arith
 answer_few (Some c) s (Answered b) = few_written c CBOR b
 answer_few (Some c) s (Waits n) = cond_case (λ (v : List (List ℕ)). length v ≤ 129) (is_status s n) _ _ (λ _. omega arith) (λ _. few_written c KEEPALIVE (n ∷ []))
+answer_few (Some c) s Ignored = omega arith
 answer_few (Some c) s Nothing = omega arith
 
 event_few : (k : CoreState) (t : ℕ) (e : Option Event) → length (event_packets k t e) ≤ 129
@@ -44,10 +46,10 @@ nothing_sent None s = (refl, refl)
 nothing_sent (Some c) s = (refl, refl)
 
 pub drop_sends_nothing : (k : CoreState) (t : ℕ) → event_packets k t (Some Drop) ≡ []
-drop_sends_nothing k t = ap (answer_packets (asker k.work Drop) (status_of k.work)) (drop_is_silent k t) ∙ (nothing_sent (asker k.work Drop) (status_of k.work)).0
+drop_sends_nothing k t = ap (answer_packets (asker (waiting k) Drop) (status_of (waiting k))) (drop_answers_nothing k t) ∙ (nothing_sent (asker (waiting k) Drop) (status_of (waiting k))).0
 
 pub drop_keeps_silent : (k : CoreState) (t : ℕ) → event_keeps_alive k t (Some Drop) ≡ false
-drop_keeps_silent k t = ap (answer_keeps_alive (asker k.work Drop) (status_of k.work)) (drop_is_silent k t) ∙ (nothing_sent (asker k.work Drop) (status_of k.work)).1
+drop_keeps_silent k t = ap (answer_keeps_alive (asker (waiting k) Drop) (status_of (waiting k))) (drop_answers_nothing k t) ∙ (nothing_sent (asker (waiting k) Drop) (status_of (waiting k))).1
 
 message_few : (k : CoreState) (t : ℕ) (m : Option Message) → length (ping_packets m ++ event_packets k t (request_of m)) ≤ 129
 message_few k t None = omega arith
@@ -99,7 +101,7 @@ keepalive_few (Some w) = one_packet w.cid KEEPALIVE (w.status ∷ []) (omega ari
 pub time_few : (s : State) (t : ℕ) → length (passed s t).packets ≤ 1
 unfolding passed
 time_few s t = cond_case (λ (v : Turn). length v.packets ≤ 1) (is_overdue s.current t) _ _ (λ _. overdue_few s.current)
-    (λ _. cond_case (λ (v : Turn). length v.packets ≤ 1) (keepalive_due (s.core).work s.keepalive_at t) _ _ (λ _. keepalive_few (s.core).work) (λ _. omega arith))
+    (λ _. cond_case (λ (v : Turn). length v.packets ≤ 1) (keepalive_due (waiting s.core) s.keepalive_at t) _ _ (λ _. keepalive_few (waiting s.core)) (λ _. omega arith))
 
 below : (a b : List (List ℕ)) → length a ≤ 1 → length b ≤ 129 → length (a ++ b) ≤ 130
 below a b h k = omega (arith, length-append a b)
@@ -108,7 +110,7 @@ served_few : (s : State) (early : List (List ℕ)) (i : Input) → length early 
 served_few s early (Packet p) h =
     let few = service_few s.given s.now s.current s.core (working s.core) (fields p.0) (ruling_of s.given s.current (working s.core) (fields p.0)) in
     below early _ h few
-served_few s early Tick h = below early [] h (omega arith)
+served_few s early other h = below early _ h (event_few s.core s.now (reply_in other))
 
 pub turn_few : (s : State) (x : Timed) → length (turn s x).packets ≤ 130
 unfolding turn

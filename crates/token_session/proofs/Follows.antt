@@ -5,9 +5,10 @@ use Rattle.std.proofs.lemmas.List.Sums.{sum_by-cons}
 use Rattle.token_session.proofs.Opens.{Lawful, next, then_next, open_behind}
 use Rattle.token_session.proofs.Serve.{says_admitted, Safe, OpenGiven, Serves, serves, new_open, cond_case}
 use Rattle.token_session.proofs.Time.{still, still_open}
-use Rattle.token_session.proofs.Safety.{packet_works, packet_alone}
+use Rattle.token_session.proofs.Safety.{packet_works, packet_alone, reply_works, reply_alone}
 use Rattle.authn_core.proofs.Facts.{IsGiven}
-use Rattle.authn_core.specs.Turn.{Start, CoreState, Event, Work, working}
+use Rattle.authn_core.specs.State.{Event}
+use Rattle.authn_core.specs.Turn.{Start, CoreState, Work, working, waiting}
 use Rattle.hid_assemble.specs.Table.{Open}
 use Rattle.hid_assemble.specs.Assembly.{given_after, is_overdue, message_after, open_after}
 use Rattle.hid_assemble.specs.Table.{LAST_CHANNEL, ruling_of}
@@ -16,10 +17,10 @@ use Rattle.token_session.specs.History.{Begun, Judged, admits, asks_channel, cor
 use Rattle.token_session.specs.History.{as_open, last_at}
 use Rattle.token_session.specs.Law.{event_at, named}
 use Rattle.token_session.specs.Machine.{State, Turn, event_after, happens, machine, overdue_packets, passed, served, start_state, turn}
-use Rattle.token_session.specs.Events.{event_core, event_keeps_alive, keepalive_due, keepalive_packets}
+use Rattle.token_session.specs.Events.{reply_in, event_core, event_keeps_alive, keepalive_due, keepalive_packets}
 use Rattle.token_session.specs.Replies.{ping_packets, row_packets}
 use Rattle.token_session.specs.declared.input.Input.{Input}
-use Rattle.token_session.specs.declared.input.Input.TheVariants.{Packet, Tick}
+use Rattle.token_session.specs.declared.input.Input.TheVariants.{Packet}
 use Rattle.token_session.specs.declared.input.Timed.{Timed}
 use Rattle.token_session.specs.History as hist
 
@@ -33,15 +34,15 @@ time_sent o u w keepalive_at t = cond (is_cut o u) (cut_packets o) (cond (keepal
 -- the state and the packets as time has passed to t
 abbrev timed : ℕ → Option Begun → Option Begun → CoreState → ℕ → ℕ → Turn
 timed g o u k keepalive_at t = record {
-  state = record { now = t; given = g; current = option_map as_open u; core = k; keepalive_at = time_keepalive o u k.work keepalive_at t };
-  packets = time_sent o u k.work keepalive_at t;
+  state = record { now = t; given = g; current = option_map as_open u; core = k; keepalive_at = time_keepalive o u (waiting k) keepalive_at t };
+  packets = time_sent o u (waiting k) keepalive_at t;
   event = None;
 }
 
 pass_both : (b : Bool) (g t keepalive_at : ℕ) (c : Option Open) (k : CoreState)
-    → ◌≡◌ {A = Turn} (cond b (record { state = record { now = t; given = g; current = c; core = k; keepalive_at = t }; packets = keepalive_packets k.work; event = None })
+    → ◌≡◌ {A = Turn} (cond b (record { state = record { now = t; given = g; current = c; core = k; keepalive_at = t }; packets = keepalive_packets (waiting k); event = None })
     (record { state = record { now = t; given = g; current = c; core = k; keepalive_at = keepalive_at }; packets = []; event = None }))
-    (record { state = record { now = t; given = g; current = c; core = k; keepalive_at = cond b t keepalive_at }; packets = cond b (keepalive_packets k.work) []; event = None })
+    (record { state = record { now = t; given = g; current = c; core = k; keepalive_at = cond b t keepalive_at }; packets = cond b (keepalive_packets (waiting k)) []; event = None })
 pass_both true g t keepalive_at c k = refl
 pass_both false g t keepalive_at c k = refl
 
@@ -50,15 +51,15 @@ not_below a b = grind (arith, nat_tests)
 
 pass_open : (v : Bool) (g t keepalive_at : ℕ) (b : Begun) (k : CoreState)
     → ◌≡◌ {A = Turn} (cond (not v) (record { state = record { now = t; given = g; current = None; core = k; keepalive_at = keepalive_at }; packets = overdue_packets (Some (as_open b)); event = None })
-    (cond (keepalive_due k.work keepalive_at t) (record { state = record { now = t; given = g; current = Some (as_open b); core = k; keepalive_at = t }; packets = keepalive_packets k.work; event = None })
+    (cond (keepalive_due (waiting k) keepalive_at t) (record { state = record { now = t; given = g; current = Some (as_open b); core = k; keepalive_at = t }; packets = keepalive_packets (waiting k); event = None })
     (record { state = record { now = t; given = g; current = Some (as_open b); core = k; keepalive_at = keepalive_at }; packets = []; event = None })))
     (timed g (Some b) (cond v (Some b) None) k keepalive_at t)
-pass_open true g t keepalive_at b k = pass_both (keepalive_due k.work keepalive_at t) g t keepalive_at (Some (as_open b)) k
+pass_open true g t keepalive_at b k = pass_both (keepalive_due (waiting k) keepalive_at t) g t keepalive_at (Some (as_open b)) k
 pass_open false g t keepalive_at b k = refl
 
 pass_named : (now g t keepalive_at : ℕ) (o : Option Begun) (k : CoreState) → passed (record { now = now; given = g; current = option_map as_open o; core = k; keepalive_at = keepalive_at }) t ≡ timed g o (still t o) k keepalive_at t
 unfolding passed is_overdue
-pass_named now g t keepalive_at None k = pass_both (keepalive_due k.work keepalive_at t) g t keepalive_at None k
+pass_named now g t keepalive_at None k = pass_both (keepalive_due (waiting k) keepalive_at t) g t keepalive_at None k
 pass_named now g t keepalive_at (Some b) k =
     rw (not_below (last_at b.at b.own + 500) t) (pass_open (nat_lt t (last_at b.at b.own + 500)) g t keepalive_at b k)
 
@@ -80,9 +81,9 @@ safe_at start t h good le =
     }
 
 -- Time passes for the state that a history names.
-time_named : (start : Start) (t : ℕ) (h : List Judged) → Good start h → end start h ≤ t
+pub time_named : (start : Start) (t : ℕ) (h : List Judged) → Good start h → end start h ≤ t
     → passed (named start h) t ≡ record {
-      state = record { now = t; given = given h; current = option_map as_open (open_at h t); core = core start h; keepalive_at = time_keepalive (open_at h (end start h)) (open_at h t) (core start h).work (last_keepalive start h) t };
+      state = record { now = t; given = given h; current = option_map as_open (open_at h t); core = core start h; keepalive_at = time_keepalive (open_at h (end start h)) (open_at h t) (waiting (core start h)) (last_keepalive start h) t };
       packets = time_packets start h t;
       event = None;
     }
@@ -116,7 +117,7 @@ goal_turn start e h = record { state = named start (e ∷ h); packets = sent_at 
 
 named_turn : (start : Start) (e : Judged) (h : List Judged)
     → happens e.at (given (e ∷ h)) (option_map as_open (open_at (e ∷ h) e.at)) (core start h)
-    (time_keepalive (open_at h (end start h)) (open_at h e.at) (core start h).work (last_keepalive start h) e.at) (time_packets start h e.at)
+    (time_keepalive (open_at h (end start h)) (open_at h e.at) (waiting (core start h)) (last_keepalive start h) e.at) (time_packets start h e.at)
     (table_packets (given h) (open_at h e.at) (working (core start h)) e.input ++ ping_packets (finished (open_at h e.at) e.admitted e.input))
     (event (working (core start h)) (finished (open_at h e.at) e.admitted e.input) e.input)
     ≡ goal_turn start e h
@@ -125,7 +126,7 @@ named_turn start e h =
     let m = finished (open_at h e.at) e.admitted e.input in
     let ev = event (working (core start h)) m e.input in
     let cutted = is_cut (open_at h (end start h)) (open_at h e.at) in
-    let p = or_cond (event_keeps_alive (core start h) e.at ev) (not cutted && keepalive_due (core start h).work (last_keepalive start h) e.at) e.at (last_keepalive start h) in
+    let p = or_cond (event_keeps_alive (core start h) e.at ev) (not cutted && keepalive_due (waiting (core start h)) (last_keepalive start h) e.at) e.at (last_keepalive start h) in
     λ i. record {
       state = record { now = e.at; given = given (e ∷ h); current = option_map as_open (open_at (e ∷ h) e.at); core = core start (e ∷ h); keepalive_at = (sym p) i };
       packets = sent_at start e h;
@@ -138,12 +139,14 @@ judged_at start t h i = record { at = t; input = i; admitted = is_packet (admits
 
 -- what the machine does behind time, at t
 abbrev late_state : Start → List Judged → ℕ → State
-late_state start h t = record { now = t; given = given h; current = option_map as_open (open_at h t); core = core start h; keepalive_at = time_keepalive (open_at h (end start h)) (open_at h t) (core start h).work (last_keepalive start h) t }
+late_state start h t = record { now = t; given = given h; current = option_map as_open (open_at h t); core = core start h; keepalive_at = time_keepalive (open_at h (end start h)) (open_at h t) (waiting (core start h)) (last_keepalive start h) t }
 
-tick_next : (t : ℕ) (b : Bool) (o : Option Begun) → then_next (record { at = t; input = Tick; admitted = b }) o ≡ o
+-- An input that is no packet changes no open message.
+other_next : (t : ℕ) (b : Bool) (i : Input) (o : Option Begun) → is_packet (λ _. true) i ≡ false → then_next (record { at = t; input = i; admitted = b }) o ≡ o
 unfolding next is_own
-tick_next t b None = refl
-tick_next t b (Some c) = refl
+other_next t b (Packet x) o h = cc
+other_next t b other None h = refl
+other_next t b other (Some c) h = refl
 
 served_named : (start : Start) (t : ℕ) (h : List Judged) (i : Input) → Good start h → end start h ≤ t
     → served (late_state start h t) (time_packets start h t) i ≡ goal_turn start (judged_at start t h i) h
@@ -163,15 +166,15 @@ served_named start t h (Packet x) good le =
     ap (λ m. row_packets g (fields p) row ++ ping_packets m) message in
     let ev : event_after w (fields p) (message_after (option_map as_open o) (fields p) row) row ≡ packet_event w (finished o (admits g o w p) (Packet x)) p =
     sym s.event ∙ ap (λ m. packet_event w m p) message in
-    happens_same t (time_keepalive (open_at h (end start h)) o (core start h).work (last_keepalive start h) t) _ _ _ _ (core start h) (time_packets start h t) _ _ _ _ channels current packets ev
+    happens_same t (time_keepalive (open_at h (end start h)) o (waiting (core start h)) (last_keepalive start h) t) _ _ _ _ (core start h) (time_packets start h t) _ _ _ _ channels current packets ev
     ∙ named_turn start (judged_at start t h (Packet x)) h
-served_named start t h Tick good le =
-    let e : Judged = judged_at start t h Tick in
+served_named start t h other good le =
+    let e : Judged = judged_at start t h other in
     let o = open_at h t in
     let channels : given h ≡ given (e ∷ h) = sym (given_more e h) in
-    let current : option_map as_open o ≡ option_map as_open (open_at (e ∷ h) t) = sym (ap (option_map as_open) (open_behind h e start good.lawful le ∙ tick_next t false o)) in
-    happens_same t (time_keepalive (open_at h (end start h)) o (core start h).work (last_keepalive start h) t) (given h) (given (e ∷ h)) (option_map as_open o) (option_map as_open (open_at (e ∷ h) t))
-    (core start h) (time_packets start h t) [] [] None None channels current refl refl
+    let current : option_map as_open o ≡ option_map as_open (open_at (e ∷ h) t) = sym (ap (option_map as_open) (open_behind h e start good.lawful le ∙ other_next t false other o refl)) in
+    happens_same t (time_keepalive (open_at h (end start h)) o (waiting (core start h)) (last_keepalive start h) t) (given h) (given (e ∷ h)) (option_map as_open o) (option_map as_open (open_at (e ∷ h) t))
+    (core start h) (time_packets start h t) [] [] (reply_in other) (reply_in other) channels current refl refl
     ∙ named_turn start e h
 
 -- One input: the machine's turn on the state that a history names gives the state that the longer history names, and its packets.
@@ -185,7 +188,7 @@ follows start h x good =
 
 admitted_alone : (g : ℕ) (o : Option Begun) (w : Option ℕ) (i : Input) → is_packet (admits g o w) i ≡ true → o ≡ None
 admitted_alone g o w (Packet x) h = (says_admitted g o w x.0 h).none
-admitted_alone g o w Tick h = cc
+admitted_alone g o w other h = cc
 
 given_few : (h : List Judged) → given h ≤ LAST_CHANNEL
 unfolding given
@@ -224,9 +227,10 @@ safe_behind start t h (Packet x) good le =
     let s = safe_at start t h good le in
     safe_of start t h (Packet x) _ _ (packet_works (given h) (open_at h t) (core start h) t x s) (packet_alone (given h) (open_at h t) (core start h) t x s)
     (open_behind h (judged_at start t h (Packet x)) start good.lawful le)
-safe_behind start t h Tick good le =
+safe_behind start t h other good le =
     let s = safe_at start t h good le in
-    safe_of start t h Tick (open_at h t) (working (core start h)) s.works s.opens (open_behind h (judged_at start t h Tick) start good.lawful le ∙ tick_next t false (open_at h t))
+    safe_of start t h other (open_at h t) _ (reply_works (given h) (core start h) t other s.works) (reply_alone (given h) (open_at h t) (core start h) t other s.opens)
+    (open_behind h (judged_at start t h other) start good.lawful le ∙ other_next t false other (open_at h t) refl)
 
 -- What holds behind a history holds behind a longer one.
 good_longer : (start : Start) (h : List Judged) (x : Timed) → Good start h → Good start (judge start x h ∷ h)

@@ -6,7 +6,6 @@ pub mod Follows
 pub mod Runs
 pub mod Bounds
 pub mod Few
-pub mod Alive
 pub mod Effects
 pub mod Passing
 pub mod Serving
@@ -15,3 +14,5 @@ mod Rows
 pub mod Carrying
 pub mod Answering
 pub mod Noted
+pub mod Noise
+pub mod Drives

@@ -3,7 +3,8 @@ use Rattle.std.proofs.Common.{◌≡◌, ℕ, ◌+◌, ◌-◌, ◌*◌, List, [
 use Rattle.std.proofs.lemmas.List.Sums.{sum_by-cons}
 use Rattle.hid_assemble.specs.Assembly.{held_bytes}
 use Rattle.ctap_message.specs.Requests.{steps_of}
-use Rattle.authn_core.specs.Turn.{Start, Event, Request, Cancel, Drop}
+use Rattle.authn_core.specs.State.{Event, Request, Cancel, Drop}
+use Rattle.authn_core.specs.Turn.{Start}
 use Rattle.token_session.specs.declared.input.Timed.{Timed}
 use Rattle.token_session.specs.declared.input.Meters.{Meters}
 use Rattle.token_session.specs.Effects.{request_in, reading_in}
@@ -12,7 +13,8 @@ use Rattle.token_session.specs.History.{Judged, Begun, judged, judge, held, open
 use Rattle.token_session.specs.Machine.{State, Turn, turn, start_state}
 use Rattle.token_session.specs.History.{as_open}
 use Rattle.token_session.specs.Law.{named, event_at, Behind}
-use Rattle.token_session.specs.Meters.{LARGEST, listed, requests, peak_held, meters_of, one_more, bytes_in, steps_in, metered, SessionState, StandsBehind, stepped, session_of}
+use Rattle.cred_table.specs.Waiting.{pending_count}
+use Rattle.token_session.specs.Meters.{LARGEST, peak_rows, peak_pending, metered_by, listed, requests, peak_held, meters_of, one_more, bytes_in, steps_in, metered, SessionState, StandsBehind, stepped, session_of}
 use Rattle.token_session.proofs.Runs.{turn_behind}
 
 -- the bytes held are those that the history names
@@ -30,57 +32,61 @@ capped n k m e = omega arith
 count_more : (e : Option Event) (rs : List (List ℕ)) → length (listed (request_in e) ++ rs) ≡ one_more (reading_in e) + length rs
 count_more None rs = omega arith
 count_more (Some (Request cid bytes)) rs = omega arith
-count_more (Some Cancel) rs = omega arith
-count_more (Some Drop) rs = omega arith
+count_more (Some other) rs = omega arith
 
 sum_more : (e : Option Event) (rs : List (List ℕ)) → sum_by (λ bytes. length bytes - 1) (listed (request_in e) ++ rs) ≡ bytes_in (reading_in e) + sum_by (λ bytes. length bytes - 1) rs
 sum_more None rs = omega arith
 sum_more (Some (Request cid bytes)) rs = sum_by-cons (λ (b : List ℕ). length b - 1) bytes rs
-sum_more (Some Cancel) rs = omega arith
-sum_more (Some Drop) rs = omega arith
+sum_more (Some other) rs = omega arith
 
 steps_more : (e : Option Event) (rs : List (List ℕ)) → sum_by steps_of (listed (request_in e) ++ rs) ≡ steps_in (reading_in e) + sum_by steps_of rs
 steps_more None rs = omega arith
 steps_more (Some (Request cid bytes)) rs = sum_by-cons steps_of bytes rs
-steps_more (Some Cancel) rs = omega arith
-steps_more (Some Drop) rs = omega arith
+steps_more (Some other) rs = omega arith
 
-pub meters_more : (start : Start) (e : Judged) (h : List Judged) → metered (meters_of start h) (held start (e ∷ h)) (reading_in (event_at start e h)) ≡ meters_of start (e ∷ h)
-unfolding meters_of metered requests peak_held
+pub meters_more : (start : Start) (e : Judged) (h : List Judged) → metered (meters_of start h) (held start (e ∷ h)) (length (core start (e ∷ h)).state.rows) (pending_count (core start (e ∷ h)).state.pending) (reading_in (event_at start e h))
+    ≡ meters_of start (e ∷ h)
+unfolding meters_of metered requests peak_held peak_rows peak_pending
 meters_more start e h =
     let counts = sym (capped (length (requests start h)) (one_more (reading_in (event_at start e h))) _ (count_more (event_at start e h) (requests start h))) in
     let sums = sym (capped (sum_by (λ bytes. length bytes - 1) (requests start h)) (bytes_in (reading_in (event_at start e h))) _ (sum_more (event_at start e h) (requests start h))) in
     let steps = sym (capped (sum_by steps_of (requests start h)) (steps_in (reading_in (event_at start e h))) _ (steps_more (event_at start e h) (requests start h))) in
-    λ i. record { held = max (peak_held start h) (held start (e ∷ h)); rows = 0; pending = 0; requests = counts i; bytes = sums i; steps = steps i }
+    λ i. record { held = max (peak_held start h) (held start (e ∷ h)); rows = peak_rows start (e ∷ h); pending = peak_pending start (e ∷ h); requests = counts i; bytes = sums i; steps = steps i }
 
 -- A session that stands behind a history stands behind the longer one.
 pub stands_longer : (s : SessionState) (start : Start) (h : List Timed) (x : Timed) → StandsBehind s start h → StandsBehind (stepped s x) start (x ∷ h)
-unfolding stepped session_of judged
+unfolding stepped session_of named judged
 stands_longer s start h x b =
     let turned = turn_behind s.machine start h x (ap (λ (v : SessionState). v.machine) b) in
     let e = judge start x (judged start h) in
     λ i. record {
       machine = (ap (λ (t : Turn). t.state) turned) i;
-      meters = (ap (λ (m : Meters). metered m (held_bytes (turn s.machine x).state.current) (reading_in (turn s.machine x).event)) (ap (λ (v : SessionState). v.meters) b)
-          ∙ ap (λ (t : Turn). metered (meters_of start (judged start h)) (held_bytes t.state.current) (reading_in t.event)) turned
-          ∙ ap (λ n. metered (meters_of start (judged start h)) n (reading_in (event_at start e (judged start h)))) (held_named start (e ∷ judged start h))
+      meters = (ap (λ (m : Meters). metered_by m (turn s.machine x)) (ap (λ (v : SessionState). v.meters) b)
+          ∙ ap (metered_by (meters_of start (judged start h))) turned
+          ∙ ap (λ n. metered (meters_of start (judged start h)) n (length (core start (e ∷ judged start h)).state.rows) (pending_count (core start (e ∷ judged start h)).state.pending) (reading_in (event_at start e (judged start h))))
+          (held_named start (e ∷ judged start h))
           ∙ meters_more start e (judged start h)) i;
     }
 
 -- A turn of the machine, counted, is a step of the session.
-pub stepped_is : (m n : State) (k l : Meters) (s : SessionState) (x : Timed) (request : Option Reading) (held_now : ℕ) → record { machine = m; meters = k } ≡ s
-    → n ≡ (turn m x).state → request ≡ reading_in (turn m x).event → held_now ≡ held_bytes n.current → l ≡ metered k held_now request
+pub stepped_is : (m n : State) (k l : Meters) (s : SessionState) (x : Timed) (request : Option Reading) (held rows pending : ℕ) → record { machine = m; meters = k } ≡ s
+    → n ≡ (turn m x).state → request ≡ reading_in (turn m x).event
+    → held ≡ held_bytes n.current → rows ≡ length n.core.state.rows → pending ≡ pending_count n.core.state.pending → l ≡ metered k held rows pending request
     → record { machine = n; meters = l } ≡ stepped s x
 unfolding stepped
-stepped_is m n k l s x request held_now is state finished held_is counted =
-    let same : l ≡ metered k (held_bytes (turn m x).state.current) (reading_in (turn m x).event) =
-    counted ∙ ap (λ q. metered k q request) (held_is ∙ ap (λ (v : State). held_bytes v.current) state) ∙ ap (metered k (held_bytes (turn m x).state.current)) finished in
+stepped_is m n k l s x request held rows pending is state finished held_is rows_are pending_is counted =
+    let same : l ≡ metered_by k (turn m x) =
+    counted ∙ (λ i. metered k (held_is i) (rows_are i) (pending_is i) (finished i))
+    ∙ ap (λ (v : State). metered k (held_bytes v.current) (length v.core.state.rows) (pending_count v.core.state.pending) (reading_in (turn m x).event)) state in
     rw (← is) (λ i. record { machine = state i; meters = same i })
 
 -- the session at its start
-pub starts : (start : Start) (m : State) → m ≡ start_state start → record { machine = m; meters = record { held = 0; rows = 0; pending = 0; requests = 0; bytes = 0; steps = 0 } } ≡ session_of start []
-unfolding start_state session_of named meters_of requests peak_held held given open_at open_among core last_keepalive
-starts start m is = ap (λ (v : State). record { machine = v; meters = record { held = 0; rows = 0; pending = 0; requests = 0; bytes = 0; steps = 0 } }) is
+pub starts : (start : Start) (m : State) (rows : ℕ) → m ≡ start_state start → rows ≡ length m.core.state.rows
+    → record { machine = m; meters = record { held = 0; rows = rows; pending = 0; requests = 0; bytes = 0; steps = 0 } } ≡ session_of start []
+unfolding start_state session_of named meters_of requests peak_held peak_rows peak_pending held given open_at open_among core last_keepalive
+starts start m rows is counted =
+    (λ i. record { machine = m; meters = record { held = 0; rows = counted i; pending = 0; requests = 0; bytes = 0; steps = 0 } })
+    ∙ ap (λ (v : State). record { machine = v; meters = record { held = 0; rows = length v.core.state.rows; pending = 0; requests = 0; bytes = 0; steps = 0 } }) is
 
 pub machine_behind : (s : SessionState) (start : Start) (h : List Timed) → StandsBehind s start h → Behind s.machine start h
 unfolding session_of

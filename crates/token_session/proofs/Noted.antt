@@ -2,7 +2,8 @@
 use Rattle.std.proofs.Common.{◌≡◌, ℕ, ◌+◌, ◌-◌, ◌<◌, ◌≤◌, ◌==◌, Bool, true, false, cond, not, ◌&&◌, ◌||◌, suc, zero, List, [], ◌∷◌, ◌++◌, length, take, drop, Option, Some, None, option_map, refl, sym, ◌∙◌, ap, ap₂, arith, nat_le}
 use Rattle.std.proofs.lemmas.Bool.Decides.{nat_tests}
 use Rattle.std.proofs.lemmas.List.Folds.{list_any-append}
-use Rattle.authn_core.specs.Turn.{Start, Work, CoreState, Event, Answer, Answered, Waits, Nothing, working}
+use Rattle.authn_core.specs.State.{Event, Answer, Answered, Waits, Ignored, Nothing}
+use Rattle.authn_core.specs.Turn.{Start, Work, CoreState, working, waiting}
 use Rattle.hid_assemble.specs.Table.{Begins, Continues, Ruling, ruling_of}
 use Rattle.hid_assemble.specs.Assembly.{Message}
 use Rattle.hid_assemble.specs.declared.table.Row.TheVariants.{BadLength, BrokenOff, BusyElsewhere, BusyHere, CancelsNothing, CancelsWork, InitAgain, InitFull, InitLength, InitNew, Long, NoSuchChannel, NoSuchCommand, Short}
@@ -15,7 +16,7 @@ use Rattle.token_session.specs.History.{Begun, Judged, core, cut_packets, end, e
 use Rattle.token_session.specs.Law.{keeps_alive}
 use Rattle.token_session.specs.Replies.{answer_keeps_alive, answer_packets, greeting, is_status, ping_packets, row_packets}
 use Rattle.token_session.specs.declared.input.Input.{Input}
-use Rattle.token_session.specs.declared.input.Input.TheVariants.{Packet, Tick}
+use Rattle.token_session.specs.declared.input.Input.TheVariants.{Packet}
 
 begins : (cid cmd len : ℕ) (part : List ℕ) → is_initialization (initialization_packet cid cmd len part) ≡ true
 unfolding is_initialization initialization_packet padded
@@ -89,7 +90,7 @@ row_silent g f (Continues Stray) = refl
 
 table_silent : (g : ℕ) (o : Option Begun) (w : Option ℕ) (i : Input) → keeps_alive (table_packets g o w i) ≡ false
 table_silent g o w (Packet p) = row_silent g (fields p.0) (ruling_of g (option_map as_open o) w (fields p.0))
-table_silent g o w Tick = refl
+table_silent g o w other = refl
 
 ping_silent : (m : Option Message) → keeps_alive (ping_packets m) ≡ false
 ping_silent None = refl
@@ -108,6 +109,7 @@ answer_noted (Some cid) before (Waits status) = go (is_status before status)
     go : (b : Bool) → keeps_alive (cond b [] (written cid KEEPALIVE (status ∷ []))) ≡ not b
     go true = refl
     go false = of_written cid KEEPALIVE (status ∷ [])
+answer_noted (Some cid) before Ignored = refl
 answer_noted (Some cid) before Nothing = refl
 
 event_noted : (k : CoreState) (t : ℕ) (e : Option Event) → keeps_alive (event_packets k t e) ≡ event_keeps_alive k t e
@@ -131,7 +133,7 @@ time_noted false o (Some w) l t = go (nat_le (l + 100) t)
 
 sent_noted : (start : Start) (e : Judged) (past : List Judged)
     → keeps_alive (sent_at start e past)
-    ≡ ((not (is_cut (open_at past (end start past)) (open_at past e.at)) && keepalive_due (core start past).work (last_keepalive start past) e.at)
+    ≡ ((not (is_cut (open_at past (end start past)) (open_at past e.at)) && keepalive_due (waiting (core start past)) (last_keepalive start past) e.at)
     || event_keeps_alive (core start past) e.at (event_to (core start past) e past))
 unfolding sent_at service_packets time_packets
 sent_noted start e past =
@@ -140,7 +142,7 @@ sent_noted start e past =
     let table = table_packets (given past) (open_at past e.at) (working k) e.input in
     let ev = event_packets k e.at (event_to k e past) in
     list_any-append (is_command KEEPALIVE) _ _
-    ∙ ap₂ ◌||◌ (time_noted (is_cut (open_at past (end start past)) (open_at past e.at)) (open_at past (end start past)) k.work (last_keepalive start past) e.at)
+    ∙ ap₂ ◌||◌ (time_noted (is_cut (open_at past (end start past)) (open_at past e.at)) (open_at past (end start past)) (waiting k) (last_keepalive start past) e.at)
     (list_any-append (is_command KEEPALIVE) (table ++ ping_packets m) ev
     ∙ ap₂ ◌||◌ (list_any-append (is_command KEEPALIVE) table (ping_packets m) ∙ ap₂ ◌||◌ (table_silent (given past) (open_at past e.at) (working k) e.input) (ping_silent m)) (event_noted k e.at (event_to k e past)))
 
@@ -148,5 +150,5 @@ pub last_noted : (start : Start) (e : Judged) (past : List Judged) → last_keep
 unfolding last_keepalive
 last_noted start e past =
     let k = core start past in
-    let due = not (is_cut (open_at past (end start past)) (open_at past e.at)) && keepalive_due k.work (last_keepalive start past) e.at in
+    let due = not (is_cut (open_at past (end start past)) (open_at past e.at)) && keepalive_due (waiting k) (last_keepalive start past) e.at in
     ap (λ b. cond b e.at (last_keepalive start past)) (or_swap (event_keeps_alive k e.at (event_to k e past)) due ∙ sym (sent_noted start e past))

@@ -2,7 +2,7 @@
 use Rattle.std.proofs.Common.{◌≡◌, ℕ, ◌+◌, Bool, true, false, cond, List, [], Option, Some, None, option_map, refl, ap, nat_le}
 use Rattle.hid_assemble.specs.Table.{Open}
 use Rattle.hid_assemble.specs.Assembly.{Assembly, is_overdue, still_open}
-use Rattle.authn_core.specs.Turn.{CoreState}
+use Rattle.authn_core.specs.Turn.{CoreState, waiting}
 use Rattle.token_session.specs.Replies.{error}
 use Rattle.token_session.specs.Machine.{State, Turn, passed, overdue_packets}
 use Rattle.token_session.specs.Events.{keepalive_due, keepalive_packets}
@@ -54,8 +54,8 @@ module _ (n b t : ℕ) (a d : Assembly) (k : CoreState) (v : State) (is : whole 
       rw (← is, kept, late, l.packets) refl
 
   pub timely_turn : None ≡ cond (is_overdue a.current t) (option_map (λ m. m.cid) a.current) None
-      → passed v t ≡ record { state = whole t d k (cond (keepalive_due k.work b t) t b); packets = cond (keepalive_due k.work b t) (keepalive_packets k.work) []; event = None }
+      → passed v t ≡ record { state = whole t d k (cond (keepalive_due (waiting k) b t) t b); packets = cond (keepalive_due (waiting k) b t) (keepalive_packets (waiting k)) []; event = None }
   unfolding passed
   timely_turn r =
       let late : is_overdue a.current t ≡ false = in_time_at a.current t r in
-      rw (← is, kept, late) (due_or_not (keepalive_due k.work b t) t a.given b a.current k (keepalive_packets k.work))
+      rw (← is, kept, late) (due_or_not (keepalive_due (waiting k) b t) t a.given b a.current k (keepalive_packets (waiting k)))

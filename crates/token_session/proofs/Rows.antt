@@ -1,7 +1,10 @@
 -- Worked histories, by computation: a reader's check that the definitions say what is meant. Code and definitions share the
 -- fields, the error codes, the greeting and the authenticator's turns, and only these rows look at them from outside.
 use Rattle.std.specs.Prelude.{◌≡◌, ℕ, ◌+◌, ◌-◌, List, [], ◌∷◌, ◌++◌, length, refl, replicate, reverse, zero, suc, Some, None}
-use Rattle.authn_core.specs.Turn.{Start, Waits, core_turn}
+use Rattle.authn_core.specs.State.{Waits}
+use Rattle.authn_core.specs.Turn.{Start}
+use Rattle.authn_core.specs.Turn as core_turn
+use Rattle.authn_core.specs.declared.task.Task.TheVariants.{Selects}
 use Rattle.ctap_message.specs.Answers.{info_answer}
 use Rattle.ctap_message.specs.Requests.{read_of}
 use Rattle.hid_assemble.specs.Assembly.{is_overdue, message_after, open_after}
@@ -34,10 +37,10 @@ greeted c = pad (255 ∷ 255 ∷ 255 ∷ 255 ∷ 134 ∷ 0 ∷ 17 ∷ 1 ∷ 1 �
 
 -- an AAGUID of sixteen zero bytes, and the moment 0
 abbrev at_zero : Start
-at_zero = record { aaguid = replicate 16 0; moment = 0 }
+at_zero = record { aaguid = replicate 16 0; moment = 0; room = 64; rows = [] }
 
 sent_by : List Timed → List (List ℕ)
-unfolding channel is_initialization command message_length initialization_data sequence continuation_data padded initialization_packet continuation_packet continuation_packets written read_of core_turn initialization_row continuation_row ruling_of greeting row_packets answer_packets answer_keeps_alive is_overdue keepalive_due open_after message_after event_after passed turn start_state machine judged sent held asks_channel given is_own own is_next goes_on is_long is_open open_among open_at is_last finished_long finished packet_event event core admits judge last_keepalive time_packets service_packets sent_at
+unfolding channel is_initialization command message_length initialization_data sequence continuation_data padded initialization_packet continuation_packet continuation_packets written read_of core_turn.turn initialization_row continuation_row ruling_of greeting row_packets answer_packets answer_keeps_alive is_overdue keepalive_due open_after message_after event_after passed turn start_state machine judged sent held asks_channel given is_own own is_next goes_on is_long is_open open_among open_at is_last finished_long finished packet_event event core admits judge last_keepalive time_packets service_packets sent_at
 sent_by xs = sent at_zero (judged at_zero (reverse xs))
 
 -- the first lines of the plainest log
@@ -176,10 +179,10 @@ get_info_refused = refl
 -- Work waits for the user's presence on channel 1 since the moment 0. (No command begins work yet, so that such a state
 -- stands behind no history.)
 waiting : State
-waiting = record { now = 0; given = 2; current = None; core = record { aaguid = replicate 16 0; began = 0; work = Some (record { cid = 1; status = 2 }) }; keepalive_at = 0 }
+waiting = record { now = 0; given = 2; current = None; core = record { setup = record { aaguid = replicate 16 0; began = 0; room = 64 }; state = record { rows = []; pending = None; work = Some (record { cid = 1; task = Selects }) } }; keepalive_at = 0 }
 
 runs : List Timed → List (ℕ × List ℕ)
-unfolding channel is_initialization command message_length initialization_data sequence continuation_data padded initialization_packet continuation_packet continuation_packets written read_of core_turn initialization_row continuation_row ruling_of greeting row_packets answer_packets answer_keeps_alive is_overdue keepalive_due open_after message_after event_after passed turn start_state machine judged sent held asks_channel given is_own own is_next goes_on is_long is_open open_among open_at is_last finished_long finished packet_event event core admits judge last_keepalive time_packets service_packets sent_at waiting
+unfolding channel is_initialization command message_length initialization_data sequence continuation_data padded initialization_packet continuation_packet continuation_packets written read_of core_turn.turn initialization_row continuation_row ruling_of greeting row_packets answer_packets answer_keeps_alive is_overdue keepalive_due open_after message_after event_after passed turn start_state machine judged sent held asks_channel given is_own own is_next goes_on is_long is_open open_among open_at is_last finished_long finished packet_event event core admits judge last_keepalive time_packets service_packets sent_at waiting
 runs xs = run_sent 0 waiting xs
 
 -- busy, a new channel, KEEPALIVE at 100 and 200 but not at 150, an idle CANCEL and a real one
@@ -217,10 +220,10 @@ due = refl
 
 -- all channels were given out
 full : State
-full = record { now = 0; given = 4294967294; current = None; core = record { aaguid = replicate 16 0; began = 0; work = None }; keepalive_at = 0 }
+full = record { now = 0; given = 4294967294; current = None; core = record { setup = record { aaguid = replicate 16 0; began = 0; room = 64 }; state = record { rows = []; pending = None; work = None } }; keepalive_at = 0 }
 
 runs_full : List Timed → List (ℕ × List ℕ)
-unfolding channel is_initialization command message_length initialization_data sequence continuation_data padded initialization_packet continuation_packet continuation_packets written read_of core_turn initialization_row continuation_row ruling_of greeting row_packets answer_packets answer_keeps_alive is_overdue keepalive_due open_after message_after event_after passed turn start_state machine judged sent held asks_channel given is_own own is_next goes_on is_long is_open open_among open_at is_last finished_long finished packet_event event core admits judge last_keepalive time_packets service_packets sent_at full
+unfolding channel is_initialization command message_length initialization_data sequence continuation_data padded initialization_packet continuation_packet continuation_packets written read_of core_turn.turn initialization_row continuation_row ruling_of greeting row_packets answer_packets answer_keeps_alive is_overdue keepalive_due open_after message_after event_after passed turn start_state machine judged sent held asks_channel given is_own own is_next goes_on is_long is_open open_among open_at is_last finished_long finished packet_event event core admits judge last_keepalive time_packets service_packets sent_at full
 runs_full xs = run_sent 0 full xs
 
 -- INIT asks for one more, and then for one in vain with a length of 7; CANCEL there isn't answered, a command that isn't served is refused for its channel

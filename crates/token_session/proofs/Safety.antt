@@ -3,16 +3,18 @@ use Rattle.std.proofs.Common.{◌≡◌, ℕ, ◌≤◌, ◌==◌, true, false, 
 use Rattle.std.proofs.lemmas.Option.{same_Some}
 use Rattle.token_session.proofs.Serve.{OpenGiven, Safe, new_open, cond_case, says_admitted, never_admitted, now_came, long_says, is_le, no_event, own_more, not_is, all_four}
 use Rattle.token_session.proofs.Opens.{next, and_true, not_true}
-use Rattle.authn_core.proofs.Facts.{EventIsGiven, IsGiven, work_stays_given}
-use Rattle.authn_core.specs.Turn.{CoreState, Event, working}
+use Rattle.authn_core.proofs.Facts.{EventIsGiven, IsGiven, work_stays_given, presence_starts_none, key_starts_none, signature_starts_none}
+use Rattle.authn_core.specs.State.{Event, PresenceIs, KeyIs, SignatureIs}
+use Rattle.authn_core.specs.Turn.{CoreState, working}
 use Rattle.hid_assemble.specs.Assembly.{Message}
 use Rattle.hid_assemble.specs.Table.{is_on}
 use Rattle.hid_packet.specs.Commands.{CANCEL, INIT}
 use Rattle.hid_packet.specs.Packet.{channel, is_command, is_initialization, message_length, sequence}
 use Rattle.token_session.specs.History.{Begun, Judged, admits, finished, finished_long, is_last, is_long, is_next, is_own, packet_event}
-use Rattle.token_session.specs.Events.{event_core}
+use Rattle.token_session.specs.Events.{event_core, reply_in}
 use Rattle.token_session.specs.Replies.{request_of}
-use Rattle.token_session.specs.declared.input.Input.TheVariants.{Packet}
+use Rattle.token_session.specs.declared.input.Input.{Input}
+use Rattle.token_session.specs.declared.input.Input.TheVariants.{Packet, Presence, Key, Signature}
 use Rattle.hid_packet.specs.declared.packet.Packet.{Packet as Packet64}
 
 abbrev MessageGiven : ℕ → Option Message → Type 0
@@ -111,3 +113,18 @@ packet_alone g None k t x s =
     (λ y. begun_alone g k t x y) (λ _. tt)
 packet_alone g (Some b) k t x s =
     next_alone g b k t x _ (s.opens).0 (s.opens).1 (s.opens).2 (let adm = never_admitted g b (working k) x.0 in rw adm refl)
+
+-- A reply of the caller leaves work on a channel that was given.
+pub reply_works : (g : ℕ) (k : CoreState) (t : ℕ) (i : Input) → IsGiven g (working k) → IsGiven g (working (event_core k t (reply_in i)))
+reply_works g k t (Presence reply) h = work_stays_given g k t (PresenceIs reply) h tt
+reply_works g k t (Key key) h = work_stays_given g k t (KeyIs key) h tt
+reply_works g k t (Signature sig) h = work_stays_given g k t (SignatureIs sig) h tt
+reply_works g k t other h = h
+
+-- It starts none where a message is open.
+pub reply_alone : (g : ℕ) (o : Option Begun) (k : CoreState) (t : ℕ) (i : Input) → OpenGiven g o (working k) → OpenGiven g o (working (event_core k t (reply_in i)))
+reply_alone g None k t i h = tt
+reply_alone g (Some b) k t (Presence reply) h = (h.0, h.1, presence_starts_none k t reply h.2)
+reply_alone g (Some b) k t (Key key) h = (h.0, h.1, key_starts_none k t key h.2)
+reply_alone g (Some b) k t (Signature sig) h = (h.0, h.1, signature_starts_none k t sig h.2)
+reply_alone g (Some b) k t other h = h

@@ -5,7 +5,7 @@ use Rattle.std.proofs.lemmas.Grind.{flat_map-append}
 use Rattle.std.proofs.lemmas.List.{map-append, length-append}
 use Rattle.token_session.proofs.Opens.{next, then_next, and_true, both_true, not_true, cond_at}
 use Rattle.authn_core.proofs.Facts.{IsGiven}
-use Rattle.authn_core.specs.Turn.{Cancel, Drop}
+use Rattle.authn_core.specs.State.{Cancel, Drop}
 use Rattle.hid_assemble.specs.Table.{Begins, Continues, LAST_CHANNEL, Ruling, continuation_row, initialization_row, is_elsewhere, is_given, is_on, ruling_of}
 use Rattle.hid_assemble.specs.declared.table.Row.{Row}
 use Rattle.hid_assemble.specs.declared.table.Continuation.{Continuation}

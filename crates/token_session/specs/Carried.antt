@@ -2,7 +2,7 @@
 use Rattle.std.specs.Prelude.{◌≡◌, ℕ, Bool, ◌&&◌, nat_le, List, [], ◌∷◌, ◌++◌, length, Option, Some, None, if◌then◌else◌}
 use Rattle.hid_packet.specs.Packet.{message_length}
 use Rattle.token_session.specs.declared.input.Input.{Input}
-use Rattle.token_session.specs.declared.input.Input.TheVariants.{Packet, Tick}
+use Rattle.token_session.specs.declared.input.Input.TheVariants.{Packet}
 use Rattle.token_session.specs.declared.input.Timed.{Timed}
 use Rattle.token_session.specs.History.{Judged, Begun, open_at, is_last, packets_of}
 
@@ -13,7 +13,7 @@ Are64 (p ∷ ps) = (length p ≡ 64) × Are64 ps
 
 abbrev pub IsWhole : Input → Type 0
 IsWhole (Packet p) = length p.0 ≡ 64
-IsWhole Tick = Unit {0}
+IsWhole other = Unit {0}
 
 abbrev pub AreWhole : List Judged → Type 0
 AreWhole [] = Unit {0}
@@ -30,7 +30,7 @@ long_carriers (Some b) p = if is_last b p then b.packet ∷ (packets_of b.own ++
 
 unfoldable pub carriers : Option Begun → Bool → Input → List (List ℕ)
 carriers o admitted (Packet p) = if admitted && nat_le (message_length p.0) 57 then p.0 ∷ [] else long_carriers o p.0
-carriers o admitted Tick = []
+carriers o admitted other = []
 
 -- the packets that carried the message that an input finishes behind a history
 abbrev pub carriers_at : Judged → List Judged → List (List ℕ)

@@ -5,7 +5,7 @@ use Rattle.hid_packet.specs.Message.{written}
 use Rattle.hid_assemble.specs.Codes.{code_number}
 use Rattle.hid_assemble.specs.declared.verdict.Verdict.{Verdict}
 use Rattle.hid_assemble.specs.declared.verdict.Verdict.TheVariants.{Ignored, Kept, Finished, Refuse, Greet, GreetAndDrop, CancelWork}
-use Rattle.authn_core.specs.Turn.{Event, Request, Cancel, Drop}
+use Rattle.authn_core.specs.State.{Event, Request, Cancel, Drop}
 use Rattle.ctap_message.specs.Requests.{steps_of}
 use Rattle.token_session.specs.declared.authenticator.Reading.{Reading}
 use Rattle.token_session.specs.Replies.{error, greeting}
@@ -33,8 +33,7 @@ verdict_event CancelWork bytes = Some Cancel
 abbrev pub request_in : Option Event → Option (List ℕ)
 request_in None = None
 request_in (Some (Request cid bytes)) = Some bytes
-request_in (Some Cancel) = None
-request_in (Some Drop) = None
+request_in (Some other) = None
 
 -- what reading a request takes: the bytes behind its command byte, and the steps
 abbrev pub reading_of : List ℕ → Reading
@@ -42,10 +41,3 @@ reading_of message = record { bytes = length message - 1; steps = steps_of messa
 
 abbrev pub reading_in : Option Event → Option Reading
 reading_in e = option_map reading_of (request_in e)
-
--- the steps of reading the last request, behind an event
-abbrev pub steps_behind : ℕ → Option Event → ℕ
-steps_behind before None = before
-steps_behind before (Some (Request cid bytes)) = steps_of bytes
-steps_behind before (Some Cancel) = before
-steps_behind before (Some Drop) = before

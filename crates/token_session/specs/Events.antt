@@ -1,30 +1,37 @@
 -- What an event makes of the authenticator and sends, and when a KEEPALIVE is due: a moment, the authenticator and an event
 -- are all that is looked at.
 use Rattle.std.specs.Prelude.{ℕ, ◌+◌, Bool, false, nat_le, List, [], Option, Some, None, if◌then◌else◌}
-use Rattle.authn_core.specs.Turn.{Work, CoreState, Event, core_turn}
+use Rattle.authn_core.specs.State.{Event, PresenceIs, KeyIs, SignatureIs}
+use Rattle.authn_core.specs.Turn.{Work, CoreState, waiting, core_after, core_answer}
+use Rattle.token_session.specs.declared.input.Input.{Input}
+use Rattle.token_session.specs.declared.input.Input.TheVariants.{Presence, Key, Signature}
 use Rattle.token_session.specs.Replies.{keepalive, status_of, asker, answer_packets, answer_keeps_alive}
+
+-- the event that a reply of the caller is
+abbrev pub reply_in : Input → Option Event
+reply_in (Presence reply) = Some (PresenceIs reply)
+reply_in (Key key) = Some (KeyIs key)
+reply_in (Signature signature) = Some (SignatureIs signature)
+reply_in other = None
 
 -- What an event, or none, makes of the authenticator and sends.
 abbrev pub event_core : CoreState → ℕ → Option Event → CoreState
 event_core core at None = core
-event_core core at (Some e) = (core_turn core at e).state
+event_core core at (Some e) = core_after core at e
 
 abbrev pub event_packets : CoreState → ℕ → Option Event → List (List ℕ)
 event_packets core at None = []
-event_packets core at (Some e) = answer_packets (asker core.work e) (status_of core.work) (core_turn core at e).answer
+event_packets core at (Some e) = answer_packets (asker (waiting core) e) (status_of (waiting core)) (core_answer core at e)
 
 abbrev pub event_keeps_alive : CoreState → ℕ → Option Event → Bool
 event_keeps_alive core at None = false
-event_keeps_alive core at (Some e) = answer_keeps_alive (asker core.work e) (status_of core.work) (core_turn core at e).answer
+event_keeps_alive core at (Some e) = answer_keeps_alive (asker (waiting core) e) (status_of (waiting core)) (core_answer core at e)
 
--- the authenticator, and the moment of the last KEEPALIVE
+-- the authenticator, the greatest moment of its start and its events, and the moment of the last KEEPALIVE
 pub record AuthenticatorState : Type 0 where
   pub core : CoreState
+  pub latest : ℕ
   pub keepalive_at : ℕ
-
--- the same behind an event, or none, at this moment
-abbrev pub behind_event : AuthenticatorState → ℕ → Option Event → AuthenticatorState
-behind_event a at e = record { core = event_core a.core at e; keepalive_at = if event_keeps_alive a.core at e then at else a.keepalive_at }
 
 -- A KEEPALIVE is due 100 ms after the last, where work waits (CTAP 2.1, section 11.2.9.1.7).
 unfoldable pub keepalive_due : Option Work → ℕ → ℕ → Bool

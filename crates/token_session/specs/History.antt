@@ -6,12 +6,13 @@ use Rattle.hid_packet.specs.Packet.{fields, channel, is_initialization, command,
 use Rattle.hid_packet.specs.Carries.{joined}
 use Rattle.hid_assemble.specs.Table.{LAST_CHANNEL, Open, is_given, is_on, ruling_of}
 use Rattle.hid_assemble.specs.Assembly.{Message}
-use Rattle.authn_core.specs.Turn.{Start, CoreState, working, Event, Cancel, Drop, first_state}
+use Rattle.authn_core.specs.State.{Event, Cancel, Drop}
+use Rattle.authn_core.specs.Turn.{Start, CoreState, working, first_state, waiting}
 use Rattle.token_session.specs.declared.input.Input.{Input}
-use Rattle.token_session.specs.declared.input.Input.TheVariants.{Packet, Tick}
+use Rattle.token_session.specs.declared.input.Input.TheVariants.{Packet}
 use Rattle.token_session.specs.declared.input.Timed.{Timed}
 use Rattle.token_session.specs.Replies.{error, row_packets, ping_packets, request_of}
-use Rattle.token_session.specs.Events.{event_core, event_packets, event_keeps_alive, keepalive_packets, keepalive_due}
+use Rattle.token_session.specs.Events.{reply_in, event_core, event_packets, event_keeps_alive, keepalive_packets, keepalive_due}
 
 -- An input as it is judged when it comes: its moment, which is no earlier than any before it, and whether it is an admitted
 -- initialization packet.
@@ -28,12 +29,12 @@ end start (e ∷ past) = e.at
 -- the bytes of an input's packet
 abbrev pub packet : Input → List ℕ
 packet (Packet p) = p.0
-packet Tick = []
+packet other = []
 
 -- a packet that passes the test
 abbrev pub is_packet : (List ℕ → Bool) → Input → Bool
 is_packet test (Packet p) = test p.0
-is_packet test Tick = false
+is_packet test other = false
 
 -- The channels that were given out: one for each INIT of length 8 on the broadcast channel, as far as there are channels
 -- (CTAP 2.1, section 11.2.9.1.3).
@@ -127,10 +128,10 @@ finished_long (Some b) p = if is_last b p then Some (message b.packet (packets_o
 unfoldable pub finished : Option Begun → Bool → Input → Option Message
 finished o admitted (Packet p) =
     if admitted && nat_le (message_length p.0) 57 then Some (message p.0 []) else finished_long o p.0
-finished o admitted Tick = None
+finished o admitted other = None
 
 -- The event that an input is to the authenticator: a CANCEL on the channel of waiting work, an INIT of length 8 there, a
--- finished CBOR message.
+-- finished CBOR message, or a reply of the caller.
 unfoldable pub packet_event : Option ℕ → Option Message → List ℕ → Option Event
 packet_event work m p =
     if is_command CANCEL p && is_on work (channel p) then Some Cancel
@@ -139,7 +140,7 @@ packet_event work m p =
 
 unfoldable pub event : Option ℕ → Option Message → Input → Option Event
 event work m (Packet p) = packet_event work m p.0
-event work m Tick = None
+event work m other = reply_in other
 
 -- the message that an input finishes behind a history
 abbrev pub finished_at : Judged → List Judged → Option Message
@@ -184,19 +185,19 @@ unfoldable pub last_keepalive : Start → List Judged → ℕ
 last_keepalive start [] = 0
 last_keepalive start (e ∷ past) =
     if event_keeps_alive (core start past) e.at (event_to (core start past) e past)
-    || (not (is_cut (open_at past (end start past)) (open_at past e.at)) && keepalive_due (core start past).work (last_keepalive start past) e.at)
+    || (not (is_cut (open_at past (end start past)) (open_at past e.at)) && keepalive_due (waiting (core start past)) (last_keepalive start past) e.at)
     then e.at else last_keepalive start past
 
 unfoldable pub time_packets : Start → List Judged → ℕ → List (List ℕ)
 time_packets start past t =
     if is_cut (open_at past (end start past)) (open_at past t) then cut_packets (open_at past (end start past))
-    else if keepalive_due (core start past).work (last_keepalive start past) t then keepalive_packets (core start past).work
+    else if keepalive_due (waiting (core start past)) (last_keepalive start past) t then keepalive_packets (waiting (core start past))
     else []
 
 -- The packets of service: those of the reply table's row, the answer to a finished PING, and those of the event.
 abbrev pub table_packets : ℕ → Option Begun → Option ℕ → Input → List (List ℕ)
 table_packets given o work (Packet p) = row_packets given (fields p.0) (ruling_of given (option_map as_open o) work (fields p.0))
-table_packets given o work Tick = []
+table_packets given o work other = []
 
 unfoldable pub service_packets : Start → Judged → List Judged → List (List ℕ)
 service_packets start e past =

@@ -3,7 +3,8 @@ use Rattle.std.specs.Prelude.{◌≡◌, Bool, ℕ, ◌+◌, List, [], ◌∷◌
 use Rattle.std.specs.List.{list_any}
 use Rattle.hid_packet.specs.Commands.{KEEPALIVE}
 use Rattle.hid_packet.specs.Packet.{is_command}
-use Rattle.authn_core.specs.Turn.{Start, Event}
+use Rattle.authn_core.specs.State.{Event}
+use Rattle.authn_core.specs.Turn.{Start}
 use Rattle.token_session.specs.declared.input.Timed.{Timed}
 use Rattle.token_session.specs.Machine.{State, turn}
 use Rattle.token_session.specs.History.{begun_by, event_to, is_open, judge, judged, sent_at, Judged, Begun, end, given, open_at, core, last_keepalive, as_open}

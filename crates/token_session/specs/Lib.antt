@@ -6,3 +6,5 @@ pub mod Law
 pub mod Effects
 pub mod Meters
 pub mod Carried
+pub mod Noise
+pub mod Drive

@@ -5,11 +5,12 @@ use Rattle.hid_packet.specs.Packet.{Fields, fields, channel_of}
 use Rattle.hid_assemble.specs.Table.{Begins, Open, Ruling, is_on, ruling_of}
 use Rattle.hid_assemble.specs.declared.table.Row.TheVariants.{CancelsWork, InitAgain}
 use Rattle.hid_assemble.specs.Assembly.{Message, is_overdue, given_after, open_after, message_after}
-use Rattle.authn_core.specs.Turn.{Start, CoreState, working, Event, Cancel, Drop, first_state}
+use Rattle.authn_core.specs.State.{Event, Cancel, Drop}
+use Rattle.authn_core.specs.Turn.{Start, CoreState, working, first_state, waiting}
 use Rattle.token_session.specs.Replies.{error, row_packets, ping_packets, request_of}
-use Rattle.token_session.specs.Events.{event_core, event_packets, event_keeps_alive, keepalive_due, keepalive_packets}
+use Rattle.token_session.specs.Events.{reply_in, event_core, event_packets, event_keeps_alive, keepalive_due, keepalive_packets}
 use Rattle.token_session.specs.declared.input.Input.{Input}
-use Rattle.token_session.specs.declared.input.Input.TheVariants.{Packet, Tick}
+use Rattle.token_session.specs.declared.input.Input.TheVariants.{Packet}
 use Rattle.token_session.specs.declared.input.Timed.{Timed}
 
 -- The latest moment, the channels given out, the open message, the authenticator, and the moment of the last KEEPALIVE.
@@ -37,8 +38,8 @@ unfoldable pub passed : State → ℕ → Turn
 passed s at =
     if is_overdue s.current at
     then record { state = record s { now = at; current = None }; packets = overdue_packets s.current; event = None }
-    else if keepalive_due s.core.work s.keepalive_at at
-    then record { state = record s { now = at; keepalive_at = at }; packets = keepalive_packets s.core.work; event = None }
+    else if keepalive_due (waiting s.core) s.keepalive_at at
+    then record { state = record s { now = at; keepalive_at = at }; packets = keepalive_packets (waiting s.core); event = None }
     else record { state = record s { now = at }; packets = []; event = None }
 
 -- An event behind what else a packet changed: the packets of time come first, then those of the row, then the event's.
@@ -71,7 +72,7 @@ served_by s f early row =
 -- An input is served behind the packets of time.
 abbrev pub served : State → List (List ℕ) → Input → Turn
 served s early (Packet p) = served_by s (fields p.0) early (ruling_of s.given s.current (working s.core) (fields p.0))
-served s early Tick = happens s.now s.given s.current s.core s.keepalive_at early [] None
+served s early other = happens s.now s.given s.current s.core s.keepalive_at early [] (reply_in other)
 
 -- One input: its moment counts as the latest where it is earlier. First time passes, then the input is served.
 unfoldable pub turn : State → Timed → Turn

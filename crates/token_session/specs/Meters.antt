@@ -2,13 +2,14 @@
 use Rattle.std.specs.Prelude.{◌≡◌, ℕ, ◌+◌, ◌-◌, ◌^◌, List, [], ◌∷◌, ◌++◌, length, max, min, sum_by, Option, Some, None}
 use Rattle.hid_assemble.specs.Assembly.{held_bytes}
 use Rattle.authn_core.specs.Turn.{Start}
+use Rattle.cred_table.specs.Waiting.{pending_count}
 use Rattle.ctap_message.specs.Requests.{steps_of}
 use Rattle.token_session.specs.declared.input.Timed.{Timed}
 use Rattle.token_session.specs.declared.input.Meters.{Meters}
 use Rattle.token_session.specs.declared.authenticator.Reading.{Reading}
 use Rattle.token_session.specs.Effects.{request_in, reading_in}
-use Rattle.token_session.specs.History.{Judged, judged, held}
-use Rattle.token_session.specs.Machine.{State, turn}
+use Rattle.token_session.specs.History.{Judged, judged, held, core}
+use Rattle.token_session.specs.Machine.{State, Turn, turn}
 use Rattle.token_session.specs.Law.{event_at, named}
 
 -- The totals stop at 2^64-1.
@@ -29,18 +30,27 @@ unfoldable pub peak_held : Start → List Judged → ℕ
 peak_held start [] = held start []
 peak_held start (e ∷ past) = max (peak_held start past) (held start (e ∷ past))
 
--- The meters that a history names. No row and no pending assertion stands in them yet.
+-- the most credential rows, and the most pending assertions, at the start and after each input
+unfoldable pub peak_rows : Start → List Judged → ℕ
+peak_rows start [] = length (core start []).state.rows
+peak_rows start (e ∷ past) = max (peak_rows start past) (length (core start (e ∷ past)).state.rows)
+
+unfoldable pub peak_pending : Start → List Judged → ℕ
+peak_pending start [] = pending_count (core start []).state.pending
+peak_pending start (e ∷ past) = max (peak_pending start past) (pending_count (core start (e ∷ past)).state.pending)
+
+-- The meters that a history names.
 unfoldable pub meters_of : Start → List Judged → Meters
 meters_of start h = record {
   held = peak_held start h;
-  rows = 0;
-  pending = 0;
+  rows = peak_rows start h;
+  pending = peak_pending start h;
   requests = min (length (requests start h)) LARGEST;
   bytes = min (sum_by (λ bytes. length bytes - 1) (requests start h)) LARGEST;
   steps = min (sum_by steps_of (requests start h)) LARGEST;
 }
 
--- What a turn adds: the bytes held behind it, and what reading the request took that it finished.
+-- What a turn adds: the bytes, rows and pending assertions held after it, and what reading the request took that it finished.
 abbrev pub one_more : Option Reading → ℕ
 one_more None = 0
 one_more (Some reading) = 1
@@ -53,11 +63,11 @@ abbrev pub steps_in : Option Reading → ℕ
 steps_in None = 0
 steps_in (Some reading) = reading.steps
 
-unfoldable pub metered : Meters → ℕ → Option Reading → Meters
-metered m held_now request = record {
-  held = max m.held held_now;
-  rows = m.rows;
-  pending = m.pending;
+unfoldable pub metered : Meters → (held rows pending : ℕ) → Option Reading → Meters
+metered m held rows pending request = record {
+  held = max m.held held;
+  rows = max m.rows rows;
+  pending = max m.pending pending;
   requests = min (m.requests + one_more request) LARGEST;
   bytes = min (m.bytes + bytes_in request) LARGEST;
   steps = min (m.steps + steps_in request) LARGEST;
@@ -68,11 +78,15 @@ pub record SessionState : Type 0 where
   pub machine : State
   pub meters : Meters
 
+abbrev pub metered_by : Meters → Turn → Meters
+metered_by m t =
+    metered m (held_bytes t.state.current) (length t.state.core.state.rows) (pending_count t.state.core.state.pending) (reading_in t.event)
+
 -- the session behind one input more
 unfoldable pub stepped : SessionState → Timed → SessionState
 stepped s x = record {
   machine = (turn s.machine x).state;
-  meters = metered s.meters (held_bytes (turn s.machine x).state.current) (reading_in (turn s.machine x).event);
+  meters = metered_by s.meters (turn s.machine x);
 }
 
 -- the packets that the input sends

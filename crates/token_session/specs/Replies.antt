@@ -8,7 +8,8 @@ use Rattle.hid_assemble.specs.Table.{Begins, Continues, Ruling}
 use Rattle.hid_assemble.specs.Assembly.{Message}
 use Rattle.hid_assemble.specs.declared.table.Row.TheVariants.{NoSuchChannel, InitLength, InitFull, InitNew, InitAgain, BusyElsewhere, BusyHere, BrokenOff, NoSuchCommand, BadLength}
 use Rattle.hid_assemble.specs.declared.table.Continuation.TheVariants.{WrongNumber}
-use Rattle.authn_core.specs.Turn.{Work, Event, Request, Cancel, Drop, Answer, Answered, Waits, Nothing}
+use Rattle.authn_core.specs.State.{Event, Request, Cancel, Drop, Answer, Answered, Waits, Ignored, Nothing}
+use Rattle.authn_core.specs.Turn.{Work}
 
 -- The INIT answer on a channel, which names the channel that the host is to use: its nonce, that channel, version 2 of the
 -- protocol, version 1.0.0 of the device, and the capabilities CBOR and NMSG (CTAP 2.1, section 11.2.9.1.3).
@@ -52,11 +53,14 @@ request_of (Some m) = if m.cmd == CBOR then Some (Request m.cid m.bytes) else No
 abbrev pub status_of : Option Work → Option ℕ
 status_of work = option_map (λ w. w.status) work
 
+-- its channel
+abbrev pub work_channel : Option Work → Option ℕ
+work_channel work = option_map (λ w. w.cid) work
+
 -- the channel to which an event's answer goes: the request's own, or that of the waiting work
 abbrev pub asker : Option Work → Event → Option ℕ
 asker work (Request cid bytes) = Some cid
-asker work Cancel = option_map (λ w. w.cid) work
-asker work Drop = option_map (λ w. w.cid) work
+asker work e = work_channel work
 
 abbrev pub is_status : Option ℕ → ℕ → Bool
 is_status None status = false
@@ -67,6 +71,7 @@ unfoldable pub answer_packets : Option ℕ → Option ℕ → Answer → List (L
 answer_packets None before answer = []
 answer_packets (Some cid) before (Answered bytes) = written cid CBOR bytes
 answer_packets (Some cid) before (Waits status) = if is_status before status then [] else keepalive cid status
+answer_packets (Some cid) before Ignored = []
 answer_packets (Some cid) before Nothing = []
 
 -- does the answer send a KEEPALIVE?
@@ -74,4 +79,5 @@ unfoldable pub answer_keeps_alive : Option ℕ → Option ℕ → Answer → Boo
 answer_keeps_alive None before answer = false
 answer_keeps_alive (Some cid) before (Answered bytes) = false
 answer_keeps_alive (Some cid) before (Waits status) = not (is_status before status)
+answer_keeps_alive (Some cid) before Ignored = false
 answer_keeps_alive (Some cid) before Nothing = false

@@ -1,23 +1,30 @@
+use authn_core::{NewKey, Presence, Signature};
 use hid_packet::Packet;
 
 /// What comes in.
-#[derive(Clone, Copy, Debug, PartialEq, Eq)]
+#[derive(Clone, Copy)]
 pub enum Input {
     /// A packet from a host.
     Packet(Packet),
     /// Time has passed, and nothing else happened.
     Tick,
+    /// The caller's reply to a test of user presence.
+    Presence(Presence),
+    /// A new key pair for a credential, or that none is had.
+    Key(Option<NewKey>),
+    /// A signature, or that none is had.
+    Signature(Option<Signature>),
 }
 
 /// An input with its moment, in milliseconds.
-#[derive(Clone, Copy, Debug, PartialEq, Eq)]
+#[derive(Clone, Copy)]
 pub struct Timed {
     pub at: u64,
     pub input: Input,
 }
 
 /// A packet that was sent, with the number of the input that sent it, counted from 0.
-#[derive(Clone, Copy, Debug, PartialEq, Eq)]
+#[derive(Clone, Copy, Debug, Default, PartialEq, Eq)]
 pub struct Sent {
     pub input: u64,
     pub packet: Packet,

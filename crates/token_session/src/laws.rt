@@ -2,9 +2,10 @@
 //! gives over any history just what that history names. Each law is the contract of a function that
 //! does nothing.
 
-ghost use Rattle.std.specs.Prelude.{◌≡◌, ◌≤◌, ◌⊎◌, ◌+◌, ◌*◌, ℕ, List, [], ◌∷◌, length, Option, Some, None, option_to_list, if◌then◌else◌};
+ghost use Rattle.std.specs.Prelude.{◌≡◌, ◌≤◌, ◌⊎◌, ◌+◌, ◌*◌, ℕ, List, [], ◌∷◌, length, max, true, Option, Some, None, option_to_list, if◌then◌else◌};
 ghost use Rattle.token_session.specs.declared.input.Timed.{Timed as OneInput};
-ghost use Rattle.authn_core.specs.Turn.{Start, Request, working};
+ghost use Rattle.authn_core.specs.State.{Request};
+ghost use Rattle.authn_core.specs.Turn.{Start, working};
 ghost use Rattle.ctap_message.specs.Answers.{info_answer};
 ghost use Rattle.hid_packet.specs.Commands.{CBOR, PING};
 ghost use Rattle.hid_packet.specs.Message.{written};
@@ -13,11 +14,12 @@ ghost use Rattle.token_session.specs.declared.input.Input.TheVariants.{Packet as
 ghost use Rattle.hid_packet.specs.Carries.{CarriesMessage};
 ghost use Rattle.hid_assemble.specs.Assembly.{Message};
 ghost use Rattle.token_session.specs.Carried.{ArePackets, carriers_at};
-ghost use Rattle.token_session.specs.History.{finished_at, judge, judged, open_at, end, given, held, core, service_packets, last_keepalive};
-ghost use Rattle.token_session.specs.Machine.{State, machine, turn};
+ghost use Rattle.token_session.specs.History.{finished_at, judge, judged, open_at, end, given, held, core, sent, service_packets, last_keepalive};
+ghost use Rattle.token_session.specs.Machine.{State, machine, turn, passed};
 ghost use Rattle.token_session.specs.Events.{event_packets};
 ghost use Rattle.token_session.specs.Law.{all_open, keeps_alive, Behind, sent_now, onto, sent_from, run_state, run_sent};
-ghost use Rattle.token_session.specs.Meters.{meters_of};
+ghost use Rattle.token_session.specs.Meters.{SessionState, meters_of, session_of, stepped};
+ghost use Rattle.token_session.specs.Noise.{Quiet, is_noise_at, is_noise_behind, quiet_from, quiet_sent, tick_at};
 
 use ctap_message::laws::steps_are_bounded;
 
@@ -92,4 +94,24 @@ pub fn finished_messages_were_carried()
     ensures { (start : Start) (h : List OneInput) (x : OneInput) (m : Message) → ArePackets (x ∷ h)
         → finished_at (judge start x (judged start h)) (judged start h) ≡ Some m
         → CarriesMessage (carriers_at (judge start x (judged start h)) (judged start h)) m.cid m.cmd m.bytes }
+{}
+
+/// Noise is a tick to a session: it holds the same after either, its meters too, and what a tick sends are the packets of time
+/// alone. What is noise to the state that a history names is noise after that history.
+pub fn noise_is_a_tick()
+    ensures step { (s : SessionState) (x : OneInput) → is_noise_at s.machine x ≡ true → stepped s x ≡ stepped s (tick_at x.at) }
+    ensures packets { (s : State) (at : ℕ) → (turn s (tick_at at)).packets ≡ (passed s (max s.now at)).packets }
+    ensures named { (s : State) (start : Start) (h : List OneInput) (x : OneInput) → Behind s start h
+        → is_noise_at s x ≡ is_noise_behind start (judge start x (judged start h)) (judged start h) }
+{}
+
+/// Of two histories of one start, the second is the first with ticks in place of noise. Then all that a session holds after
+/// them is the same: its channels, its open message, its authenticator, the moments and the meters. The second sends just what
+/// the first sends, less the packets of service at the inputs that were replaced; and so do lists of inputs by which such
+/// histories go on.
+pub fn quiet_histories_are_alike()
+    ensures session { (start : Start) (h g : List OneInput) → Quiet start h g → session_of start (judged start h) ≡ session_of start (judged start g) }
+    ensures packets { (start : Start) (h g : List OneInput) → Quiet start h g → sent start (judged start g) ≡ quiet_sent start h g }
+    ensures runs { (n : ℕ) (start : Start) (h g xs ys : List OneInput) → Quiet start h g → Quiet start (onto xs h) (onto ys g)
+        → sent_from n start g ys ≡ quiet_from n start h xs ys }
 {}

@@ -3,12 +3,14 @@
 #![tactic(auto)]
 
 mod authenticator;
+mod driving;
 mod input;
 pub mod laws;
 mod machine;
 mod session;
 
 pub use authenticator::KEEPALIVE_PERIOD;
+pub use driving::{BothFault, DriveFault, drive, drive_both};
 pub use input::{Input, Meters, Sent, Timed};
 pub use session::Session;
 

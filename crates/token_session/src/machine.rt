@@ -1,10 +1,13 @@
-ghost use Rattle.std.specs.Prelude.{◌≡◌, ◌≤◌, ◌++◌, [], length};
+ghost use Rattle.std.specs.Prelude.{◌≡◌, ◌≤◌, ◌++◌, [], length, if◌then◌else◌};
 ghost use Rattle.hid_assemble.specs.Assembly.{held_bytes};
 ghost use Rattle.hid_assemble.specs.Codes.{code_number};
-ghost use Rattle.authn_core.specs.Needs.{needs};
+ghost use Rattle.authn_core.specs.Bare.{bare_rows};
+ghost use Rattle.authn_core.specs.Views.{needs, needed};
+ghost use Rattle.cred_table.specs.Waiting.{pending_count};
 ghost use Rattle.token_session.specs.Replies.{error, greeting};
 ghost use Rattle.token_session.specs.Machine.{start_state, passed, served, turn};
-ghost use Rattle.token_session.specs.Events.{behind_event, event_packets};
+ghost use Rattle.token_session.specs.Events.{event_core, event_keeps_alive, event_packets};
+ghost use Rattle.token_session.specs.Noise.{is_noise_at};
 ghost use Rattle.token_session.specs.Effects.{verdict_packets, verdict_event, reading_in};
 
 use crate::authenticator::{Authenticator, Reading};
@@ -12,6 +15,7 @@ use crate::input::Input;
 use arrayvec::ArrayVec;
 use authn_core::{Config, Need};
 use byteorder::{BigEndian, ByteOrder};
+use cred_table::{Store, Table};
 use hid_assemble::{Assembler, ErrorCode, Verdict};
 use hid_packet::command::{CBOR, ERROR, INIT, PING};
 use hid_packet::{Outbox, Packet};
@@ -46,8 +50,8 @@ fn put_greeting(outbox: &mut Outbox, on: u32, channel: u32, nonce: &[u8; 8])
 
 /// Sends what a verdict sends, hands the authenticator the event that it is, and gives what reading
 /// the request took, if it is one. `message` is what the packet finished.
-fn react(
-    authenticator: &mut Authenticator,
+fn react<const C: usize>(
+    authenticator: &mut Authenticator<C>,
     now: u64,
     verdict: Verdict,
     message: &[u8],
@@ -55,7 +59,10 @@ fn react(
 ) -> Option<Reading>
     requires room { length outbox.old ≤ 1 }
     requires short { length message.now ≤ 7609 }
-    ensures state { authenticator.new ≡ behind_event authenticator.old now (verdict_event verdict message.now) }
+    requires moment { authenticator.old.latest ≤ now }
+    ensures core { authenticator.new.core ≡ event_core authenticator.old.core now (verdict_event verdict message.now) }
+    ensures latest { authenticator.new.latest ≤ now }
+    ensures keepalive { authenticator.new.keepalive_at ≡ (if event_keeps_alive authenticator.old.core now (verdict_event verdict message.now) then now else authenticator.old.keepalive_at) }
     ensures packets { outbox.new ≡ outbox.old ++ (verdict_packets verdict message.now
         ++ event_packets authenticator.old.core now (verdict_event verdict message.now)) }
     ensures reading { result ≡ reading_in (verdict_event verdict message.now) }
@@ -92,31 +99,34 @@ fn react(
 
 /// The transport and the authenticator, without meters.
 #[derive(Drop)]
-pub(crate) struct Machine {
+pub(crate) struct Machine<const C: usize> {
     latest: u64,
     assembler: Assembler,
-    authenticator: Authenticator,
+    authenticator: Authenticator<C>,
 }
 
 // Clauses see the state of the composed turn.
-impl Model for Machine {
+impl<const C: usize> Model for Machine<C> {
+    ghost use Rattle.std.specs.Prelude.{◌≤◌};
     ghost use Rattle.token_session.specs.Machine.{State};
 
     ghost Value = { State };
 
     ghost view = { λ s. record { now = s.latest; given = s.assembler.given; current = s.assembler.current; core = s.authenticator.core; keepalive_at = s.authenticator.keepalive_at } };
+
+    ghost invariant = { λ s. s.authenticator.latest ≤ s.latest };
 }
 
-impl Machine {
+impl<const C: usize> Machine<C> {
     /// No channel was given out, and no work waits.
     #[tactic(auto, unfolding(crate::specs::Machine::start_state))]
-    pub(crate) fn new(config: Config, start: u64) -> Self
-        ensures { result ≡ start_state (record { aaguid = config.aaguid; moment = start }) }
+    pub(crate) fn new(config: Config, rows: Store<C>, start: u64) -> Self
+        ensures { result ≡ start_state (record { aaguid = config.aaguid; moment = start; room = C; rows = bare_rows (⟦<Store<C> as Table<C>>⟧.rows rows.entry) }) }
     {
         Machine {
             latest: start,
             assembler: Assembler::new(),
-            authenticator: Authenticator::new(config, start),
+            authenticator: Authenticator::new(config, rows, start),
         }
     }
 
@@ -129,10 +139,50 @@ impl Machine {
     }
 
     /// What the authenticator needs.
-    pub(crate) fn need(&self) -> Need
-        ensures { result ≡ needs self.now.core }
+    pub(crate) fn need(&self) -> Need<'_>
+        ensures { needed result ≡ needs self.now.core.state.work }
     {
         self.authenticator.need()
+    }
+
+    /// The table.
+    pub(crate) fn table(&self) -> &Store<C>
+        ensures { bare_rows (⟦<Store<C> as Table<C>>⟧.rows result.now) ≡ self.now.core.state.rows }
+    {
+        self.authenticator.table()
+    }
+
+    /// The number of credentials.
+    pub(crate) fn credentials(&self) -> usize
+        ensures value { result ≡ length self.now.core.state.rows }
+        ensures few { (result ≤ C) × (C ≤ 256) }
+    {
+        self.authenticator.credentials()
+    }
+
+    /// The number of pending assertions.
+    pub(crate) fn pending(&self) -> usize
+        ensures value { result ≡ pending_count self.now.core.state.pending }
+        ensures few { result ≤ C }
+    {
+        self.authenticator.pending()
+    }
+
+    /// Whether an input at this moment would be noise.
+    pub(crate) fn noise(&self, at: u64, input: &Input) -> bool
+        ensures { result ≡ is_noise_at self.now (record { at = at; input = input.now }) }
+    {
+        let now = self.latest.max(at);
+        match input {
+            Input::Packet(packet) => {
+                let working = self.authenticator.working();
+                self.assembler.is_noise(now, packet, working)
+            }
+            Input::Tick => false,
+            Input::Presence(_) => !self.need().is_presence(),
+            Input::Key(_) => !self.need().is_key(),
+            Input::Signature(_) => !self.need().is_sign(),
+        }
     }
 
     /// One input. It gives what reading the request took that it finished, if it finished one.
@@ -149,7 +199,8 @@ impl Machine {
 
     /// Time passes to `at`.
     fn pass_time(&mut self, at: u64, outbox: &mut Outbox)
-        requires { outbox.old ≡ [] }
+        requires sent { outbox.old ≡ [] }
+        requires later { self.old.now ≤ at }
         ensures state { self.new ≡ (passed self.old at).state }
         ensures packets { outbox.new ≡ (passed self.old at).packets }
     {
@@ -170,6 +221,18 @@ impl Machine {
         match input {
             Input::Packet(packet) => self.serve_packet(&packet, outbox),
             Input::Tick => None,
+            Input::Presence(reply) => {
+                self.authenticator.presence(self.latest, reply, outbox);
+                None
+            }
+            Input::Key(key) => {
+                self.authenticator.key(self.latest, key, outbox);
+                None
+            }
+            Input::Signature(signature) => {
+                self.authenticator.signature(self.latest, signature, outbox);
+                None
+            }
         }
     }
 

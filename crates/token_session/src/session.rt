@@ -1,16 +1,20 @@
 ghost use Rattle.std.specs.Prelude.{◌≡◌, ℕ, ◌≤◌, [], ◌∷◌, List, length, option_map};
 ghost use Rattle.hid_assemble.specs.Assembly.{held_bytes};
-ghost use Rattle.authn_core.specs.Needs.{needs};
+ghost use Rattle.authn_core.specs.Bare.{bare_rows};
+ghost use Rattle.authn_core.specs.Views.{needs, needed};
+ghost use Rattle.cred_table.specs.Waiting.{pending_count};
 ghost use Rattle.authn_core.specs.Turn.{Start};
 ghost use Rattle.token_session.specs.declared.input.Timed.{Timed as OneInput};
-ghost use Rattle.token_session.specs.History.{judged, held};
+ghost use Rattle.token_session.specs.History.{judge, judged, held};
 ghost use Rattle.token_session.specs.Law.{sent_now};
 ghost use Rattle.token_session.specs.Meters.{SessionState, StandsBehind, stepped, sent_by, session_of, metered};
+ghost use Rattle.token_session.specs.Noise.{is_noise_at, is_noise_behind};
 
 use crate::authenticator::Reading;
 use crate::input::{Input, Meters};
 use crate::machine::Machine;
 use authn_core::{Config, Need};
+use cred_table::{Store, Table};
 use hid_packet::Outbox;
 use std::marker::Model;
 
@@ -18,7 +22,7 @@ use std::marker::Model;
 /// has room for. It takes no memory.
 #[derive(Drop)]
 pub struct Session<const C: usize> {
-    machine: Machine,
+    machine: Machine<C>,
     meters: Meters,
 }
 
@@ -31,14 +35,15 @@ impl<const C: usize> Model for Session<C> {
     ghost view = { λ s. record { machine = s.machine; meters = s.meters } };
 }
 
-/// The meters behind an input, with what is held now and what reading the request took that it
-/// finished.
+/// The meters after an input, with what is held now and what reading the request took that it finished.
 #[tactic(auto, unfolding(crate::specs::Meters::metered))]
-fn count(meters: Meters, held: u16, request: Option<Reading>) -> Meters
-    ensures { result ≡ metered meters held request }
+fn count(meters: Meters, held: u16, rows: u16, pending: u16, request: Option<Reading>) -> Meters
+    ensures { result ≡ metered meters held rows pending request }
 {
     let mut counted = meters;
     counted.held = meters.held.max(held);
+    counted.rows = meters.rows.max(rows);
+    counted.pending = meters.pending.max(pending);
     if let Some(reading) = request {
         counted.requests = meters.requests.saturating_add(1);
         counted.bytes = meters.bytes.saturating_add(u64::from(reading.bytes));
@@ -48,22 +53,34 @@ fn count(meters: Meters, held: u16, request: Option<Reading>) -> Meters
 }
 
 impl<const C: usize> Session<C> {
-    /// A session without credentials that begins at the moment `start`, in milliseconds, for an
-    /// authenticator with this AAGUID. No channel is given out.
-    pub fn bare(aaguid: [u8; 16], start: u64) -> Self
-        ensures { result ≡ session_of (record { aaguid = aaguid; moment = start }) [] }
+    /// A session that begins at the moment `start`, in milliseconds, with these credentials. No channel is given out, and
+    /// no work waits.
+    pub fn new(config: Config, rows: Store<C>, start: u64) -> Self
+        ensures { result ≡ session_of (record { aaguid = config.aaguid; moment = start; room = C; rows = bare_rows (⟦<Store<C> as Table<C>>⟧.rows rows.entry) }) [] }
     {
+        let machine = Machine::new(config, rows, start);
+        let rows = machine.credentials() as u16;
         Session {
-            machine: Machine::new(Config { aaguid }, start),
+            machine,
             meters: Meters {
                 held: 0,
-                rows: 0,
+                rows,
                 pending: 0,
                 requests: 0,
                 bytes: 0,
                 steps: 0,
             },
         }
+    }
+
+    /// A session without credentials that begins at the moment `start`, in milliseconds, for an authenticator with this
+    /// AAGUID. No channel is given out. It has room for 1 to 256 credentials.
+    pub fn bare(aaguid: [u8; 16], start: u64) -> Self
+        requires some { 1 ≤ C }
+        requires few { C ≤ 256 }
+        ensures { result ≡ session_of (record { aaguid = aaguid; moment = start; room = C; rows = [] }) [] }
+    {
+        Session::new(Config { aaguid }, Store::new(), start)
     }
 
     /// Takes one input that came at `at`, in milliseconds, and puts the packets to send into the
@@ -80,7 +97,24 @@ impl<const C: usize> Session<C> {
         ensures sent { (start : Start) (h : List OneInput) → StandsBehind self.old start h → outbox.new ≡ sent_now start h (record { at = at; input = input }) }
     {
         let reading = self.machine.step(at, input, outbox);
-        self.meters = count(self.meters, self.machine.held(), reading);
+        let held = self.machine.held();
+        let rows = self.machine.credentials() as u16;
+        let pending = self.machine.pending() as u16;
+        self.meters = count(self.meters, held, rows, pending, reading);
+    }
+
+    /// Whether this input at `at` would be noise: when time has passed to `at`, it would change nothing more. Noise is a CANCEL
+    /// for which no work waits; a packet on a channel that was never given out, but for an INIT on the broadcast channel; a
+    /// packet that begins a message, but for INIT and CANCEL, while another channel has an open message or any has work; a
+    /// continuation packet with no message open on its channel; and a reply of the caller that isn't needed. A tick isn't. The
+    /// session stays as it is.
+    pub fn noise(&self, at: u64, input: &Input) -> bool
+        ensures state { result ≡ is_noise_at self.now.machine (record { at = at; input = input.now }) }
+        // It is noise after each history that the session stands behind.
+        ensures history { (start : Start) (h : List OneInput) → StandsBehind self.now start h
+            → result ≡ is_noise_behind start (judge start (record { at = at; input = input.now }) (judged start h)) (judged start h) }
+    {
+        self.machine.noise(at, input)
     }
 
     /// How many data bytes are held of the open message, at most 7550.
@@ -92,11 +126,34 @@ impl<const C: usize> Session<C> {
         self.machine.held()
     }
 
-    /// What the authenticator needs of its caller before its work goes on. No command begins work yet.
-    pub fn need(&self) -> Need
-        ensures { result ≡ needs self.now.machine.core }
+    /// What the authenticator needs of its caller before its work goes on, with the exact bytes to sign.
+    pub fn need(&self) -> Need<'_>
+        ensures { needed result ≡ needs self.now.machine.core.state.work }
     {
         self.machine.need()
+    }
+
+    /// The number of credentials, at most `C`.
+    pub fn credentials(&self) -> usize
+        ensures value { result ≡ length self.now.machine.core.state.rows }
+        ensures limit { result ≤ C }
+    {
+        self.machine.credentials()
+    }
+
+    /// The number of pending assertions, at most `C`.
+    pub fn pending(&self) -> usize
+        ensures value { result ≡ pending_count self.now.machine.core.state.pending }
+        ensures limit { result ≤ C }
+    {
+        self.machine.pending()
+    }
+
+    /// The credentials. A contract sees them less the unused room of their names.
+    pub fn table(&self) -> &Store<C>
+        ensures { bare_rows (⟦<Store<C> as Table<C>>⟧.rows result.now) ≡ self.now.machine.core.state.rows }
+    {
+        self.machine.table()
     }
 
     /// What the session has held and served.

@@ -7,7 +7,8 @@ use Rattle.token_session.proofs.session.Session.step.Goals as goal
 pub returns-clause-state : goal.returns-clause-state
 returns-clause-state g c =
     stepped_is c.self.inside.machine c.step-reading.new.self c.self.inside.meters c.count-self-inside.result c.args.self.now (record { at = c.args.at; input = c.args.input })
-    c.step-reading.result c.held.result c.self.view_is c.step-reading.ensures.state c.step-reading.ensures.reading c.held.ensures.bytes c.count-self-inside.ensures
+    c.step-reading.result c.held-held.result c.credentials-rows.result c.pending-pending.result c.self.view_is c.step-reading.ensures.state c.step-reading.ensures.reading
+    c.held-held.ensures.bytes c.credentials-rows.ensures.value c.pending-pending.ensures.value c.count-self-inside.ensures
 
 pub returns-clause-few : goal.returns-clause-few
 returns-clause-few g c =

@@ -1,0 +1,141 @@
+-- Turns by computation.
+use Rattle.std.proofs.Common.{◌≡◌, ℕ, ◌+◌, List, [], ◌∷◌, ◌++◌, Bool, true, false, Option, Some, None, replicate, refl}
+use Rattle.cred_table.specs.declared.row.Row.{Row}
+use Rattle.cred_table.specs.Waiting.{Waiting}
+use Rattle.ctap_message.specs.Requests.{read_of}
+use Rattle.authn_core.specs.declared.replies.Presence.TheVariants.{Granted, Denied, TimedOut}
+use Rattle.authn_core.specs.declared.replies.NewKey.{NewKey}
+use Rattle.authn_core.specs.declared.task.Making.{Making}
+use Rattle.authn_core.specs.declared.task.Task.TheVariants.{Resets, Selects, AsksMake, WantsKey}
+use Rattle.authn_core.specs.declared.task.Job.{Job}
+use Rattle.authn_core.specs.Bare.{text_of}
+use Rattle.authn_core.specs.State.{Setup, State, Event, Request, PresenceIs, KeyIs, SignatureIs, Cancel, Drop, Answered, Waits, Ignored, Nothing}
+use Rattle.authn_core.specs.Turn.{turn, CoreState, first_state, core_after, core_answer}
+
+abbrev setup : Setup
+setup = record { aaguid = replicate 16 0; began = 0; room = 2 }
+
+abbrev row : (id : ℕ) → (counter : ℕ) → Row
+row id counter = record { rp = replicate 32 7; id = replicate 32 id; x = []; y = []; user = record { items = id ∷ [] }; discoverable = true; counter = counter; name = text_of [] }
+
+abbrev waiting : List (List ℕ) → Option Waiting
+waiting ids = Some (record { cid = 1; hash = replicate 32 34; presence = true; moment = 1000; ids = ids })
+
+abbrev idle : State
+idle = record { rows = row 0xaa 0 ∷ row 0xab 4 ∷ []; pending = None; work = None }
+
+abbrev asked : State
+asked = record { rows = idle.rows; pending = waiting (replicate 32 0xaa ∷ []); work = None }
+
+-- a selection asks for presence, empties what is pending, and is answered by its status alone
+selects : (turn setup asked 1100 (Request 1 (0x0b ∷ []))).answer ≡ Waits 2
+unfolding turn read_of
+selects = refl
+
+selects_empties : (turn setup asked 1100 (Request 1 (0x0b ∷ []))).state.pending ≡ None
+unfolding turn read_of
+selects_empties = refl
+
+abbrev selecting : State
+selecting = record { rows = idle.rows; pending = None; work = Some (record { cid = 1; task = Selects }) }
+
+granted : (turn setup selecting 150 (PresenceIs Granted)).answer ≡ Answered (0x00 ∷ [])
+unfolding turn
+granted = refl
+
+denied : (turn setup selecting 150 (PresenceIs Denied)).answer ≡ Answered (0x27 ∷ [])
+unfolding turn
+denied = refl
+
+timed_out : (turn setup selecting 150 (PresenceIs TimedOut)).answer ≡ Answered (0x2f ∷ [])
+unfolding turn
+timed_out = refl
+
+long_selection : (turn setup idle 160 (Request 1 (0x0b ∷ 0x00 ∷ []))).answer ≡ Answered (0x03 ∷ [])
+unfolding turn read_of
+long_selection = refl
+
+-- a reset within ten seconds of the start, and behind them
+resets : (turn setup idle 10000 (Request 1 (0x07 ∷ []))).answer ≡ Waits 2
+unfolding turn read_of
+resets = refl
+
+late_reset : (turn setup idle 10001 (Request 1 (0x07 ∷ []))).answer ≡ Answered (0x30 ∷ [])
+unfolding turn read_of
+late_reset = refl
+
+abbrev resetting : State
+resetting = record { rows = idle.rows; pending = None; work = Some (record { cid = 1; task = Resets }) }
+
+reset_granted : (turn setup resetting 20000 (PresenceIs Granted)).state.rows ≡ []
+unfolding turn
+reset_granted = refl
+
+reset_late : (turn setup resetting 50 (PresenceIs TimedOut)).answer ≡ Answered (0x2f ∷ [])
+unfolding turn
+reset_late = refl
+
+-- a getNextAssertion within thirty seconds on the channel that asked, else not
+next_in_time : (turn setup asked 31000 (Request 1 (0x08 ∷ []))).answer ≡ Waits 1
+unfolding turn read_of
+next_in_time = refl
+
+next_late : (turn setup asked 31001 (Request 1 (0x08 ∷ []))).answer ≡ Answered (0x30 ∷ [])
+unfolding turn read_of
+next_late = refl
+
+next_elsewhere : (turn setup asked 1200 (Request 2 (0x08 ∷ []))).answer ≡ Answered (0x30 ∷ [])
+unfolding turn read_of
+next_elsewhere = refl
+
+next_elsewhere_empties : (turn setup asked 1200 (Request 2 (0x08 ∷ []))).state.pending ≡ None
+unfolding turn read_of
+next_elsewhere_empties = refl
+
+next_raises : (turn setup asked 1200 (Request 1 (0x08 ∷ []))).state.rows ≡ row 0xaa 1 ∷ row 0xab 4 ∷ []
+unfolding turn read_of
+next_raises = refl
+
+-- a counter that can't be raised
+abbrev spent : State
+spent = record { rows = row 0xaa 4294967295 ∷ []; pending = waiting (replicate 32 0xaa ∷ []); work = None }
+
+next_spent : (turn setup spent 1200 (Request 1 (0x08 ∷ []))).answer ≡ Answered (0x15 ∷ [])
+unfolding turn read_of
+next_spent = refl
+
+-- a full table: a new user finds no room, a known one does
+abbrev making_of : (user : ℕ) → Making
+making_of user = record { hash = replicate 32 17; rp = replicate 32 7; user = record { items = user ∷ [] }; name = []; discoverable = true }
+
+abbrev asks : (user : ℕ) → (excluded : Bool) → State
+asks user excluded = record { rows = idle.rows; pending = None; work = Some (record { cid = 1; task = AsksMake (making_of user) excluded }) }
+
+full : (turn setup (asks 3 false) 50 (PresenceIs Granted)).answer ≡ Answered (0x28 ∷ [])
+unfolding turn
+full = refl
+
+replacing : (turn setup (asks 0xaa false) 50 (PresenceIs Granted)).answer ≡ Waits 1
+unfolding turn
+replacing = refl
+
+excluded_first : (turn setup (asks 3 true) 50 (PresenceIs TimedOut)).answer ≡ Answered (0x19 ∷ [])
+unfolding turn
+excluded_first = refl
+
+-- a key whose id is there already, also that of the row that would be replaced
+abbrev wants : State
+wants = record { rows = idle.rows; pending = None; work = Some (record { cid = 1; task = WantsKey (making_of 0xaa) }) }
+
+known_id : (turn setup wants 60 (KeyIs (Some (record { id = replicate 32 0xaa; x = []; y = [] })))).answer ≡ Answered (0x7f ∷ [])
+unfolding turn
+known_id = refl
+
+-- a signature where a key is needed
+not_needed : (turn setup wants 60 (SignatureIs None)).answer ≡ Ignored
+unfolding turn
+not_needed = refl
+
+cancelled : (turn setup wants 60 Cancel).answer ≡ Answered (0x2d ∷ [])
+unfolding turn
+cancelled = refl

@@ -1,0 +1,90 @@
+//! The replies of the caller.
+
+ghost use Rattle.std.specs.Prelude.{◌≡◌, ◌≤◌, ◌++◌, ◌↔◌, drop, length, IsSome, IfSome};
+ghost use Rattle.authn_core.specs.Padded.{padded};
+
+use std::marker::Model;
+
+/// The reply of a test of user presence.
+#[derive(Clone, Copy, Debug, PartialEq, Eq)]
+pub enum Presence {
+    /// The user consented.
+    Granted,
+    /// The user refused.
+    Denied,
+    /// The user didn't answer in time.
+    TimedOut,
+}
+
+/// A new key pair's public key by its coordinates, with the id of its credential.
+#[derive(Clone, Copy, Debug)]
+pub struct NewKey {
+    pub id: [u8; 32],
+    pub x: [u8; 32],
+    pub y: [u8; 32],
+}
+
+/// A signature, of 1 to 72 bytes. A contract sees its bytes.
+#[derive(Clone, Copy)]
+pub struct Signature {
+    bytes: [u8; 72],
+    len: usize,
+}
+
+impl Model for Signature {
+    ghost use Rattle.std.specs.Prelude.{List, ℕ, ◌≤◌, ◌≡◌, ◌-◌, length, take, drop, ◌++◌, replicate};
+    ghost use Rattle.std.proofs.Common.{ap, ◌∙◌};
+    ghost use Rattle.authn_core.specs.Padded.{padded, padded-take, length-kept};
+
+    ghost Value = { List ℕ };
+
+    ghost view = { λ s. take s.len s.bytes };
+
+    ghost invariant = { λ s. (1 ≤ s.len) × (s.len ≤ 72) × (length s.bytes ≡ 72) × (drop s.len s.bytes ≡ replicate (72 - s.len) 0) };
+
+    ghost inverse = { λ v. record { bytes = padded v; len = length v } };
+
+    ghost inverse_ok = { λ a h. ap (λ (b : List ℕ). record { bytes = b; len = length (take a.len a.bytes) }) (padded-take a.len a.bytes h.1 h.2 h.3) ∙ ap (λ (n : ℕ). record { bytes = a.bytes; len = n }) (length-kept a.len a.bytes h.1 h.2) };
+}
+
+/// The bytes, with zeros up to 72 places.
+fn with_zeros(bytes: &[u8]) -> [u8; 72]
+    requires { length bytes.now ≤ 72 }
+    ensures { result ≡ padded bytes.now }
+{
+    let mut kept = [0; 72];
+    put_front(&mut kept, bytes);
+    kept
+}
+
+/// Writes the bytes over the first places.
+fn put_front(out: &mut [u8], bytes: &[u8])
+    requires { length bytes.now ≤ length out.old }
+    ensures { out.new ≡ bytes.now ++ drop (length bytes.now) out.old }
+{
+    out[..bytes.len()].copy_from_slice(bytes);
+}
+
+impl Signature {
+    /// The signature of these bytes. `None` exactly for another length than 1 to 72.
+    pub fn new(bytes: &[u8]) -> Option<Signature>
+        ensures exactly { IsSome result ↔ ((1 ≤ length bytes.now) × (length bytes.now ≤ 72)) }
+        ensures value { IfSome result (λ s. s ≡ bytes.now) }
+    {
+        if bytes.is_empty() || bytes.len() > 72 {
+            return None;
+        }
+        Some(Signature {
+            bytes: with_zeros(bytes),
+            len: bytes.len(),
+        })
+    }
+
+    /// Its bytes.
+    pub fn bytes(&self) -> &[u8]
+        ensures value { result.now ≡ self.now }
+        ensures len { length result.now ≤ 72 }
+    {
+        &self.bytes[..self.len]
+    }
+}

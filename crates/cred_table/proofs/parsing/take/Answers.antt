@@ -1,0 +1,10 @@
+use Rattle.std.proofs.Common.{◌-◌}
+use Rattle.ctap_cbor.specs.Views.{part_of}
+use Rattle.cred_table.proofs.Members.{item_taken, item_missed}
+use Rattle.cred_table.proofs.parsing.take.Goals as goal
+
+pub returns-in-Ok : goal.returns-in-Ok
+returns-in-Ok c = item_taken (5 - c.args.level) (part_of c.in-Ok.item) c.args.cursor.now c.item.new.self c.in-Ok.ensures.takes c.in-Ok.ensures.exact
+
+pub returns-in-Err : goal.returns-in-Err
+returns-in-Err c = item_missed (5 - c.args.level) c.in-Err.field-0.kind c.args.cursor.now c.item.new.self c.in-Err.ensures.exact

@@ -1,0 +1,22 @@
+-- What holds of snapshots, over the definitions alone.
+use Rattle.std.specs.Prelude.{◌≡◌, ℕ, Bool, true, List}
+use Rattle.ctap_cbor.specs.Tree.{no_trees}
+use Rattle.cred_table.specs.declared.row.Row.{Row}
+use Rattle.cred_table.specs.declared.fault.SnapshotFault.{SnapshotFault}
+use Rattle.cred_table.specs.Snapshots.{rows_then, IsSnapshot, Refuses}
+
+-- the rows are equal in all that a row has
+abbrev pub SameRows : List Row → List Row → Type 0
+SameRows rows others = rows_then true rows no_trees ≡ rows_then true others no_trees
+
+-- one text is the snapshot of one list of rows, of one version
+abbrev pub SnapshotsAreOne : Type 0
+SnapshotsAreOne = (named other : Bool) (room space : ℕ) (rows others : List Row) (text : List ℕ) → IsSnapshot named room rows text → IsSnapshot other space others text → (named ≡ other) × SameRows rows others
+
+-- what is refused is the snapshot of no rows for which there is room
+abbrev pub RefusedIsNone : Type 0
+RefusedIsNone = (room : ℕ) (text : List ℕ) (fault : SnapshotFault) → Refuses room text fault → (named : Bool) (rows : List Row) → IsSnapshot named room rows text → ⊥
+
+-- a text is refused for one thing
+abbrev pub OneRefusal : Type 0
+OneRefusal = (room : ℕ) (text : List ℕ) (f g : SnapshotFault) → Refuses room text f → Refuses room text g → f ≡ g

@@ -1,0 +1,122 @@
+-- Snapshots: the rows of a table as one data item in canonical CBOR, {1: version, 2: [row, ..]}, in order of making.
+-- Version 2 has the users' names, version 1 hasn't; `named` tells which it is.
+use Rattle.std.specs.Prelude.{◌≡◌, ℕ, ◌^◌, ◌<◌, ◌≤◌, pos, Bool, true, false, ◌||◌, if◌then◌else◌, IsTrue, List, [], ◌∷◌, ◌++◌, length, Result, Ok, Err}
+use Rattle.std.specs.List.{AllByRecursion, list_any}
+use Rattle.std.specs.Str.{IsUtf8}
+use Rattle.ctap_cbor.specs.Head.{AreBytes}
+use Rattle.ctap_cbor.specs.Tree.{Int, Bytes, Text, Flag, Tree, Plain, Array, Map, Trees, no_trees, tree, Pairs, no_pairs, pair, count}
+use Rattle.ctap_cbor.specs.Grammar.{IsCanonical}
+use Rattle.cred_table.specs.declared.row.Row.{Row}
+use Rattle.cred_table.specs.declared.fault.SnapshotFault.{SnapshotFault}
+use Rattle.cred_table.specs.declared.fault.SnapshotFault.TheVariants.{NotSnapshot, TooMany, RowBroken, Memory}
+use Rattle.cred_table.specs.Rows.{has_id, replaces, Lawful}
+
+-- an integer of at least 0, as keys, versions and counters are
+abbrev pub number : ℕ → Tree
+number n = Plain (Int (pos n))
+
+abbrev pub bytes : List ℕ → Tree
+bytes s = Plain (Bytes s)
+
+-- ---- rows
+
+-- its last member, in version 2 alone
+abbrev pub name_member : (named : Bool) → Row → Pairs
+name_member true row = pair (number 8) (Plain (Text row.name.bytes)) no_pairs
+name_member false row = no_pairs
+
+-- the map of a row, which has just these members
+abbrev pub row_tree : (named : Bool) → Row → Tree
+row_tree named row =
+    Map (pair (number 1) (bytes row.rp)
+    (pair (number 2) (bytes row.id)
+    (pair (number 3) (bytes row.x)
+    (pair (number 4) (bytes row.y)
+    (pair (number 5) (bytes row.user.items)
+    (pair (number 6) (Plain (Flag row.discoverable))
+    (pair (number 7) (number row.counter)
+    (name_member named row))))))))
+
+abbrev pub IsHash : List ℕ → Type 0
+IsHash s = (length s ≡ 32) × AreBytes s
+
+abbrev pub IsShort : List ℕ → Type 0
+IsShort s = (length s ≤ 64) × AreBytes s
+
+-- a text of at most 64 bytes; where names aren't kept, an empty one
+abbrev pub IsName : (named : Bool) → List ℕ → Type 0
+IsName true s = (length s ≤ 64) × IsUtf8 s
+IsName false s = s ≡ []
+
+-- the members have their types and lengths
+pub record IsRow (named : Bool) (row : Row) : Type 0 where
+  pub rp : IsHash row.rp
+  pub id : IsHash row.id
+  pub x : IsHash row.x
+  pub y : IsHash row.y
+  pub user : IsShort row.user.items
+  pub counter : row.counter < 2 ^ 32
+  pub name : IsName named row.name.bytes
+
+-- ---- the whole
+
+abbrev pub version : (named : Bool) → ℕ
+version named = if named then 2 else 1
+
+-- the map of a snapshot with these entries
+abbrev pub snapshot_of : (named : Bool) → Trees → Tree
+snapshot_of named entries = Map (pair (number 1) (number (version named)) (pair (number 2) (Array entries) no_pairs))
+
+-- the rows' maps, and more entries behind them
+abbrev pub rows_then : (named : Bool) → List Row → Trees → Trees
+rows_then named [] entries = entries
+rows_then named (row ∷ rows) entries = tree (row_tree named row) (rows_then named rows entries)
+
+abbrev pub snapshot : (named : Bool) → List Row → Tree
+snapshot named rows = snapshot_of named (rows_then named rows no_trees)
+
+-- The text is the canonical one of these rows' snapshot, and the rows are lawful.
+pub record IsSnapshot (named : Bool) (room : ℕ) (rows : List Row) (text : List ℕ) : Type 0 where
+  pub typed : AllByRecursion (IsRow named) rows
+  pub lawful : Lawful room rows
+  pub canonical : IsCanonical (snapshot named rows) text
+
+-- ---- saving
+
+-- the rows' snapshot, of version 2, was written at the end
+abbrev pub Saves : (room : ℕ) → List Row → (old new : List ℕ) → Type 0
+Saves room rows old new = (saved : List ℕ) × IsSnapshot true room rows saved × (new ≡ old ++ saved)
+
+-- ---- loading
+
+-- a text that is canonical, of the map of a snapshot with these entries, whatever they are
+abbrev pub Holds : (named : Bool) → Trees → List ℕ → Type 0
+Holds named entries text = IsCanonical (snapshot_of named entries) text
+
+-- The row can't stand behind these: it has the id of one, or is discoverable as one of its RP and user handle is.
+abbrev pub clashes : Row → List Row → Bool
+clashes row rows = list_any (has_id row.id) rows || list_any (replaces row) rows
+
+-- The entry at a place is broken, and those before it aren't: no row has its map and can stand behind them.
+pub record FirstBroken (named : Bool) (room : ℕ) (entries : Trees) (place : ℕ) : Type 0 where
+  pub before : List Row
+  pub entry : Tree
+  pub after : Trees
+  pub split : entries ≡ rows_then named before (tree entry after)
+  pub place_is : length before ≡ place
+  pub typed : AllByRecursion (IsRow named) before
+  pub lawful : Lawful room before
+  pub broken : (row : Row) → IsRow named row → entry ≡ row_tree named row → IsTrue (clashes row before)
+
+-- What a text is refused for, in the order in which it is asked: it is no snapshot at all; it has more entries than there
+-- is room for; it has a broken entry.
+abbrev pub Refuses : (room : ℕ) → List ℕ → SnapshotFault → Type 0
+Refuses room text NotSnapshot = (named : Bool) (entries : Trees) → Holds named entries text → ⊥
+Refuses room text TooMany = (named : Bool) × (entries : Trees) × Holds named entries text × (room < count entries)
+Refuses room text (RowBroken place) = (named : Bool) × (entries : Trees) × Holds named entries text × (count entries ≤ room) × FirstBroken named room entries place
+Refuses room text Memory = ⊥
+
+-- what loading answers of a text, and the rows that the table then has
+abbrev pub Loads : (room : ℕ) → List ℕ → Result (Unit {0}) SnapshotFault → List Row → Type 0
+Loads room text (Ok _) rows = (named : Bool) × IsSnapshot named room rows text
+Loads room text (Err fault) rows = Refuses room text fault

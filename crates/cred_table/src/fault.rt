@@ -1,0 +1,22 @@
+//! Why a snapshot is refused.
+
+ghost use Rattle.std.specs.Prelude.{◌≡◌};
+
+use thiserror::Error;
+
+/// Why a snapshot isn't loaded or saved. Of the first three the first that applies is named.
+#[derive(Clone, Copy, Debug, PartialEq, Eq, Error)]
+pub enum SnapshotFault {
+    /// 1: the bytes aren't canonical CBOR, or not the map of a snapshot.
+    #[error("not a snapshot")]
+    NotSnapshot,
+    /// 2: there are more rows than the table has room for.
+    #[error("too many rows")]
+    TooMany,
+    /// 3: the row at this place, counted from 0, is the first that isn't one or can't stand behind those before it.
+    #[error("row {0} is broken")]
+    RowBroken(usize),
+    /// 4: no memory to save into.
+    #[error("no memory")]
+    Memory,
+}

@@ -1,0 +1,19 @@
+//! What holds of snapshots, over the definitions alone. Each function does nothing: its contract is a law, and a caller
+//! has it by calling.
+
+ghost use Rattle.cred_table.specs.Laws.{SnapshotsAreOne, RefusedIsNone, OneRefusal};
+
+/// One text is the snapshot of one list of rows, of one version. So what was saved is loaded again as the same rows.
+pub fn snapshots_are_one()
+    ensures { SnapshotsAreOne }
+{}
+
+/// What is refused is the snapshot of no rows for which there is room. So whatever is a snapshot is loaded.
+pub fn refused_is_none()
+    ensures { RefusedIsNone }
+{}
+
+/// A text is refused for one thing.
+pub fn one_refusal()
+    ensures { OneRefusal }
+{}

@@ -1,0 +1,111 @@
+//! Loading snapshots.
+
+ghost use Rattle.std.specs.Prelude.{◌≡◌, ◌<◌, ◌≤◌, [], ◌∷◌, ◌++◌, not, if◌then◌else◌, length, List, OnErr, MatchResult};
+ghost use Rattle.cred_table.specs.Rows.{Lawful};
+ghost use Rattle.cred_table.specs.Snapshots.{Loads, clashes};
+ghost use Rattle.cred_table.specs.Parsing.{ReadsEntry, ReadsRows};
+
+use crate::fault::SnapshotFault;
+use crate::listed::Listed;
+use crate::parsing::{read_heads, read_row};
+use crate::row::Row;
+use crate::table::Table;
+use ctap_cbor::{Cursor, check};
+
+/// Whether a row can't stand behind those of a table: it has the id of one, or is discoverable as one of its RP and user
+/// is.
+fn clashes<T: Table<C>, const C: usize>(table: &T, row: &Row) -> bool
+    ensures { result ≡ clashes row.now (T.rows table.now) }
+{
+    if table.find(&row.id).is_some() {
+        return true;
+    }
+    if !row.discoverable {
+        return false;
+    }
+    table.same_user(&row.rp, &row.user).is_some()
+}
+
+/// Puts a row last, unless it clashes with one that is there. Tells whether it was put.
+fn put_row<T: Table<C>, const C: usize>(table: &mut T, row: Row) -> bool
+    requires room { length (T.rows table.old) < C }
+    ensures value { result ≡ not (clashes row (T.rows table.old)) }
+    ensures rows { T.rows table.new ≡ (if clashes row (T.rows table.old) then T.rows table.old else T.rows table.old ++ row ∷ []) }
+{
+    if clashes(table, &row) {
+        return false;
+    }
+    table.put(row);
+    true
+}
+
+/// Reads an entry and puts it behind the rows. Tells whether it was a row that may stand there.
+fn read_entry<const C: usize>(cursor: &mut Cursor, named: bool, rows: &mut Listed<C>) -> bool
+    requires room { length rows.old.list.items < C }
+    ensures { ReadsEntry named cursor.old cursor.new rows.old.list.items rows.new.list.items result }
+{
+    match read_row(cursor, named) {
+        Some(row) => put_row(rows, row),
+        None => false,
+    }
+}
+
+/// Reads so many entries into the rows, which are empty, up to the first that is broken.
+fn read_rows<const C: usize>(
+    cursor: &mut Cursor,
+    named: bool,
+    count: usize,
+    rows: &mut Listed<C>,
+) -> Result<(), SnapshotFault>
+    requires empty { rows.old.list.items ≡ [] }
+    requires room { count ≤ C }
+    ensures { ReadsRows named C count cursor.old cursor.new rows.new.list.items result }
+{
+    for place in 0..count {
+        if !read_entry(cursor, named, rows) {
+            return Err(SnapshotFault::RowBroken(place));
+        }
+    }
+    Ok(())
+}
+
+/// Reads a snapshot into the rows, which are empty.
+fn read_snapshot<const C: usize>(bytes: &[u8], rows: &mut Listed<C>) -> Result<(), SnapshotFault>
+    requires { rows.old.list.items ≡ [] }
+    ensures { Loads C bytes.now result rows.new.list.items }
+{
+    if check(bytes).result.is_err() {
+        return Err(SnapshotFault::NotSnapshot);
+    }
+    let mut cursor = Cursor::new(bytes);
+    match read_heads(&mut cursor) {
+        None => Err(SnapshotFault::NotSnapshot),
+        Some((_, count)) if count > C as u64 => Err(SnapshotFault::TooMany),
+        Some((named, count)) => read_rows(&mut cursor, named, count as usize, rows),
+    }
+}
+
+/// Puts the rows into an empty table.
+fn put_all<T: Table<C>, const C: usize>(rows: Listed<C>, table: &mut T)
+    requires { T.rows table.old ≡ [] }
+    ensures { T.rows table.new ≡ rows.entry.list.items }
+{
+    for row in rows.list {
+        table.put(row);
+    }
+}
+
+/// Loads a snapshot into a table, in place of its rows. It takes no memory.
+///
+/// A text that is no snapshot is refused, then one with more entries than the table has room for, and then one with an
+/// entry that is no row or clashes with a row before it. After a refusal the table has the rows that it had.
+pub fn load<T: Table<C>, const C: usize>(bytes: &[u8], table: &mut T) -> Result<(), SnapshotFault>
+    ensures loads { Loads C bytes.now result (T.rows table.new) }
+    ensures unchanged { OnErr result (T.rows table.new ≡ T.rows table.old) }
+{
+    let mut rows = Listed::new();
+    read_snapshot(bytes, &mut rows)?;
+    table.clear();
+    put_all(rows, table);
+    Ok(())
+}

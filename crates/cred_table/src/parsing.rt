@@ -1,0 +1,252 @@
+//! Reading the parts of a snapshot, where they stand in its text.
+
+ghost use Rattle.std.specs.Prelude.{◌≡◌, ◌-◌, ◌≤◌, ◌<◌, ◌^◌, pos, option_map, ⊤};
+ghost use Rattle.ctap_cbor.specs.Tree.{Int, Bytes, Flag};
+ghost use Rattle.ctap_cbor.specs.Head.{head};
+ghost use Rattle.ctap_cbor.specs.Grammar.{scalar_text};
+ghost use Rattle.ctap_cbor.specs.Parts.{One, OpensArray, item_text};
+ghost use Rattle.cred_table.specs.Snapshots.{IsHash, IsShort, IsName, IsRow, version};
+ghost use Rattle.ctap_cbor.specs.Views.{part_of};
+ghost use Rattle.cred_table.specs.Parsing.{Reads, ReadsPart, ReadsMember, member_text, map_in, key_in, hash_in, short_in, flag_in, counter_in, name_in, count_in, named_in, name_text, heads_text, row_text, members_of};
+
+use crate::row::Row;
+use arrayvec::{ArrayString, ArrayVec};
+use ctap_cbor::{Cursor, Item};
+
+/// Takes an item: a head, and the bytes of a string.
+fn take<'a>(cursor: &mut Cursor<'a>, level: u8) -> Option<Item<'a>>
+    requires low { 1 ≤ level }
+    requires high { level ≤ 5 }
+    ensures { ReadsPart (5 - level) item_text cursor.old cursor.new (option_map part_of result) }
+{
+    match cursor.item(level) {
+        Ok(item) => Some(item),
+        Err(_) => None,
+    }
+}
+
+/// Takes the head of a map of so many members.
+fn read_map(cursor: &mut Cursor, level: u8, count: u64) -> Option<()>
+    requires low { 1 ≤ level }
+    requires high { level ≤ 4 }
+    ensures { Reads (λ _. ⊤) (λ _. head 5 count) cursor.old cursor.new result }
+{
+    let item = take(cursor, level)?;
+    map_of(item, count)
+}
+
+/// Takes an integer of at least 0.
+fn read_key(cursor: &mut Cursor, level: u8, key: u8) -> Option<()>
+    requires low { 1 ≤ level }
+    requires high { level ≤ 5 }
+    ensures { Reads (λ _. ⊤) (λ _. scalar_text (Int (pos key))) cursor.old cursor.new result }
+{
+    let item = take(cursor, level)?;
+    key_of(item, key)
+}
+
+/// Takes a member of a map: the key, and the head of its value, which is a string whole.
+fn read_member<'a>(cursor: &mut Cursor<'a>, level: u8, key: u8) -> Option<Item<'a>>
+    requires low { 1 ≤ level }
+    requires high { level ≤ 5 }
+    ensures { ReadsPart (5 - level) (member_text key) cursor.old cursor.new (option_map part_of result) }
+{
+    read_key(cursor, level, key)?;
+    take(cursor, level)
+}
+
+/// A map of so many pairs.
+fn map_of(item: Item, count: u64) -> Option<()>
+    ensures { result ≡ map_in count (part_of item.entry) }
+{
+    match item {
+        Item::Map(found) if found == count => Some(()),
+        _ => None,
+    }
+}
+
+/// This integer.
+fn key_of(item: Item, key: u8) -> Option<()>
+    ensures { result ≡ key_in key (part_of item.entry) }
+{
+    match item {
+        Item::Int(found) if found == key as i128 => Some(()),
+        _ => None,
+    }
+}
+
+/// 32 bytes.
+fn hash_of(item: Item) -> Option<[u8; 32]>
+    ensures { result ≡ hash_in (part_of item.entry) }
+{
+    match item {
+        Item::Bytes(bytes) => bytes.try_into().ok(),
+        _ => None,
+    }
+}
+
+/// At most 64 bytes.
+fn short_of(item: Item) -> Option<ArrayVec<u8, 64>>
+    ensures { option_map (λ v. v.items) result ≡ short_in (part_of item.entry) }
+{
+    match item {
+        Item::Bytes(bytes) if bytes.len() <= 64 => {
+            let mut short = ArrayVec::new();
+            short.try_extend_from_slice(bytes).unwrap();
+            Some(short)
+        }
+        _ => None,
+    }
+}
+
+/// A truth value.
+fn flag_of(item: Item) -> Option<bool>
+    ensures { result ≡ flag_in (part_of item.entry) }
+{
+    match item {
+        Item::Bool(flag) => Some(flag),
+        _ => None,
+    }
+}
+
+/// An integer from 0 to 2^32-1.
+fn counter_of(item: Item) -> Option<u32>
+    ensures { result ≡ counter_in (part_of item.entry) }
+{
+    match item {
+        Item::Int(value) if 0 <= value && value <= 0xffff_ffff => Some(value as u32),
+        _ => None,
+    }
+}
+
+/// A text of at most 64 bytes.
+fn name_of(item: Item) -> Option<ArrayString<64>>
+    ensures { option_map (λ s. s.bytes) result ≡ name_in (part_of item.entry) }
+{
+    match item {
+        Item::Text(text) => ArrayString::from(text).ok(),
+        _ => None,
+    }
+}
+
+/// The number of an array's items.
+fn count_of(item: Item) -> Option<u64>
+    ensures { result ≡ count_in (part_of item.entry) }
+{
+    match item {
+        Item::Array(count) => Some(count),
+        _ => None,
+    }
+}
+
+/// A version, by whether its rows have names.
+fn named_of(item: Item) -> Option<bool>
+    ensures { result ≡ named_in (part_of item.entry) }
+{
+    match item {
+        Item::Int(1) => Some(false),
+        Item::Int(2) => Some(true),
+        _ => None,
+    }
+}
+
+/// Takes a member of 32 bytes.
+fn read_hash(cursor: &mut Cursor, key: u8) -> Option<[u8; 32]>
+    ensures { ReadsMember IsHash (λ s. One (Bytes s)) key cursor.old cursor.new result }
+{
+    let item = read_member(cursor, 4, key)?;
+    hash_of(item)
+}
+
+/// Takes a member of at most 64 bytes.
+fn read_short(cursor: &mut Cursor, key: u8) -> Option<ArrayVec<u8, 64>>
+    ensures { ReadsMember IsShort (λ s. One (Bytes s)) key cursor.old cursor.new (option_map (λ v. v.items) result) }
+{
+    let item = read_member(cursor, 4, key)?;
+    short_of(item)
+}
+
+/// Takes a member that is a truth value.
+fn read_flag(cursor: &mut Cursor, key: u8) -> Option<bool>
+    ensures { ReadsMember (λ _. ⊤) (λ b. One (Flag b)) key cursor.old cursor.new result }
+{
+    let item = read_member(cursor, 4, key)?;
+    flag_of(item)
+}
+
+/// Takes a member from 0 to 2^32-1.
+fn read_counter(cursor: &mut Cursor, key: u8) -> Option<u32>
+    ensures { ReadsMember (λ n. n < 2 ^ 32) (λ n. One (Int (pos n))) key cursor.old cursor.new result }
+{
+    let item = read_member(cursor, 4, key)?;
+    counter_of(item)
+}
+
+/// Takes the name, where names are kept, and else the empty one.
+fn read_name(cursor: &mut Cursor, named: bool) -> Option<ArrayString<64>>
+    ensures { Reads (IsName named) (name_text named) cursor.old cursor.new (option_map (λ s. s.bytes) result) }
+{
+    if !named {
+        return Some(ArrayString::new());
+    }
+    let item = read_member(cursor, 4, 8)?;
+    name_of(item)
+}
+
+/// Takes the version: whether rows have names.
+fn read_version(cursor: &mut Cursor) -> Option<bool>
+    ensures { ReadsMember (λ _. ⊤) (λ named. One (Int (pos (version named)))) 1 cursor.old cursor.new result }
+{
+    let item = read_member(cursor, 2, 1)?;
+    named_of(item)
+}
+
+/// Takes the head of the entries, and gives their number.
+fn read_count(cursor: &mut Cursor) -> Option<u64>
+    ensures { ReadsMember (λ n. n < 2 ^ 64) OpensArray 2 cursor.old cursor.new result }
+{
+    let item = read_member(cursor, 2, 2)?;
+    count_of(item)
+}
+
+/// Takes the heads of a snapshot: whether its rows have names, and how many entries it has.
+pub(crate) fn read_heads(cursor: &mut Cursor) -> Option<(bool, u64)>
+    ensures { Reads (λ h. h.1 < 2 ^ 64) heads_text cursor.old cursor.new result }
+{
+    read_map(cursor, 1, 2)?;
+    let named = read_version(cursor)?;
+    let count = read_count(cursor)?;
+    Some((named, count))
+}
+
+/// Takes a row.
+pub(crate) fn read_row(cursor: &mut Cursor, named: bool) -> Option<Row>
+    ensures { Reads (IsRow named) (row_text named) cursor.old cursor.new result }
+{
+    read_map(cursor, 3, members_of(named))?;
+    let rp = read_hash(cursor, 1)?;
+    let id = read_hash(cursor, 2)?;
+    let x = read_hash(cursor, 3)?;
+    let y = read_hash(cursor, 4)?;
+    let user = read_short(cursor, 5)?;
+    let discoverable = read_flag(cursor, 6)?;
+    let counter = read_counter(cursor, 7)?;
+    let name = read_name(cursor, named)?;
+    Some(Row {
+        rp,
+        id,
+        x,
+        y,
+        user,
+        discoverable,
+        counter,
+        name,
+    })
+}
+
+/// The number of a row's members.
+fn members_of(named: bool) -> u64
+    ensures { result ≡ members_of named }
+{
+    if named { 8 } else { 7 }
+}

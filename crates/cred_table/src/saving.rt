@@ -1,0 +1,221 @@
+//! Saving snapshots.
+
+ghost use Rattle.std.specs.Prelude.{◌≡◌, ◌≤◌, ◌+◌, ◌++◌, pos, true, length, take, OnOk, OnErr, IfErr, MatchResult};
+ghost use Rattle.ctap_cbor.specs.Tree.{Int, Bytes, Text};
+ghost use Rattle.ctap_cbor.specs.Grammar.{scalar_text};
+ghost use Rattle.ctap_cbor.specs.Writing.{room_of, Appends, SameBuffer};
+ghost use Rattle.cred_table.specs.declared.fault.SnapshotFault.TheVariants.{Memory};
+ghost use Rattle.cred_table.specs.Snapshots.{IsRow, IsHash, IsShort, IsName, Saves};
+ghost use Rattle.cred_table.specs.Parsing.{row_text, heads_text};
+ghost use Rattle.cred_table.specs.Saving.{AppendsUpTo, Extends};
+
+use crate::fault::SnapshotFault;
+use crate::row::Row;
+use crate::table::Table;
+use arrayvec::{ArrayString, ArrayVec};
+use ctap_cbor::Sink;
+use ctap_cbor::laws::known_bytes;
+use std::alloc::AllocError;
+
+/// The bytes of the longest row.
+const LONGEST_ROW: usize = 283;
+
+/// The bytes of the longest heads of a snapshot.
+const LONGEST_HEADS: usize = 13;
+
+/// The version that is written: its rows have names.
+const VERSION: u64 = 2;
+
+impl From<AllocError> for SnapshotFault {
+    ghost from_gives = { λ _ fault. fault ≡ Memory };
+
+    fn from(_error: AllocError) -> Self {
+        SnapshotFault::Memory
+    }
+}
+
+/// What a row's type says of it. It does nothing.
+fn known_row(row: &Row)
+    ensures { IsRow true row.now }
+{
+    known_hash(&row.rp);
+    known_hash(&row.id);
+    known_hash(&row.x);
+    known_hash(&row.y);
+    known_short(&row.user);
+    known_name(&row.name);
+    let _counter = row.counter;
+}
+
+fn known_hash(hash: &[u8; 32])
+    ensures { IsHash hash.now }
+{
+    known_bytes(hash);
+}
+
+fn known_short(bytes: &ArrayVec<u8, 64>)
+    ensures { IsShort bytes.now.items }
+{
+    known_bytes(bytes.as_slice());
+}
+
+fn known_name(name: &ArrayString<64>)
+    ensures { IsName true name.now.bytes }
+{
+    let _text = name.as_str();
+}
+
+/// Writes 32 bytes.
+fn put_hash(sink: &mut Sink<'_>, hash: &[u8; 32])
+    requires { 34 ≤ room_of sink.old }
+    ensures appends { Appends sink.old sink.new (scalar_text (Bytes hash.now)) 34 }
+    ensures same { SameBuffer sink.old sink.new }
+{
+    sink.bytes(hash);
+}
+
+/// Writes at most 64 bytes.
+fn put_short(sink: &mut Sink<'_>, bytes: &[u8])
+    requires short { length bytes.now ≤ 64 }
+    requires room { 66 ≤ room_of sink.old }
+    ensures appends { AppendsUpTo sink.old sink.new (scalar_text (Bytes bytes.now)) 66 }
+    ensures room { room_of sink.old ≤ room_of sink.new + 66 }
+    ensures same { SameBuffer sink.old sink.new }
+{
+    sink.bytes(bytes);
+}
+
+/// Writes a text of at most 64 bytes.
+fn put_name(sink: &mut Sink<'_>, name: &str)
+    requires short { length name.now ≤ 64 }
+    requires room { 66 ≤ room_of sink.old }
+    ensures appends { AppendsUpTo sink.old sink.new (scalar_text (Text name.now)) 66 }
+    ensures room { room_of sink.old ≤ room_of sink.new + 66 }
+    ensures same { SameBuffer sink.old sink.new }
+{
+    sink.text(name);
+}
+
+/// Writes an integer from 0 to 2^32-1.
+fn put_counter(sink: &mut Sink<'_>, counter: u32)
+    requires { 5 ≤ room_of sink.old }
+    ensures appends { AppendsUpTo sink.old sink.new (scalar_text (Int (pos counter))) 5 }
+    ensures room { room_of sink.old ≤ room_of sink.new + 5 }
+    ensures same { SameBuffer sink.old sink.new }
+{
+    sink.uint(counter as u64);
+}
+
+/// Writes a row's map, its members in rising order of their keys.
+fn put_row(sink: &mut Sink<'_>, row: &Row)
+    requires { LONGEST_ROW ≤ room_of sink.old }
+    ensures appends { AppendsUpTo sink.old sink.new (row_text true row.now) LONGEST_ROW }
+    ensures same { SameBuffer sink.old sink.new }
+{
+    sink.map(8);
+    sink.uint(1);
+    put_hash(sink, &row.rp);
+    sink.uint(2);
+    put_hash(sink, &row.id);
+    sink.uint(3);
+    put_hash(sink, &row.x);
+    sink.uint(4);
+    put_hash(sink, &row.y);
+    sink.uint(5);
+    put_short(sink, &row.user);
+    sink.uint(6);
+    sink.flag(row.discoverable);
+    sink.uint(7);
+    put_counter(sink, row.counter);
+    sink.uint(8);
+    put_name(sink, &row.name);
+}
+
+/// Writes a row's map to the front of a buffer, and gives its length.
+fn row_into(buffer: &mut [u8], row: &Row) -> usize
+    requires { LONGEST_ROW ≤ length buffer.old }
+    ensures within { result ≤ LONGEST_ROW }
+    ensures front { take result buffer.new ≡ row_text true row.now }
+{
+    let mut sink = Sink::new(buffer);
+    put_row(&mut sink, row);
+    sink.len()
+}
+
+/// Writes the heads of a snapshot: the version, and the number of entries.
+fn put_heads(sink: &mut Sink<'_>, count: u64)
+    requires { LONGEST_HEADS ≤ room_of sink.old }
+    ensures appends { AppendsUpTo sink.old sink.new (heads_text (true, count)) LONGEST_HEADS }
+    ensures same { SameBuffer sink.old sink.new }
+{
+    sink.map(2);
+    sink.uint(1);
+    sink.uint(VERSION);
+    sink.uint(2);
+    sink.array(count);
+}
+
+/// Writes the heads to the front of a buffer, and gives their length.
+fn heads_into(buffer: &mut [u8], count: u64) -> usize
+    requires { LONGEST_HEADS ≤ length buffer.old }
+    ensures within { result ≤ LONGEST_HEADS }
+    ensures front { take result buffer.new ≡ heads_text (true, count) }
+{
+    let mut sink = Sink::new(buffer);
+    put_heads(&mut sink, count);
+    sink.len()
+}
+
+/// Appends a row's map.
+fn write_row(row: &Row, out: &mut Vec<u8>) -> Result<(), AllocError>
+    ensures ok { OnOk result (out.new.items ≡ out.old.items ++ row_text true row.now) }
+    ensures err { OnErr result (out.new.items ≡ out.old.items) }
+{
+    let mut buffer = [0; LONGEST_ROW];
+    let len = row_into(&mut buffer, row);
+    out.extend_from_slice(&buffer[..len])
+}
+
+/// Appends the heads of a snapshot.
+fn write_heads(count: u64, out: &mut Vec<u8>) -> Result<(), AllocError>
+    ensures ok { OnOk result (out.new.items ≡ out.old.items ++ heads_text (true, count)) }
+    ensures err { OnErr result (out.new.items ≡ out.old.items) }
+{
+    let mut buffer = [0; LONGEST_HEADS];
+    let len = heads_into(&mut buffer, count);
+    out.extend_from_slice(&buffer[..len])
+}
+
+/// Appends the heads and the rows.
+fn write_rows<T: Table<C>, const C: usize>(
+    table: &T,
+    out: &mut Vec<u8>,
+) -> Result<(), SnapshotFault>
+    ensures { MatchResult result
+        (λ _. Saves C (T.rows table.now) out.old.items out.new.items)
+        (λ fault. (fault ≡ Memory) × Extends out.old.items out.new.items) }
+{
+    write_heads(table.len() as u64, out)?;
+    for place in 0..table.len() {
+        let row = table.row(place);
+        known_row(row);
+        write_row(row, out)?;
+    }
+    Ok(())
+}
+
+/// Appends a snapshot of a table's rows, with the vector's own allocator.
+///
+/// It is refused only where memory is. The vector then holds what it held before.
+pub fn save<T: Table<C>, const C: usize>(table: &T, out: &mut Vec<u8>) -> Result<(), SnapshotFault>
+    ensures saved { OnOk result (Saves C (T.rows table.now) out.old.items out.new.items) }
+    ensures memory { IfErr result (λ fault. fault ≡ Memory) }
+    ensures unchanged { OnErr result (out.new.items ≡ out.old.items) }
+{
+    let len = out.len();
+    let written = write_rows(table, out);
+    if written.is_err() {
+        out.truncate(len);
+    }
+    written
+}

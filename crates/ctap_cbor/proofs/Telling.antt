@@ -1,0 +1,70 @@
+-- What bytes are, as a function of them.
+use Rattle.std.proofs.Common.{◌≡◌, ℕ, ◌+◌, ◌*◌, ◌<◌, ◌≤◌, Bool, true, false, List, [], ◌∷◌, ◌++◌, length, refl, arith, sym, ap, ◌∙◌}
+use Rattle.std.specs.Prelude.{◌&&◌, if◌then◌else◌, nat_lt}
+use Rattle.std.proofs.lemmas.Bool.{ltb-true}
+use Rattle.std.proofs.lemmas.Bool.Decides.{nat_tests}
+use Rattle.std.proofs.lemmas.List.{append-nil}
+use Rattle.ctap_cbor.specs.declared.fault.Kind.TheVariants.{Reserved}
+use Rattle.ctap_cbor.specs.Tree.{Trees, no_trees, depth_all, count}
+use Rattle.ctap_cbor.specs.Head.{AreBytes}
+use Rattle.ctap_cbor.specs.Grammar.{texts, AreLawful}
+use Rattle.ctap_cbor.specs.Faults.{passed, fault_steps}
+use Rattle.ctap_cbor.specs.Outcome.{Outcome, Stopped, IsOutcome, steps}
+use Rattle.ctap_cbor.specs.Parse.{Run, Ran, items, parse, outcome_by, ran_by}
+use Rattle.ctap_cbor.specs.Telling.{are_bytes, outcome_of, check_steps, items_at}
+use Rattle.ctap_cbor.specs.Laws.{BytesTell, CheckStepsAreBounded, ItemsAreFound}
+use Rattle.ctap_cbor.proofs.Again.{items_again, all_ran}
+use Rattle.ctap_cbor.proofs.Sound.{parse_sound}
+use Rattle.ctap_cbor.proofs.Uniqueness.{outcome_sound, outcome_only}
+use Rattle.ctap_cbor.proofs.Bounds.{steps_bound}
+
+below : (b : ℕ) → b < 256 → nat_lt b 256 ≡ true
+below b h = grind (arith, nat_tests)
+
+pub are_bytes_true : (b : List ℕ) → AreBytes b → are_bytes b ≡ true
+are_bytes_true [] h = refl
+are_bytes_true (x ∷ bs) h = ap (λ c. c && are_bytes bs) (below x h.0) ∙ are_bytes_true bs h.1
+
+and_left : (a b : Bool) → (a && b) ≡ true → a ≡ true
+and_left true b e = refl
+and_left false b e = e
+
+and_right : (a b : Bool) → (a && b) ≡ true → b ≡ true
+and_right true b e = e
+and_right false b e = absurd cc
+
+pub bytes_of_test : (b : List ℕ) → are_bytes b ≡ true → AreBytes b
+bytes_of_test [] e = tt
+bytes_of_test (x ∷ bs) e = (ltb-true x 256 (and_left (nat_lt x 256) (are_bytes bs) e), bytes_of_test bs (and_right (nat_lt x 256) (are_bytes bs) e))
+
+outcome_parsed : (b : List ℕ) → AreBytes b → outcome_of b ≡ outcome_by (parse 4 b)
+unfolding outcome_of
+outcome_parsed b fits = ap (λ c. if c then outcome_by (parse 4 b) else Stopped [] Reserved) (are_bytes_true b fits)
+
+pub told : (b : List ℕ) → AreBytes b → IsOutcome b (outcome_of b)
+told b fits = rw (outcome_parsed b fits) (outcome_sound b (parse 4 b) (parse_sound 4 b fits))
+
+pub bytes_tell : BytesTell
+bytes_tell = record { told = told; only = λ b o fits is. outcome_parsed b fits ∙ outcome_only b o is }
+
+-- a list with a number that is no byte
+no_bytes : (b : List ℕ) → steps b (Stopped [] Reserved) ≤ 2 * length b + 1
+unfolding fault_steps passed
+no_bytes [] = omega arith
+no_bytes (x ∷ bs) = omega arith
+
+bounded_by : (b : List ℕ) (c : Bool) → are_bytes b ≡ c → steps b (if c then outcome_by (parse 4 b) else Stopped [] Reserved) ≤ 2 * length b + 1
+bounded_by b true e = let fits = bytes_of_test b e in steps_bound b (outcome_by (parse 4 b)) (outcome_sound b (parse 4 b) (parse_sound 4 b fits))
+bounded_by b false e = no_bytes b
+
+pub check_steps_bounded : CheckStepsAreBounded
+unfolding outcome_of
+check_steps_bounded b = bounded_by b (are_bytes b) refl
+
+pub items_are_found : ItemsAreFound
+unfolding items_at
+items_are_found room ts lawful flat =
+    ap (λ x. ran_by (items (parse room) (count ts) x)) (sym (append-nil (texts ts)))
+    ∙ ap (λ n. ran_by (items (parse room) n (texts ts ++ []))) (let e : count ts ≡ count ts + 0 = omega arith in e)
+    ∙ ap ran_by (items_again ts room 0 [] lawful flat)
+    ∙ ap ran_by (all_ran ts [])

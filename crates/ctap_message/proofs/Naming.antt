@@ -1,0 +1,226 @@
+-- From one entry of a list to the next, and the head of a list.
+use Rattle.std.proofs.Common.{◌≡◌, ℕ, ◌+◌, ◌-◌, ◌<◌, Bool, true, false, List, [], length, Option, Some, None, Result, Ok, Err, Bor, refl, sym, ap, subst, ◌∙◌, arith, length-append}
+use Rattle.std.specs.Prelude.{is_some}
+use Rattle.std.specs.Option.{option_copied}
+use Rattle.ctap_cbor.specs.declared.fault.Kind.{Kind}
+use Rattle.ctap_cbor.specs.declared.fault.Kind.TheVariants.{Truncated}
+use Rattle.ctap_cbor.specs.declared.item.Item.{Item}
+use Rattle.ctap_cbor.specs.declared.item.Item.TheVariants as item
+use Rattle.ctap_cbor.specs.Tree.{Tree, Array, Trees, no_trees, tree, count}
+use Rattle.ctap_cbor.specs.Head.{AreBytes, head}
+use Rattle.ctap_cbor.specs.Grammar.{text, texts}
+use Rattle.ctap_cbor.specs.Faults.{AnItem}
+use Rattle.ctap_cbor.specs.Parts.{Part, OpensArray, read}
+use Rattle.ctap_cbor.specs.Outcome.{Whole, Stopped, later_keys}
+use Rattle.ctap_cbor.specs.Reading.{Reading, rest_of, Halts, Passes, Takes}
+use Rattle.ctap_cbor.specs.Telling.{canonical_tree, whole_tree, items_at}
+use Rattle.ctap_cbor.specs.Views.{part_of}
+use Rattle.ctap_cbor.proofs.Items.{read_again}
+use Rattle.ctap_cbor.proofs.Only.{passes_only, halts_never}
+use Rattle.ctap_cbor.proofs.Telling.{bytes_tell, items_are_found}
+use Rattle.ctap_message.specs.Members.{has_entries, entries_of}
+use Rattle.ctap_message.specs.Descriptors.{Descriptor, descriptor_in, named_id, in_front, ids_of}
+use Rattle.ctap_message.specs.Walks.{Reads, map_told}
+use Rattle.ctap_message.specs.CollectedLists.{descriptor_told}
+use Rattle.ctap_message.specs.DescriptorWalk.{DescriptorWalk, IsWhole, list_steps, entry_steps, NextId, Left, Walks, Gives, IsList, IsWalk}
+use Rattle.ctap_message.proofs.Walking.{opens_array}
+
+-- as many ids are left as there were
+abbrev pub Sofar : Reading → ℕ → Reading → ℕ → Type 0
+Sofar r n s m = (ts : Trees) → Left r n ts → (us : Trees) × (more : ℕ) × Walks r s m ts us more × (ids_of ts ≡ ids_of us)
+
+pub sofar_none : (r : Reading) (n : ℕ) → Sofar r n r n
+sofar_none r n = λ ts h. (ts, 0, record { left = h; same = refl; cost = omega arith; steps = omega arith }, refl)
+
+Onward : Reading → Reading → ℕ → Trees → Trees → Descriptor → Type 0
+Onward r s m ts us d = (vs : Trees) × (more : ℕ) × Walks r s m ts vs more × (ids_of us ≡ in_front (named_id d) (ids_of vs))
+
+onward : (r s s' : Reading) (m : ℕ) (ts us : Trees) (more : ℕ) (d : Bool × Descriptor) → Walks r s m ts us more → 0 < m → Reads (map_told descriptor_told) 3 d s s' → Onward r s' (m - 1) ts us d.1
+unfolding Onward
+onward r s s' m ts no_trees more d h lt k = absurd (omega (arith, h.left.number))
+onward r s s' m ts (tree u us) more d h lt k =
+    let t : Tree = k.0 in
+    let p : Passes 3 t s s' = k.1 in
+    let only = passes_only 3 u t (texts us) s s' h.left.lawful.0 (omega (arith, h.left.flat)) h.left.spelled p in
+    let len : length (text t) ≡ length (text u) = ap (λ t. length (text t)) only.0 in
+    let later = ap later_keys only.0 in (
+      us,
+      more + (length (text u) + later_keys u),
+      record {
+        left = record { spelled = only.1; number = omega (arith, h.left.number); lawful = h.left.lawful.1; flat = omega (arith, h.left.flat) };
+        same = ap (λ (r : Reading). r.bytes) p.moved ∙ h.same;
+        cost = omega (arith, h.cost, length-append (text u) (texts us));
+        steps = omega (arith, h.steps, ap (λ (r : Reading). r.steps) p.moved, len, later);
+      },
+      ap (λ t. in_front (named_id (descriptor_in (Some t))) (ids_of us)) (sym only.0) ∙ ap (λ x. in_front (named_id x.1) (ids_of us)) (sym k.2),
+    )
+
+pub entry_never : (r s s' : Reading) (m : ℕ) (ts us : Trees) (more : ℕ) (at : ℕ) (kind : Kind) → Walks r s m ts us more → 0 < m → Halts 3 s s' at kind → ⊥
+entry_never r s s' m ts no_trees more at kind h lt k = omega (arith, h.left.number)
+entry_never r s s' m ts (tree u us) more at kind h lt k = halts_never 3 u (texts us) s s' at kind h.left.lawful.0 (omega (arith, h.left.flat)) h.left.spelled k
+
+pub sofar_more : (r s s' : Reading) (n m : ℕ) (d : Bool × Descriptor) → Sofar r n s m → 0 < m → Reads (map_told descriptor_told) 3 d s s' → named_id d.1 ≡ None → Sofar r n s' (m - 1)
+unfolding Onward
+sofar_more r s s' n m d h lt k e = λ ts l.
+    let g = h ts l in
+    let o = onward r s s' m ts g.0 g.1 d g.2 lt k in
+    (o.0, o.1, o.2, g.3 ∙ o.3 ∙ ap (λ x. in_front x (ids_of o.0)) e)
+
+pub gives_some : (r s s' : Reading) (n m : ℕ) (d : Bool × Descriptor) (id : Option (List ℕ)) → Sofar r n s m → 0 < m → Reads (map_told descriptor_told) 3 d s s' → id ≡ named_id d.1 → is_some id ≡ true → Gives r n s' (m - 1) id
+unfolding Onward
+gives_some r s s' n m d id h lt k e there = λ ts l.
+    let g = h ts l in
+    let o = onward r s s' m ts g.0 g.1 d g.2 lt k in
+    (o.0, o.1, o.2, g.3 ∙ o.3 ∙ ap (λ x. in_front x (ids_of o.0)) (sym e), λ (none : id ≡ None). absurd (let f : true ≡ false = sym there ∙ ap is_some none in cc))
+
+empty : (us : Trees) → count us ≡ 0 → us ≡ no_trees
+empty no_trees e = refl
+empty (tree u us) e = absurd (omega arith)
+
+pub gives_none : (r s : Reading) (n m : ℕ) → Sofar r n s m → m ≡ 0 → Gives r n s m None
+gives_none r s n m h e = λ ts l.
+    let g = h ts l in
+    (g.0, g.1, g.2, g.3, λ _. empty g.0 (g.2.left.number ∙ e))
+
+pub copied_some : (o : Option (Bor (List ℕ))) → is_some (option_copied o) ≡ is_some o
+copied_some None = refl
+copied_some (Some x) = refl
+
+pub none_is : (o : Option (List ℕ)) → is_some o ≡ false → o ≡ None
+none_is None e = refl
+none_is (Some x) e = absurd cc
+
+-- ---- walks
+
+abbrev pub walk_at : Reading → ℕ → DescriptorWalk
+walk_at r n = record { cursor = r; count = n }
+
+abbrev entries_in : Reading → Trees
+entries_in r = entries_of (canonical_tree r.bytes)
+
+abbrev left_at : Reading → ℕ → Trees
+left_at r n = items_at 3 n (rest_of r)
+
+left_found : (r : Reading) (n : ℕ) (ts : Trees) → Left r n ts → left_at r n ≡ ts
+left_found r n ts h = ap (λ m. items_at 3 m (rest_of r)) (sym h.number) ∙ ap (items_at 3 (count ts)) h.spelled ∙ items_are_found 3 ts h.lawful h.flat
+
+-- what looking for an id makes of a walk
+abbrev Moves : Reading → ℕ → Bool → Reading → ℕ → Option (List ℕ) → Type 0
+Moves r n given s m id =
+    IsWalk (walk_at s m) given × (entries_in s ≡ entries_in r) × (ids_of (left_at r n) ≡ in_front id (ids_of (left_at s m))) × (id ≡ None → left_at s m ≡ no_trees)
+
+moves : (r s : Reading) (n m : ℕ) (given : Bool) (id : Option (List ℕ)) → IsWalk (walk_at r n) given → Gives r n s m id → Moves r n given s m id
+moves r s n m given id w g =
+    let h = g (left_at r n) w.stands in
+    let us : Trees = h.0 in
+    let k : Walks r s m (left_at r n) us h.1 = h.2 in
+    let found : left_at s m ≡ us = left_found s m us k.left in
+    let same : entries_in s ≡ entries_in r = ap (λ b. entries_of (canonical_tree b)) k.same in
+    let cost : entry_steps (left_at s m) ≡ entry_steps us = ap entry_steps found in
+    let whole : list_steps (entries_in s) ≡ list_steps (entries_in r) = ap list_steps same in (
+      record {
+        stands = subst (Left s m) (sym found) k.left;
+        given_is = w.given_is ∙ ap has_entries (sym same);
+        within = omega (arith, w.within, k.cost, cost, whole);
+        steps_are = omega (arith, w.within, w.steps_are, k.steps, k.cost, cost, whole);
+      },
+      same,
+      h.3 ∙ ap (λ x. in_front id (ids_of x)) (sym found),
+      λ e. found ∙ h.4 e,
+    )
+
+pub still_walk : (r s : Reading) (n m : ℕ) (given : Bool) (id : Option (List ℕ)) → IsWalk (walk_at r n) given → Gives r n s m id → IsWalk (walk_at s m) given
+still_walk r s n m given id w g = (moves r s n m given id w g).0
+
+empty_ids : (ts : Trees) (us : Trees) → ids_of ts ≡ ids_of us → us ≡ no_trees → ids_of ts ≡ []
+empty_ids ts us e h = e ∙ ap ids_of h
+
+pub next_gives : (r s : Reading) (n m : ℕ) (given : Bool) (id : Option (Bor (List ℕ))) → IsWalk (walk_at r n) given → Gives r n s m (option_copied id) → NextId (walk_at r n) id (walk_at s m)
+next_gives r s n m given None w g =
+    let h = moves r s n m given None w g in
+    record { first = (h.2 ∙ ap ids_of (h.3 refl), ap ids_of (h.3 refl)); same = h.1; ended = λ _. h.3 refl }
+next_gives r s n m given (Some x) w g =
+    let h = moves r s n m given (Some x.now) w g in
+    record { first = h.2; same = h.1; ended = λ e. absurd cc }
+
+-- ---- the head of a list
+
+list_head : (l : List ℕ) (ts : Trees) (r : Reading) → IsList l ts → r ≡ record { bytes = l; place = 0; steps = 0 } → read 4 AnItem (rest_of r) ≡ Ok (OpensArray (count ts), texts ts)
+list_head l ts r h e =
+    ap (λ r. read 4 AnItem (rest_of r)) e ∙ ap (read 4 AnItem) h.spelled ∙ read_again 4 AnItem (OpensArray (count ts)) (texts ts) (omega arith, h.lawful.0)
+
+abbrev part_at : Result (Part × List ℕ) Kind → Part
+part_at (Ok p) = p.0
+part_at (Err k) = OpensArray 0
+
+abbrev rest_at : Result (Part × List ℕ) Kind → List ℕ
+rest_at (Ok p) = p.1
+rest_at (Err k) = []
+
+abbrev size_of : Part → ℕ
+size_of (OpensArray n) = n
+size_of _ = 0
+
+list_tree : (l : List ℕ) (ts : Trees) → AreBytes l → IsList l ts → canonical_tree l ≡ Some (Array ts)
+list_tree l ts fits h =
+    ap whole_tree (bytes_tell.only l (Whole (Array ts)) fits (record { enc = record { lawful = h.lawful; spelled = h.spelled }; flat = omega (arith, h.flat) }))
+
+list_costs : (ts : Trees) → has_entries ts ≡ true → list_steps ts ≡ length (head 4 (count ts)) + entry_steps ts
+list_costs no_trees e = absurd cc
+list_costs (tree t ts) e = omega (arith, length-append (head 4 (count (tree t ts))) (texts (tree t ts)))
+
+-- behind its head a list's walk begins
+pub begins : (l : List ℕ) (ts : Trees) (r s : Reading) (n : ℕ) → AreBytes l → IsList l ts → r ≡ record { bytes = l; place = 0; steps = 0 } → read 4 AnItem (rest_of r) ≡ Ok (OpensArray n, rest_of s) → Takes 4 r s (OpensArray n)
+    → IsWalk (walk_at s n) true × IsWhole (walk_at s n) ts
+begins l ts r s n fits h e k t =
+    let same : ◌≡◌ {A = Result (Part × List ℕ) Kind} (Ok (OpensArray n, rest_of s)) (Ok (OpensArray (count ts), texts ts)) = sym k ∙ list_head l ts r h e in
+    let size : n ≡ count ts = ap (λ x. size_of (part_at x)) same in
+    let stands : Left s n ts = record { spelled = ap rest_at same; number = sym size; lawful = h.lawful.1; flat = h.flat } in
+    let found : left_at s n ≡ ts = left_found s n ts stands in
+    let bytes : s.bytes ≡ l = ap (λ (r : Reading). r.bytes) t.moved ∙ ap (λ (r : Reading). r.bytes) e in
+    let entries : entries_in s ≡ ts = ap (λ b. entries_of (canonical_tree b)) bytes ∙ ap entries_of (list_tree l ts fits h) in
+    let headed : length (head 4 n) ≡ length (head 4 (count ts)) = ap (λ n. length (head 4 n)) size in
+    let costs = list_costs ts h.given in
+    let left_cost : entry_steps (left_at s n) ≡ entry_steps ts = ap entry_steps found in
+    let whole_cost : list_steps (entries_in s) ≡ list_steps ts = ap list_steps entries in (
+      record {
+        stands = subst (Left s n) (sym found) stands;
+        given_is = sym h.given ∙ ap has_entries (sym entries);
+        within = omega (arith, costs, left_cost, whole_cost);
+        steps_are = omega (arith, ap (λ (r : Reading). r.steps) t.moved, ap (λ (r : Reading). r.steps) e, headed, costs, left_cost, whole_cost);
+      },
+      (entries, found),
+    )
+
+pub no_fault : (l : List ℕ) (ts : Trees) (r : Reading) (kind : Kind) → IsList l ts → r ≡ record { bytes = l; place = 0; steps = 0 } → read 4 AnItem (rest_of r) ≡ Err kind → ⊥
+no_fault l ts r kind h e k = let same : ◌≡◌ {A = Result (Part × List ℕ) Kind} (Err kind) (Ok (OpensArray (count ts), texts ts)) = sym k ∙ list_head l ts r h e in cc
+
+pub no_other : (l : List ℕ) (ts : Trees) (r s : Reading) (i : Item) → IsList l ts → r ≡ record { bytes = l; place = 0; steps = 0 } → read 4 AnItem (rest_of r) ≡ Ok (part_of i, rest_of s) → ((n : ℕ) → i ≡ item.Array n → ⊥) → ⊥
+no_other l ts r s i h e k other =
+    opens_array i other (count ts) (ap part_at (sym k ∙ list_head l ts r h e))
+
+-- ---- no list
+
+no_tree : canonical_tree [] ≡ None
+no_tree = ap whole_tree (bytes_tell.only [] (Stopped [] Truncated) tt ([], refl, refl))
+
+none_left : (r : Reading) → left_at r 0 ≡ no_trees
+unfolding items_at
+none_left r = refl
+
+pub no_list : (r : Reading) (l : List ℕ) → l ≡ [] → r ≡ record { bytes = l; place = 0; steps = 0 } → IsWalk (walk_at r 0) false × IsWhole (walk_at r 0) no_trees
+no_list r l nothing e =
+    let bytes : r.bytes ≡ [] = ap (λ (r : Reading). r.bytes) e ∙ nothing in
+    let entries : entries_in r ≡ no_trees = ap (λ b. entries_of (canonical_tree b)) bytes ∙ ap entries_of no_tree in
+    let found : left_at r 0 ≡ no_trees = none_left r in
+    let stands : Left r 0 no_trees = record { spelled = ap rest_of e ∙ nothing; number = refl; lawful = tt; flat = omega arith } in
+    let left_cost : entry_steps (left_at r 0) ≡ 0 = ap entry_steps found in
+    let whole_cost : list_steps (entries_in r) ≡ 0 = ap list_steps entries in (
+      record {
+        stands = subst (Left r 0) (sym found) stands;
+        given_is = ap has_entries (sym entries);
+        within = omega (arith, left_cost);
+        steps_are = omega (arith, ap (λ (r : Reading). r.steps) e, left_cost, whole_cost);
+      },
+      (entries, found),
+    )

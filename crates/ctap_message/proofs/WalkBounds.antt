@@ -1,0 +1,16 @@
+-- The steps of a walk over a list of descriptors.
+use Rattle.std.proofs.Common.{◌≡◌, ℕ, ◌+◌, ◌-◌, ◌*◌, ◌≤◌, List, length, ap, arith}
+use Rattle.std.specs.Prelude.{min}
+use Rattle.ctap_cbor.specs.Tree.{Array, Trees, no_trees, tree}
+use Rattle.ctap_cbor.specs.Grammar.{IsCanonical}
+use Rattle.ctap_cbor.specs.Outcome.{Whole}
+use Rattle.ctap_cbor.proofs.Bounds.{steps_bound}
+use Rattle.ctap_message.specs.DescriptorWalk.{DescriptorWalk, list_of, left_of, list_steps, entry_steps, walked}
+use Rattle.ctap_message.specs.Requests.{LARGEST}
+
+pub bounded : (ts : Trees) (l : List ℕ) → IsCanonical (Array ts) l → list_steps ts ≤ 2 * length l
+bounded no_trees l h = omega arith
+bounded (tree t ts) l h = omega (arith, steps_bound l (Whole (Array (tree t ts))) h, ap length h.enc.spelled)
+
+pub ended : (w : DescriptorWalk) → left_of w ≡ no_trees → walked w ≡ min (list_steps (list_of w)) LARGEST
+ended w e = omega (arith, ap entry_steps e)

@@ -1,0 +1,5 @@
+use Rattle.ctap_message.proofs.Taking.{assert_begins}
+use Rattle.ctap_message.proofs.assert.Assert.empty.Goals as goal
+
+pub returns : goal.returns
+returns c = assert_begins c.none.result c.none.ensures

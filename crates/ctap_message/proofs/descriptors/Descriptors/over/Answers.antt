@@ -1,0 +1,25 @@
+use Rattle.std.proofs.Common.{◌≡◌, Ok, subst}
+use Rattle.ctap_cbor.specs.Reading.{Takes, rest_of}
+use Rattle.ctap_cbor.specs.Parts.{read}
+use Rattle.ctap_cbor.specs.Faults.{AnItem}
+use Rattle.ctap_cbor.specs.Views.{part_of}
+use Rattle.ctap_message.proofs.Naming.{begins, no_fault, no_other}
+use Rattle.ctap_message.proofs.descriptors.Descriptors.over.Goals as goal
+
+pub unreachable-requires : goal.unreachable-requires
+unreachable-requires c = no_fault c.args.list.now c.requires.0 c.new-cursor.result c.in_default.field-0.kind c.requires.1 c.new-cursor.ensures c.in_default.ensures.exact
+
+pub unreachable-requires-in_default-item : goal.unreachable-requires-in_default-item
+unreachable-requires-in_default-item c = no_other c.args.list.now c.requires.0 c.new-cursor.result c.item.new.self c.in-Ok.item c.requires.1 c.new-cursor.ensures c.in-Ok.ensures.exact c.in_default-item.not-Array
+
+pub invariant_of-result : goal.invariant_of-result
+invariant_of-result c =
+    let exact = subst (λ i. read 4 AnItem (rest_of c.new-cursor.result) ≡ Ok (part_of i, rest_of c.item.new.self)) c.in-Array.is c.in-Ok.ensures.exact in
+    let takes = subst (λ i. Takes 4 c.new-cursor.result c.item.new.self (part_of i)) c.in-Array.is c.in-Ok.ensures.takes in
+    (begins c.args.list.now c.requires.0 c.new-cursor.result c.item.new.self c.in-Array.left c.known_bytes.ensures c.requires.1 c.new-cursor.ensures exact takes).0
+
+pub returns : goal.returns
+returns c = λ ts h.
+    let exact = subst (λ i. read 4 AnItem (rest_of c.new-cursor.result) ≡ Ok (part_of i, rest_of c.item.new.self)) c.in-Array.is c.in-Ok.ensures.exact in
+    let takes = subst (λ i. Takes 4 c.new-cursor.result c.item.new.self (part_of i)) c.in-Array.is c.in-Ok.ensures.takes in
+    (begins c.args.list.now ts c.new-cursor.result c.item.new.self c.in-Array.left c.known_bytes.ensures h c.new-cursor.ensures exact takes).1

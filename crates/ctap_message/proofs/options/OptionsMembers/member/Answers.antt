@@ -1,0 +1,11 @@
+use Rattle.std.proofs.Common.{◌-◌}
+use Rattle.ctap_cbor.specs.Views.{part_of}
+use Rattle.ctap_message.specs.Collected.{shown_options, options_told, options_step}
+use Rattle.ctap_message.proofs.Labelling.{adds_by}
+use Rattle.ctap_message.proofs.Collecting.{options_push}
+use Rattle.ctap_message.proofs.options.OptionsMembers.member.Goals as goal
+
+pub returns : goal.returns
+returns c =
+    adds_by shown_options options_told options_step c.label_of-label.result (5 - c.args.level) (part_of c.args.key) (part_of c.in_ok-value.value) c.args.self.now c.put.new.self c.args.cursor.now c.whole.new.self
+    (options_push c.label_of-label.result) c.label_of-label.ensures c.in_ok-value.ensures c.put.ensures

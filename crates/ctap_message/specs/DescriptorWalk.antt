@@ -1,0 +1,83 @@
+-- A walk over a list of descriptors, which is the one stated second look at a part of a message: what is left of the list, and
+-- the walk's own steps.
+use Rattle.std.specs.Prelude.{◌≡◌, ℕ, ◌+◌, ◌-◌, ◌≤◌, min, Bool, true, List, length, Option, None}
+use Rattle.std.specs.Borrow.{Bor}
+use Rattle.std.specs.Iterator.{YieldsFirstBy}
+use Rattle.ctap_cbor.specs.Tree.{Array, Trees, no_trees, tree, depth_all, count}
+use Rattle.ctap_cbor.specs.Grammar.{text, texts, IsLawful, AreLawful}
+use Rattle.ctap_cbor.specs.Outcome.{Whole, steps, later_in_all}
+use Rattle.ctap_cbor.specs.Reading.{Reading, rest_of, counted}
+use Rattle.ctap_cbor.specs.Telling.{canonical_tree, items_at}
+use Rattle.ctap_message.specs.Members.{entries_of, has_entries}
+use Rattle.ctap_message.specs.Descriptors.{ids_of, in_front}
+
+-- a cursor at the next entry, and how many entries are left
+pub record DescriptorWalk : Type 0 where
+  pub cursor : Reading
+  pub count : ℕ
+
+-- the entries of the list
+abbrev pub list_of : DescriptorWalk → Trees
+list_of w = entries_of (canonical_tree w.cursor.bytes)
+
+-- those that are left
+abbrev pub left_of : DescriptorWalk → Trees
+left_of w = items_at 3 w.count (rest_of w.cursor)
+
+-- a walk over these that begins
+abbrev pub IsWhole : DescriptorWalk → Trees → Type 0
+IsWhole w ts = (list_of w ≡ ts) × (left_of w ≡ ts)
+
+-- the steps of a whole walk: those of checking the list's bytes, but for finding their end; none where there is no entry
+abbrev pub list_steps : Trees → ℕ
+list_steps no_trees = 0
+list_steps (tree t ts) = steps (text (Array (tree t ts))) (Whole (Array (tree t ts))) - 1
+
+-- the steps of passing entries
+abbrev pub entry_steps : Trees → ℕ
+entry_steps ts = length (texts ts) + later_in_all ts
+
+-- the steps so far; the count stops at 2^64-1
+abbrev pub walked : DescriptorWalk → ℕ
+walked w = min (list_steps (list_of w) - entry_steps (left_of w)) 18446744073709551615
+
+-- what a call of `next` gives: the next id of an entry of type `public-key`, or nothing once no entry is left
+pub record NextId (old : DescriptorWalk) (id : Option (Bor (List ℕ))) (new : DescriptorWalk) : Type 0 where
+  pub first : YieldsFirstBy {A = Bor (List ℕ)} (λ x. x.now) (λ (w : DescriptorWalk). ids_of (left_of w)) old id new
+  pub same : list_of new ≡ list_of old
+  pub ended : id ≡ None → left_of new ≡ no_trees
+
+-- ---- the cursor behind a walk
+
+-- these entries are left, so many
+pub record Left (r : Reading) (n : ℕ) (ts : Trees) : Type 0 where
+  pub spelled : rest_of r ≡ texts ts
+  pub number : count ts ≡ n
+  pub lawful : AreLawful ts
+  pub flat : depth_all ts ≤ 3
+
+-- from these entries to those, in so many steps more
+pub record Walks (r s : Reading) (n : ℕ) (ts us : Trees) (more : ℕ) : Type 0 where
+  pub left : Left s n us
+  pub same : s.bytes ≡ r.bytes
+  pub cost : entry_steps ts ≡ more + entry_steps us
+  pub steps : s.steps ≡ counted r.steps more
+
+-- what looking for the next id gives
+abbrev pub Gives : Reading → ℕ → Reading → ℕ → Option (List ℕ) → Type 0
+Gives r n s m id =
+    (ts : Trees) → Left r n ts → (us : Trees) × (more : ℕ) × Walks r s m ts us more × (ids_of ts ≡ in_front id (ids_of us)) × (id ≡ None → us ≡ no_trees)
+
+-- the bytes of a list with entries, as they stand in a request
+pub record IsList (l : List ℕ) (ts : Trees) : Type 0 where
+  pub lawful : IsLawful (Array ts)
+  pub flat : depth_all ts ≤ 3
+  pub given : has_entries ts ≡ true
+  pub spelled : l ≡ text (Array ts)
+
+-- what holds of every walk
+pub record IsWalk (w : DescriptorWalk) (given : Bool) : Type 0 where
+  pub stands : Left w.cursor w.count (left_of w)
+  pub given_is : given ≡ has_entries (list_of w)
+  pub within : entry_steps (left_of w) ≤ list_steps (list_of w)
+  pub steps_are : w.cursor.steps ≡ walked w

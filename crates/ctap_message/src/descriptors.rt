@@ -1,0 +1,124 @@
+//! The ids that a list of descriptors names, as an iterator over the message's own bytes.
+
+ghost use Rattle.std.specs.Prelude.{◌≡◌, ◌<◌, ◌≤◌, MatchOption};
+ghost use Rattle.std.specs.Option.{option_copied};
+ghost use Rattle.std.specs.Iterator.{at_most};
+ghost use Rattle.ctap_cbor.specs.Tree.{Trees, no_trees};
+ghost use Rattle.ctap_message.specs.Members.{has_entries};
+ghost use Rattle.ctap_message.specs.Descriptors.{ids_of};
+ghost use Rattle.ctap_message.specs.DescriptorWalk.{DescriptorWalk, list_of, left_of, IsWhole, walked, NextId, Left, Gives, IsList};
+
+use crate::descriptor::read_descriptor;
+use ctap_cbor::laws::known_bytes;
+use ctap_cbor::{Cursor, Item};
+use std::marker::Model;
+
+/// What is left of a list: a cursor at its next entry, and how many entries there are.
+#[derive(Drop)]
+pub(crate) struct Entry<'a> {
+    cursor: Cursor<'a>,
+    left: u64,
+}
+
+impl<'a> Entry<'a> {
+    /// The next id that an entry of type `public-key` has.
+    fn next_id(&mut self) -> Option<&'a [u8]>
+        requires { (ts : Trees) × Left self.old.cursor self.old.left ts }
+        ensures gives { Gives self.old.cursor self.old.left self.new.cursor self.new.left (option_copied result) }
+        ensures fewer { MatchOption result (self.new.left ≡ 0) (λ _. self.new.left < self.old.left) }
+    {
+        while self.left > 0 {
+            self.left -= 1;
+            let Ok(descriptor) = read_descriptor(&mut self.cursor, 2) else {
+                unreachable!()
+            };
+            let id = descriptor.key_id();
+            if id.is_some() {
+                return id;
+            }
+        }
+        None
+    }
+}
+
+/// The ids of a list's entries of type `public-key`, in order, lent from the message.
+///
+/// The walk is a second look at the list's bytes, with a count of its own: [`Descriptors::steps`]. A list that isn't there has
+/// no entry.
+#[derive(Drop)]
+pub struct Descriptors<'a> {
+    entry: Entry<'a>,
+    given: bool,
+}
+
+// Clauses see the list's entries, and those that are left.
+impl<'a> Model for Descriptors<'a> {
+    ghost use Rattle.ctap_message.specs.DescriptorWalk.{DescriptorWalk, IsWalk};
+
+    ghost Value = { DescriptorWalk };
+
+    ghost view = { λ s. record { cursor = s.entry.cursor; count = s.entry.left } };
+
+    ghost invariant = { λ s. IsWalk (record { cursor = s.entry.cursor; count = s.entry.left }) s.given };
+}
+
+impl<'a> Descriptors<'a> {
+    /// The walk of no list.
+    pub(crate) fn none() -> Self
+        ensures { IsWhole result no_trees }
+    {
+        Descriptors {
+            entry: Entry {
+                cursor: Cursor::new(b""),
+                left: 0,
+            },
+            given: false,
+        }
+    }
+
+    /// A walk of a list with entries, which stands in a message.
+    pub(crate) fn over(list: &'a [u8]) -> Self
+        requires { (ts : Trees) × IsList list.now ts }
+        ensures { (ts : Trees) → IsList list.now ts → IsWhole result ts }
+    {
+        known_bytes(list);
+        let mut cursor = Cursor::new(list);
+        let Ok(item) = cursor.item(1) else {
+            unreachable!()
+        };
+        let Item::Array(left) = item else {
+            unreachable!()
+        };
+        Descriptors {
+            entry: Entry { cursor, left },
+            given: true,
+        }
+    }
+
+    /// Whether the list has an entry of any type; the same at any time.
+    pub fn is_given(&self) -> bool
+        ensures { result ≡ has_entries (list_of self.now) }
+    {
+        self.given
+    }
+
+    /// The steps of the walk so far. At the end of the list they are those of checking its bytes, less the one that finds
+    /// their end.
+    pub fn steps(&self) -> u64
+        ensures { result ≡ walked self.now }
+    {
+        self.entry.cursor.steps()
+    }
+}
+
+impl<'a> Iterator for Descriptors<'a> {
+    type Item = &'a [u8];
+
+    ghost next_gives = { NextId };
+
+    ghost remaining = { λ w. at_most w.count };
+
+    fn next(&mut self) -> Option<&'a [u8]> {
+        self.entry.next_id()
+    }
+}

@@ -1,0 +1,90 @@
+//! The checks of a request's parameters, in their order.
+
+ghost use Rattle.std.specs.Prelude.{◌≡◌, true};
+ghost use Rattle.ctap_message.specs.MakeCredential.{make_judged};
+ghost use Rattle.ctap_message.specs.GetAssertion.{assertion_judged};
+ghost use Rattle.ctap_message.specs.DescriptorWalk.{list_of, left_of};
+ghost use Rattle.ctap_message.specs.CollectedRequests.{shown_make, shown_assert};
+ghost use Rattle.ctap_message.specs.Shown.{shown, IsFresh, HasLengths};
+
+use crate::assert::Assert;
+use crate::make::Make;
+use crate::request::Request;
+use crate::status::Status;
+
+/// What a makeCredential asks, or the status of the first check that it fails.
+pub(crate) fn judge_make<'a>(make: Make<'a>) -> Result<Request<'a>, Status>
+    requires { list_of make.exclude.list ≡ left_of make.exclude.list }
+    ensures request { shown result ≡ make_judged true (shown_make make.entry).0 (shown_make make.entry).1.0 }
+    ensures fresh { IsFresh result }
+    ensures lens { HasLengths result }
+{
+    if !make.typed {
+        return Err(Status::CBOR_UNEXPECTED_TYPE);
+    }
+    let (Some(hash), Some(rp_id), Some(user_id)) = (make.hash, make.rp_id, make.user.id) else {
+        return Err(Status::MISSING_PARAMETER);
+    };
+    if !make.has_parameters || !make.parameters.is_whole || !make.exclude.is_whole {
+        return Err(Status::MISSING_PARAMETER);
+    }
+    if hash.len() != 32 || user_id.len() > 64 {
+        return Err(Status::INVALID_LENGTH);
+    }
+    if make.has_pin_uv_auth_param {
+        return Err(Status::INVALID_PARAMETER);
+    }
+    if !make.parameters.has_es256 {
+        return Err(Status::UNSUPPORTED_ALGORITHM);
+    }
+    if make.options.uv == Some(true) || make.options.up == Some(false) {
+        return Err(Status::INVALID_OPTION);
+    }
+    if make.has_enterprise_attestation {
+        return Err(Status::INVALID_PARAMETER);
+    }
+    Ok(Request::Make {
+        hash,
+        rp_id,
+        user_id,
+        user_name: make.user.name.unwrap_or(""),
+        discoverable: make.options.rk == Some(true),
+        exclude: make.exclude.list,
+    })
+}
+
+/// What a getAssertion asks, or the status of the first check that it fails.
+pub(crate) fn judge_assert<'a>(assert: Assert<'a>) -> Result<Request<'a>, Status>
+    requires { list_of assert.allow.list ≡ left_of assert.allow.list }
+    ensures request { shown result ≡ assertion_judged true (shown_assert assert.entry).0 (shown_assert assert.entry).1.0 }
+    ensures fresh { IsFresh result }
+    ensures lens { HasLengths result }
+{
+    if !assert.typed {
+        return Err(Status::CBOR_UNEXPECTED_TYPE);
+    }
+    let (Some(rp_id), Some(hash)) = (assert.rp_id, assert.hash) else {
+        return Err(Status::MISSING_PARAMETER);
+    };
+    if !assert.allow.is_whole {
+        return Err(Status::MISSING_PARAMETER);
+    }
+    if hash.len() != 32 {
+        return Err(Status::INVALID_LENGTH);
+    }
+    if assert.has_pin_uv_auth_param {
+        return Err(Status::INVALID_PARAMETER);
+    }
+    if assert.options.uv == Some(true) {
+        return Err(Status::INVALID_OPTION);
+    }
+    if assert.options.rk.is_some() {
+        return Err(Status::UNSUPPORTED_OPTION);
+    }
+    Ok(Request::Assert {
+        hash,
+        rp_id,
+        allow: assert.allow.list,
+        presence: assert.options.up != Some(false),
+    })
+}

@@ -1,0 +1,129 @@
+//! Walks over maps and arrays: one loop for each, whatever is collected.
+
+ghost use Rattle.std.specs.Prelude.{ℕ, ◌-◌, ◌≤◌, List, Option, MatchResult};
+ghost use Rattle.ctap_cbor.specs.Views.{part_of};
+ghost use Rattle.ctap_cbor.specs.Reading.{Halts, HaltsInPairs, HaltsInAll};
+ghost use Rattle.ctap_message.specs.Walks.{Adds, AddsEntry, AddsPairs, AddsAll, ReadsMap, ReadsArray};
+
+use ctap_cbor::{Cursor, Fault, Item};
+
+/// What is collected of a map, pair by pair.
+pub trait Members<'a> {
+    ghost use Rattle.ctap_cbor.specs.Tree.{Pairs as AllPairs};
+
+    /// It tells of these pairs.
+    ghost Holds: { Self → AllPairs → Type 0 };
+
+    /// Takes the value behind a key.
+    fn member(&mut self, cursor: &mut Cursor<'a>, key: Item<'a>, level: u8) -> Result<(), Fault>
+        requires low { 1 ≤ level }
+        requires high { level ≤ 5 }
+        ensures { MatchResult result
+            (λ _. Adds Holds (5 - level) (part_of key.entry) self.old self.new cursor.old cursor.new)
+            (λ f. Halts (5 - level) cursor.old cursor.new f.at f.kind) };
+}
+
+/// What is collected of an array, entry by entry.
+pub trait Entries<'a> {
+    ghost use Rattle.ctap_cbor.specs.Tree.{Trees as AllTrees};
+
+    /// It tells of these entries.
+    ghost HoldsAll: { Self → AllTrees → Type 0 };
+
+    /// Takes an entry.
+    fn entry(&mut self, cursor: &mut Cursor<'a>, level: u8) -> Result<(), Fault>
+        requires low { 1 ≤ level }
+        requires high { level ≤ 5 }
+        ensures { MatchResult result
+            (λ _. AddsEntry HoldsAll (5 - level) self.old self.new cursor.old cursor.new)
+            (λ f. Halts (5 - level) cursor.old cursor.new f.at f.kind) };
+}
+
+/// Takes so many pairs.
+fn read_pairs<'a, M: Members<'a>>(
+    members: &mut M,
+    cursor: &mut Cursor<'a>,
+    level: u8,
+    count: u64,
+) -> Result<(), Fault>
+    requires low { 1 ≤ level }
+    requires high { level ≤ 5 }
+    ensures { MatchResult result
+        (λ _. (last : Option (List ℕ)) × AddsPairs M.Holds (5 - level) count last members.old members.new cursor.old cursor.new)
+        (λ f. HaltsInPairs (5 - level) count cursor.old cursor.new f.at f.kind) }
+{
+    let mut previous = None;
+    for done in 0..count {
+        let key = cursor.key(previous)?;
+        previous = Some(key.bytes);
+        members.member(cursor, key.item, level)?;
+    }
+    Ok(())
+}
+
+/// Takes so many entries.
+fn read_entries<'a, M: Entries<'a>>(
+    entries: &mut M,
+    cursor: &mut Cursor<'a>,
+    level: u8,
+    count: u64,
+) -> Result<(), Fault>
+    requires low { 1 ≤ level }
+    requires high { level ≤ 5 }
+    ensures { MatchResult result
+        (λ _. AddsAll M.HoldsAll (5 - level) count entries.old entries.new cursor.old cursor.new)
+        (λ f. HaltsInAll (5 - level) count cursor.old cursor.new f.at f.kind) }
+{
+    for done in 0..count {
+        entries.entry(cursor, level)?;
+    }
+    Ok(())
+}
+
+/// Takes an item, and its pairs where it is a map; tells whether it is one.
+pub(crate) fn read_map<'a, M: Members<'a>>(
+    members: &mut M,
+    cursor: &mut Cursor<'a>,
+    level: u8,
+) -> Result<bool, Fault>
+    requires low { 1 ≤ level }
+    requires high { level ≤ 5 }
+    ensures { MatchResult result
+        (λ is. ReadsMap M.Holds (5 - level) is members.old members.new cursor.old cursor.new)
+        (λ f. Halts (5 - level) cursor.old cursor.new f.at f.kind) }
+{
+    match cursor.item(level)? {
+        Item::Map(count) => {
+            read_pairs(members, cursor, level + 1, count)?;
+            Ok(true)
+        }
+        other => {
+            cursor.inside(other, level)?;
+            Ok(false)
+        }
+    }
+}
+
+/// Takes an item, and its entries where it is an array; tells whether it is one.
+pub(crate) fn read_array<'a, M: Entries<'a>>(
+    entries: &mut M,
+    cursor: &mut Cursor<'a>,
+    level: u8,
+) -> Result<bool, Fault>
+    requires low { 1 ≤ level }
+    requires high { level ≤ 5 }
+    ensures { MatchResult result
+        (λ is. ReadsArray M.HoldsAll (5 - level) is entries.old entries.new cursor.old cursor.new)
+        (λ f. Halts (5 - level) cursor.old cursor.new f.at f.kind) }
+{
+    match cursor.item(level)? {
+        Item::Array(count) => {
+            read_entries(entries, cursor, level + 1, count)?;
+            Ok(true)
+        }
+        other => {
+            cursor.inside(other, level)?;
+            Ok(false)
+        }
+    }
+}

@@ -1,0 +1,68 @@
+-- A drive goes on by one input.
+use Rattle.std.proofs.Common.{◌≡◌, ℕ, ◌+◌, ◌<◌, ◌≤◌, List, [], ◌∷◌, ◌++◌, append_assoc, append-nil, length, take, get_or, refl, sym, ◌∙◌, ap, subst, arith, length-take}
+use Rattle.std.proofs.lemmas.List.{take_more}
+use Rattle.std.proofs.Math.Seq.{take-length}
+use Rattle.authn_core.specs.Turn.{Start}
+use Rattle.token_session.specs.declared.input.Timed.{Timed}
+use Rattle.token_session.specs.Drive.{driven, driven_sends}
+use Rattle.token_session.specs.Law.{numbered, onto, sent_from, sent_now}
+use Rattle.token_session.specs.declared.input.Meters.{Meters}
+use Rattle.token_session.specs.Noise.{Quiet, quiet_from}
+use Rattle.token_session.specs.Meters.{SessionState, StandsBehind, stepped, sent_by}
+use Rattle.token_session.proofs.Metering.{stands_longer, machine_behind}
+use Rattle.token_session.proofs.Noise.{quiet_alike, quiet_runs}
+use Rattle.token_session.proofs.Runs.{step_sends}
+
+driven_append : (xs : List Timed) (s : SessionState) (x : Timed) → driven s (xs ++ x ∷ []) ≡ stepped (driven s xs) x
+driven_append [] s x = refl
+driven_append (y ∷ xs) s x = driven_append xs (stepped s y) x
+
+sends_append : (xs : List Timed) (s : SessionState) (x : Timed) (n m : ℕ) → m ≡ n + length xs → driven_sends n s (xs ++ x ∷ []) ≡ driven_sends n s xs ++ numbered m (sent_by (driven s xs) x)
+sends_append [] s x n m e = let same : n ≡ m = omega arith in append-nil (numbered n (sent_by s x)) ∙ ap (λ k. numbered k (sent_by s x)) same
+sends_append (y ∷ xs) s x n m e =
+    let same : m ≡ (n + 1) + length xs = omega arith in
+    ap (λ q. numbered n (sent_by s y) ++ q) (sends_append xs (stepped s y) x (n + 1) m same)
+    ∙ sym (append_assoc (numbered n (sent_by s y)) (driven_sends (n + 1) (stepped s y) xs) (numbered m (sent_by (driven (stepped s y) xs) x)))
+
+pub driven_more : (xs : List Timed) (i : ℕ) (s v w : SessionState) (x d : Timed) → i < length xs → x ≡ get_or xs i d → w ≡ stepped v x → v ≡ driven s (take i xs) → w ≡ driven s (take (i + 1) xs)
+driven_more xs i s v w x d h is e f =
+    e ∙ ap (stepped v) is ∙ ap (λ u. stepped u (get_or xs i d)) f ∙ sym (ap (driven s) (take_more xs i d h) ∙ driven_append (take i xs) s (get_or xs i d))
+
+pub sends_more : (xs : List Timed) (i : ℕ) (s v : SessionState) (ps : List (List ℕ)) (old now next : List (ℕ × List ℕ)) (x d : Timed) → i < length xs → x ≡ get_or xs i d
+    → next ≡ now ++ numbered i ps → ps ≡ sent_by v x → v ≡ driven s (take i xs) → now ≡ old ++ driven_sends 0 s (take i xs)
+    → next ≡ old ++ driven_sends 0 s (take (i + 1) xs)
+sends_more xs i s v ps old now next x d h is a b f e =
+    let len : i ≡ 0 + length (take i xs) = omega (arith, length-take i xs) in
+    let more : driven_sends 0 s (take (i + 1) xs) ≡ driven_sends 0 s (take i xs) ++ numbered i (sent_by (driven s (take i xs)) (get_or xs i d)) =
+    ap (driven_sends 0 s) (take_more xs i d h) ∙ sends_append (take i xs) s (get_or xs i d) 0 i len in
+    a ∙ ap (λ q. q ++ numbered i ps) e ∙ append_assoc old (driven_sends 0 s (take i xs)) (numbered i ps)
+    ∙ ap (λ q. old ++ (driven_sends 0 s (take i xs) ++ numbered i q)) (b ∙ ap (sent_by v) is ∙ ap (λ u. sent_by u (get_or xs i d)) f)
+    ∙ ap (λ q. old ++ q) (sym more)
+
+pub room_here : (now all : List (ℕ × List ℕ)) (places : ℕ) → now ≡ all → length now + 130 ≤ places → length all + 130 ≤ places
+room_here now all places e h = let n = ap (length {A = ℕ × List ℕ}) e in omega (arith, n)
+
+-- A session that stands behind a history is driven along it.
+pub driven_stands : (xs : List Timed) (s : SessionState) (start : Start) (h : List Timed) → StandsBehind s start h → StandsBehind (driven s xs) start (onto xs h)
+driven_stands [] s start h b = b
+driven_stands (x ∷ xs) s start h b = driven_stands xs (stepped s x) start (x ∷ h) (stands_longer s start h x b)
+
+pub driven_follows : (xs : List Timed) (s : SessionState) (start : Start) (n : ℕ) (h : List Timed) → StandsBehind s start h → driven_sends n s xs ≡ sent_from n start h xs
+driven_follows [] s start n h b = refl
+driven_follows (x ∷ xs) s start n h b =
+    ap (λ ps. numbered n ps ++ driven_sends (n + 1) (stepped s x) xs) (step_sends s.machine start h x (machine_behind s start h b))
+    ∙ ap (λ qs. numbered n (sent_now start h x) ++ qs) (driven_follows xs (stepped s x) start (n + 1) (x ∷ h) (stands_longer s start h x b))
+
+-- Two drives by which quiet histories go on.
+pub drives_alike : (start : Start) (h g xs ys : List Timed) (s t : SessionState) (m k : Meters) (old new : List (ℕ × List ℕ)) → Quiet start h g → Quiet start (onto xs h) (onto ys g)
+    → StandsBehind s start (onto (take (length xs) xs) h) → StandsBehind t start (onto (take (length ys) ys) g) → m ≡ s.meters → k ≡ t.meters
+    → new ≡ old ++ sent_from 0 start g (take (length ys) ys)
+    → (s ≡ t) × (m ≡ k) × (new ≡ old ++ quiet_from 0 start h xs ys)
+drives_alike start h g xs ys s t m k old new q longer stands stands' counts counts' sent =
+    let first : StandsBehind s start (onto xs h) = subst (λ (l : List Timed). StandsBehind s start (onto l h)) (take-length xs) stands in
+    let second : StandsBehind t start (onto ys g) = subst (λ (l : List Timed). StandsBehind t start (onto l g)) (take-length ys) stands' in
+    let same : s ≡ t = first ∙ quiet_alike start (onto xs h) (onto ys g) longer ∙ sym second in (
+      same,
+      counts ∙ ap (λ (v : SessionState). v.meters) same ∙ sym counts',
+      sent ∙ ap (λ (l : List Timed). old ++ sent_from 0 start g l) (take-length ys) ∙ ap (λ ps. old ++ ps) (quiet_runs 0 start h g xs ys q longer),
+    )

@@ -1,0 +1,241 @@
+-- Noise leaves all as a tick leaves it: of one turn, of a session's step, and of histories.
+use Rattle.std.proofs.Common.{◌≡◌, ℕ, ◌+◌, ◌≤◌, inl, inr, Bool, true, false, not, cond, List, [], ◌∷◌, ◌++◌, append-nil, length, max, Option, Some, None, option_map, refl, sym, ◌∙◌, ap, subst, suc, arith}
+use Rattle.hid_packet.specs.Packet.{Fields, fields}
+use Rattle.hid_packet.specs.declared.packet.Packet.{Packet as AnyPacket}
+use Rattle.hid_assemble.specs.declared.table.Row.TheVariants.{CancelsNothing, NoSuchChannel, BusyElsewhere, BusyHere}
+use Rattle.hid_assemble.specs.declared.table.Continuation.TheVariants.{Stray}
+use Rattle.hid_assemble.specs.Table.{Open, Ruling, Begins, Continues, ruling_of, is_noise}
+use Rattle.hid_assemble.specs.Assembly.{Assembly, is_overdue, still_open, held_bytes, open_after, message_after}
+use Rattle.cred_table.specs.Waiting.{pending_count}
+use Rattle.authn_core.specs.State.{Event, PresenceIs, KeyIs, SignatureIs, Ignored, Turned}
+use Rattle.authn_core.specs.Turn.{Start, CoreState, working, waiting, core_answer, turn as turn_of}
+use Rattle.authn_core.proofs.Facts.{presence_ignored, key_ignored, signature_ignored}
+use Rattle.token_session.specs.declared.input.Input.{Input}
+use Rattle.token_session.specs.declared.input.Input.TheVariants.{Packet, Tick, Presence, Key, Signature}
+use Rattle.token_session.specs.declared.input.Timed.{Timed}
+use Rattle.token_session.specs.Replies.{asker, status_of, answer_keeps_alive}
+use Rattle.token_session.specs.Effects.{reading_in}
+use Rattle.token_session.specs.Events.{keepalive_due}
+use Rattle.token_session.specs.Machine.{State, Turn, turn, passed, served, served_by, happens, event_after}
+use Rattle.token_session.specs.History.{Judged, end, given, core, open_at, as_open, judge, judged, sent, sent_at, time_packets}
+use Rattle.token_session.specs.Law.{named, Behind, onto, numbered, sent_now, sent_from}
+use Rattle.token_session.specs.Meters.{SessionState, stepped, session_of, metered}
+use Rattle.token_session.specs.Noise.{is_noise_among, is_noise_to, is_noise_at, is_noise_behind, tick_at, IsQuiet, Quiet, is_replaced, quiet_now, quiet_sent, quiet_from}
+use Rattle.token_session.proofs.Follows.{Good, good_judged, time_named}
+use Rattle.token_session.proofs.Runs.{step_sends}
+use Rattle.token_session.proofs.Metering.{stands_longer}
+
+-- What a turn leaves behind, beside the packets: the state, and what a request that it finished took to read.
+pub record Leaves (t : Turn) (u : Turn) : Type 0 where
+  pub state : t.state ≡ u.state
+  pub reading : reading_in t.event ≡ reading_in u.event
+
+row_leaves : (s : State) (f : Fields) (early : List (List ℕ)) (r : Ruling) → is_noise r ≡ true → Leaves (served_by s f early r) (served s early Tick)
+unfolding open_after message_after event_after
+row_leaves s f early (Begins CancelsNothing) h = record { state = refl; reading = refl }
+row_leaves s f early (Begins NoSuchChannel) h = record { state = refl; reading = refl }
+row_leaves s f early (Begins BusyElsewhere) h = record { state = refl; reading = refl }
+row_leaves s f early (Begins BusyHere) h = record { state = refl; reading = refl }
+row_leaves s f early (Continues Stray) h = record { state = refl; reading = refl }
+row_leaves s f early _ h = cc
+
+not_sent : (to before : Option ℕ) → answer_keeps_alive to before Ignored ≡ false
+unfolding answer_keeps_alive
+not_sent None before = refl
+not_sent (Some cid) before = refl
+
+keepalive_stays : (s : State) (e : Event) → turn_of (s.core).setup (s.core).state s.now e ≡ record { state = (s.core).state; answer = Ignored }
+    → cond (answer_keeps_alive (asker (waiting s.core) e) (status_of (waiting s.core)) (core_answer s.core s.now e)) s.now s.keepalive_at ≡ s.keepalive_at
+keepalive_stays s e ignored =
+    let to = asker (waiting s.core) e in
+    let before = status_of (waiting s.core) in
+    ap (λ (v : Turned). cond (answer_keeps_alive to before v.answer) s.now s.keepalive_at) ignored ∙ ap (λ b. cond b s.now s.keepalive_at) (not_sent to before)
+
+-- An event that leaves the authenticator as it is, and that it doesn't answer, leaves what a tick leaves.
+event_leaves : (s : State) (early : List (List ℕ)) (e : Event) → turn_of (s.core).setup (s.core).state s.now e ≡ record { state = (s.core).state; answer = Ignored } → reading_in (Some e) ≡ None
+    → Leaves (happens s.now s.given s.current s.core s.keepalive_at early [] (Some e)) (served s early Tick)
+event_leaves s early e ignored unread = record {
+  state = λ i. record {
+    now = s.now;
+    given = s.given;
+    current = s.current;
+    core = record { setup = (s.core).setup; state = (ignored i).state };
+    keepalive_at = keepalive_stays s e ignored i;
+  };
+  reading = unread;
+}
+
+unwanted : (b : Bool) → not b ≡ true → b ≡ false
+unwanted true h = cc
+unwanted false h = refl
+
+served_leaves : (s : State) (early : List (List ℕ)) (i : Input) → is_noise_to s i ≡ true → Leaves (served s early i) (served s early Tick)
+served_leaves s early (Packet p) h = row_leaves s (fields p.0) early (ruling_of s.given s.current (working s.core) (fields p.0)) h
+served_leaves s early (Presence reply) h =
+    event_leaves s early (PresenceIs reply) (presence_ignored (s.core).setup (s.core).state s.now reply (unwanted _ h)) refl
+served_leaves s early (Key key) h = event_leaves s early (KeyIs key) (key_ignored (s.core).setup (s.core).state s.now key (unwanted _ h)) refl
+served_leaves s early (Signature sig) h =
+    event_leaves s early (SignatureIs sig) (signature_ignored (s.core).setup (s.core).state s.now sig (unwanted _ h)) refl
+served_leaves s early Tick h = cc
+
+pub noise_leaves : (s : State) (x : Timed) → is_noise_at s x ≡ true → Leaves (turn s x) (turn s (tick_at x.at))
+unfolding turn is_noise_at
+noise_leaves s x h = served_leaves (passed s (max s.now x.at)).state (passed s (max s.now x.at)).packets x.input h
+
+-- What noise is judged by, when time has passed: the same, less an overdue message.
+abbrev Sees : State → Input → State → Option Open → Type 0
+Sees s i u o = is_noise_to u i ≡ is_noise_among s.given o s.core i
+
+passed_sees : (s : State) (at : ℕ) (i : Input) → is_noise_to (passed s at).state i ≡ is_noise_among s.given (still_open s.current at) s.core i
+unfolding passed
+passed_sees s at i = by_time (is_overdue s.current at) (keepalive_due (waiting s.core) s.keepalive_at at) _ _ _ refl refl refl
+  where
+    by_time : (late due : Bool) (a b c : Turn) → Sees s i a.state None → Sees s i b.state s.current → Sees s i c.state s.current
+        → Sees s i (cond late a (cond due b c)).state (cond late None s.current)
+    by_time true due a b c x y z = x
+    by_time false true a b c x y z = y
+    by_time false false a b c x y z = z
+
+-- whether a packet is noise, by its ruling when time has passed
+pub packet_noise : (s : State) (latest keepalive_at at now : ℕ) (a : Assembly) (k : CoreState) (i : Input) (p : AnyPacket) (work : Option ℕ) (answer : Bool)
+    → record { now = latest; given = a.given; current = a.current; core = k; keepalive_at = keepalive_at } ≡ s → now ≡ max latest at → work ≡ working k
+    → answer ≡ is_noise (ruling_of a.given (still_open a.current now) work (fields p.0)) → i ≡ Packet p
+    → answer ≡ is_noise_at s (record { at = at; input = i })
+unfolding is_noise_at
+packet_noise s latest keepalive_at at now a k i p work answer is moment works told came =
+    told ∙ (λ j. is_noise (ruling_of a.given (still_open a.current (moment j)) (works j) (fields p.0)))
+    ∙ sym (passed_sees (record { now = latest; given = a.given; current = a.current; core = k; keepalive_at = keepalive_at }) (max latest at) (Packet p))
+    ∙ (λ j. is_noise_at (is j) (record { at = at; input = (sym came) j }))
+
+-- what is noise of the other inputs doesn't look at time
+pub other_noise : (s : State) (at : ℕ) (i j : Input) (answer : Bool) → i ≡ j → answer ≡ is_noise_among s.given (still_open s.current (max s.now at)) s.core j
+    → answer ≡ is_noise_at s (record { at = at; input = i })
+unfolding is_noise_at
+other_noise s at i j answer came told = told ∙ sym (passed_sees s (max s.now at) j) ∙ ap (λ v. is_noise_at s (record { at = at; input = v })) (sym came)
+
+-- To a session, noise is a tick.
+pub noise_steps : (s : SessionState) (x : Timed) → is_noise_at s.machine x ≡ true → stepped s x ≡ stepped s (tick_at x.at)
+unfolding stepped
+noise_steps s x h =
+    let same = noise_leaves s.machine x h in
+    λ i. record {
+      machine = same.state i;
+      meters = metered s.meters (held_bytes (same.state i).current) (length (same.state i).core.state.rows) (pending_count (same.state i).core.state.pending) (same.reading i);
+    }
+
+-- A tick sends the packets of time alone.
+pub tick_sends : (s : State) (at : ℕ) → (turn s (tick_at at)).packets ≡ (passed s (max s.now at)).packets
+unfolding turn
+tick_sends s at = append-nil _
+
+-- What is noise to the state that a history names is noise behind that history.
+noise_named : (start : Start) (h : List Judged) (x : Timed) → Good start h → is_noise_at (named start h) x ≡ is_noise_behind start (judge start x h) h
+unfolding is_noise_at is_noise_behind judge named
+noise_named start h x good =
+    let t = max (end start h) x.at in
+    let le : end start h ≤ t = omega arith in
+    ap (λ (v : Turn). is_noise_to v.state x.input) (time_named start t h good le)
+
+pub noise_is_named : (s : State) (start : Start) (h : List Timed) (x : Timed) → Behind s start h → is_noise_at s x ≡ is_noise_behind start (judge start x (judged start h)) (judged start h)
+noise_is_named s start h x b = ap (λ v. is_noise_at v x) b ∙ noise_named start (judged start h) x (good_judged start h)
+
+-- Histories: first what one input makes of a session that stands behind both.
+stepped_alike : (start : Start) (h : List Timed) (x y : Timed) → IsQuiet start h x y → stepped (session_of start (judged start h)) x ≡ stepped (session_of start (judged start h)) y
+unfolding session_of
+stepped_alike start h x y (inl same) = ap (λ v. stepped (session_of start (judged start h)) v) (sym same)
+stepped_alike start h x y (inr tick) =
+    noise_steps (session_of start (judged start h)) x (noise_is_named (named start (judged start h)) start h x refl ∙ tick.1)
+    ∙ ap (λ v. stepped (session_of start (judged start h)) v) (sym tick.0)
+
+-- Sessions behind quiet histories hold the same.
+pub quiet_alike : (start : Start) (h g : List Timed) → Quiet start h g → session_of start (judged start h) ≡ session_of start (judged start g)
+quiet_alike start [] [] q = refl
+quiet_alike start [] (y ∷ g) q = absurd q
+quiet_alike start (x ∷ h) [] q = absurd q
+quiet_alike start (x ∷ h) (y ∷ g) q =
+    let s = session_of start (judged start h) in
+    sym (stands_longer s start h x refl) ∙ stepped_alike start h x y q.1 ∙ stands_longer s start g y (quiet_alike start h g q.0)
+
+never_replaced : (i : Input) → is_replaced i i ≡ false
+never_replaced Tick = refl
+never_replaced other = refl
+
+noise_is_replaced : (g : ℕ) (o : Option Open) (k : CoreState) (i : Input) → is_noise_among g o k i ≡ true → is_replaced i Tick ≡ true
+noise_is_replaced g o k Tick h = cc
+noise_is_replaced g o k other h = refl
+
+-- The packets that one input sends behind both, the second with the same input or with a tick.
+now_same : (start : Start) (h g : List Timed) (x : Timed) → Behind (named start (judged start h)) start g → sent_now start g x ≡ quiet_now start h x x
+unfolding sent_now quiet_now judge
+now_same start h g x b =
+    let s = named start (judged start h) in
+    let e = judge start x (judged start h) in
+    sym (step_sends s start g x b) ∙ step_sends s start h x refl
+    ∙ ap (λ r. cond r (time_packets start (judged start h) e.at) (sent_at start e (judged start h))) (sym (never_replaced x.input))
+
+now_tick : (start : Start) (h g : List Timed) (x : Timed) → Behind (named start (judged start h)) start g → is_noise_behind start (judge start x (judged start h)) (judged start h) ≡ true
+    → sent_now start g (tick_at x.at) ≡ quiet_now start h x (tick_at x.at)
+unfolding quiet_now judge named is_noise_behind
+now_tick start h g x b noise =
+    let past = judged start h in
+    let s = named start past in
+    let e = judge start x past in
+    let t = max (end start past) x.at in
+    let le : end start past ≤ t = omega arith in
+    sym (step_sends s start g (tick_at x.at) b) ∙ tick_sends s x.at
+    ∙ ap (λ (v : Turn). v.packets) (time_named start t past (good_judged start h) le)
+    ∙ ap (λ r. cond r (time_packets start past t) (sent_at start e past)) (sym (noise_is_replaced (given past) (option_map as_open (open_at past t)) (core start past) x.input noise))
+
+quiet_sends_now : (start : Start) (h g : List Timed) (x y : Timed) → Quiet start h g → IsQuiet start h x y → sent_now start g y ≡ quiet_now start h x y
+unfolding session_of
+quiet_sends_now start h g x y q (inl same) =
+    let b : Behind (named start (judged start h)) start g = ap (λ (v : SessionState). v.machine) (quiet_alike start h g q) in
+    subst (λ (v : Timed). sent_now start g v ≡ quiet_now start h x v) (sym same) (now_same start h g x b)
+quiet_sends_now start h g x y q (inr tick) =
+    let b : Behind (named start (judged start h)) start g = ap (λ (v : SessionState). v.machine) (quiet_alike start h g q) in
+    subst (λ (v : Timed). sent_now start g v ≡ quiet_now start h x v) (sym tick.0) (now_tick start h g x b tick.1)
+
+-- The quiet history sends what the other sends, less the packets of service at the replaced inputs.
+pub quiet_sends : (start : Start) (h g : List Timed) → Quiet start h g → sent start (judged start g) ≡ quiet_sent start h g
+unfolding sent judged sent_now quiet_sent
+quiet_sends start [] [] q = refl
+quiet_sends start [] (y ∷ g) q = absurd q
+quiet_sends start (x ∷ h) [] q = absurd q
+quiet_sends start (x ∷ h) (y ∷ g) q =
+    ap (λ ps. ps ++ sent_now start g y) (quiet_sends start h g q.0)
+    ∙ ap (λ ps. quiet_sent start h g ++ ps) (quiet_sends_now start h g x y q.0 q.1)
+
+-- Lists of inputs that make quiet histories of quiet histories.
+same_length : (start : Start) (h g : List Timed) → Quiet start h g → length h ≡ length g
+same_length start [] [] q = refl
+same_length start [] (y ∷ g) q = absurd q
+same_length start (x ∷ h) [] q = absurd q
+same_length start (x ∷ h) (y ∷ g) q = ap (λ n. suc n) (same_length start h g q.0)
+
+onto_length : (xs h : List Timed) → length (onto xs h) ≡ length xs + length h
+onto_length [] h = omega arith
+onto_length (x ∷ xs) h = onto_length xs (x ∷ h) ∙ omega arith
+
+shorter : (xs ys : List Timed) (start : Start) (h g : List Timed) → length xs ≡ length ys → Quiet start (onto xs h) (onto ys g) → Quiet start h g
+shorter [] [] start h g n q = q
+shorter [] (y ∷ ys) start h g n q = absurd (omega (arith, n))
+shorter (x ∷ xs) [] start h g n q = absurd (omega (arith, n))
+shorter (x ∷ xs) (y ∷ ys) start h g n q = (shorter xs ys start (x ∷ h) (y ∷ g) (omega (arith, n)) q).0
+
+runs_alike : (xs ys : List Timed) (n : ℕ) (start : Start) (h g : List Timed) → length xs ≡ length ys → Quiet start (onto xs h) (onto ys g) → sent_from n start g ys ≡ quiet_from n start h xs ys
+runs_alike [] [] n start h g l q = refl
+runs_alike [] (y ∷ ys) n start h g l q = absurd (omega (arith, l))
+runs_alike (x ∷ xs) [] n start h g l q = absurd (omega (arith, l))
+runs_alike (x ∷ xs) (y ∷ ys) n start h g l q =
+    let k : length xs ≡ length ys = omega (arith, l) in
+    let one = shorter xs ys start (x ∷ h) (y ∷ g) k q in
+    ap (λ ps. numbered n ps ++ sent_from (n + 1) start (y ∷ g) ys) (quiet_sends_now start h g x y one.0 one.1)
+    ∙ ap (λ qs. numbered n (quiet_now start h x y) ++ qs) (runs_alike xs ys (n + 1) start (x ∷ h) (y ∷ g) k q)
+
+pub quiet_runs : (n : ℕ) (start : Start) (h g xs ys : List Timed) → Quiet start h g → Quiet start (onto xs h) (onto ys g) → sent_from n start g ys ≡ quiet_from n start h xs ys
+quiet_runs n start h g xs ys q longer =
+    let a = same_length start h g q in
+    let b = onto_length xs h in
+    let c = onto_length ys g in
+    let d = same_length start (onto xs h) (onto ys g) longer in
+    runs_alike xs ys n start h g (omega (arith, a, b, c, d)) longer

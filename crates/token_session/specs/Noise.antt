@@ -1,0 +1,73 @@
+-- Noise: an input that changes nothing but that time passes to its moment, so that a tick would do in its place. It is judged
+-- when time has passed to its moment.
+use Rattle.std.specs.Prelude.{◌≡◌, ℕ, ◌+◌, ◌⊎◌, Bool, true, false, not, List, [], ◌∷◌, ◌++◌, max, Option, option_map, if◌then◌else◌}
+use Rattle.hid_packet.specs.Packet.{fields}
+use Rattle.hid_assemble.specs.Table as table
+use Rattle.hid_assemble.specs.Table.{Open, ruling_of}
+use Rattle.authn_core.specs.Turn.{Start, CoreState, working}
+use Rattle.authn_core.specs.Views.{wants_presence, wants_key, wants_signature}
+use Rattle.token_session.specs.declared.input.Input.{Input}
+use Rattle.token_session.specs.declared.input.Input.TheVariants.{Packet, Tick, Presence, Key, Signature}
+use Rattle.token_session.specs.declared.input.Timed.{Timed}
+use Rattle.token_session.specs.Machine.{State, passed}
+use Rattle.token_session.specs.History.{Judged, given, core, open_at, as_open, judge, judged, sent_at, time_packets}
+use Rattle.token_session.specs.Law.{numbered}
+
+-- By the channels given out, the open message and the authenticator: a packet is noise by its row of the reply table, a reply
+-- of the caller where the waiting work doesn't need it, and a tick never is.
+abbrev pub is_noise_among : ℕ → Option Open → CoreState → Input → Bool
+is_noise_among given current core (Packet p) = table.is_noise (ruling_of given current (working core) (fields p.0))
+is_noise_among given current core (Presence reply) = not (wants_presence core.state.work)
+is_noise_among given current core (Key key) = not (wants_key core.state.work)
+is_noise_among given current core (Signature signature) = not (wants_signature core.state.work)
+is_noise_among given current core Tick = false
+
+-- to a state of the composed turn
+abbrev pub is_noise_to : State → Input → Bool
+is_noise_to s i = is_noise_among s.given s.current s.core i
+
+unfoldable pub is_noise_at : State → Timed → Bool
+is_noise_at s x = is_noise_to (passed s (max s.now x.at)).state x.input
+
+-- after a history
+unfoldable pub is_noise_behind : Start → Judged → List Judged → Bool
+is_noise_behind start e past = is_noise_among (given past) (option_map as_open (open_at past e.at)) (core start past) e.input
+
+abbrev pub tick_at : ℕ → Timed
+tick_at at = record { at = at; input = Tick }
+
+-- In the place of x, which came behind h, stands x, or a tick at its moment where x is noise.
+abbrev pub IsQuiet : Start → List Timed → (x y : Timed) → Type 0
+IsQuiet start h x y = (y ≡ x) ⊎ ((y ≡ tick_at x.at) × (is_noise_behind start (judge start x (judged start h)) (judged start h) ≡ true))
+
+-- The second history is the first, with ticks in place of noise: in all such places, in some or in none.
+abbrev pub Quiet : Start → (h g : List Timed) → Type 0
+Quiet start [] [] = Unit {0}
+Quiet start [] (y ∷ g) = ⊥
+Quiet start (x ∷ h) [] = ⊥
+Quiet start (x ∷ h) (y ∷ g) = Quiet start h g × IsQuiet start h x y
+
+-- another input that a tick stands for
+abbrev pub is_replaced : (i j : Input) → Bool
+is_replaced Tick j = false
+is_replaced i Tick = true
+is_replaced i j = false
+
+-- what x sends behind h, but only the packets of time where a tick stands for it
+abbrev pub quiet_packets : Start → List Judged → Judged → Input → List (List ℕ)
+quiet_packets start past e j = if is_replaced e.input j then time_packets start past e.at else sent_at start e past
+
+unfoldable pub quiet_now : Start → List Timed → (x y : Timed) → List (List ℕ)
+quiet_now start h x y = quiet_packets start (judged start h) (judge start x (judged start h)) y.input
+
+-- what a history sends, less the packets of service where the second has a tick for an input
+unfoldable pub quiet_sent : Start → (h g : List Timed) → List (List ℕ)
+quiet_sent start [] g = []
+quiet_sent start (x ∷ h) [] = []
+quiet_sent start (x ∷ h) (y ∷ g) = quiet_sent start h g ++ quiet_now start h x y
+
+-- the same of the inputs of a list behind a history, with their numbers
+abbrev pub quiet_from : ℕ → Start → (h xs ys : List Timed) → List (ℕ × List ℕ)
+quiet_from n start h [] ys = []
+quiet_from n start h (x ∷ xs) [] = []
+quiet_from n start h (x ∷ xs) (y ∷ ys) = numbered n (quiet_now start h x y) ++ quiet_from (n + 1) start (x ∷ h) xs ys

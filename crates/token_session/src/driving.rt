@@ -1,0 +1,126 @@
+//! Inputs driven through a session, and through two.
+ghost use Rattle.std.specs.Prelude.{◌≡◌, ℕ, ◌+◌, ◌<◌, ◌≤◌, ◌++◌, ◌⊎◌, List, ◌∷◌, [], length, map, take, IfErr, IfOk, Result, Ok, Err};
+ghost use Rattle.arrayvec.specs.ArrayVec.{array_vec_len};
+ghost use Rattle.authn_core.specs.Turn.{Start};
+ghost use Rattle.token_session.specs.declared.input.Timed.{Timed as OneInput};
+ghost use Rattle.token_session.specs.Drive.{as_pair, driven, driven_sends, done_of, first_done, second_done, HadRoom};
+ghost use Rattle.token_session.specs.Law.{numbered, onto, sent_from};
+ghost use Rattle.token_session.specs.Meters.{StandsBehind};
+ghost use Rattle.token_session.specs.Noise.{Quiet, quiet_from};
+
+use crate::input::{Meters, Sent, Timed};
+use crate::session::Session;
+use arrayvec::ArrayVec;
+use hid_packet::Outbox;
+use thiserror::Error;
+
+/// Why a drive stopped.
+#[derive(Clone, Copy, Debug, Error, PartialEq, Eq)]
+pub enum DriveFault {
+    /// Number 1: fewer than 130 places were free before the next input. So many inputs were stepped.
+    #[error("the list of packets is full after {done} inputs")]
+    Full { done: usize },
+}
+
+/// Why one of two drives stopped.
+#[derive(Clone, Copy, Debug, Error, PartialEq, Eq)]
+pub enum BothFault {
+    /// Number 1: one of the lists was full. So many inputs were stepped of each.
+    #[error("a list of packets is full after {first} and {second} inputs")]
+    Full { first: usize, second: usize },
+}
+
+/// Moves all packets to the list, as those of input `number`.
+fn take_all<const N: usize>(outbox: &mut Outbox, number: u64, sent: &mut ArrayVec<Sent, N>)
+    requires { array_vec_len sent.old + length outbox.old ≤ N }
+    ensures sent { map as_pair sent.new.items ≡ map as_pair sent.old.items ++ numbered number outbox.old }
+    ensures empty { outbox.new ≡ [] }
+{
+    while let Some(packet) = outbox.pop() {
+        sent.push(Sent {
+            input: number,
+            packet,
+        });
+    }
+}
+
+/// Steps a session through the inputs, and appends the packets that they send. It stops before the
+/// first input at which fewer than 130 places are free.
+pub fn drive<const C: usize, const N: usize>(
+    session: &mut Session<C>,
+    inputs: &[Timed],
+    sent: &mut ArrayVec<Sent, N>,
+) -> Result<Meters, DriveFault>
+    // The session and the list stand exactly behind the inputs done.
+    ensures state { session.new ≡ driven session.old (take (done_of (length inputs.now) result) inputs.now) }
+    ensures packets { map as_pair sent.new.items
+        ≡ map as_pair sent.old.items ++ driven_sends 0 session.old (take (done_of (length inputs.now) result) inputs.now) }
+    ensures meters { IfOk result (λ meters. meters ≡ session.new.meters) }
+    // It is full exactly where too few places are free.
+    ensures full { IfErr result (λ e. (done_of 0 result < length inputs.now) × (N < array_vec_len sent.new + 130)) }
+    ensures room { HadRoom N (map as_pair sent.old.items) session.old inputs.now (done_of (length inputs.now) result) }
+    // Behind any history.
+    ensures behind { (start : Start) (h : List OneInput) → StandsBehind session.old start h
+        → StandsBehind session.new start (onto (take (done_of (length inputs.now) result) inputs.now) h) }
+    ensures sent { (start : Start) (h : List OneInput) → StandsBehind session.old start h
+        → map as_pair sent.new.items ≡ map as_pair sent.old.items ++ sent_from 0 start h (take (done_of (length inputs.now) result) inputs.now) }
+{
+    let mut outbox = Outbox::new();
+    for (i, timed) in inputs.iter().enumerate() {
+        if sent.remaining_capacity() < 130 {
+            return Err(DriveFault::Full { done: i });
+        }
+        session.step(timed.at, timed.input, &mut outbox);
+        take_all(&mut outbox, i as u64, sent);
+    }
+    Ok(session.meters())
+}
+
+/// Drives one session, and then another. Where the second list of inputs has ticks in place of noise of
+/// the first, the sessions end alike, and the second list of packets has just those of the first, less
+/// what was sent in service of the noise.
+pub fn drive_both<const C: usize, const N: usize>(
+    first: &mut Session<C>,
+    second: &mut Session<C>,
+    inputs: &[Timed],
+    quiet: &[Timed],
+    sent: &mut ArrayVec<Sent, N>,
+    quiet_sent: &mut ArrayVec<Sent, N>,
+) -> Result<(Meters, Meters), BothFault>
+    // Both runs, as `drive` makes them.
+    ensures first { first.new ≡ driven first.old (take (first_done (length inputs.now) result) inputs.now) }
+    ensures second { second.new ≡ driven second.old (take (second_done (length quiet.now) result) quiet.now) }
+    ensures first_packets { map as_pair sent.new.items
+        ≡ map as_pair sent.old.items ++ driven_sends 0 first.old (take (first_done (length inputs.now) result) inputs.now) }
+    ensures second_packets { map as_pair quiet_sent.new.items
+        ≡ map as_pair quiet_sent.old.items ++ driven_sends 0 second.old (take (second_done (length quiet.now) result) quiet.now) }
+    ensures meters { IfOk result (λ meters. (meters.0 ≡ first.new.meters) × (meters.1 ≡ second.new.meters)) }
+    // It is full exactly where one of the runs is; where the first is, the second isn't begun.
+    ensures full { IfErr result (λ e.
+        ((first_done 0 result < length inputs.now) × (N < array_vec_len sent.new + 130) × (second_done 0 result ≡ 0))
+        ⊎ ((first_done 0 result ≡ length inputs.now) × (second_done 0 result < length quiet.now) × (N < array_vec_len quiet_sent.new + 130))) }
+    ensures first_room { HadRoom N (map as_pair sent.old.items) first.old inputs.now (first_done (length inputs.now) result) }
+    ensures second_room { HadRoom N (map as_pair quiet_sent.old.items) second.old quiet.now (second_done (length quiet.now) result) }
+    // Behind histories of one start of which the second has ticks in place of noise, before and after.
+    ensures alike { (start : Start) (h g : List OneInput) → StandsBehind first.old start h → StandsBehind second.old start g
+        → Quiet start h g → Quiet start (onto inputs.now h) (onto quiet.now g)
+        → IfOk result (λ meters. (first.new ≡ second.new) × (meters.0 ≡ meters.1)
+        × (map as_pair quiet_sent.new.items ≡ map as_pair quiet_sent.old.items ++ quiet_from 0 start h inputs.now quiet.now)) }
+{
+    let meters = match drive(first, inputs, sent) {
+        Ok(meters) => meters,
+        Err(DriveFault::Full { done }) => {
+            return Err(BothFault::Full {
+                first: done,
+                second: 0,
+            });
+        }
+    };
+    match drive(second, quiet, quiet_sent) {
+        Ok(quiet_meters) => Ok((meters, quiet_meters)),
+        Err(DriveFault::Full { done }) => Err(BothFault::Full {
+            first: inputs.len(),
+            second: done,
+        }),
+    }
+}
