@@ -38,6 +38,7 @@ fn replayed<const C: usize>(alloc: Global, log: &[u8]) -> Option<Vec<u8>>
 fn is_same(alloc: Global, folder: &str, log: &[u8]) -> bool {
     let text = match folder {
         "capacity_1" => replayed::<1>(alloc, log),
+        "capacity_2" => replayed::<2>(alloc, log),
         "capacity_64" => replayed::<64>(alloc, log),
         _ => None,
     };
