@@ -1,25 +1,22 @@
--- What the program answers, and what it writes. A pair is a source or a target before and behind the call.
-use Rattle.std.specs.Prelude.{◌≡◌, ◌≢◌, ◌⊎◌, ℕ, Bool, true, false, List, [], ◌∷◌, ◌++◌, Option, Err, MatchResult, OnOk, codes, ◌+◌}
+-- What the program answers, and what it writes. A pair is a source or a target before and after the call.
+use Rattle.std.specs.Prelude.{◌≡◌, ◌≢◌, ◌⊎◌, ℕ, Bool, true, false, List, [], ◌∷◌, ◌++◌, Option, Err, MatchResult, OnOk, codes}
 use Rattle.std.specs.Bool.{MatchBool}
-use Rattle.std.specs.Io.KnownBytes.{Appends}
 use Rattle.clap.specs.declared.error.kind.ErrorKind.{ErrorKind}
 use Rattle.clap.specs.declared.error.kind.ErrorKind.TheVariants.{DisplayHelp, DisplayVersion, OutOfMemory}
-use Rattle.session_log.specs.Breaking.{BreaksOff}
-use Rattle.session_log.specs.Command.{IsReplayed, Status}
+use Rattle.session_log.specs.Command.{IsReplayed, Status, program_start}
+use Rattle.session_log.specs.Streams.{IsTaken, IsBroken}
 
--- A target took a text whole; or a call of it failed, and it took the front alone.
-abbrev pub IsTaken : {F : Type 0} → (F → Option (List ℕ)) → (F → ℕ) → (F × F) → List ℕ → Type 0
-IsTaken taken failed target text = Appends (taken target.0) (taken target.1) text × (failed target.1 ≡ failed target.0)
-
-abbrev pub IsBroken : {F : Type 0} → (F → Option (List ℕ)) → (F → ℕ) → (F × F) → List ℕ → Type 0
-IsBroken taken failed target text = BreaksOff (taken target.0) (taken target.1) text × (failed target.1 ≡ failed target.0 + 1)
-
+-- a text was given to a target, whole or its front
 abbrev pub IsGiven : {F : Type 0} → (F → Option (List ℕ)) → (F → ℕ) → (F × F) → List ℕ → Type 0
 IsGiven taken failed target text = IsTaken taken failed target text ⊎ IsBroken taken failed target text
 
 -- what is told where memory is wanting
 abbrev pub no_memory : List ℕ
 no_memory = codes "hidlog: no memory" ++ 10 ∷ []
+
+-- what is told of an argument that is no text
+abbrev pub not_text : List ℕ
+not_text = codes "hidlog: an argument is not UTF-8" ++ 10 ∷ []
 
 -- answers that go to the output
 abbrev pub is_help : ErrorKind → Bool
@@ -31,7 +28,7 @@ is_help _ = false
 abbrev pub Replays : {I O F : Type 0} → (I → Option (List ℕ)) → (I → ℕ) → (I → Bool) → (O → Option (List ℕ)) → (O → ℕ)
     → Status → (I × I) → (O × O) → (F × F) → Type 0
 Replays left unread ended taken unwritten status input output faults =
-    IsReplayed left unread ended taken unwritten status input output × OnOk status (faults.1 ≡ faults.0)
+    IsReplayed program_start left unread ended taken unwritten status input output × OnOk status (faults.1 ≡ faults.0)
 
 -- Memory was wanting, and that was told.
 abbrev pub LacksMemory : {O F : Type 0} → (F → Option (List ℕ)) → (F → ℕ) → Status → (O × O) → (F × F) → Type 0

@@ -6,6 +6,7 @@ ghost use Rattle.hidlog.specs.CommandLine.{AskFor, answers_to, texts_of};
 ghost use Rattle.hidlog.specs.Program.{Explains, LacksMemory, Replays};
 
 use crate::command_line::{Task, task_of};
+use crate::process::{no_memory, tell};
 use clap::Error;
 use clap::error::ErrorKind;
 use session_log::{Source, Target, put_all, replay_command};
@@ -26,13 +27,10 @@ fn explain<O: Target, E: Target>(
 {
     let text = match error.to_string(alloc) {
         Ok(text) if error.kind() != ErrorKind::OutOfMemory => text,
-        _ => {
-            let _ = put_all(faults, b"hidlog: no memory\n");
-            return Err(2);
-        }
+        _ => return Err(no_memory(faults)),
     };
     if error.use_stderr() {
-        let _ = put_all(faults, text.as_bytes());
+        tell(faults, text.as_bytes());
         return Err(2);
     }
     put_all(output, text.as_bytes()).map_err(|_| 2)

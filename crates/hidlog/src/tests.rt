@@ -1,7 +1,10 @@
 //! Exit statuses, and the texts that tell them.
+use crate::process::words_of;
 use crate::program::run;
 use session_log::{FromRead, SliceIn, SliceOut, Source, ToWrite};
+use std::env::FillError;
 use std::io::{self, ErrorKind, Read};
+use std::rt::Env;
 
 const METERS: &[u8] = b"= held 0 rows 0 pending 0 requests 0 bytes 0 steps 0\n";
 
@@ -12,6 +15,29 @@ struct Broken;
 impl Read for Broken {
     fn read(&mut self, _out: &mut [u8]) -> io::Result<usize> {
         Err(io::Error::from(ErrorKind::BrokenPipe))
+    }
+}
+
+/// A process with these arguments and no environment.
+#[derive(Drop)]
+struct Arguments<'a>(&'a [&'a [u8]]);
+
+impl Env for Arguments<'_> {
+    fn arg(&self, i: usize, buf: &mut [u8]) -> Result<usize, FillError> {
+        let argument = self.0.get(i).ok_or(FillError::NotPresent)?;
+        if argument.len() > buf.len() {
+            return Err(FillError::TooLong);
+        }
+        buf[..argument.len()].copy_from_slice(argument);
+        Ok(argument.len())
+    }
+
+    fn var(&self, _name: &str, _buf: &mut [u8]) -> Result<usize, FillError> {
+        Err(FillError::NotPresent)
+    }
+
+    fn var_at(&self, _i: usize, _buf: &mut [u8]) -> Result<usize, FillError> {
+        Err(FillError::NotPresent)
     }
 }
 
@@ -95,6 +121,58 @@ fn words_end_with_a_status(rt: HostRuntime) {
         let (status, empty, silent) = status_of(&rt, &words, b"", 0, b"", b"");
         assert_eq!(rt; (status, empty, silent), (2, true, false));
     }
+}
+
+#[test]
+fn help_and_refusals_are_whole(rt: HostRuntime) {
+    let help = "\
+Replays text logs of CTAPHID sessions on a FIDO2 security key
+
+Usage: hidlog <COMMAND>
+
+Commands:
+  replay  Replays the log on standard input: writes it with the packets that the key sends, and what it counted
+  help    Print this message or the help of the given subcommand(s)
+
+Options:
+  -h, --help  Print help
+";
+    let refusal = "\
+error: unexpected argument '--what' found
+
+Usage: hidlog <COMMAND>
+
+For more information, try '--help'.
+";
+    for (word, output, faults) in [("--help", help, ""), ("--what", "", refusal)] {
+        let (mut out, mut told) = ([0; 1024], [0; 1024]);
+        let mut writer = SliceOut::new(&mut out);
+        let mut teller = SliceOut::new(&mut told);
+        let _ = run(
+            &rt,
+            rt.alloc(),
+            &["hidlog", word],
+            &mut SliceIn::new(b""),
+            &mut writer,
+            &mut teller,
+        );
+        assert!(rt; writer.written() == output.as_bytes(), "{word}");
+        assert!(rt; teller.written() == faults.as_bytes(), "{word}");
+    }
+}
+
+#[test]
+fn arguments_are_read(rt: HostRuntime) {
+    let mut told = [0; 99];
+    let mut faults = SliceOut::new(&mut told);
+    let good: [&[u8]; 2] = [b"hidlog", "r\u{e9}play".as_bytes()];
+    let words = words_of(&(Arguments(&good), rt.alloc()), &mut faults);
+    assert!(rt; words.is_ok_and(|words| words.len() == 2 && words[1].as_str() == "r\u{e9}play"));
+    assert!(rt; faults.written().is_empty());
+    let bad: [&[u8]; 2] = [b"hidlog", b"r\xe9play"];
+    let words = words_of(&(Arguments(&bad), rt.alloc()), &mut faults);
+    assert_eq!(rt; words.err(), Some(2));
+    assert!(rt; faults.written() == b"hidlog: an argument is not UTF-8\n".as_slice());
 }
 
 #[test]

@@ -1,5 +1,5 @@
 -- A log that is played again gives the same bytes.
-use Rattle.std.proofs.Common.{◌≡◌, ◌≢◌, ℕ, suc, ◌+◌, ◌≤◌, ◌<◌, ◌^◌, nat_lt, Bool, true, false, cond, List, [], ◌∷◌, ◌++◌, length, map, flat_map, codes, decimal, Option, Some, None, Ok, IsOk, is_none, refl, sym, ap, ◌∙◌, arith, append_assoc, append-nil, length-append}
+use Rattle.std.proofs.Common.{◌≡◌, ◌≢◌, ℕ, suc, ◌+◌, ◌≤◌, ◌<◌, ◌^◌, nat_lt, Bool, true, false, cond, List, [], ◌∷◌, ◌++◌, length, map, flat_map, codes, decimal, Option, Some, None, Ok, IsOk, refl, sym, ap, ◌∙◌, arith, append_assoc, append-nil, length-append}
 use Rattle.std.proofs.lemmas.Bool.Decides.{nat_tests}
 use Rattle.std.proofs.lemmas.Fmt.{length-decimal-le}
 use Rattle.std.proofs.lemmas.List.{length-map}
@@ -11,30 +11,30 @@ use Rattle.session_log.specs.declared.fault.LogFault.{LogFault}
 use Rattle.session_log.specs.declared.line.Line.{Line}
 use Rattle.session_log.specs.declared.line.Line.TheVariants.{Input, Sent, Remark, Count}
 use Rattle.session_log.specs.Lines.{lines}
-use Rattle.session_log.specs.Log.{Played, behind, played, playing, log_of, log, fault_at, text_of, text_by, after, after_by}
-use Rattle.session_log.specs.Reading.{said}
+use Rattle.session_log.specs.Log.{Played, behind, played, playing, log_of, log, fault_by, fault_at, text_of, text_by, after, after_by}
+use Rattle.session_log.specs.Said.{said}
 use Rattle.session_log.specs.Sent.{IsPacket, ArePackets, SendsPackets, AllSend, FitsMeters}
 use Rattle.session_log.specs.Text.{ended, sent_text, meters_line}
-use Rattle.session_log.specs.World.{World}
+use Rattle.session_log.specs.World.{Course, replaying}
 use Rattle.session_log.proofs.Feeds.{feedless, AreLines, feedless-append, AreLines-append, lines_joined, lines_are_lines, decimal_feedless, hex_feedless}
 use Rattle.session_log.proofs.Spelled.{count_rest, spelled_is_read}
-use Rattle.session_log.proofs.Through.{played_sound, played_faulty, behind_twice, no_fault, log_is}
+use Rattle.session_log.proofs.Through.{played_sound, played_faulty, behind_twice, said_fault, log_is}
 
 -- The lines that are written, without their line feeds.
 
 abbrev sent_line : List ℕ → List ℕ
 sent_line packet = codes "< " ++ encode_lower packet
 
-abbrev lines_by : {S : Type 0} → World S → S → List ℕ → Option Line → List (List ℕ)
-lines_by world s line None = []
-lines_by world s line (Some Count) = []
-lines_by world s line (Some (Sent packet)) = []
-lines_by world s line (Some Remark) = line ∷ []
-lines_by world s line (Some (Input timed)) = line ∷ map sent_line (world.sends s timed)
+abbrev lines_by : {S : Type 0} → Course S → S → List ℕ → Option Line → List (List ℕ)
+lines_by course s line None = []
+lines_by course s line (Some Count) = []
+lines_by course s line (Some (Sent packet)) = []
+lines_by course s line (Some Remark) = line ∷ []
+lines_by course s line (Some (Input timed)) = line ∷ map sent_line (course.sends s timed)
 
-abbrev written : {S : Type 0} → World S → S → List (List ℕ) → List (List ℕ)
-written world s [] = []
-written world s (line ∷ more) = lines_by world s line (said line) ++ written world (after world s line) more
+abbrev written : {S : Type 0} → Course S → S → List (List ℕ) → List (List ℕ)
+written course s [] = []
+written course s (line ∷ more) = lines_by course s line (said line) ++ written course (after (replaying course) s line) more
 
 -- the meters line, without its line feed
 abbrev counts : Meters → List ℕ
@@ -49,20 +49,19 @@ sents_text : (packets : List (List ℕ)) → flat_map sent_text packets ≡ flat
 sents_text [] = refl
 sents_text (packet ∷ more) = ap (λ (t : List ℕ). sent_text packet ++ t) (sents_text more)
 
-text_lines : {S : Type 0} (world : World S) (s : S) (line : List ℕ) (l : Option Line) → text_by world s line l ≡ flat_map ended (lines_by world s line l)
-text_lines world s line None = refl
-text_lines world s line (Some Count) = refl
-text_lines world s line (Some (Sent packet)) = refl
-text_lines world s line (Some Remark) = sym (append-nil (ended line))
-text_lines world s line (Some (Input timed)) = ap (λ (t : List ℕ). ended line ++ t) (sents_text (world.sends s timed))
+text_lines : {S : Type 0} (course : Course S) (s : S) (line : List ℕ) (l : Option Line) → text_by (replaying course) s line l ≡ flat_map ended (lines_by course s line l)
+text_lines course s line None = refl
+text_lines course s line (Some Count) = refl
+text_lines course s line (Some (Sent packet)) = refl
+text_lines course s line (Some Remark) = sym (append-nil (ended line))
+text_lines course s line (Some (Input timed)) = ap (λ (t : List ℕ). ended line ++ t) (sents_text (course.sends s timed))
 
 -- Faultless lines.
 
-none_chosen : (a b c : Bool) (x y z : LogFault) → cond a (Some x) (cond b (Some y) (cond c (Some z) None)) ≡ None → (b ≡ false) × (c ≡ false)
-none_chosen true b c x y z h = cc
-none_chosen false true c x y z h = cc
-none_chosen false false true x y z h = cc
-none_chosen false false false x y z h = (refl, refl)
+none_chosen : (a b : Bool) (x y : LogFault) (o : Option LogFault) → cond a (Some x) (cond b (Some y) o) ≡ None → (b ≡ false) × (o ≡ None)
+none_chosen true b x y o h = cc
+none_chosen false true x y o h = cc
+none_chosen false false x y o h = (refl, h)
 
 short_is : (n : ℕ) → nat_lt 255 n ≡ false → n < 256
 short_is n h = grind (arith, nat_tests)
@@ -71,17 +70,21 @@ pub record IsSound (line : List ℕ) : Type 0 where
   pub short : length line < 256
   pub says : said line ≢ None
 
-sound_line : (n : ℕ) (line : List ℕ) → fault_at n line ≡ None → IsSound line
-sound_line n line h =
-    let tests = none_chosen _ (nat_lt 255 (length line)) (is_none (said line)) _ _ _ h in
-    record { short = short_is (length line) tests.0; says = λ e. cc (sym (ap is_none e) ∙ tests.1) }
+sound_line : {S : Type 0} (course : Course S) (n : ℕ) (s : S) (line : List ℕ) → fault_at (replaying course) n s line ≡ None → IsSound line
+sound_line course n s line h =
+    let tests = none_chosen _ (nat_lt 255 (length line)) _ _ (fault_by (replaying course) n s (said line)) h in
+    record { short = short_is (length line) tests.0; says = λ e. cc (sym (ap (fault_by (replaying course) n s) e) ∙ tests.1) }
 
-sound_first : {S : Type 0} (world : World S) (n : ℕ) (s : S) (line : List ℕ) (more : List (List ℕ)) → (played world n s (line ∷ more)).fault ≡ None → fault_at n line ≡ None
-sound_first {S} world n s line more h = go (fault_at n line) refl
+faultless : {S : Type 0} (course : Course S) (n : ℕ) (s : S) (l : Option Line) → l ≢ None → fault_by (replaying course) n s l ≡ None
+faultless course n s None h = absurd (h refl)
+faultless course n s (Some l) h = refl
+
+sound_first : {S : Type 0} (course : Course S) (n : ℕ) (s : S) (line : List ℕ) (more : List (List ℕ)) → (played (replaying course) n s (line ∷ more)).fault ≡ None → fault_at (replaying course) n s line ≡ None
+sound_first {S} course n s line more h = go (fault_at (replaying course) n s line) refl
   where
-    go : (o : Option LogFault) → fault_at n line ≡ o → fault_at n line ≡ None
+    go : (o : Option LogFault) → fault_at (replaying course) n s line ≡ o → fault_at (replaying course) n s line ≡ None
     go None e = e
-    go (Some f) e = absurd (cc (sym (ap (λ (p : Played S). p.fault) (played_faulty world n s line more f e)) ∙ h))
+    go (Some f) e = absurd (cc (sym (ap (λ (p : Played S). p.fault) (played_faulty (replaying course) n s line more f e)) ∙ h))
 
 -- A line that sends is read as one that was sent.
 
@@ -108,63 +111,63 @@ sent_feedless packet h =
 add_zero : (n : ℕ) → n ≡ n + 0
 add_zero n = omega arith
 
-sound_step : {S : Type 0} (world : World S) (m : ℕ) (s : S) (line : List ℕ) (more : List (List ℕ)) (l : Option Line) → m < 2 ^ 32 → IsSound line → said line ≡ l
-    → played world m s (line ∷ more) ≡ behind (text_by world s line l) (played world (m + 1) (after_by world s l) more)
-sound_step world m s line more l few sound e =
-    played_sound world m s line more (no_fault m line few sound.short sound.says)
-    ∙ ap (λ (o : Option Line). behind (text_by world s line o) (played world (m + 1) (after_by world s o) more)) e
+sound_step : {S : Type 0} (course : Course S) (m : ℕ) (s : S) (line : List ℕ) (more : List (List ℕ)) (l : Option Line) → m < 2 ^ 32 → IsSound line → said line ≡ l
+    → played (replaying course) m s (line ∷ more) ≡ behind (text_by (replaying course) s line l) (played (replaying course) (m + 1) (after_by (replaying course) s l) more)
+sound_step course m s line more l few sound e =
+    played_sound (replaying course) m s line more (said_fault (replaying course) m s line few sound.short ∙ faultless course m s (said line) sound.says)
+    ∙ ap (λ (o : Option Line). behind (text_by (replaying course) s line o) (played (replaying course) (m + 1) (after_by (replaying course) s o) more)) e
 
-sents_again : {S : Type 0} (world : World S) (m : ℕ) (s : S) (packets rest : List (List ℕ)) → ArePackets packets → m + length packets ≤ 2 ^ 32
-    → played world m s (map sent_line packets ++ rest) ≡ played world (m + length packets) s rest
-sents_again world m s [] rest h few = ap (λ (k : ℕ). played world k s rest) (add_zero m)
-sents_again world m s (packet ∷ more) rest h few =
+sents_again : {S : Type 0} (course : Course S) (m : ℕ) (s : S) (packets rest : List (List ℕ)) → ArePackets packets → m + length packets ≤ 2 ^ 32
+    → played (replaying course) m s (map sent_line packets ++ rest) ≡ played (replaying course) (m + length packets) s rest
+sents_again course m s [] rest h few = ap (λ (k : ℕ). played (replaying course) k s rest) (add_zero m)
+sents_again course m s (packet ∷ more) rest h few =
     let next : m + 1 + length more ≡ m + suc (length more) = omega arith in
-    sound_step world m s (sent_line packet) (map sent_line more ++ rest) (Some (Sent (record { 0 = packet }))) (omega (arith, few)) (sent_sound packet h.0) (sent_said packet h.0)
-    ∙ sents_again world (m + 1) s more rest h.1 (omega (arith, few, next))
-    ∙ ap (λ (k : ℕ). played world k s rest) next
+    sound_step course m s (sent_line packet) (map sent_line more ++ rest) (Some (Sent (record { 0 = packet }))) (omega (arith, few)) (sent_sound packet h.0) (sent_said packet h.0)
+    ∙ sents_again course (m + 1) s more rest h.1 (omega (arith, few, next))
+    ∙ ap (λ (k : ℕ). played (replaying course) k s rest) next
 
-line_again : {S : Type 0} (world : World S) (m : ℕ) (s : S) (line : List ℕ) (l : Option Line) (rest : List (List ℕ)) → IsSound line → said line ≡ l → SendsPackets world s l → m + length (lines_by world s line l) ≤ 2 ^ 32
-    → played world m s (lines_by world s line l ++ rest) ≡ behind (text_by world s line l) (played world (m + length (lines_by world s line l)) (after_by world s l) rest)
-line_again world m s line None rest sound e h few = absurd (sound.says e)
-line_again world m s line (Some Count) rest sound e h few = ap (λ (k : ℕ). played world k s rest) (add_zero m)
-line_again world m s line (Some (Sent packet)) rest sound e h few = ap (λ (k : ℕ). played world k s rest) (add_zero m)
-line_again world m s line (Some Remark) rest sound e h few = sound_step world m s line rest (Some Remark) (omega (arith, few)) sound e
-line_again world m s line (Some (Input timed)) rest sound e h few =
-    let packets = world.sends s timed in
+line_again : {S : Type 0} (course : Course S) (m : ℕ) (s : S) (line : List ℕ) (l : Option Line) (rest : List (List ℕ)) → IsSound line → said line ≡ l → SendsPackets (replaying course) s l → m + length (lines_by course s line l) ≤ 2 ^ 32
+    → played (replaying course) m s (lines_by course s line l ++ rest) ≡ behind (text_by (replaying course) s line l) (played (replaying course) (m + length (lines_by course s line l)) (after_by (replaying course) s l) rest)
+line_again course m s line None rest sound e h few = absurd (sound.says e)
+line_again course m s line (Some Count) rest sound e h few = ap (λ (k : ℕ). played (replaying course) k s rest) (add_zero m)
+line_again course m s line (Some (Sent packet)) rest sound e h few = ap (λ (k : ℕ). played (replaying course) k s rest) (add_zero m)
+line_again course m s line (Some Remark) rest sound e h few = sound_step course m s line rest (Some Remark) (omega (arith, few)) sound e
+line_again course m s line (Some (Input timed)) rest sound e h few =
+    let packets = course.sends s timed in
     let same : length (map sent_line packets) ≡ length packets = simp length-map refl in
     let next : m + 1 + length packets ≡ m + suc (length (map sent_line packets)) = omega (arith, same) in
-    sound_step world m s line (map sent_line packets ++ rest) (Some (Input timed)) (omega (arith, few)) sound e
-    ∙ ap (behind (text_by world s line (Some (Input timed)))) (sents_again world (m + 1) (world.turned s timed) packets rest h (omega (arith, few, next)) ∙ ap (λ (k : ℕ). played world k (world.turned s timed) rest) next)
+    sound_step course m s line (map sent_line packets ++ rest) (Some (Input timed)) (omega (arith, few)) sound e
+    ∙ ap (behind (text_by (replaying course) s line (Some (Input timed)))) (sents_again course (m + 1) (course.turned s timed) packets rest h (omega (arith, few, next)) ∙ ap (λ (k : ℕ). played (replaying course) k (course.turned s timed) rest) next)
 
-lines_again : {S : Type 0} (world : World S) (n m : ℕ) (s : S) (ls rest : List (List ℕ)) → (played world n s ls).fault ≡ None → AllSend world s ls → m + length (written world s ls) ≤ 2 ^ 32
-    → played world m s (written world s ls ++ rest) ≡ behind (played world n s ls).text (played world (m + length (written world s ls)) (played world n s ls).state rest)
-lines_again world n m s [] rest h sends few = ap (λ (k : ℕ). played world k s rest) (add_zero m)
-lines_again {S} world n m s (line ∷ more) rest h sends few =
-    let t = after world s line in
-    let first = lines_by world s line (said line) in
-    let others = written world t more in
+lines_again : {S : Type 0} (course : Course S) (n m : ℕ) (s : S) (ls rest : List (List ℕ)) → (played (replaying course) n s ls).fault ≡ None → AllSend (replaying course) s ls → m + length (written course s ls) ≤ 2 ^ 32
+    → played (replaying course) m s (written course s ls ++ rest) ≡ behind (played (replaying course) n s ls).text (played (replaying course) (m + length (written course s ls)) (played (replaying course) n s ls).state rest)
+lines_again course n m s [] rest h sends few = ap (λ (k : ℕ). played (replaying course) k s rest) (add_zero m)
+lines_again {S} course n m s (line ∷ more) rest h sends few =
+    let t = after (replaying course) s line in
+    let first = lines_by course s line (said line) in
+    let others = written course t more in
     let both = length-append first others in
-    let sound = sound_first world n s line more h in
-    let step = played_sound world n s line more sound in
-    let later : (played world (n + 1) t more).fault ≡ None = sym (ap (λ (p : Played S). p.fault) step) ∙ h in
+    let sound = sound_first course n s line more h in
+    let step = played_sound (replaying course) n s line more sound in
+    let later : (played (replaying course) (n + 1) t more).fault ≡ None = sym (ap (λ (p : Played S). p.fault) step) ∙ h in
     let count : m + length first + length others ≡ m + length (first ++ others) = omega (arith, both) in
-    let final = played world (m + length first + length others) (played world (n + 1) t more).state rest in
-    ap (played world m s) (append_assoc first others rest)
-    ∙ line_again world m s line (said line) (others ++ rest) (sound_line n line sound) refl sends.0 (omega (arith, few, both))
-    ∙ ap (behind (text_of world s line)) (lines_again world (n + 1) (m + length first) t more rest later sends.1 (omega (arith, few, both)))
-    ∙ behind_twice (text_of world s line) (played world (n + 1) t more).text final
-    ∙ λ i. behind (sym step i).text (played world (count i) (sym step i).state rest)
+    let final = played (replaying course) (m + length first + length others) (played (replaying course) (n + 1) t more).state rest in
+    ap (played (replaying course) m s) (append_assoc first others rest)
+    ∙ line_again course m s line (said line) (others ++ rest) (sound_line course n s line sound) refl sends.0 (omega (arith, few, both))
+    ∙ ap (behind (text_of (replaying course) s line)) (lines_again course (n + 1) (m + length first) t more rest later sends.1 (omega (arith, few, both)))
+    ∙ behind_twice (text_of (replaying course) s line) (played (replaying course) (n + 1) t more).text final
+    ∙ λ i. behind (sym step i).text (played (replaying course) (count i) (sym step i).state rest)
 
-written_text : {S : Type 0} (world : World S) (n : ℕ) (s : S) (ls : List (List ℕ)) → (played world n s ls).fault ≡ None → (played world n s ls).text ≡ flat_map ended (written world s ls)
-written_text world n s [] h = refl
-written_text {S} world n s (line ∷ more) h =
-    let t = after world s line in
-    let step = played_sound world n s line more (sound_first world n s line more h) in
-    let later : (played world (n + 1) t more).fault ≡ None = sym (ap (λ (p : Played S). p.fault) step) ∙ h in
+written_text : {S : Type 0} (course : Course S) (n : ℕ) (s : S) (ls : List (List ℕ)) → (played (replaying course) n s ls).fault ≡ None → (played (replaying course) n s ls).text ≡ flat_map ended (written course s ls)
+written_text course n s [] h = refl
+written_text {S} course n s (line ∷ more) h =
+    let t = after (replaying course) s line in
+    let step = played_sound (replaying course) n s line more (sound_first course n s line more h) in
+    let later : (played (replaying course) (n + 1) t more).fault ≡ None = sym (ap (λ (p : Played S). p.fault) step) ∙ h in
     ap (λ (p : Played S). p.text) step
-    ∙ ap (λ (a : List ℕ). a ++ (played world (n + 1) t more).text) (text_lines world s line (said line))
-    ∙ ap (λ (a : List ℕ). flat_map ended (lines_by world s line (said line)) ++ a) (written_text world (n + 1) t more later)
-    ∙ sym (flat_map-append ended (lines_by world s line (said line)) (written world t more))
+    ∙ ap (λ (a : List ℕ). a ++ (played (replaying course) (n + 1) t more).text) (text_lines course s line (said line))
+    ∙ ap (λ (a : List ℕ). flat_map ended (lines_by course s line (said line)) ++ a) (written_text course (n + 1) t more later)
+    ∙ sym (flat_map-append ended (lines_by course s line (said line)) (written course t more))
 
 -- What was written has no line feed in a line.
 
@@ -172,17 +175,17 @@ sents_are : (packets : List (List ℕ)) → ArePackets packets → AreLines (map
 sents_are [] h = tt
 sents_are (packet ∷ more) h = (sent_feedless packet h.0, sents_are more h.1)
 
-line_are : {S : Type 0} (world : World S) (s : S) (line : List ℕ) (l : Option Line) → feedless line ≡ true → SendsPackets world s l → AreLines (lines_by world s line l)
-line_are world s line None h sends = tt
-line_are world s line (Some Count) h sends = tt
-line_are world s line (Some (Sent packet)) h sends = tt
-line_are world s line (Some Remark) h sends = (h, tt)
-line_are world s line (Some (Input timed)) h sends = (h, sents_are (world.sends s timed) sends)
+line_are : {S : Type 0} (course : Course S) (s : S) (line : List ℕ) (l : Option Line) → feedless line ≡ true → SendsPackets (replaying course) s l → AreLines (lines_by course s line l)
+line_are course s line None h sends = tt
+line_are course s line (Some Count) h sends = tt
+line_are course s line (Some (Sent packet)) h sends = tt
+line_are course s line (Some Remark) h sends = (h, tt)
+line_are course s line (Some (Input timed)) h sends = (h, sents_are (course.sends s timed) sends)
 
-written_are : {S : Type 0} (world : World S) (s : S) (ls : List (List ℕ)) → AreLines ls → AllSend world s ls → AreLines (written world s ls)
-written_are world s [] h sends = tt
-written_are world s (line ∷ more) h sends =
-    AreLines-append (lines_by world s line (said line)) (written world (after world s line) more) (line_are world s line (said line) h.0 sends.0) (written_are world (after world s line) more h.1 sends.1)
+written_are : {S : Type 0} (course : Course S) (s : S) (ls : List (List ℕ)) → AreLines ls → AllSend (replaying course) s ls → AreLines (written course s ls)
+written_are course s [] h sends = tt
+written_are course s (line ∷ more) h sends =
+    AreLines-append (lines_by course s line (said line)) (written course (after (replaying course) s line) more) (line_are course s line (said line) h.0 sends.0) (written_are course (after (replaying course) s line) more h.1 sends.1)
 
 counts_feedless : (m : Meters) → FitsMeters m → feedless (61 ∷ counts m) ≡ true
 counts_feedless m h =
@@ -215,23 +218,23 @@ counts_short m h =
     omega (arith, sum, short m.held h.held, short m.rows h.rows, short m.pending h.pending, short m.requests h.requests, short m.bytes h.bytes, short m.steps h.steps)
 
 -- Where no line is faulty, the log's own log is the log again.
-pub log_again : {S : Type 0} (world : World S) (s : S) (bytes : List ℕ) → (playing world s bytes).fault ≡ None → AllSend world s (lines bytes) → FitsMeters (world.counts (playing world s bytes).state)
-    → length (lines (log world s bytes)) < 2 ^ 32 → log world s (log world s bytes) ≡ log world s bytes
-log_again {S} world s bytes h sends fits few =
-    let p = playing world s bytes in
-    let m = world.counts p.state in
+pub log_again : {S : Type 0} (course : Course S) (s : S) (bytes : List ℕ) → (playing (replaying course) s bytes).fault ≡ None → AllSend (replaying course) s (lines bytes) → FitsMeters (course.counts (playing (replaying course) s bytes).state)
+    → length (lines (log (replaying course) s bytes)) < 2 ^ 32 → log (replaying course) s (log (replaying course) s bytes) ≡ log (replaying course) s bytes
+log_again {S} course s bytes h sends fits few =
+    let p = playing (replaying course) s bytes in
+    let m = course.counts p.state in
     let last = 61 ∷ counts m in
-    let first = written world s (lines bytes) in
-    let whole : log world s bytes ≡ p.text ++ meters_line m = log_is world p p.state p.text h refl refl in
-    let text : log world s bytes ≡ flat_map ended (first ++ last ∷ []) =
-    whole ∙ ap (λ (t : List ℕ). t ++ meters_line m) (written_text world 1 s (lines bytes) h)
+    let first = written course s (lines bytes) in
+    let whole : log (replaying course) s bytes ≡ p.text ++ meters_line m = log_is (replaying course) p p.state p.text h refl refl in
+    let text : log (replaying course) s bytes ≡ flat_map ended (first ++ last ∷ []) =
+    whole ∙ ap (λ (t : List ℕ). t ++ meters_line m) (written_text course 1 s (lines bytes) h)
     ∙ ap (λ (t : List ℕ). flat_map ended first ++ t) (sym (append-nil (ended last))) ∙ sym (flat_map-append ended first (last ∷ [])) in
-    let are : AreLines (first ++ last ∷ []) = AreLines-append first (last ∷ []) (written_are world s (lines bytes) (lines_are_lines bytes) sends) (counts_feedless m fits, tt) in
-    let cut : lines (log world s bytes) ≡ first ++ last ∷ [] = ap lines text ∙ lines_joined (first ++ last ∷ []) are in
+    let are : AreLines (first ++ last ∷ []) = AreLines-append first (last ∷ []) (written_are course s (lines bytes) (lines_are_lines bytes) sends) (counts_feedless m fits, tt) in
+    let cut : lines (log (replaying course) s bytes) ≡ first ++ last ∷ [] = ap lines text ∙ lines_joined (first ++ last ∷ []) are in
     let room : length first + 1 < 2 ^ 32 = omega (arith, few, ap length cut, length-append first (last ∷ [])) in
     let sound : IsSound last = record { short = counts_short m fits; says = λ e. cc (sym e ∙ count_rest (counts m)) } in
-    let ends : played world (1 + length first) p.state (last ∷ []) ≡ record { text = []; fault = None; state = p.state } =
-    sound_step world (1 + length first) p.state last [] (Some Count) (omega (arith, room)) sound (count_rest (counts m)) in
-    let plays : playing world s (log world s bytes) ≡ behind p.text (record { text = []; fault = None; state = p.state }) =
-    ap (played world 1 s) cut ∙ lines_again world 1 1 s (lines bytes) (last ∷ []) h sends (omega (arith, room)) ∙ ap (behind p.text) ends in
-    ap (log_of world) plays ∙ ap (λ (t : List ℕ). t ++ meters_line m) (append-nil p.text) ∙ sym whole
+    let ends : played (replaying course) (1 + length first) p.state (last ∷ []) ≡ record { text = []; fault = None; state = p.state } =
+    sound_step course (1 + length first) p.state last [] (Some Count) (omega (arith, room)) sound (count_rest (counts m)) in
+    let plays : playing (replaying course) s (log (replaying course) s bytes) ≡ behind p.text (record { text = []; fault = None; state = p.state }) =
+    ap (played (replaying course) 1 s) cut ∙ lines_again course 1 1 s (lines bytes) (last ∷ []) h sends (omega (arith, room)) ∙ ap (behind p.text) ends in
+    ap (log_of (replaying course)) plays ∙ ap (λ (t : List ℕ). t ++ meters_line m) (append-nil p.text) ∙ sym whole

@@ -5,9 +5,10 @@ use Rattle.std.proofs.lemmas.Fmt.{decimal_is_IsNumeral}
 use Rattle.std.proofs.lemmas.List.Quantifiers.{position-Some}
 use Rattle.std.proofs.Math.Seq.{take-append_seam, drop-append-add, drop-cons}
 use Rattle.std.specs.Char.{digit_value}
-use Rattle.std.specs.List.{position_or_len}
+use Rattle.std.specs.List.{AllPass, position_or_len}
+use Rattle.hex.specs.Hex.{is_hex_digit}
 use Rattle.std.specs.Str.Parse.{AllDigits}
-use Rattle.session_log.specs.Reading.{first_field}
+use Rattle.session_log.specs.Said.{first_field}
 
 abbrev is_space : ℕ → Bool
 is_space b = b == 32
@@ -18,32 +19,55 @@ eq_is a b h = grind (arith, nat_tests)
 lt_is : (a b : ℕ) → a < b → nat_lt a b ≡ true
 lt_is a b h = grind (arith, nat_tests)
 
--- a digit is no space
-no_space : (c : ℕ) → digit_value c < 10 → is_space c ≡ false
-no_space c h = go (is_space c) refl
+-- fields without a space
+abbrev pub NoSpace : List ℕ → Type 0
+NoSpace [] = Unit {0}
+NoSpace (c ∷ cs) = (is_space c ≡ false) × NoSpace cs
+
+digit_no_space : (c : ℕ) → digit_value c < 10 → is_space c ≡ false
+digit_no_space c h = go (is_space c) refl
   where
     go : (b : Bool) → is_space c ≡ b → is_space c ≡ false
     go false e = e
     go true e = let at : digit_value 32 < 10 = subst (λ (x : ℕ). digit_value x < 10) (eq_is c 32 e) h in absurd (omega arith)
 
-space_behind : (digits rest : List ℕ) → AllDigits 10 digits → position_or_len is_space (digits ++ 32 ∷ rest) ≡ length digits
+pub digits_no_space : (digits : List ℕ) → AllDigits 10 digits → NoSpace digits
+digits_no_space [] h = tt
+digits_no_space (c ∷ cs) h = (digit_no_space c h.0, digits_no_space cs h.1)
+
+hex_digit_no_space : (c : ℕ) → is_hex_digit c ≡ true → is_space c ≡ false
+hex_digit_no_space c h = go (is_space c) refl
+  where
+    go : (b : Bool) → is_space c ≡ b → is_space c ≡ false
+    go false e = e
+    go true e = let at : is_hex_digit 32 ≡ true = subst (λ (x : ℕ). is_hex_digit x ≡ true) (eq_is c 32 e) h in cc
+
+pub hex_no_space : (digits : List ℕ) → AllPass is_hex_digit digits → NoSpace digits
+hex_no_space [] h = tt
+hex_no_space (c ∷ cs) h = (hex_digit_no_space c (h 0 0 (omega arith)), hex_no_space cs (λ k d l. h (suc k) d (omega arith)))
+
+space_behind : (front rest : List ℕ) → NoSpace front → position_or_len is_space (front ++ 32 ∷ rest) ≡ length front
 space_behind [] rest h = refl
 space_behind (c ∷ cs) rest h =
-    ap (λ (b : Bool). cond (not b) (1 + position_or_len is_space (cs ++ 32 ∷ rest)) 0) (no_space c h.0) ∙ ap (λ (n : ℕ). 1 + n) (space_behind cs rest h.1) ∙ one_more
+    ap (λ (b : Bool). cond (not b) (1 + position_or_len is_space (cs ++ 32 ∷ rest)) 0) h.0 ∙ ap (λ (n : ℕ). 1 + n) (space_behind cs rest h.1) ∙ one_more
   where
     one_more : 1 + length cs ≡ suc (length cs)
     one_more = omega arith
 
--- a number and what follows the space behind it
-pub fields_of : (n : ℕ) (rest : List ℕ) → n < 2 ^ 64 → first_field (decimal n ++ 32 ∷ rest) ≡ Some (decimal n, rest)
-fields_of n rest fits =
-    let all = decimal n ++ 32 ∷ rest in
-    let at : position_or_len is_space all ≡ length (decimal n) = space_behind (decimal n) rest (decimal_is_IsNumeral n fits).0.1 in
-    let inside : length (decimal n) < length all = omega (arith, length-append (decimal n) (32 ∷ rest)) in
-    let found : position is_space all ≡ Some (length (decimal n)) =
-    ap (λ (k : ℕ). cond (nat_lt k (length all)) (Some k) None) at ∙ ap (λ (b : Bool). cond b (Some (length (decimal n))) None) (lt_is (length (decimal n)) (length all) inside) in
+-- a field without a space and what follows the space after it
+pub parted : (front rest : List ℕ) → NoSpace front → first_field (front ++ 32 ∷ rest) ≡ Some (front, rest)
+parted front rest h =
+    let all = front ++ 32 ∷ rest in
+    let at : position_or_len is_space all ≡ length front = space_behind front rest h in
+    let inside : length front < length all = omega (arith, length-append front (32 ∷ rest)) in
+    let found : position is_space all ≡ Some (length front) =
+    ap (λ (k : ℕ). cond (nat_lt k (length all)) (Some k) None) at ∙ ap (λ (b : Bool). cond b (Some (length front)) None) (lt_is (length front) (length all) inside) in
     ap (λ (o : Option ℕ). elim o as (λ _. Option (List ℕ × List ℕ)) [ None ↦ None | Some k ↦ Some (take k all, drop (k + 1) all) ]) found
-    ∙ λ i. Some (take-append_seam (decimal n) (32 ∷ rest) i, drop-append-add (decimal n) (32 ∷ rest) 1 i)
+    ∙ λ i. Some (take-append_seam front (32 ∷ rest) i, drop-append-add front (32 ∷ rest) 1 i)
+
+-- a number has none
+pub fields_of : (n : ℕ) (rest : List ℕ) → n < 2 ^ 64 → first_field (decimal n ++ 32 ∷ rest) ≡ Some (decimal n, rest)
+fields_of n rest fits = parted (decimal n) rest (digits_no_space (decimal n) (decimal_is_IsNumeral n fits).0.1)
 
 -- the parts, with the space between them
 pub fields_are : (fields : List ℕ) (parts : List ℕ × List ℕ) → first_field fields ≡ Some parts → fields ≡ parts.0 ++ 32 ∷ parts.1

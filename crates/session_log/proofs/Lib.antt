@@ -1,14 +1,12 @@
-pub mod Breaking
 pub mod Sends
 pub mod Moments
-pub mod Reading
+pub mod Gathering
 pub mod Cutting
 pub mod Through
 pub mod Exits
 pub mod Lasts
 pub mod Worlds
 pub mod Histories
-pub mod Cases
 pub mod Fields
 pub mod Spelled
 pub mod Rows

@@ -4,7 +4,7 @@ use Rattle.std.proofs.lemmas.Bool.Decides.{nat_tests}
 use Rattle.std.proofs.lemmas.Fmt.{decimal_is_IsNumeral}
 use Rattle.std.specs.Cmp.Lexicographic.{pointwise, same_text, other_text}
 use Rattle.std.specs.Str.Parse.{digits_value}
-use Rattle.session_log.specs.Reading.{moment}
+use Rattle.session_log.specs.Said.{moment}
 
 pub same : (xs ys : List ℕ) → xs ≡ ys → pointwise ◌==◌ xs ys ≡ true
 same xs ys e = go (pointwise ◌==◌ xs ys) refl

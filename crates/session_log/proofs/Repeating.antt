@@ -7,7 +7,7 @@ use Rattle.session_log.specs.Lines.{lines}
 use Rattle.session_log.specs.Log.{log}
 use Rattle.session_log.specs.Replay.{IsPlayed}
 use Rattle.session_log.specs.Sent.{FitsMeters}
-use Rattle.session_log.specs.Session.{machine, Repeats}
+use Rattle.session_log.specs.Session.{sessions, machine, Repeats}
 use Rattle.session_log.specs.Text.{meters_line}
 use Rattle.session_log.proofs.Again.{log_again}
 use Rattle.session_log.proofs.Through.{whole_log}
@@ -19,5 +19,5 @@ repeats taken taken' new s0 s bytes text q whole wrote fits =
       text ++ meters_line s.meters,
       Appends-trans taken taken' new text (meters_line s.meters) q wrote,
       λ few. subst (λ (t : List ℕ). log machine s0 t ≡ t) all
-          (log_again machine s0 bytes whole.faultless whole.sends (subst (λ (z : SessionState). FitsMeters z.meters) whole.stands fits) (subst (λ (t : List ℕ). length (lines t) < 2 ^ 32) (sym all) few)),
+          (log_again sessions s0 bytes whole.faultless whole.sends (subst (λ (z : SessionState). FitsMeters z.meters) whole.stands fits) (subst (λ (t : List ℕ). length (lines t) < 2 ^ 32) (sym all) few)),
     )

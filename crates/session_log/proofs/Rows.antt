@@ -3,13 +3,14 @@ use Rattle.std.proofs.Common.{◌≡◌, ℕ, ◌+◌, ◌-◌, ◌^◌, List, [
 use Rattle.std.specs.Fmt.{digits}
 use Rattle.hex.proofs.OnLiterals.{hex_on_literals}
 use Rattle.token_session.specs.declared.input.Input.{Input as AnyInput}
-use Rattle.token_session.specs.declared.input.Input.TheVariants.{Packet, Tick}
+use Rattle.authn_core.specs.declared.replies.Presence.TheVariants.{Granted, Denied, TimedOut}
+use Rattle.token_session.specs.declared.input.Input.TheVariants.{Packet, Tick, Presence, Key, Signature}
 use Rattle.session_log.specs.declared.fault.LogFault.TheVariants.{BadLine, TooLong, TooManyLines}
 use Rattle.session_log.specs.declared.line.Line.TheVariants.{Input, Sent, Remark, Count}
 use Rattle.session_log.specs.Lines.{lines, whole_lines, last_piece}
 use Rattle.session_log.specs.Log.{fault_at, playing, log}
-use Rattle.session_log.specs.Reading.{moment, said}
-use Rattle.session_log.specs.World.{World}
+use Rattle.session_log.specs.Said.{moment, said}
+use Rattle.session_log.specs.World.{World, replaying}
 
 -- lines, with and without a last line feed
 row-lines : lines (codes "a\nb") ≡ codes "a" ∷ codes "b" ∷ []
@@ -46,9 +47,6 @@ row-space = refl
 
 row-mark : said (239 ∷ 187 ∷ 191 ∷ codes "t 5") ≡ None
 row-mark = refl
-
-row-presence : said (codes "p 0 granted") ≡ None
-row-presence = refl
 
 row-late_comment : said (codes " #") ≡ None
 row-late_comment = refl
@@ -107,29 +105,83 @@ row-one_field : said (codes "> " ++ replicate 128 48) ≡ None
 unfolding moment digits hex_on_literals
 row-one_field = refl
 
--- faults: a line of 256 bytes is too long before it is read, and line 2^32 is one too many before that
-row-longest : fault_at 7 (35 ∷ replicate 254 120) ≡ None
-row-longest = refl
+-- replies
+row-granted : said (codes "p 0 granted") ≡ Some (Input (record { at = 0; input = Presence Granted }))
+unfolding moment digits
+row-granted = refl
 
-row-too_long : fault_at 7 (replicate 256 120) ≡ Some (TooLong 7)
-row-too_long = refl
+row-denied : said (codes "p 7 denied") ≡ Some (Input (record { at = 7; input = Presence Denied }))
+unfolding moment digits
+row-denied = refl
 
-row-bad : fault_at 7 (replicate 255 120) ≡ Some (BadLine 7)
-row-bad = refl
+row-timeout : said (codes "p 7 timeout") ≡ Some (Input (record { at = 7; input = Presence TimedOut }))
+unfolding moment digits
+row-timeout = refl
 
-row-last_line : fault_at (2 ^ 32 - 1) [] ≡ None
-row-last_line = refl
+row-another_answer : said (codes "p 7 Granted") ≡ None
+unfolding moment digits
+row-another_answer = refl
 
-row-too_many : fault_at (2 ^ 32) (replicate 256 120) ≡ Some TooManyLines
-row-too_many = refl
+row-no_key : said (codes "k 5 no") ≡ Some (Input (record { at = 5; input = Key None }))
+unfolding moment digits
+row-no_key = refl
+
+row-key : said (codes "k 5 aB" ++ replicate 62 48 ++ codes " 0c" ++ replicate 62 48 ++ codes " 0D" ++ replicate 62 48)
+    ≡ Some (Input (record { at = 5; input = Key (Some (record { id = 171 ∷ replicate 31 0; x = 12 ∷ replicate 31 0; y = 13 ∷ replicate 31 0 })) }))
+unfolding moment digits hex_on_literals
+row-key = refl
+
+row-key_of_two_fields : said (codes "k 5 " ++ replicate 64 48 ++ codes " " ++ replicate 64 48) ≡ None
+unfolding moment digits hex_on_literals
+row-key_of_two_fields = refl
+
+row-no_signature : said (codes "s 5 no") ≡ Some (Input (record { at = 5; input = Signature None }))
+unfolding moment digits
+row-no_signature = refl
+
+row-signature : said (codes "s 5 aB") ≡ Some (Input (record { at = 5; input = Signature (Some (171 ∷ [])) }))
+unfolding moment digits hex_on_literals
+row-signature = refl
+
+row-longest_signature : said (codes "s 5 " ++ replicate 144 48) ≡ Some (Input (record { at = 5; input = Signature (Some (replicate 72 0)) }))
+unfolding moment digits hex_on_literals
+row-longest_signature = refl
+
+row-too_long_a_signature : said (codes "s 5 " ++ replicate 146 48) ≡ None
+unfolding moment digits hex_on_literals
+row-too_long_a_signature = refl
+
+row-odd_signature : said (codes "s 5 abc") ≡ None
+unfolding moment digits hex_on_literals
+row-odd_signature = refl
+
+row-empty_signature : said (codes "s 5 ") ≡ None
+unfolding moment digits hex_on_literals
+row-empty_signature = refl
 
 -- a world that sends each packet back and counts its inputs as requests
 came_back : AnyInput → List (List ℕ)
 came_back (Packet packet) = packet.0 ∷ []
-came_back Tick = []
+came_back _ = []
 
 abbrev echo : World ℕ
-echo = record { turned = λ s x. s + 1; sends = λ s x. came_back x.input; counts = λ s. record { held = 0; rows = 0; pending = 0; requests = s; bytes = 0; steps = 0 } }
+echo = replaying (record { turned = λ s x. s + 1; sends = λ s x. came_back x.input; counts = λ s. record { held = 0; rows = 0; pending = 0; requests = s; bytes = 0; steps = 0 } })
+
+-- faults: a line of 256 bytes is too long before it is read, and line 2^32 is one too many before that
+row-longest : fault_at echo 7 0 (35 ∷ replicate 254 120) ≡ None
+row-longest = refl
+
+row-too_long : fault_at echo 7 0 (replicate 256 120) ≡ Some (TooLong 7)
+row-too_long = refl
+
+row-bad : fault_at echo 7 0 (replicate 255 120) ≡ Some (BadLine 7)
+row-bad = refl
+
+row-last_line : fault_at echo (2 ^ 32 - 1) 0 [] ≡ None
+row-last_line = refl
+
+row-too_many : fault_at echo (2 ^ 32) 0 (replicate 256 120) ≡ Some TooManyLines
+row-too_many = refl
 
 -- the log of a log: inputs and remarks again, with what was sent, and the meters line in place of the old one
 row-log : log echo 0 (codes "#\nt 5\n= held 9\n") ≡ codes "#\nt 5\n= held 0 rows 0 pending 0 requests 1 bytes 0 steps 0\n"

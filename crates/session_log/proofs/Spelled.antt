@@ -1,30 +1,132 @@
 -- What a line says is what the grammar lets it spell.
-use Rattle.std.proofs.Common.{◌≡◌, ℕ, ◌<◌, ◌^◌, ◌==◌, Bool, true, false, cond, List, [], ◌∷◌, ◌++◌, decimal, Option, Some, None, Result, Ok, Err, inl, inr, refl, sym, ap, ◌∙◌, subst}
-use Rattle.hex.specs.Hex.{decode_sized}
-use Rattle.hid_packet.specs.declared.packet.Packet.{Packet as Packet64}
+use Rattle.std.proofs.Common.{◌≡◌, ℕ, ◌*◌, ◌/◌, ◌<◌, ◌≤◌, ◌^◌, ◌==◌, ◌&&◌, nat_le, Bool, true, false, cond, List, [], ◌∷◌, ◌++◌, length, codes, decimal, Option, Some, None, Result, Ok, Err, inl, inr, refl, sym, ap, ◌∙◌, subst, arith, length-append}
+use Rattle.std.proofs.lemmas.Bool.Decides.{nat_tests}
+use Rattle.std.specs.Cmp.Lexicographic.{same_text}
+use Rattle.std.specs.List.{AllPass}
+use Rattle.hex.specs.Hex.{decode_sized, is_hex_digit}
+use Rattle.hex.proofs.HexLemmas.{IsOk-decode_sized, decode_sized-ok, decode_sized-twice, decode_of-ok}
+use Rattle.authn_core.specs.declared.replies.NewKey.{NewKey}
+use Rattle.authn_core.specs.declared.replies.Presence.{Presence as AnyPresence}
+use Rattle.authn_core.specs.declared.replies.Presence.TheVariants.{Granted, Denied, TimedOut}
 use Rattle.token_session.specs.declared.input.Input.{Input as AnyInput}
-use Rattle.token_session.specs.declared.input.Input.TheVariants.{Packet, Tick}
+use Rattle.token_session.specs.declared.input.Input.TheVariants.{Packet, Tick, Presence, Key, Signature}
 use Rattle.session_log.specs.declared.line.Line.{Line}
 use Rattle.session_log.specs.declared.line.Line.TheVariants.{Input, Sent, Remark, Count}
-use Rattle.session_log.specs.Grammar.{Writes, SpellsInput, Spells}
-use Rattle.session_log.specs.Reading.{◌>>=◌, ok_of, first_field, moment, packet_of, packet_line, tick_line, sent_line, said_by, said}
-use Rattle.session_log.proofs.Fields.{eq_is, fields_of, fields_are}
+use Rattle.session_log.specs.Grammar.{IsHexOf, SpellsField, SpellsInput, Spells, front_of}
+use Rattle.session_log.specs.Said.{◌>>=◌, ok_of, first_field, moment, bytes_of, is_word, packet_said, presence_said, key_of, key_said, signature_of, signature_said, input_by, input_line, tick_line, sent_line, said_by, said}
+use Rattle.session_log.specs.Words.{presence_word, refusal_word}
+use Rattle.session_log.proofs.Fields.{eq_is, fields_of, fields_are, parted, hex_no_space}
 use Rattle.session_log.proofs.Moments.{moment_of, moment_is}
+
+-- Digits.
+
+digits_of : (digits : List ℕ) (n : ℕ) (bytes : List ℕ) → IsHexOf digits n bytes → bytes_of n digits ≡ Some bytes
+digits_of digits n bytes h = ap ok_of h
+
+all_hex : (digits : List ℕ) (n : ℕ) (bytes : List ℕ) → IsHexOf digits n bytes → AllPass is_hex_digit digits
+all_hex digits n bytes h = ((IsOk-decode_sized digits n).0 (rw h refl)).1
+
+-- digits are not `no`
+not_word : (digits : List ℕ) → AllPass is_hex_digit digits → 0 < length digits → is_word refusal_word digits ≡ false
+not_word digits h some = go (is_word refusal_word digits) refl
+  where
+    go : (b : Bool) → is_word refusal_word digits ≡ b → is_word refusal_word digits ≡ false
+    go false e = e
+    go true e =
+        let hex : AllPass is_hex_digit (codes "no") = subst (AllPass is_hex_digit) (same_text digits refusal_word (sym e)) h in
+        let first : is_hex_digit 110 ≡ true = hex 0 0 (omega arith) in
+        cc
 
 -- From the grammar to the reading.
 
-digits_of : (digits : List ℕ) (packet : Packet64) → Writes digits packet → packet_of digits ≡ Some packet.0
-digits_of digits packet h = ap ok_of h
+presence_read : (field : List ℕ) (answer : AnyPresence) → field ≡ presence_word answer → presence_said field ≡ Some (Presence answer)
+presence_read field Granted h = ap presence_said h
+presence_read field Denied h = ap presence_said h
+presence_read field TimedOut h = ap presence_said h
 
-packet_read : (at : ℕ) (digits : List ℕ) (packet : Packet64) → at < 2 ^ 64 → Writes digits packet → packet_line (decimal at ++ 32 ∷ digits) ≡ Some (Input (record { at = at; input = Packet packet }))
-packet_read at digits packet fits h =
-    ap (λ (o : Option (List ℕ × List ℕ)). o >>= (λ parts. moment parts.0 >>= (λ m. packet_of parts.1 >>= (λ p. Some (Input (record { at = m; input = Packet (record { 0 = p }) })))))) (fields_of at digits fits)
-    ∙ ap (λ (o : Option ℕ). o >>= (λ m. packet_of digits >>= (λ p. Some (Input (record { at = m; input = Packet (record { 0 = p }) }))))) (moment_of (decimal at) at fits refl)
-    ∙ ap (λ (o : Option (List ℕ)). o >>= (λ p. Some (Input (record { at = at; input = Packet (record { 0 = p }) })))) (digits_of digits packet h)
+refused_key : (field : List ℕ) → field ≡ refusal_word → key_said field ≡ Some (Key None)
+refused_key field h = ap key_said h
+
+refused_signature : (field : List ℕ) → field ≡ refusal_word → signature_said field ≡ Some (Signature None)
+refused_signature field h = ap signature_said h
+
+key_fields : (id x y : List ℕ) (key : NewKey) → IsHexOf id 32 key.id → IsHexOf x 32 key.x → IsHexOf y 32 key.y → key_of (id ++ 32 ∷ (x ++ 32 ∷ y)) ≡ Some key
+key_fields id x y key a b c =
+    let rest = x ++ 32 ∷ y in
+    let made = λ (i j k : List ℕ). Some (record { id = i; x = j; y = k }) in
+    ap (λ (o : Option (List ℕ × List ℕ)). o >>= (λ p. first_field p.1 >>= (λ q. bytes_of 32 p.0 >>= (λ i. bytes_of 32 q.0 >>= (λ j. bytes_of 32 q.1 >>= (λ k. made i j k)))))) (parted id rest (hex_no_space id (all_hex id 32 key.id a)))
+    ∙ ap (λ (o : Option (List ℕ × List ℕ)). o >>= (λ q. bytes_of 32 id >>= (λ i. bytes_of 32 q.0 >>= (λ j. bytes_of 32 q.1 >>= (λ k. made i j k))))) (parted x y (hex_no_space x (all_hex x 32 key.x b)))
+    ∙ ap (λ (o : Option (List ℕ)). o >>= (λ i. bytes_of 32 x >>= (λ j. bytes_of 32 y >>= (λ k. made i j k)))) (digits_of id 32 key.id a)
+    ∙ ap (λ (o : Option (List ℕ)). o >>= (λ j. bytes_of 32 y >>= (λ k. made key.id j k))) (digits_of x 32 key.x b)
+    ∙ ap (λ (o : Option (List ℕ)). o >>= (λ k. made key.id key.x k)) (digits_of y 32 key.y c)
+
+-- a long field is not `no`
+long_not_word : (field : List ℕ) → 2 < length field → is_word refusal_word field ≡ false
+long_not_word field long = go (is_word refusal_word field) refl
+  where
+    go : (b : Bool) → is_word refusal_word field ≡ b → is_word refusal_word field ≡ false
+    go false e = e
+    go true e = let two : length field ≡ 2 = ap length (same_text field refusal_word (sym e)) in absurd (omega arith)
+
+key_read : (field id x y : List ℕ) (key : NewKey) → field ≡ id ++ 32 ∷ (x ++ 32 ∷ y) → IsHexOf id 32 key.id → IsHexOf x 32 key.x → IsHexOf y 32 key.y → key_said field ≡ Some (Key (Some key))
+key_read field id x y key e a b c =
+    let digits : length id ≡ 2 * 32 = decode_sized-ok id 32 key.id a in
+    let long : 2 < length (id ++ 32 ∷ (x ++ 32 ∷ y)) = omega (arith, digits, length-append id (32 ∷ (x ++ 32 ∷ y))) in
+    let read = λ (o : Option NewKey). o >>= (λ k. Some (Key (Some k))) in
+    ap key_said e
+    ∙ ap (λ (b : Bool). cond b (Some (Key None)) (read (key_of (id ++ 32 ∷ (x ++ 32 ∷ y))))) (long_not_word (id ++ 32 ∷ (x ++ 32 ∷ y)) long)
+    ∙ ap read (key_fields id x y key a b c)
+
+-- half as many bytes as digits
+halves : (digits bytes : List ℕ) (n : ℕ) → IsHexOf digits n bytes → (length digits / 2 ≡ n) × (length bytes ≡ n)
+halves digits bytes n h =
+    let twice : length digits ≡ 2 * n = decode_sized-ok digits n bytes h in
+    let whole = decode_of-ok digits bytes (sym (decode_sized-twice digits n twice) ∙ h) in
+    (half (length digits) n twice, omega (arith, twice, whole.2))
+  where
+    half : (d n : ℕ) → d ≡ 2 * n → d / 2 ≡ n
+    half d n e = omega (arith, e)
+
+le_true : (a b : ℕ) → a ≤ b → nat_le a b ≡ true
+le_true a b h = grind (arith, nat_tests)
+
+le_is : (a b : ℕ) → nat_le a b ≡ true → a ≤ b
+le_is a b h = grind (arith, nat_tests)
+
+signature_bytes : (field bytes : List ℕ) → IsHexOf field (length bytes) bytes → 1 ≤ length bytes → length bytes ≤ 72 → signature_of field ≡ Some bytes
+signature_bytes field bytes h low high =
+    let n = length bytes in
+    ap (λ (k : ℕ). cond (nat_le 1 k && nat_le k 72) (bytes_of k field) None) (halves field bytes n h).0
+    ∙ ap (λ (b : Bool). cond (b && nat_le n 72) (bytes_of n field) None) (le_true 1 n low)
+    ∙ ap (λ (b : Bool). cond b (bytes_of n field) None) (le_true n 72 high) ∙ digits_of field n bytes h
+
+signature_read : (field bytes : List ℕ) → IsHexOf field (length bytes) bytes → 1 ≤ length bytes → length bytes ≤ 72 → signature_said field ≡ Some (Signature (Some bytes))
+signature_read field bytes h low high =
+    let digits : length field ≡ 2 * length bytes = decode_sized-ok field (length bytes) bytes h in
+    let read = λ (o : Option (List ℕ)). o >>= (λ b. Some (Signature (Some b))) in
+    ap (λ (b : Bool). cond b (Some (Signature None)) (read (signature_of field))) (not_word field (all_hex field (length bytes) bytes h) (omega arith))
+    ∙ ap read (signature_bytes field bytes h low high)
+
+-- a field, behind a letter and a moment
+line_read : (letter at : ℕ) (field : List ℕ) (input : AnyInput) → at < 2 ^ 64 → input_by letter field ≡ Some input → input_line letter (decimal at ++ 32 ∷ field) ≡ Some (Input (record { at = at; input = input }))
+line_read letter at field input fits e =
+    ap (λ (o : Option (List ℕ × List ℕ)). o >>= (λ parts. moment parts.0 >>= (λ m. input_by letter parts.1 >>= (λ i. Some (Input (record { at = m; input = i })))))) (fields_of at field fits)
+    ∙ ap (λ (o : Option ℕ). o >>= (λ m. input_by letter field >>= (λ i. Some (Input (record { at = m; input = i }))))) (moment_of (decimal at) at fits refl)
+    ∙ ap (λ (o : Option AnyInput). o >>= (λ i. Some (Input (record { at = at; input = i })))) e
+
+packet_read : (field bytes : List ℕ) → IsHexOf field 64 bytes → packet_said field ≡ Some (Packet (record { 0 = bytes }))
+packet_read field bytes h = ap (λ (o : Option (List ℕ)). o >>= (λ p. Some (Packet (record { 0 = p })))) (digits_of field 64 bytes h)
 
 input_read : (line : List ℕ) (at : ℕ) (input : AnyInput) → at < 2 ^ 64 → SpellsInput line at input → said line ≡ Some (Input (record { at = at; input = input }))
-input_read line at (Packet packet) fits h = ap said h.1 ∙ packet_read at h.0 packet fits h.2
 input_read line at Tick fits h = ap said h ∙ ap (λ (o : Option ℕ). o >>= (λ m. Some (Input (record { at = m; input = Tick })))) (moment_of (decimal at) at fits refl)
+input_read line at (Packet packet) fits h = ap said h.1 ∙ line_read 62 at h.0 (Packet packet) fits (packet_read h.0 packet.0 h.2)
+input_read line at (Presence answer) fits h = ap said h.1 ∙ line_read 112 at h.0 (Presence answer) fits (presence_read h.0 answer h.2)
+input_read line at (Key None) fits h = ap said h.1 ∙ line_read 107 at h.0 (Key None) fits (refused_key h.0 h.2)
+input_read line at (Key (Some key)) fits h =
+    let f = h.2 in ap said h.1 ∙ line_read 107 at h.0 (Key (Some key)) fits (key_read h.0 f.0 f.1 f.2 key f.3 f.4 f.5 f.6)
+input_read line at (Signature None) fits h = ap said h.1 ∙ line_read 115 at h.0 (Signature None) fits (refused_signature h.0 h.2)
+input_read line at (Signature (Some bytes)) fits h =
+    let f = h.2 in ap said h.1 ∙ line_read 115 at h.0 (Signature (Some bytes)) fits (signature_read h.0 bytes f.0 f.1 f.2)
 
 remark_rest : (rest : List ℕ) → said (35 ∷ rest) ≡ Some Remark
 remark_rest [] = refl
@@ -36,7 +138,7 @@ count_rest (x ∷ xs) = refl
 
 pub spelled_is_read : (line : List ℕ) (l : Line) → Spells line l → said line ≡ Some l
 spelled_is_read line (Input timed) h = input_read line timed.at timed.input h.0 h.1
-spelled_is_read line (Sent packet) h = ap said h.1 ∙ ap (λ (o : Option (List ℕ)). o >>= (λ p. Some (Sent (record { 0 = p })))) (digits_of h.0 packet h.2)
+spelled_is_read line (Sent packet) h = ap said h.1 ∙ ap (λ (o : Option (List ℕ)). o >>= (λ p. Some (Sent (record { 0 = p })))) (digits_of h.0 64 packet.0 h.2)
 spelled_is_read line Remark (inl e) = ap said e
 spelled_is_read line Remark (inr h) = ap said h.1 ∙ remark_rest h.0
 spelled_is_read line Count h = ap said h.1 ∙ count_rest h.0
@@ -54,34 +156,113 @@ ok_is : {A E : Type 0} (r : Result A E) (a : A) → ok_of r ≡ Some a → r ≡
 ok_is (Ok x) a e = cc
 ok_is (Err x) a e = cc
 
-packet_spelled : (fields : List ℕ) (l : Line) → packet_line fields ≡ Some l → Spells (62 ∷ 32 ∷ fields) l
-packet_spelled fields l e =
-    let parts = bind_is (first_field fields) (λ parts. moment parts.0 >>= (λ m. packet_of parts.1 >>= (λ p. Some (Input (record { at = m; input = Packet (record { 0 = p }) }))))) l e in
-    let at = bind_is (moment parts.0.0) (λ m. packet_of parts.0.1 >>= (λ p. Some (Input (record { at = m; input = Packet (record { 0 = p }) })))) l parts.2 in
-    let packet = bind_is (packet_of parts.0.1) (λ p. Some (Input (record { at = at.0; input = Packet (record { 0 = p }) }))) l at.2 in
+-- what an input's letter and field spell
+abbrev IsSpelled : ℕ → List ℕ → AnyInput → Type 0
+IsSpelled letter field input = (front_of input ≡ letter ∷ 32 ∷ []) × SpellsField field input
+
+packet_is : (field : List ℕ) (input : AnyInput) → packet_said field ≡ Some input → IsSpelled 62 field input
+packet_is field input e =
+    let packet = bind_is (bytes_of 64 field) (λ p. Some (Packet (record { 0 = p }))) input e in
+    subst (IsSpelled 62 field) (some_is (Packet (record { 0 = packet.0 })) input packet.2) (refl, ok_is (decode_sized field 64) packet.0 packet.1)
+
+presence_is : (field : List ℕ) (input : AnyInput) (a b c : Bool) → is_word (codes "granted") field ≡ a → is_word (codes "denied") field ≡ b → is_word (codes "timeout") field ≡ c
+    → cond a (Some (Presence Granted)) (cond b (Some (Presence Denied)) (cond c (Some (Presence TimedOut)) None)) ≡ Some input → IsSpelled 112 field input
+presence_is field input true b c p q r e = subst (IsSpelled 112 field) (some_is _ input e) (refl, same_text field (codes "granted") (sym p))
+presence_is field input false true c p q r e = subst (IsSpelled 112 field) (some_is _ input e) (refl, same_text field (codes "denied") (sym q))
+presence_is field input false false true p q r e = subst (IsSpelled 112 field) (some_is _ input e) (refl, same_text field (codes "timeout") (sym r))
+presence_is field input false false false p q r e = cc
+
+new_key_from : (field id rest x y i j k : List ℕ) (key : NewKey) → field ≡ id ++ 32 ∷ rest → rest ≡ x ++ 32 ∷ y → bytes_of 32 id ≡ Some i → bytes_of 32 x ≡ Some j → bytes_of 32 y ≡ Some k
+    → Some (record { id = i; x = j; y = k }) ≡ Some key → SpellsField field (Key (Some key))
+new_key_from field id rest x y i j k key e f p q r made =
+    let whole : field ≡ id ++ 32 ∷ (x ++ 32 ∷ y) = e ∙ ap (λ (l : List ℕ). id ++ 32 ∷ l) f in
+    subst (λ (n : NewKey). SpellsField field (Key (Some n))) (some_is (record { id = i; x = j; y = k }) key made)
+    (id, x, y, whole, ok_is (decode_sized id 32) i p, ok_is (decode_sized x 32) j q, ok_is (decode_sized y 32) k r)
+
+new_key_is : (field : List ℕ) (key : NewKey) → key_of field ≡ Some key → SpellsField field (Key (Some key))
+new_key_is field key e =
+    let made = λ (i j k : List ℕ). Some (record { id = i; x = j; y = k }) in
+    let p = bind_is (first_field field) (λ p. first_field p.1 >>= (λ q. bytes_of 32 p.0 >>= (λ i. bytes_of 32 q.0 >>= (λ j. bytes_of 32 q.1 >>= (λ k. made i j k))))) key e in
+    let q = bind_is (first_field p.0.1) (λ q. bytes_of 32 p.0.0 >>= (λ i. bytes_of 32 q.0 >>= (λ j. bytes_of 32 q.1 >>= (λ k. made i j k)))) key p.2 in
+    let i = bind_is (bytes_of 32 p.0.0) (λ i. bytes_of 32 q.0.0 >>= (λ j. bytes_of 32 q.0.1 >>= (λ k. made i j k))) key q.2 in
+    let j = bind_is (bytes_of 32 q.0.0) (λ j. bytes_of 32 q.0.1 >>= (λ k. made i.0 j k)) key i.2 in
+    let k = bind_is (bytes_of 32 q.0.1) (λ k. made i.0 j.0 k) key j.2 in
+    new_key_from field p.0.0 p.0.1 q.0.0 q.0.1 i.0 j.0 k.0 key (fields_are field p.0 p.1) (fields_are p.0.1 q.0 q.1) i.1 j.1 k.1 k.2
+
+key_is : (field : List ℕ) (input : AnyInput) (a : Bool) → is_word refusal_word field ≡ a → cond a (Some (Key None)) (key_of field >>= (λ key. Some (Key (Some key)))) ≡ Some input → IsSpelled 107 field input
+key_is field input true p e = subst (IsSpelled 107 field) (some_is _ input e) (refl, same_text field refusal_word (sym p))
+key_is field input false p e =
+    let key = bind_is (key_of field) (λ key. Some (Key (Some key))) input e in
+    subst (IsSpelled 107 field) (some_is (Key (Some key.0)) input key.2) (refl, new_key_is field key.0 key.1)
+
+chosen : (a b : Bool) (o : Option (List ℕ)) (bytes : List ℕ) → cond (a && b) o None ≡ Some bytes → (a ≡ true) × (b ≡ true) × (o ≡ Some bytes)
+chosen true true o bytes e = (refl, refl, e)
+chosen true false o bytes e = cc
+chosen false b o bytes e = cc
+
+signature_bytes_are : (field bytes : List ℕ) → signature_of field ≡ Some bytes → SpellsField field (Signature (Some bytes))
+signature_bytes_are field bytes e =
+    let n = length field / 2 in
+    let parts = chosen (nat_le 1 n) (nat_le n 72) (bytes_of n field) bytes e in
+    let decoded = ok_is (decode_sized field n) bytes parts.2 in
+    let count : length bytes ≡ n = (halves field bytes n decoded).1 in (
+      subst (λ (k : ℕ). IsHexOf field k bytes) (sym count) decoded,
+      subst (λ (k : ℕ). 1 ≤ k) (sym count) (le_is 1 n parts.0),
+      subst (λ (k : ℕ). k ≤ 72) (sym count) (le_is n 72 parts.1),
+    )
+
+signature_is : (field : List ℕ) (input : AnyInput) (a : Bool) → is_word refusal_word field ≡ a → cond a (Some (Signature None)) (signature_of field >>= (λ bytes. Some (Signature (Some bytes)))) ≡ Some input → IsSpelled 115 field input
+signature_is field input true p e = subst (IsSpelled 115 field) (some_is _ input e) (refl, same_text field refusal_word (sym p))
+signature_is field input false p e =
+    let bytes = bind_is (signature_of field) (λ bytes. Some (Signature (Some bytes))) input e in
+    subst (IsSpelled 115 field) (some_is (Signature (Some bytes.0)) input bytes.2) (refl, signature_bytes_are field bytes.0 bytes.1)
+
+input_is : (letter : ℕ) (field : List ℕ) (input : AnyInput) (a b c d : Bool) → (letter == 62) ≡ a → (letter == 112) ≡ b → (letter == 107) ≡ c → (letter == 115) ≡ d
+    → cond a (packet_said field) (cond b (presence_said field) (cond c (key_said field) (cond d (signature_said field) None))) ≡ Some input → IsSpelled letter field input
+input_is letter field input true b c d p q r s e = subst (λ (x : ℕ). IsSpelled x field input) (sym (eq_is letter 62 p)) (packet_is field input e)
+input_is letter field input false true c d p q r s e = subst (λ (x : ℕ). IsSpelled x field input) (sym (eq_is letter 112 q)) (presence_is field input (is_word (codes "granted") field) (is_word (codes "denied") field) (is_word (codes "timeout") field) refl refl refl e)
+input_is letter field input false false true d p q r s e = subst (λ (x : ℕ). IsSpelled x field input) (sym (eq_is letter 107 r)) (key_is field input (is_word refusal_word field) refl e)
+input_is letter field input false false false true p q r s e = subst (λ (x : ℕ). IsSpelled x field input) (sym (eq_is letter 115 s)) (signature_is field input (is_word refusal_word field) refl e)
+input_is letter field input false false false false p q r s e = cc
+
+-- a field spells an input's line
+spells_line : (line field : List ℕ) (at : ℕ) (input : AnyInput) → line ≡ front_of input ++ (decimal at ++ 32 ∷ field) → SpellsField field input → SpellsInput line at input
+spells_line line field at Tick e h = absurd h
+spells_line line field at (Packet packet) e h = (field, e, h)
+spells_line line field at (Presence answer) e h = (field, e, h)
+spells_line line field at (Key None) e h = (field, e, h)
+spells_line line field at (Key (Some key)) e h = (field, e, h)
+spells_line line field at (Signature None) e h = (field, e, h)
+spells_line line field at (Signature (Some bytes)) e h = (field, e, h)
+
+input_spelled : (letter : ℕ) (fields : List ℕ) (l : Line) → input_line letter fields ≡ Some l → Spells (letter ∷ 32 ∷ fields) l
+input_spelled letter fields l e =
+    let parts = bind_is (first_field fields) (λ parts. moment parts.0 >>= (λ m. input_by letter parts.1 >>= (λ i. Some (Input (record { at = m; input = i }))))) l e in
+    let at = bind_is (moment parts.0.0) (λ m. input_by letter parts.0.1 >>= (λ i. Some (Input (record { at = m; input = i })))) l parts.2 in
+    let input = bind_is (input_by letter parts.0.1) (λ i. Some (Input (record { at = at.0; input = i }))) l at.2 in
     let number = moment_is parts.0.0 at.0 at.1 in
     let whole : fields ≡ decimal at.0 ++ 32 ∷ parts.0.1 = fields_are fields parts.0 parts.1 ∙ ap (λ (d : List ℕ). d ++ 32 ∷ parts.0.1) number.1 in
-    subst (Spells (62 ∷ 32 ∷ fields)) (some_is _ l packet.2)
-    (number.0, (parts.0.1, ap (λ (f : List ℕ). 62 ∷ 32 ∷ f) whole, ok_is (decode_sized parts.0.1 64) packet.0 packet.1))
+    let spelled = input_is letter parts.0.1 input.0 (letter == 62) (letter == 112) (letter == 107) (letter == 115) refl refl refl refl input.1 in
+    let line : letter ∷ 32 ∷ fields ≡ front_of input.0 ++ (decimal at.0 ++ 32 ∷ parts.0.1) = ap (λ (f : List ℕ). letter ∷ 32 ∷ f) whole ∙ ap (λ (f : List ℕ). f ++ (decimal at.0 ++ 32 ∷ parts.0.1)) (sym spelled.0) in
+    subst (Spells (letter ∷ 32 ∷ fields)) (some_is (Input (record { at = at.0; input = input.0 })) l input.2) (number.0, spells_line (letter ∷ 32 ∷ fields) parts.0.1 at.0 input.0 line spelled.1)
 
 tick_spelled : (fields : List ℕ) (l : Line) → tick_line fields ≡ Some l → Spells (116 ∷ 32 ∷ fields) l
 tick_spelled fields l e =
     let at = bind_is (moment fields) (λ m. Some (Input (record { at = m; input = Tick }))) l e in
     let number = moment_is fields at.0 at.1 in
-    subst (Spells (116 ∷ 32 ∷ fields)) (some_is _ l at.2) (number.0, ap (λ (f : List ℕ). 116 ∷ 32 ∷ f) number.1)
+    subst (Spells (116 ∷ 32 ∷ fields)) (some_is (Input (record { at = at.0; input = Tick })) l at.2) (number.0, ap (λ (f : List ℕ). 116 ∷ 32 ∷ f) number.1)
 
 sent_spelled : (fields : List ℕ) (l : Line) → sent_line fields ≡ Some l → Spells (60 ∷ 32 ∷ fields) l
 sent_spelled fields l e =
-    let packet = bind_is (packet_of fields) (λ p. Some (Sent (record { 0 = p }))) l e in
-    subst (Spells (60 ∷ 32 ∷ fields)) (some_is _ l packet.2) (fields, refl, ok_is (decode_sized fields 64) packet.0 packet.1)
+    let packet = bind_is (bytes_of 64 fields) (λ p. Some (Sent (record { 0 = p }))) l e in
+    subst (Spells (60 ∷ 32 ∷ fields)) (some_is (Sent (record { 0 = packet.0 })) l packet.2) (fields, refl, ok_is (decode_sized fields 64) packet.0 packet.1)
 
 -- by the letter in front, as it is told apart
-by_letter : (first : ℕ) (fields : List ℕ) (l : Line) (packet tick sent : Bool) → (first == 62) ≡ packet → (first == 116) ≡ tick → (first == 60) ≡ sent
-    → cond packet (packet_line fields) (cond tick (tick_line fields) (cond sent (sent_line fields) None)) ≡ Some l → Spells (first ∷ 32 ∷ fields) l
-by_letter first fields l true tick sent p t s e = subst (λ (x : ℕ). Spells (x ∷ 32 ∷ fields) l) (sym (eq_is first 62 p)) (packet_spelled fields l e)
-by_letter first fields l false true sent p t s e = subst (λ (x : ℕ). Spells (x ∷ 32 ∷ fields) l) (sym (eq_is first 116 t)) (tick_spelled fields l e)
-by_letter first fields l false false true p t s e = subst (λ (x : ℕ). Spells (x ∷ 32 ∷ fields) l) (sym (eq_is first 60 s)) (sent_spelled fields l e)
-by_letter first fields l false false false p t s e = cc
+by_letter : (first : ℕ) (fields : List ℕ) (l : Line) (sent tick : Bool) → (first == 60) ≡ sent → (first == 116) ≡ tick
+    → cond sent (sent_line fields) (cond tick (tick_line fields) (input_line first fields)) ≡ Some l → Spells (first ∷ 32 ∷ fields) l
+by_letter first fields l true tick s t e = subst (λ (x : ℕ). Spells (x ∷ 32 ∷ fields) l) (sym (eq_is first 60 s)) (sent_spelled fields l e)
+by_letter first fields l false true s t e = subst (λ (x : ℕ). Spells (x ∷ 32 ∷ fields) l) (sym (eq_is first 116 t)) (tick_spelled fields l e)
+by_letter first fields l false false s t e = input_spelled first fields l e
 
 remark_spelled : (first : ℕ) (rest : List ℕ) (l : Line) → (first == 35) ≡ true → Some Remark ≡ Some l → Spells (first ∷ rest) l
 remark_spelled first rest l h e = subst (Spells (first ∷ rest)) (some_is Remark l e) (inr (rest, ap (λ (x : ℕ). x ∷ rest) (eq_is first 35 h)))
@@ -99,7 +280,7 @@ more_bytes : (first second : ℕ) (fields : List ℕ) (l : Line) (remark count s
 more_bytes first second fields l true count space r c s e = remark_spelled first (second ∷ fields) l r e
 more_bytes first second fields l false true space r c s e = count_spelled first (second ∷ fields) l c e
 more_bytes first second fields l false false true r c s e =
-    subst (λ (x : ℕ). Spells (first ∷ x ∷ fields) l) (sym (eq_is second 32 s)) (by_letter first fields l (first == 62) (first == 116) (first == 60) refl refl refl e)
+    subst (λ (x : ℕ). Spells (first ∷ x ∷ fields) l) (sym (eq_is second 32 s)) (by_letter first fields l (first == 60) (first == 116) refl refl e)
 more_bytes first second fields l false false false r c s e = cc
 
 pub read_is_spelled : (line : List ℕ) (l : Line) → said line ≡ Some l → Spells line l

@@ -1,15 +1,13 @@
 -- What has been played when lines were read and played one by one.
-use Rattle.std.proofs.Common.{◌≡◌, ◌≢◌, ℕ, ◌+◌, ◌≤◌, ◌<◌, ◌^◌, nat_le, nat_lt, Bool, true, false, cond, List, [], ◌∷◌, ◌++◌, length, take, position, Option, Some, None, is_some, is_none, refl, sym, ap, ◌∙◌, subst, arith, append_assoc, append-nil, length-append}
+use Rattle.std.proofs.Common.{◌≡◌, ℕ, ◌+◌, ◌≤◌, ◌<◌, ◌^◌, nat_le, nat_lt, Bool, true, false, cond, List, [], ◌∷◌, ◌++◌, length, take, position, Option, Some, None, is_some, is_none, refl, sym, ap, ◌∙◌, subst, arith, append_assoc, append-nil, length-append}
 use Rattle.std.proofs.lemmas.Bool.Decides.{nat_tests}
 use Rattle.session_log.specs.declared.fault.LogFault.{LogFault}
-use Rattle.session_log.specs.declared.fault.LogFault.TheVariants.{BadLine, TooLong, TooManyLines}
-use Rattle.session_log.specs.declared.line.Line.{Line}
-use Rattle.session_log.specs.Reading.{said}
+use Rattle.session_log.specs.declared.fault.LogFault.TheVariants.{TooLong, TooManyLines}
+use Rattle.session_log.specs.Said.{said}
 use Rattle.session_log.specs.World.{World}
 use Rattle.session_log.specs.Lines.{is_feed, pieces, all_but_last, last_of, lines_of_pieces, lines, whole_lines, last_piece}
-use Rattle.session_log.specs.Log.{Played, behind, played, playing, log_of, log, fault_at, text_of, after}
+use Rattle.session_log.specs.Log.{Played, behind, played, playing, log_of, log, fault_by, fault_at, text_of, after}
 use Rattle.session_log.specs.Sent.{SendsPackets, AllSend}
-use Rattle.session_log.specs.Text.{meters_line}
 use Rattle.session_log.specs.Window.{IsUnfinished}
 use Rattle.session_log.specs.Replay.{IsRefused, IsUnread, IsUnwritten, IsPlayed}
 use Rattle.session_log.proofs.Cutting.{first_piece, one_piece, pieces_some, lines_behind, front_of, last_is}
@@ -26,19 +24,19 @@ pub through_none : {S : Type 0} (world : World S) (s : S) → Through world s []
 through_none world s = record { done = []; cut = λ tail. refl; count = refl; plays = λ more. refl; sends = λ more h. h }
 
 -- a line that isn't faulty is played
-pub played_sound : {S : Type 0} (world : World S) (n : ℕ) (s : S) (line : List ℕ) (more : List (List ℕ)) → fault_at n line ≡ None → played world n s (line ∷ more) ≡ behind (text_of world s line) (played world (n + 1) (after world s line) more)
+pub played_sound : {S : Type 0} (world : World S) (n : ℕ) (s : S) (line : List ℕ) (more : List (List ℕ)) → fault_at world n s line ≡ None → played world n s (line ∷ more) ≡ behind (text_of world s line) (played world (n + 1) (after world s line) more)
 played_sound world n s line more e =
     ap (λ (o : Option LogFault). cond (is_some o) (record { text = []; fault = o; state = s }) (behind (text_of world s line) (played world (n + 1) (after world s line) more))) e
 
 -- a faulty one ends the log
-pub played_faulty : {S : Type 0} (world : World S) (n : ℕ) (s : S) (line : List ℕ) (more : List (List ℕ)) (f : LogFault) → fault_at n line ≡ Some f → played world n s (line ∷ more) ≡ record { text = []; fault = Some f; state = s }
+pub played_faulty : {S : Type 0} (world : World S) (n : ℕ) (s : S) (line : List ℕ) (more : List (List ℕ)) (f : LogFault) → fault_at world n s line ≡ Some f → played world n s (line ∷ more) ≡ record { text = []; fault = Some f; state = s }
 played_faulty world n s line more f e =
     ap (λ (o : Option LogFault). cond (is_some o) (record { text = []; fault = o; state = s }) (behind (text_of world s line) (played world (n + 1) (after world s line) more))) e
 
 pub behind_twice : {S : Type 0} (a b : List ℕ) (p : Played S) → behind a (behind b p) ≡ behind (a ++ b) p
 behind_twice a b p = λ i. record { text = sym (append_assoc a b p.text) i; fault = p.fault; state = p.state }
 
-pub through_line : {S : Type 0} (world : World S) (s0 : S) (read text : List ℕ) (s : S) (n : ℕ) (w : List ℕ) (end : ℕ) → Through world s0 read text s n → position is_feed w ≡ Some end → fault_at n (take end w) ≡ None → SendsPackets world s (said (take end w))
+pub through_line : {S : Type 0} (world : World S) (s0 : S) (read text : List ℕ) (s : S) (n : ℕ) (w : List ℕ) (end : ℕ) → Through world s0 read text s n → position is_feed w ≡ Some end → fault_at world n s (take end w) ≡ None → SendsPackets world s (said (take end w))
     → Through world s0 (read ++ take (end + 1) w) (text ++ text_of world s (take end w)) (after world s (take end w)) (n + 1)
 through_line world s0 read text s n w end t feed sound packets =
     let line = take end w in
@@ -61,7 +59,7 @@ pub playing_is : {S : Type 0} (world : World S) (s0 : S) (read text : List ℕ) 
 playing_is world s0 read text s n w t = ap (played world 1 s0) (lines_are world s0 read text s n w t) ∙ t.plays (lines w)
 
 -- the first line of the window is faulty
-pub refused : {S : Type 0} (world : World S) (s0 : S) (read text : List ℕ) (s : S) (n : ℕ) (w : List ℕ) (line : List ℕ) (more : List (List ℕ)) (f : LogFault) → Through world s0 read text s n → lines w ≡ line ∷ more → fault_at n line ≡ Some f
+pub refused : {S : Type 0} (world : World S) (s0 : S) (read text : List ℕ) (s : S) (n : ℕ) (w : List ℕ) (line : List ℕ) (more : List (List ℕ)) (f : LogFault) → Through world s0 read text s n → lines w ≡ line ∷ more → fault_at world n s line ≡ Some f
     → IsRefused world s0 s (read ++ w) text f
 refused {S} world s0 read text s n w line more f t e bad =
     let is : playing world s0 (read ++ w) ≡ behind text (record { text = []; fault = Some f; state = s }) =
@@ -89,7 +87,7 @@ unread {S} world s0 read text s n w t u =
     }
 
 -- the text of the window's first line broke off
-pub unwritten : {S : Type 0} (world : World S) (s0 : S) (read text : List ℕ) (s : S) (n : ℕ) (w : List ℕ) (line : List ℕ) (more : List (List ℕ)) (front rest : List ℕ) → Through world s0 read text s n → lines w ≡ line ∷ more → fault_at n line ≡ None
+pub unwritten : {S : Type 0} (world : World S) (s0 : S) (read text : List ℕ) (s : S) (n : ℕ) (w : List ℕ) (line : List ℕ) (more : List (List ℕ)) (front rest : List ℕ) → Through world s0 read text s n → lines w ≡ line ∷ more → fault_at world n s line ≡ None
     → text_of world s line ≡ front ++ rest → 0 < length rest → IsUnwritten world s0 (after world s line) (read ++ w) (text ++ front)
 unwritten {S} world s0 read text s n w line more front rest t e sound broken missing =
     let is : played world 1 s0 t.done ≡ behind text (played world n s []) = ap (played world 1 s0) (sym (append-nil t.done)) ∙ t.plays [] in
@@ -97,7 +95,7 @@ unwritten {S} world s0 read text s n w line more front rest t e sound broken mis
     let others = played world (n + 1) (after world s line) more in
     let all : playing world s0 (read ++ w) ≡ behind text (behind (text_of world s line) others) =
     playing_is world s0 read text s n w t ∙ ap (λ (ls : List (List ℕ)). behind text (played world n s ls)) e ∙ ap (behind text) (played_sound world n s line more sound) in
-    let tail = cond (is_none others.fault) (meters_line (world.counts others.state)) [] in
+    let tail = cond (is_none others.fault) (world.ending others.state) [] in
     record {
       first = t.done;
       others = line ∷ more;
@@ -115,17 +113,17 @@ unwritten {S} world s0 read text s n w line more front rest t e sound broken mis
     regroup : (a t x y b c : List ℕ) → t ≡ x ++ y → (a ++ (t ++ b)) ++ c ≡ (a ++ x) ++ ((y ++ b) ++ c)
     regroup a t x y b c e = rw e (simp append_assoc)
 
-pub log_is : {S : Type 0} (world : World S) (q : Played S) (s : S) (text : List ℕ) → q.fault ≡ None → text ≡ q.text → s ≡ q.state → log_of world q ≡ text ++ meters_line (world.counts s)
+pub log_is : {S : Type 0} (world : World S) (q : Played S) (s : S) (text : List ℕ) → q.fault ≡ None → text ≡ q.text → s ≡ q.state → log_of world q ≡ text ++ world.ending s
 log_is {S} world q s text faultless written stands =
-    ap (λ (o : Option LogFault). q.text ++ cond (is_none o) (meters_line (world.counts q.state)) []) faultless
-    ∙ ap (λ (l : List ℕ). l ++ meters_line (world.counts q.state)) (sym written) ∙ ap (λ (z : S). text ++ meters_line (world.counts z)) (sym stands)
+    ap (λ (o : Option LogFault). q.text ++ cond (is_none o) (world.ending q.state) []) faultless
+    ∙ ap (λ (l : List ℕ). l ++ world.ending q.state) (sym written) ∙ ap (λ (z : S). text ++ world.ending z) (sym stands)
 
 -- the log of what was played whole
-pub whole_log : {S : Type 0} (world : World S) (s0 s : S) (bytes text : List ℕ) → IsPlayed world s0 s bytes text → log world s0 bytes ≡ text ++ meters_line (world.counts s)
+pub whole_log : {S : Type 0} (world : World S) (s0 s : S) (bytes text : List ℕ) → IsPlayed world s0 s bytes text → log world s0 bytes ≡ text ++ world.ending s
 whole_log world s0 s bytes text p = log_is world (playing world s0 bytes) s text p.faultless p.written p.stands
 
 -- all was played, and the meters line broke off
-pub unwritten_end : {S : Type 0} (world : World S) (s0 s : S) (bytes text front rest : List ℕ) → IsPlayed world s0 s bytes text → meters_line (world.counts s) ≡ front ++ rest → 0 < length rest → IsUnwritten world s0 s bytes (text ++ front)
+pub unwritten_end : {S : Type 0} (world : World S) (s0 s : S) (bytes text front rest : List ℕ) → IsPlayed world s0 s bytes text → world.ending s ≡ front ++ rest → 0 < length rest → IsUnwritten world s0 s bytes (text ++ front)
 unwritten_end {S} world s0 s bytes text front rest p broken missing =
     record {
       first = lines bytes;
@@ -135,14 +133,14 @@ unwritten_end {S} world s0 s bytes text front rest p broken missing =
       cut = sym (append-nil (lines bytes));
       faultless = p.faultless;
       written = ap (λ (l : List ℕ). l ++ front) p.written;
-      broken = ap (λ (z : S). meters_line (world.counts z)) (sym p.stands) ∙ broken;
+      broken = ap (λ (z : S). world.ending z) (sym p.stands) ∙ broken;
       missing = missing;
       stands = p.stands;
       beginning = (rest, whole_log world s0 s bytes text p ∙ ap (λ (l : List ℕ). text ++ l) broken ∙ sym (append_assoc text front rest));
     }
 
 -- the last line was played
-pub played_last : {S : Type 0} (world : World S) (s0 : S) (read text : List ℕ) (s : S) (n : ℕ) (w : List ℕ) → Through world s0 read text s n → lines w ≡ w ∷ [] → fault_at n w ≡ None → SendsPackets world s (said w) → IsPlayed world s0 (after world s w) (read ++ w) (text ++ text_of world s w)
+pub played_last : {S : Type 0} (world : World S) (s0 : S) (read text : List ℕ) (s : S) (n : ℕ) (w : List ℕ) → Through world s0 read text s n → lines w ≡ w ∷ [] → fault_at world n s w ≡ None → SendsPackets world s (said w) → IsPlayed world s0 (after world s w) (read ++ w) (text ++ text_of world s w)
 played_last {S} world s0 read text s n w t e sound packets =
     let is : playing world s0 (read ++ w) ≡ behind text (behind (text_of world s w) (played world (n + 1) (after world s w) [])) =
     playing_is world s0 read text s n w t ∙ ap (λ (ls : List (List ℕ)). behind text (played world n s ls)) e ∙ ap (behind text) (played_sound world n s w [] sound) in
@@ -165,11 +163,11 @@ played_none {S} world s0 read text s n t =
     }
 
 -- which fault a line has
-abbrev chosen : ℕ → Bool → Bool → Bool → Option LogFault
-chosen n many long bad = cond many (Some TooManyLines) (cond long (Some (TooLong n)) (cond bad (Some (BadLine n)) None))
+abbrev chosen : ℕ → Bool → Bool → Option LogFault → Option LogFault
+chosen n many long other = cond many (Some TooManyLines) (cond long (Some (TooLong n)) other)
 
-tests : (n : ℕ) (line : List ℕ) (many long bad : Bool) → nat_le (2 ^ 32) n ≡ many → nat_lt 255 (length line) ≡ long → is_none (said line) ≡ bad → fault_at n line ≡ chosen n many long bad
-tests n line many long bad p q r = λ i. chosen n (p i) (q i) (r i)
+tests : {S : Type 0} (world : World S) (n : ℕ) (s : S) (line : List ℕ) (many long : Bool) → nat_le (2 ^ 32) n ≡ many → nat_lt 255 (length line) ≡ long → fault_at world n s line ≡ chosen n many long (fault_by world n s (said line))
+tests world n s line many long p q = λ i. chosen n (p i) (q i) (fault_by world n s (said line))
 
 le_false : (a b : ℕ) → b < a → nat_le a b ≡ false
 le_false a b h = grind (arith, nat_tests)
@@ -183,18 +181,12 @@ lt_false a b h = grind (arith, nat_tests)
 lt_true : (a b : ℕ) → a < b → nat_lt a b ≡ true
 lt_true a b h = grind (arith, nat_tests)
 
-some_is : (o : Option Line) → o ≢ None → is_none o ≡ false
-some_is None h = absurd (h refl)
-some_is (Some l) h = refl
+-- a line that is in the count and short has the fault of what it says
+pub said_fault : {S : Type 0} (world : World S) (n : ℕ) (s : S) (line : List ℕ) → n < 2 ^ 32 → length line < 256 → fault_at world n s line ≡ fault_by world n s (said line)
+said_fault world n s line few short = tests world n s line false false (le_false (2 ^ 32) n few) (lt_false 255 (length line) (omega arith))
 
-pub no_fault : (n : ℕ) (line : List ℕ) → n < 2 ^ 32 → length line < 256 → said line ≢ None → fault_at n line ≡ None
-no_fault n line few short some = tests n line false false false (le_false (2 ^ 32) n few) (lt_false 255 (length line) (omega arith)) (some_is (said line) some)
+pub too_long : {S : Type 0} (world : World S) (n : ℕ) (s : S) (line : List ℕ) → n < 2 ^ 32 → 256 ≤ length line → fault_at world n s line ≡ Some (TooLong n)
+too_long world n s line few long = tests world n s line false true (le_false (2 ^ 32) n few) (lt_true 255 (length line) (omega arith))
 
-pub bad_line : (n : ℕ) (line : List ℕ) → n < 2 ^ 32 → length line < 256 → said line ≡ None → fault_at n line ≡ Some (BadLine n)
-bad_line n line few short none = tests n line false false true (le_false (2 ^ 32) n few) (lt_false 255 (length line) (omega arith)) (ap is_none none)
-
-pub too_long : (n : ℕ) (line : List ℕ) → n < 2 ^ 32 → 256 ≤ length line → fault_at n line ≡ Some (TooLong n)
-too_long n line few long = tests n line false true (is_none (said line)) (le_false (2 ^ 32) n few) (lt_true 255 (length line) (omega arith)) refl
-
-pub too_many : (n : ℕ) (line : List ℕ) → 2 ^ 32 ≤ n → fault_at n line ≡ Some TooManyLines
-too_many n line many = tests n line true (nat_lt 255 (length line)) (is_none (said line)) (le_true (2 ^ 32) n many) refl refl
+pub too_many : {S : Type 0} (world : World S) (n : ℕ) (s : S) (line : List ℕ) → 2 ^ 32 ≤ n → fault_at world n s line ≡ Some TooManyLines
+too_many world n s line many = tests world n s line true (nat_lt 255 (length line)) (le_true (2 ^ 32) n many) refl

@@ -1,17 +1,18 @@
 -- What the commands of the program answer.
-use Rattle.std.specs.Prelude.{◌≡◌, ℕ, ◌+◌, Bool, true, List, [], Option, OnOk, Result, Ok, Err, replicate, if◌then◌else◌}
-use Rattle.std.specs.Io.KnownBytes.{IsAtEnd}
+use Rattle.std.specs.Prelude.{◌≡◌, ℕ, Bool, List, [], Option, OnOk, Result, Ok, Err, replicate}
 use Rattle.authn_core.specs.Turn.{Start}
 use Rattle.token_session.specs.declared.input.Meters.{Meters}
 use Rattle.token_session.specs.declared.input.Timed.{Timed}
 use Rattle.session_log.specs.declared.fault.LogFault.{LogFault}
-use Rattle.session_log.specs.Replay.{Answers, read_fails, write_fails}
+use Rattle.session_log.specs.Ending.{ending_of, read_fails, write_fails}
+use Rattle.session_log.specs.Replay.{Logs}
 use Rattle.session_log.specs.Session.{history}
-use Rattle.session_log.specs.Streams.{Moves}
+use Rattle.session_log.specs.Streams.{Counts, IsAllRead, Moves}
 
--- the start of the program's session: an AAGUID of sixteen zero bytes, and the moment 0
+-- the start of the program's session: an AAGUID of sixteen zero bytes, the moment 0, and room for 64 credentials, none of
+-- which is there
 abbrev pub program_start : Start
-program_start = record { aaguid = replicate 16 0; moment = 0 }
+program_start = record { aaguid = replicate 16 0; moment = 0; room = 64; rows = [] }
 
 abbrev pub Status : Type 0
 Status = Result (Unit {0}) ℕ
@@ -21,15 +22,15 @@ abbrev pub status_of : {A : Type 0} → Result A LogFault → Status
 status_of (Ok x) = Ok tt
 status_of (Err fault) = Err 1
 
--- A log was replayed on a new session, with this exit status. A pair is a source or a target before and behind the call. The
--- log is that of the empty history; a failure of the source or the target was counted exactly where the fault is one; without a
--- fault the log was all that the source held.
-abbrev pub IsReplayed : {I O : Type 0} → (left : I → Option (List ℕ)) → (unread : I → ℕ) → (ended : I → Bool) → (taken : O → Option (List ℕ)) → (unwritten : O → ℕ)
+-- A log was replayed on a session of this start that nothing had come to, with this exit status. A pair is a source or a
+-- target before and after the call. The log is that of the empty history; a failure of the source or the target was counted
+-- exactly where the fault is one; without a fault the log was all that the source held.
+abbrev pub IsReplayed : {I O : Type 0} → Start → (left : I → Option (List ℕ)) → (unread : I → ℕ) → (ended : I → Bool) → (taken : O → Option (List ℕ)) → (unwritten : O → ℕ)
     → Status → (I × I) → (O × O) → Type 0
-IsReplayed left unread ended taken unwritten status input output =
+IsReplayed start left unread ended taken unwritten status input output =
     (answer : Result Meters LogFault) × (later : List Timed) × (status ≡ status_of answer)
     × Moves (left input.0) (left input.1) (taken output.0) (taken output.1)
-    (λ bytes text. Answers (history program_start) [] later bytes text answer)
-    × (unread input.1 ≡ (if read_fails answer then unread input.0 + 1 else unread input.0))
-    × (unwritten output.1 ≡ (if write_fails answer then unwritten output.0 + 1 else unwritten output.0))
-    × OnOk answer ((ended input.1 ≡ true) × IsAtEnd (left input.1))
+    (λ bytes text. Logs (history start) [] later bytes text answer)
+    × Counts unread input (read_fails (ending_of answer))
+    × Counts unwritten output (write_fails (ending_of answer))
+    × OnOk answer (IsAllRead left ended input.1)

@@ -1,24 +1,44 @@
 -- The grammar of log lines (docs/LOG_FORMAT.md): what it is for a line to spell an input or a remark.
-use Rattle.std.specs.Prelude.{◌≡◌, ℕ, ◌<◌, ◌^◌, List, [], ◌++◌, codes, decimal, Ok, ◌⊎◌}
+use Rattle.std.specs.Prelude.{◌≡◌, ℕ, ◌<◌, ◌≤◌, ◌^◌, List, [], ◌++◌, length, codes, decimal, Some, None, Ok, ◌⊎◌}
 use Rattle.hex.specs.Hex.{decode_sized}
-use Rattle.hid_packet.specs.declared.packet.Packet.{Packet as Packet64}
 use Rattle.token_session.specs.declared.input.Input.{Input as AnyInput}
-use Rattle.token_session.specs.declared.input.Input.TheVariants.{Packet, Tick}
+use Rattle.token_session.specs.declared.input.Input.TheVariants.{Packet, Tick, Presence, Key, Signature}
 use Rattle.session_log.specs.declared.line.Line.{Line}
 use Rattle.session_log.specs.declared.line.Line.TheVariants.{Input, Sent, Remark, Count}
+use Rattle.session_log.specs.Words.{presence_word, refusal_word}
 
--- 128 hexadecimal digits, in either case, that write the packet's 64 bytes
-abbrev pub Writes : List ℕ → Packet64 → Type 0
-Writes digits packet = decode_sized digits 64 ≡ Ok packet.0
+-- two hexadecimal digits a byte, in either case
+abbrev pub IsHexOf : List ℕ → ℕ → List ℕ → Type 0
+IsHexOf digits n bytes = decode_sized digits n ≡ Ok bytes
 
--- `> M P` is a packet at M, `t M` a tick
+-- a field after the moment: the packet's 64 bytes, the answer in a word, the id of a new key and its coordinates X and Y, of
+-- 32 bytes each, a signature of 1 to 72 bytes, or that none is had
+abbrev pub SpellsField : List ℕ → AnyInput → Type 0
+SpellsField field (Packet packet) = IsHexOf field 64 packet.0
+SpellsField field Tick = ⊥
+SpellsField field (Presence answer) = field ≡ presence_word answer
+SpellsField field (Key None) = field ≡ refusal_word
+SpellsField field (Key (Some key)) =
+    (id : List ℕ) × (x : List ℕ) × (y : List ℕ) × (field ≡ id ++ (codes " " ++ (x ++ (codes " " ++ y)))) × IsHexOf id 32 key.id × IsHexOf x 32 key.x × IsHexOf y 32 key.y
+SpellsField field (Signature None) = field ≡ refusal_word
+SpellsField field (Signature (Some bytes)) = IsHexOf field (length bytes) bytes × (1 ≤ length bytes) × (length bytes ≤ 72)
+
+-- the letter and the space in front of an input's moment
+abbrev pub front_of : AnyInput → List ℕ
+front_of (Packet packet) = codes "> "
+front_of Tick = codes "t "
+front_of (Presence answer) = codes "p "
+front_of (Key key) = codes "k "
+front_of (Signature signature) = codes "s "
+
+-- `t M` is a tick at M, `> M P` a packet; `p M granted`, `k M ID X Y`, `s M S` and their like are the caller's replies
 abbrev pub SpellsInput : List ℕ → ℕ → AnyInput → Type 0
-SpellsInput line at (Packet packet) = (digits : List ℕ) × (line ≡ codes "> " ++ decimal at ++ (codes " " ++ digits)) × Writes digits packet
 SpellsInput line at Tick = line ≡ codes "t " ++ decimal at
+SpellsInput line at input = (field : List ℕ) × (line ≡ front_of input ++ (decimal at ++ (codes " " ++ field))) × SpellsField field input
 
 -- `< P` is a packet that was sent, `=..` what was counted, `#..` and an empty line are remarks
 abbrev pub Spells : List ℕ → Line → Type 0
 Spells line (Input timed) = (timed.at < 2 ^ 64) × SpellsInput line timed.at timed.input
-Spells line (Sent packet) = (digits : List ℕ) × (line ≡ codes "< " ++ digits) × Writes digits packet
+Spells line (Sent packet) = (digits : List ℕ) × (line ≡ codes "< " ++ digits) × IsHexOf digits 64 packet.0
 Spells line Remark = (line ≡ []) ⊎ ((rest : List ℕ) × (line ≡ codes "#" ++ rest))
 Spells line Count = (rest : List ℕ) × (line ≡ codes "=" ++ rest)

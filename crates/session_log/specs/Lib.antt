@@ -1,8 +1,11 @@
 pub mod Numbers
+pub mod Ending
 pub mod Streams
 pub mod Lines
+pub mod Letters
+pub mod Words
 pub mod Grammar
-pub mod Reading
+pub mod Said
 pub mod Text
 pub mod World
 pub mod Log
@@ -10,5 +13,4 @@ pub mod Sent
 pub mod Session
 pub mod Replay
 pub mod Window
-pub mod Breaking
 pub mod Command

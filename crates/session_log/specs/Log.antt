@@ -1,21 +1,16 @@
 -- The log that is written for a log that is read.
-use Rattle.std.specs.Prelude.{ℕ, ◌+◌, ◌^◌, nat_le, nat_lt, List, [], ◌∷◌, ◌++◌, length, flat_map, Option, Some, None, is_some, is_none, if◌then◌else◌}
+use Rattle.std.specs.Prelude.{ℕ, ◌+◌, ◌^◌, nat_le, nat_lt, List, [], ◌∷◌, ◌++◌, length, Option, Some, None, is_some, is_none, if◌then◌else◌}
 use Rattle.session_log.specs.declared.fault.LogFault.{LogFault}
 use Rattle.session_log.specs.declared.fault.LogFault.TheVariants.{BadLine, TooLong, TooManyLines}
 use Rattle.session_log.specs.declared.line.Line.{Line}
-use Rattle.session_log.specs.declared.line.Line.TheVariants.{Input, Sent, Remark, Count}
 use Rattle.session_log.specs.Lines.{lines}
-use Rattle.session_log.specs.Reading.{said}
-use Rattle.session_log.specs.Text.{ended, sent_text, meters_line}
+use Rattle.session_log.specs.Said.{said}
 use Rattle.session_log.specs.World.{World}
 
 -- what is written for a line, by what it says
 abbrev pub text_by : {S : Type 0} → World S → S → List ℕ → Option Line → List ℕ
 text_by world s line None = []
-text_by world s line (Some Count) = []
-text_by world s line (Some (Sent packet)) = []
-text_by world s line (Some Remark) = ended line
-text_by world s line (Some (Input timed)) = ended line ++ flat_map sent_text (world.sends s timed)
+text_by world s line (Some l) = world.writes s line l
 
 abbrev pub text_of : {S : Type 0} → World S → S → List ℕ → List ℕ
 text_of world s line = text_by world s line (said line)
@@ -23,23 +18,24 @@ text_of world s line = text_by world s line (said line)
 -- where a line leads
 abbrev pub after_by : {S : Type 0} → World S → S → Option Line → S
 after_by world s None = s
-after_by world s (Some Count) = s
-after_by world s (Some (Sent packet)) = s
-after_by world s (Some Remark) = s
-after_by world s (Some (Input timed)) = world.turned s timed
+after_by world s (Some l) = world.moves s l
 
 abbrev pub after : {S : Type 0} → World S → S → List ℕ → S
 after world s line = after_by world s (said line)
 
+-- what is wrong with line n by what it says: it isn't a log line, or stops the log
+abbrev pub fault_by : {S : Type 0} → World S → ℕ → S → Option Line → Option LogFault
+fault_by world n s None = Some (BadLine n)
+fault_by world n s (Some l) = world.stops s l
+
 -- what is wrong with line n: a log has at most 2^32-1 lines, and a line at most 255 bytes
-abbrev pub fault_at : ℕ → List ℕ → Option LogFault
-fault_at n line =
+abbrev pub fault_at : {S : Type 0} → World S → ℕ → S → List ℕ → Option LogFault
+fault_at world n s line =
     if nat_le (2 ^ 32) n then Some TooManyLines
     else if nat_lt 255 (length line) then Some (TooLong n)
-    else if is_none (said line) then Some (BadLine n)
-    else None
+    else fault_by world n s (said line)
 
--- what lines come to: the texts of those before the first faulty one, that fault, and the state behind them
+-- what lines come to: the texts of those before the first faulty one, that fault, and the state after them
 pub record Played (S : Type 0) : Type 0 where
   pub text : List ℕ
   pub fault : Option LogFault
@@ -52,16 +48,16 @@ behind text p = record { text = text ++ p.text; fault = p.fault; state = p.state
 abbrev pub played : {S : Type 0} → World S → ℕ → S → List (List ℕ) → Played S
 played world n s [] = record { text = []; fault = None; state = s }
 played world n s (line ∷ more) =
-    if is_some (fault_at n line) then record { text = []; fault = fault_at n line; state = s }
+    if is_some (fault_at world n s line) then record { text = []; fault = fault_at world n s line; state = s }
     else behind (text_of world s line) (played world (n + 1) (after world s line) more)
 
 -- all lines of the bytes
 abbrev pub playing : {S : Type 0} → World S → S → List ℕ → Played S
 playing world s bytes = played world 1 s (lines bytes)
 
--- the texts, and where no line is faulty the meters line
+-- the texts, and where no line is faulty the text after the last line
 abbrev pub log_of : {S : Type 0} → World S → Played S → List ℕ
-log_of world p = p.text ++ (if is_none p.fault then meters_line (world.counts p.state) else [])
+log_of world p = p.text ++ (if is_none p.fault then world.ending p.state else [])
 
 abbrev pub log : {S : Type 0} → World S → S → List ℕ → List ℕ
 log world s bytes = log_of world (playing world s bytes)

@@ -3,9 +3,9 @@ use Rattle.std.specs.Prelude.{ℕ}
 use Rattle.session_log.specs.declared.fault.LogFault.{LogFault}
 use Rattle.session_log.specs.declared.fault.LogFault.TheVariants.{BadLine, TooLong, Read, Write, TooManyLines}
 
-abbrev pub number_of : LogFault → ℕ
-number_of (BadLine n) = 1
-number_of (TooLong n) = 2
-number_of (Read n) = 4
-number_of Write = 5
-number_of TooManyLines = 6
+abbrev pub fault_number : LogFault → ℕ
+fault_number (BadLine n) = 1
+fault_number (TooLong n) = 2
+fault_number (Read n) = 4
+fault_number Write = 5
+fault_number TooManyLines = 6

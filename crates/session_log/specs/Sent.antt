@@ -3,9 +3,8 @@ use Rattle.std.specs.Prelude.{◌≡◌, ℕ, ◌<◌, ◌^◌, List, [], ◌∷
 use Rattle.hex.specs.Hex.{IsBytes}
 use Rattle.token_session.specs.declared.input.Meters.{Meters}
 use Rattle.session_log.specs.declared.line.Line.{Line}
-use Rattle.session_log.specs.declared.line.Line.TheVariants.{Input, Sent, Remark, Count}
 use Rattle.session_log.specs.Log.{after}
-use Rattle.session_log.specs.Reading.{said}
+use Rattle.session_log.specs.Said.{said}
 use Rattle.session_log.specs.World.{World}
 
 abbrev pub IsPacket : List ℕ → Type 0
@@ -18,10 +17,7 @@ ArePackets (packet ∷ more) = IsPacket packet × ArePackets more
 -- for a line, by what it says
 abbrev pub SendsPackets : {S : Type 0} → World S → S → Option Line → Type 0
 SendsPackets world s None = Unit {0}
-SendsPackets world s (Some Count) = Unit {0}
-SendsPackets world s (Some (Sent packet)) = Unit {0}
-SendsPackets world s (Some Remark) = Unit {0}
-SendsPackets world s (Some (Input timed)) = ArePackets (world.sends s timed)
+SendsPackets world s (Some l) = ArePackets (world.sends s l)
 
 -- for lines, one after the other
 abbrev pub AllSend : {S : Type 0} → World S → S → List (List ℕ) → Type 0

@@ -8,15 +8,22 @@ use Rattle.token_session.specs.Law.{sent_now}
 use Rattle.token_session.specs.Meters.{SessionState, stepped, sent_by, meters_of}
 use Rattle.session_log.specs.Lines.{lines}
 use Rattle.session_log.specs.Log.{log}
-use Rattle.session_log.specs.World.{World}
+use Rattle.session_log.specs.World.{Course, World, replaying}
 
 -- what a session holds, moved on by inputs
-abbrev pub machine : World SessionState
-machine = record { turned = λ s x. stepped s x; sends = λ s x. sent_by s x; counts = λ s. s.meters }
+abbrev pub sessions : Course SessionState
+sessions = record { turned = λ s x. stepped s x; sends = λ s x. sent_by s x; counts = λ s. s.meters }
 
 -- the inputs so far, the newest first, and what the history that they are sends and counts
+abbrev pub histories : Start → Course (List Timed)
+histories start = record { turned = λ h x. x ∷ h; sends = λ h x. sent_now start h x; counts = λ h. meters_of start (judged start h) }
+
+-- a log replayed on them
+abbrev pub machine : World SessionState
+machine = replaying sessions
+
 abbrev pub history : Start → World (List Timed)
-history start = record { turned = λ h x. x ∷ h; sends = λ h x. sent_now start h x; counts = λ h. meters_of start (judged start h) }
+history start = replaying (histories start)
 
 -- what was written is its own log, on a session that stands at s, unless it has too many lines
 abbrev pub Repeats : Option (List ℕ) → Option (List ℕ) → SessionState → Type 0

@@ -19,16 +19,8 @@ pub record HasLine (n : ℕ) (window : List ℕ) (end : ℕ) : Type 0 where
 
 -- why no line can be read
 abbrev pub Stops : ℕ → List ℕ → LogFault → Type 0
-Stops n window TooManyLines = (2 ^ 32 ≤ n) × (0 < length window)
+Stops n window TooManyLines = (2 ^ 32 ≤ n) × (0 < length window) × (length window ≤ 256)
 Stops n window (TooLong m) = (m ≡ n) × (n < 2 ^ 32) × (position is_feed window ≡ None) × (length window ≡ 256)
 Stops n window (Read m) = (m ≡ n) × IsUnfinished n window
 Stops n window (BadLine m) = ⊥
 Stops n window Write = ⊥
-
--- line n is bad, or its text broke off
-abbrev pub LineFails : ℕ → Type 0 → Type 0 → LogFault → Type 0
-LineFails n bad broken (BadLine m) = (m ≡ n) × bad
-LineFails n bad broken Write = broken
-LineFails n bad broken (TooLong m) = ⊥
-LineFails n bad broken (Read m) = ⊥
-LineFails n bad broken TooManyLines = ⊥

@@ -1,6 +1,6 @@
 //! The commands of the program `hidlog`, over any source and targets.
 ghost use Rattle.std.specs.Prelude.{◌≡◌, ◌<◌, ◌-◌, ◌^◌, OnOk};
-ghost use Rattle.session_log.specs.Command.{IsReplayed};
+ghost use Rattle.session_log.specs.Command.{IsReplayed, program_start};
 
 use crate::fault::LogFault;
 use crate::replaying::replay;
@@ -34,7 +34,7 @@ pub fn replay_command<S: Source, O: Target, E: Target>(
     requires writes { O.failed output.old < 2 ^ 64 - 1 }
     requires tells { E.failed faults.old < 2 ^ 64 - 1 }
     // It is the log of the empty history, of the program's start, that was written.
-    ensures replayed { IsReplayed S.left S.failed S.ended O.taken O.failed result (input.old, input.new) (output.old, output.new) }
+    ensures replayed { IsReplayed program_start S.left S.failed S.ended O.taken O.failed result (input.old, input.new) (output.old, output.new) }
     // Without a fault nothing is told.
     ensures silent { OnOk result (faults.new ≡ faults.old) }
 {

@@ -1,6 +1,6 @@
 //! What can go wrong with a log.
 ghost use Rattle.std.specs.Prelude.{◌≡◌};
-ghost use Rattle.session_log.specs.Numbers.{number_of};
+ghost use Rattle.session_log.specs.Numbers.{fault_number};
 
 use thiserror::Error;
 
@@ -31,7 +31,7 @@ pub enum LogFault {
 impl LogFault {
     /// The number of the fault.
     pub fn number(&self) -> u8
-        ensures { result ≡ number_of self.now }
+        ensures { result ≡ fault_number self.now }
     {
         match self {
             LogFault::BadLine(_) => 1,

@@ -2,7 +2,7 @@
 ghost use Rattle.std.specs.Prelude.{◌≡◌, ◌↔◌, ℕ, List, Some, None};
 ghost use Rattle.session_log.specs.declared.line.Line.{Line as AnyLine};
 ghost use Rattle.session_log.specs.Grammar.{Spells};
-ghost use Rattle.session_log.specs.Reading.{said};
+ghost use Rattle.session_log.specs.Said.{said};
 
 /// What a line says is what the grammar lets it spell: a line is read exactly where it spells something,
 /// and spells nothing else.

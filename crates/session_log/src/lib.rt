@@ -13,8 +13,6 @@ mod target;
 mod tests;
 mod text;
 mod window;
-#[cfg(test)]
-mod worked_tests;
 
 pub use command::{CAPACITY, replay_command};
 pub use fault::{Failed, LogFault};

@@ -1,15 +1,17 @@
 //! What a line says.
-ghost use Rattle.std.specs.Prelude.{◌≡◌, ◌<◌, ◌==◌, length, position, Option, None, Some, IfSome, MatchOption};
-ghost use Rattle.session_log.specs.Reading.{first_field, moment, packet_line, packet_of, said};
+ghost use Rattle.std.specs.Prelude.{◌≡◌, ◌<◌, ◌≤◌, ◌/◌, ◌==◌, length, position, Option, None, Some, IfSome, MatchOption};
+ghost use Rattle.session_log.specs.Letters.{space};
+ghost use Rattle.session_log.specs.Said.{bytes_of, first_field, input_by, input_line, key_of, key_said, moment, presence_said, said, signature_of, signature_said};
 
+use authn_core::{NewKey, Presence, Signature};
 use hid_packet::Packet;
 use itoa::Buffer;
 use token_session::{Input, Timed};
 
 /// What one line of a log says.
-#[derive(Clone, Copy, Debug, PartialEq, Eq)]
+#[derive(Clone, Copy)]
 pub enum Line {
-    /// `> M P` or `t M`: an input for the session.
+    /// `t M`, `> M P`, or a reply of the caller: an input for the session.
     Input(Timed),
     /// `< P`: a packet that an earlier run sent.
     Sent(Packet),
@@ -39,27 +41,26 @@ fn read_moment(digits: &[u8]) -> Option<u64>
     }
 }
 
-/// The packet that 128 hexadecimal digits write, in either case.
-fn read_packet(digits: &[u8]) -> Option<Packet>
-    ensures { MatchOption result
-        (packet_of digits.now ≡ None) (λ packet. packet_of digits.now ≡ Some packet.0) }
+/// The bytes that twice as many hexadecimal digits write, in either case.
+fn read_bytes<const N: usize>(digits: &[u8]) -> Option<[u8; N]>
+    ensures { result ≡ bytes_of N digits.now }
 {
-    let mut bytes = [0; 64];
+    let mut bytes = [0; N];
     match hex::decode_to_slice(digits, &mut bytes) {
-        Ok(()) => Some(Packet(bytes)),
+        Ok(()) => Some(bytes),
         Err(_) => None,
     }
 }
 
 /// Where the first space stands.
 fn first_space(fields: &[u8]) -> Option<usize>
-    ensures value { result ≡ position (λ b. b == 32) fields.now }
+    ensures value { result ≡ position (λ b. b == space) fields.now }
     ensures within { IfSome result (λ end. end < length fields.now) }
 {
     fields.iter().position(|b| *b == b' ')
 }
 
-/// The parts before and behind the first space.
+/// The parts before and after the first space.
 fn split_field(fields: &[u8]) -> Option<(&[u8], &[u8])>
     ensures { MatchOption result (first_field fields.now ≡ None) (λ parts.
         first_field fields.now ≡ Some record { 0 = parts.0.now; 1 = parts.1.now }) }
@@ -68,17 +69,100 @@ fn split_field(fields: &[u8]) -> Option<(&[u8], &[u8])>
     Some((fields.split_at(end).0, fields.split_at(end + 1).1))
 }
 
-/// The packet and its moment that the fields of a `>` line say.
-fn read_packet_line(fields: &[u8]) -> Option<Line>
-    ensures { result ≡ packet_line fields.now }
+/// The reply that a word says.
+fn read_presence(word: &[u8]) -> Option<Input>
+    ensures { result ≡ presence_said word.now }
 {
-    let (moment, digits) = split_field(fields)?;
+    if word == b"granted".as_slice() {
+        Some(Input::Presence(Presence::Granted))
+    } else if word == b"denied".as_slice() {
+        Some(Input::Presence(Presence::Denied))
+    } else if word == b"timeout".as_slice() {
+        Some(Input::Presence(Presence::TimedOut))
+    } else {
+        None
+    }
+}
+
+/// The new key pair that the fields of its id and coordinates say.
+fn read_new_key(fields: &[u8]) -> Option<NewKey>
+    ensures { result ≡ key_of fields.now }
+{
+    let (id, coordinates) = split_field(fields)?;
+    let (x, y) = split_field(coordinates)?;
+    Some(NewKey {
+        id: read_bytes(id)?,
+        x: read_bytes(x)?,
+        y: read_bytes(y)?,
+    })
+}
+
+/// The new key pair, or that none is had.
+fn read_key(field: &[u8]) -> Option<Input>
+    ensures { result ≡ key_said field.now }
+{
+    if field == b"no".as_slice() {
+        return Some(Input::Key(None));
+    }
+    let key = read_new_key(field)?;
+    Some(Input::Key(Some(key)))
+}
+
+/// The signature of as many bytes as there is room for.
+fn read_into(digits: &[u8], out: &mut [u8]) -> Option<Signature>
+    requires { length out.old ≡ length digits.now / 2 }
+    ensures { result ≡ signature_of digits.now }
+{
+    match hex::decode_to_slice(digits, out) {
+        Ok(()) => Signature::new(out),
+        Err(_) => None,
+    }
+}
+
+/// The signature that the digits write.
+fn read_signature_bytes(digits: &[u8]) -> Option<Signature>
+    ensures { result ≡ signature_of digits.now }
+{
+    let mut bytes = [0; 72];
+    let len = digits.len() / 2;
+    if len > bytes.len() {
+        return None;
+    }
+    read_into(digits, &mut bytes[..len])
+}
+
+/// The signature, or that none is had.
+fn read_signature(field: &[u8]) -> Option<Input>
+    ensures { result ≡ signature_said field.now }
+{
+    if field == b"no".as_slice() {
+        return Some(Input::Signature(None));
+    }
+    let signature = read_signature_bytes(field)?;
+    Some(Input::Signature(Some(signature)))
+}
+
+/// What the field after the moment says, by the letter at the line's front.
+fn read_input(letter: u8, field: &[u8]) -> Option<Input>
+    ensures { result ≡ input_by letter field.now }
+{
+    match letter {
+        b'>' => Some(Input::Packet(Packet(read_bytes(field)?))),
+        b'p' => read_presence(field),
+        b'k' => read_key(field),
+        b's' => read_signature(field),
+        _ => None,
+    }
+}
+
+/// The input and its moment that the fields of a line with this letter say.
+fn read_timed(letter: u8, fields: &[u8]) -> Option<Line>
+    ensures { result ≡ input_line letter fields.now }
+{
+    let (moment, field) = split_field(fields)?;
     let at = read_moment(moment)?;
-    let packet = read_packet(digits)?;
-    Some(Line::Input(Timed {
-        at,
-        input: Input::Packet(packet),
-    }))
+    let input = read_input(letter, field)?;
+    Some(Line::Input(Timed { at, input }))
 }
 
 /// What the line says, if it is a log line. The line comes without its line feed.
@@ -88,12 +172,12 @@ pub fn read_line(line: &[u8]) -> Option<Line>
     match line {
         [] | [b'#', ..] => Some(Line::Remark),
         [b'=', ..] => Some(Line::Count),
-        [b'<', b' ', digits @ ..] => Some(Line::Sent(read_packet(digits)?)),
-        [b'>', b' ', fields @ ..] => read_packet_line(fields),
+        [b'<', b' ', digits @ ..] => Some(Line::Sent(Packet(read_bytes(digits)?))),
         [b't', b' ', digits @ ..] => Some(Line::Input(Timed {
             at: read_moment(digits)?,
             input: Input::Tick,
         })),
+        [letter, b' ', fields @ ..] => read_timed(*letter, fields),
         _ => None,
     }
 }

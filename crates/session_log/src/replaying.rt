@@ -1,23 +1,20 @@
 //! A log replayed on a session.
-ghost use Rattle.std.specs.Prelude.{◌≡◌, ◌≢◌, ◌<◌, ◌≤◌, ◌+◌, ◌-◌, ◌^◌, ℕ, List, [], ◌∷◌, ◌++◌, length, if◌then◌else◌, Option, Some, None, Result, true, IfOk, IfErr, OnOk, OnErr, ◌⊎◌, MatchOption, MatchResult, MatchBool};
-ghost use Rattle.std.specs.Io.KnownBytes.{Appends, Consumes, Keeps, IsAtEnd};
-ghost use Rattle.session_log.specs.Breaking.{BreaksOff};
-ghost use Rattle.session_log.specs.Log.{after, text_of};
-ghost use Rattle.session_log.specs.Reading.{said};
-ghost use Rattle.session_log.specs.Replay.{Answers, IfLineFault, IfRead, IsDone, IsPlayed, IsRefused, IsUnread, IsUnwritten, Means, OnWrite, ReadsTo, read_fails, write_fails};
-ghost use Rattle.session_log.specs.Sent.{SendsPackets};
+ghost use Rattle.std.specs.Prelude.{◌≡◌, ◌<◌, ◌≤◌, ◌-◌, ◌^◌, ℕ, List, [], ◌++◌, length, IfOk, IfErr, OnOk, MatchBool, MatchOption};
+ghost use Rattle.std.specs.Io.KnownBytes.{Consumes};
+ghost use Rattle.session_log.specs.Ending.{ending_of, read_fails, write_fails};
+ghost use Rattle.session_log.specs.Replay.{Logs, Plays, PlaysLine, ReadsTo};
 ghost use Rattle.session_log.specs.Session.{history, machine, Repeats};
 ghost use Rattle.token_session.specs.declared.input.Timed.{Timed as OneInput};
 ghost use Rattle.authn_core.specs.Turn.{Start};
 ghost use Rattle.token_session.specs.Meters.{StandsBehind};
-ghost use Rattle.session_log.specs.Streams.{Moves};
-ghost use Rattle.session_log.specs.Window.{HasLine, IsUnfinished, LineFails, Stops};
+ghost use Rattle.session_log.specs.Streams.{Counts, IsAllRead, Moves};
+ghost use Rattle.session_log.specs.Window.{HasLine, IsUnfinished, Stops};
 
 use crate::fault::LogFault;
 use crate::line::{Line, read_line};
 use crate::source::Source;
 use crate::target::Target;
-use crate::text::{put_input, put_line, put_meters};
+use crate::text::{Text, put_input, put_line, put_meters};
 use crate::window::Window;
 use hid_packet::Outbox;
 use token_session::{Meters, Session};
@@ -45,12 +42,11 @@ fn next_line<S: Source>(
     requires { S.failed reader.old < 2 ^ 64 - 1 }
     ensures bytes { (more : List ℕ) × (window.new ≡ window.old ++ more)
         × Consumes (S.left reader.old) (S.left reader.new) more }
-    ensures front { IfOk result (λ found. MatchOption found
-        (IsUnfinished number window.new × (S.ended reader.new ≡ true) × IsAtEnd (S.left reader.new))
+    ensures found { IfOk result (λ found. MatchOption found
+        (IsUnfinished number window.new × IsAllRead S.left S.ended reader.new)
         (λ end. HasLine number window.new end)) }
-    ensures stopped { IfErr result (λ e. Stops number window.new e) }
-    ensures reads { S.failed reader.new
-        ≡ (if read_fails result then S.failed reader.old + 1 else S.failed reader.old) }
+    ensures stopped { IfErr result (Stops number window.new) }
+    ensures reads { Counts S.failed (reader.old, reader.new) (read_fails (ending_of result)) }
 {
     'reading: loop {
         if is_too_many(window, number) {
@@ -77,31 +73,21 @@ fn play_line<T: Target, const C: usize>(
     writer: &mut T,
     session: &mut Session<C>,
     outbox: &mut Outbox,
+    text: &mut Text,
 ) -> Result<(), LogFault>
     requires write { T.failed writer.old < 2 ^ 64 - 1 }
     requires short { length line.now < 256 }
     requires empty { outbox.old ≡ [] }
-    ensures said { OnOk result (said line.now ≢ None) }
-    ensures ok { OnOk result (Appends (T.taken writer.old) (T.taken writer.new)
-        (text_of machine session.old line.now)) }
-    ensures same { OnOk result (T.failed writer.new ≡ T.failed writer.old) }
-    ensures emptied { OnOk result (outbox.new ≡ []) }
-    ensures packets { OnOk result (SendsPackets machine session.old (said line.now)) }
-    ensures state { session.new ≡ after machine session.old line.now }
-    ensures fault { IfErr result (LineFails number
-        ((said line.now ≡ None) × Keeps (T.taken writer.old) (T.taken writer.new)
-        × (T.failed writer.new ≡ T.failed writer.old))
-        ((said line.now ≢ None)
-        × BreaksOff (T.taken writer.old) (T.taken writer.new) (text_of machine session.old line.now)
-        × (T.failed writer.new ≡ T.failed writer.old + 1))) }
+    ensures played { PlaysLine machine T.taken T.failed number session.old session.new line.now (writer.old, writer.new) (ending_of result) }
+    ensures emptied { outbox.new ≡ [] }
 {
     match read_line(line) {
         None => Err(LogFault::BadLine(number)),
         Some(Line::Sent(_) | Line::Count) => Ok(()),
-        Some(Line::Remark) => put_line(writer, line),
+        Some(Line::Remark) => put_line(writer, text, line),
         Some(Line::Input(timed)) => {
             session.step(timed.at, timed.input, outbox);
-            put_input(writer, line, outbox)
+            put_input(writer, text, line, outbox)
         }
     }
 }
@@ -111,67 +97,43 @@ fn play_all<S: Source, T: Target, const C: usize>(
     reader: &mut S,
     writer: &mut T,
     session: &mut Session<C>,
+    text: &mut Text,
 ) -> Result<(), LogFault>
     requires read { S.failed reader.old < 2 ^ 64 - 1 }
     requires write { T.failed writer.old < 2 ^ 64 - 1 }
-    ensures played { Moves (S.left reader.old) (S.left reader.new)
-        (T.taken writer.old) (T.taken writer.new)
-        (λ bytes text. MatchResult result
-        (λ _. IsPlayed machine session.old session.new bytes text)
-        (λ e. Means machine session.old session.new bytes text e)) }
-    ensures end { OnOk result ((S.ended reader.new ≡ true) × IsAtEnd (S.left reader.new)) }
-    ensures last { IfErr result (ReadsTo (S.left reader.old) (S.left reader.new)
-        ((S.ended reader.new ≡ true) × IsAtEnd (S.left reader.new))) }
-    ensures reads { S.failed reader.new
-        ≡ (if read_fails result then S.failed reader.old + 1 else S.failed reader.old) }
-    ensures writes { T.failed writer.new
-        ≡ (if write_fails result then T.failed writer.old + 1 else T.failed writer.old) }
+    ensures played { Moves (S.left reader.old) (S.left reader.new) (T.taken writer.old) (T.taken writer.new)
+        (λ bytes text. Plays machine session.old session.new bytes text (ending_of result)) }
+    ensures end { OnOk result (IsAllRead S.left S.ended reader.new) }
+    ensures reach { ReadsTo (S.left reader.old) (S.left reader.new) (IsAllRead S.left S.ended reader.new) (ending_of result) }
+    ensures reads { Counts S.failed (reader.old, reader.new) (read_fails (ending_of result)) }
+    ensures writes { Counts T.failed (writer.old, writer.new) (write_fails (ending_of result)) }
 {
     let mut window = Window::new();
     let mut outbox = Outbox::new();
     let mut number = 1;
     'lines: while let Some(end) = next_line(&mut window, reader, number)? {
         let line = window.as_slice().split_at(end).0;
-        play_line(line, number, writer, session, &mut outbox)?;
+        play_line(line, number, writer, session, &mut outbox, text)?;
         window.drop_front(end + 1);
         number += 1;
     }
     if window.len() == 0 {
         return Ok(());
     }
-    play_line(window.as_slice(), number, writer, session, &mut outbox)
+    play_line(
+        window.as_slice(),
+        number,
+        writer,
+        session,
+        &mut outbox,
+        text,
+    )
 }
 
-/// Plays all lines and writes the meters line.
-fn replay_all<S: Source, T: Target, const C: usize>(
-    reader: &mut S,
-    writer: &mut T,
-    session: &mut Session<C>,
-) -> Result<Meters, LogFault>
-    requires read { S.failed reader.old < 2 ^ 64 - 1 }
-    requires write { T.failed writer.old < 2 ^ 64 - 1 }
-    ensures replayed { Moves (S.left reader.old) (S.left reader.new)
-        (T.taken writer.old) (T.taken writer.new)
-        (λ bytes text. Answers machine session.old session.new bytes text result) }
-    ensures again { OnOk result (Repeats (T.taken writer.old) (T.taken writer.new) session.old) }
-    ensures end { OnOk result ((S.ended reader.new ≡ true) × IsAtEnd (S.left reader.new)) }
-    ensures last { IfErr result (ReadsTo (S.left reader.old) (S.left reader.new)
-        ((S.ended reader.new ≡ true) × IsAtEnd (S.left reader.new))) }
-    ensures reads { S.failed reader.new
-        ≡ (if read_fails result then S.failed reader.old + 1 else S.failed reader.old) }
-    ensures writes { T.failed writer.new
-        ≡ (if write_fails result then T.failed writer.old + 1 else T.failed writer.old) }
-{
-    play_all(reader, writer, session)?;
-    let meters = session.meters();
-    put_meters(writer, meters)?;
-    Ok(meters)
-}
-
-/// Replays a log on a session (docs/LOG_FORMAT.md): writes each input line and each remark again, behind an
+/// Replays a log on a session (docs/LOG_FORMAT.md): writes each input line and each remark again, after an
 /// input line the packets that the session sends for it, and at the end the session's meters, which it
-/// answers too. Each line is handed to the target whole, and before more is asked of the source than the
-/// line that it is for. It takes no memory.
+/// answers too. The text for a line is handed to the target whole, before more is asked of the source than
+/// the line that it is for. It takes no memory.
 ///
 /// After [`LogFault::BadLine`], [`LogFault::TooLong`] and [`LogFault::TooManyLines`] the texts of the lines
 /// before the faulty one were written, after [`LogFault::Read`] those of the whole lines that were read, and
@@ -184,39 +146,29 @@ pub fn replay<S: Source, T: Target, const C: usize>(
 ) -> Result<Meters, LogFault>
     requires read { S.failed reader.old < 2 ^ 64 - 1 }
     requires write { T.failed writer.old < 2 ^ 64 - 1 }
-    // No line is faulty, and the whole log was written.
-    ensures done { IfOk result (λ meters. Moves (S.left reader.old) (S.left reader.new)
-        (T.taken writer.old) (T.taken writer.new)
-        (λ bytes text. IsDone machine session.old session.new bytes text meters)) }
-    // It was all that the reader held.
-    ensures end { OnOk result ((S.ended reader.new ≡ true) × IsAtEnd (S.left reader.new)) }
+    // At Ok no line is faulty, and the whole log was written. A line fault is that of the first faulty line, and
+    // the lines before it were written. A read that failed names its line, and the lines before it were written.
+    // After a write that failed a beginning of the log was written.
+    ensures replayed { Moves (S.left reader.old) (S.left reader.new) (T.taken writer.old) (T.taken writer.new)
+        (λ bytes text. Logs machine session.old session.new bytes text result) }
+    // At Ok it was all that the reader held.
+    ensures end { OnOk result (IsAllRead S.left S.ended reader.new) }
     // Replayed again on an equal session, what was written gives the same bytes.
     ensures again { OnOk result (Repeats (T.taken writer.old) (T.taken writer.new) session.old) }
-    // The fault is that of the first faulty line, and the lines before it were written.
-    ensures refused { IfLineFault result (λ fault. Moves (S.left reader.old) (S.left reader.new)
-        (T.taken writer.old) (T.taken writer.new)
-        (λ bytes text. IsRefused machine session.old session.new bytes text fault)) }
-    // How far was read: to the faulty line, and no further than 256 bytes of it.
-    ensures reach { IfErr result (ReadsTo (S.left reader.old) (S.left reader.new)
-        ((S.ended reader.new ≡ true) × IsAtEnd (S.left reader.new))) }
-    // The line that was being read is named, and the lines before it were written.
-    ensures unread { IfRead result (λ line. Moves (S.left reader.old) (S.left reader.new)
-        (T.taken writer.old) (T.taken writer.new)
-        (λ bytes text. IsUnread machine session.old session.new bytes text line)) }
-    // A beginning of the log was written.
-    ensures unwritten { OnWrite result (Moves (S.left reader.old) (S.left reader.new)
-        (T.taken writer.old) (T.taken writer.new)
-        (λ bytes text. IsUnwritten machine session.old session.new bytes text)) }
+    // At a line fault at most 256 bytes were read after the lines before the faulty one.
+    ensures reach { ReadsTo (S.left reader.old) (S.left reader.new) (IsAllRead S.left S.ended reader.new) (ending_of result) }
     // Behind any history, all this holds of what the history names in place of what the session holds.
     ensures history { (start : Start) (h : List OneInput) → StandsBehind session.old start h
         → (later : List OneInput) × StandsBehind session.new start later
         × Moves (S.left reader.old) (S.left reader.new) (T.taken writer.old) (T.taken writer.new)
-        (λ bytes text. Answers (history start) h later bytes text result) }
+        (λ bytes text. Logs (history start) h later bytes text result) }
     // A failure was counted exactly at Read, and exactly at Write.
-    ensures reads { S.failed reader.new
-        ≡ (if read_fails result then S.failed reader.old + 1 else S.failed reader.old) }
-    ensures writes { T.failed writer.new
-        ≡ (if write_fails result then T.failed writer.old + 1 else T.failed writer.old) }
+    ensures reads { Counts S.failed (reader.old, reader.new) (read_fails (ending_of result)) }
+    ensures writes { Counts T.failed (writer.old, writer.new) (write_fails (ending_of result)) }
 {
-    replay_all(reader, writer, session)
+    let mut text = Text::new();
+    play_all(reader, writer, session, &mut text)?;
+    let meters = session.meters();
+    put_meters(writer, &mut text, meters)?;
+    Ok(meters)
 }

@@ -1,7 +1,7 @@
 //! Where the bytes of a log go.
 ghost use Rattle.std.specs.Prelude.{◌≡◌, ◌<◌, ◌≤◌, ◌+◌, ◌-◌, ◌^◌, ◌↔◌, [], ◌∷◌, ◌++◌, List, ℕ, Option, Some, length, take, drop, min, is_ok, if◌then◌else◌, IsErr, IfOk, OnOk, OnErr, MatchResult};
 ghost use Rattle.std.specs.Io.KnownBytes.{Appends, WriteAppends};
-ghost use Rattle.session_log.specs.Breaking.{BreaksOff};
+ghost use Rattle.session_log.specs.Streams.{IsBroken, IsTaken, Puts};
 
 use crate::fault::Failed;
 use std::io::Write;
@@ -32,10 +32,7 @@ pub trait Target {
 /// front of the piece, and not all of it; nothing is tried again.
 pub fn put_all<T: Target>(writer: &mut T, piece: &[u8]) -> Result<(), Failed>
     requires { T.failed writer.old < 2 ^ 64 - 1 }
-    ensures ok { OnOk result (Appends (T.taken writer.old) (T.taken writer.new) piece.now) }
-    ensures same { OnOk result (T.failed writer.new ≡ T.failed writer.old) }
-    ensures broken { OnErr result (BreaksOff (T.taken writer.old) (T.taken writer.new) piece.now) }
-    ensures counted { OnErr result (T.failed writer.new ≡ T.failed writer.old + 1) }
+    ensures { Puts T.taken T.failed (writer.old, writer.new) piece.now result }
 {
     let mut rest = piece;
     while !rest.is_empty() {

@@ -1,9 +1,11 @@
-//! What no clause says: worked logs, the texts of faults, readers and writers that fail in mid-stream.
+//! What no clause says: a log, the texts of faults, readers and writers that fail in mid-stream, and that a line's
+//! text is out before more is asked for.
 use crate::{
     FromRead, LogFault, SliceIn, SliceOut, Source, Target, ToWrite, replay, replay_command,
 };
 use arrayvec::ArrayVec;
 use std::alloc::{AllocError, Global};
+use std::cell::Cell;
 use std::io::{self, ErrorKind, Read, Write};
 use token_session::Session;
 
@@ -57,6 +59,46 @@ impl Write for Narrow {
         }
         self.calls -= 1;
         Ok(n)
+    }
+
+    fn flush(&mut self) -> io::Result<()> {
+        Ok(())
+    }
+}
+
+/// A reader that gives a piece a call, and notes how much a writer had taken by then.
+#[derive(Drop)]
+struct Watching<'a> {
+    pieces: &'a [&'a str],
+    taken: &'a Cell<usize>,
+    seen: ArrayVec<usize, 9>,
+}
+
+impl Read for Watching<'_> {
+    fn read(&mut self, out: &mut [u8]) -> io::Result<usize> {
+        let _ = self.seen.try_push(self.taken.get());
+        let Some((piece, rest)) = self.pieces.split_first() else {
+            return Ok(0);
+        };
+        let n = piece.len().min(out.len());
+        out[..n].copy_from_slice(&piece.as_bytes()[..n]);
+        self.pieces = rest;
+        Ok(n)
+    }
+}
+
+/// A writer that tells how much it took, in how many calls.
+#[derive(Drop)]
+struct Watched<'a> {
+    taken: &'a Cell<usize>,
+    calls: &'a Cell<usize>,
+}
+
+impl Write for Watched<'_> {
+    fn write(&mut self, piece: &[u8]) -> io::Result<usize> {
+        self.taken.set(self.taken.get().saturating_add(piece.len()));
+        self.calls.set(self.calls.get().saturating_add(1));
+        Ok(piece.len())
     }
 
     fn flush(&mut self) -> io::Result<()> {
@@ -152,9 +194,20 @@ fn lines_are_told_apart(rt: HostRuntime) -> Result<(), AllocError> {
         ("\u{feff}t 5\n", Some(LogFault::BadLine(1)), ""),
         ("t 5\n \n", Some(LogFault::BadLine(2)), "t 5\n"),
         ("< 00\n", Some(LogFault::BadLine(1)), ""),
-        ("p 0 granted\n", Some(LogFault::BadLine(1)), ""),
-        ("k 0 no\n", Some(LogFault::BadLine(1)), ""),
-        ("s 0 no", Some(LogFault::BadLine(1)), ""),
+        // Replies that nothing waits for come again.
+        (
+            "p 0 granted\np 0 denied\np 0 timeout\n",
+            None,
+            "p 0 granted\np 0 denied\np 0 timeout\n",
+        ),
+        (
+            "k 0 no\ns 0 no\ns 0 aBcD",
+            None,
+            "k 0 no\ns 0 no\ns 0 aBcD\n",
+        ),
+        ("p 0 yes\n", Some(LogFault::BadLine(1)), ""),
+        ("k 0 00 00 00\n", Some(LogFault::BadLine(1)), ""),
+        ("s 0 abc", Some(LogFault::BadLine(1)), ""),
     ];
     for (log, want, written) in cases {
         let (fault, text) = replayed(log.as_bytes());
@@ -210,6 +263,30 @@ fn writers_fail(rt: HostRuntime) -> Result<(), AllocError> {
         assert!(rt; whole.starts_with(text.as_slice()));
     }
     assert_eq!(rt; narrowed(log, 0, 581).0, Some(LogFault::Write));
+    Ok(())
+}
+
+#[test]
+fn a_line_is_answered_before_more_is_read(rt: HostRuntime) -> Result<(), AllocError> {
+    let greeting = format!(in rt.alloc(); "> 0 {INIT:0<128}\n")?;
+    // The INIT, half a tick, its other half with a remark and the front of another.
+    let pieces = [greeting.as_str(), "t ", "5\n# a\n#", " b\n"];
+    let (taken, calls) = (Cell::new(0), Cell::new(0));
+    let mut watching = Watching {
+        pieces: &pieces,
+        taken: &taken,
+        seen: ArrayVec::new(),
+    };
+    let mut writer = ToWrite::new(Watched {
+        taken: &taken,
+        calls: &calls,
+    });
+    let mut session = Session::<4>::bare([0; 16], 0);
+    let answer = replay(&mut FromRead::new(&mut watching), &mut writer, &mut session);
+    assert!(rt; answer.is_ok());
+    assert!(rt; watching.seen.as_slice() == [0, 264, 264, 272, 276].as_slice());
+    // One write for each line and its packets, and one for the meters.
+    assert_eq!(rt; (taken.get(), calls.get()), (276 + METERS.len(), 5));
     Ok(())
 }
 

@@ -1,9 +1,9 @@
 use Rattle.std.proofs.Common.{rules, ◌≡◌, ◌<◌, length, refl, arith, sym, ◌∙◌}
-use Rattle.session_log.proofs.Reading.{gathers, in_count}
+use Rattle.session_log.proofs.Gathering.{gathers, in_count}
 use Rattle.session_log.proofs.replaying.next_line.Goals as goal
 
-pub returns-in-Some-clause-front : goal.returns-in-Some-clause-front
-returns-in-Some-clause-front g c =
+pub returns-in-Some-clause-found : goal.returns-in-Some-clause-found
+returns-in-Some-clause-found g c =
     let inside : c.in-Some.end < length c.reading.window = search rules in
     record {
       feed = sym c.first_feed.ensures.value ∙ c.in-Some.is;

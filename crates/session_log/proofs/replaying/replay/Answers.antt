@@ -1,34 +1,82 @@
+use Rattle.std.proofs.Common.{Ok, Err, sym, ap, ◌∙◌, subst}
+use Rattle.std.specs.Io.KnownBytes.{Appends}
+use Rattle.std.proofs.lemmas.Result.{err_from_is_err_and}
+use Rattle.token_session.specs.declared.input.Meters.{Meters}
+use Rattle.session_log.specs.Ending.{ended_by}
+use Rattle.session_log.specs.Replay.{IsDone, IsPlayed, Means}
+use Rattle.session_log.specs.Sent.{FitsMeters}
 use Rattle.session_log.specs.Session.{machine}
-use Rattle.session_log.proofs.Cases.{at_ok, at_line_fault, at_read, at_write}
+use Rattle.session_log.specs.Streams.{IsBroken, IsTaken, Moves}
+use Rattle.session_log.specs.Text.{meters_line}
+use Rattle.session_log.specs.declared.fault.LogFault.{LogFault}
+use Rattle.session_log.proofs.Exits.{closes, closes_not, fails_with}
 use Rattle.session_log.proofs.Histories.{replays_history}
+use Rattle.session_log.proofs.Repeating.{repeats}
 use Rattle.session_log.proofs.replaying.replay.Goals as goal
 
-pub returns-clause-done : goal.returns-clause-done
-returns-clause-done g c =
+pub returns-in_err-play_all-clause-replayed : goal.returns-in_err-play_all-clause-replayed
+returns-in_err-play_all-clause-replayed g c =
     let left = g.S.Source.left in
     let taken = g.T.Target.taken in
-    at_ok machine (left c.args.reader.now) (left c.replay_all.new.reader) (taken c.args.writer.now) (taken c.replay_all.new.writer) c.args.session.now c.replay_all.new.session c.replay_all.result c.replay_all.ensures.replayed
+    let s0 = c.args.session.now in
+    let s = c.play_all.new.session in
+    let from = err_from_is_err_and c.from_residual.result c.from_residual.ensures.1 in
+    fails_with machine (left c.args.reader.now) (left c.play_all.new.reader) (taken c.args.writer.now) (taken c.play_all.new.writer) s0 s c.from_residual.result c.in_err-play_all.field-0.0
+    (λ bytes text. IsPlayed machine s0 s bytes text) (from.1 ∙ ap (λ (f : LogFault). Err f) from.2) c.in_err-play_all.ensures.played
 
-pub returns-clause-refused : goal.returns-clause-refused
-returns-clause-refused g c =
+pub returns-in_err-play_all-clause-history : goal.returns-in_err-play_all-clause-history
+returns-in_err-play_all-clause-history g c =
     let left = g.S.Source.left in
     let taken = g.T.Target.taken in
-    at_line_fault machine (left c.args.reader.now) (left c.replay_all.new.reader) (taken c.args.writer.now) (taken c.replay_all.new.writer) c.args.session.now c.replay_all.new.session c.replay_all.result c.replay_all.ensures.replayed
+    replays_history (left c.args.reader.now) (left c.play_all.new.reader) (taken c.args.writer.now) (taken c.play_all.new.writer) c.args.session.now c.play_all.new.session c.from_residual.result (returns-in_err-play_all-clause-replayed g c)
 
-pub returns-clause-unread : goal.returns-clause-unread
-returns-clause-unread g c =
+pub returns-in_err-put_meters-clause-replayed : goal.returns-in_err-put_meters-clause-replayed
+returns-in_err-put_meters-clause-replayed g c =
     let left = g.S.Source.left in
     let taken = g.T.Target.taken in
-    at_read machine (left c.args.reader.now) (left c.replay_all.new.reader) (taken c.args.writer.now) (taken c.replay_all.new.writer) c.args.session.now c.replay_all.new.session c.replay_all.result c.replay_all.ensures.replayed
+    let failed = g.T.Target.failed in
+    let played = c.in_ok-play_all.ensures.played in
+    let s0 = c.args.session.now in
+    let s = c.play_all.new.session in
+    let a = left c.args.reader.now in
+    let b = left c.play_all.new.reader in
+    let x = taken c.args.writer.now in
+    let put = c.in_err-put_meters.ensures.puts in
+    let broken = subst (λ (m : Meters). IsBroken taken failed (c.play_all.new.writer, c.put_meters.new.writer) (meters_line m)) c.meters-meters.ensures put.1 in
+    let from = err_from_is_err_and c.from_residual-in_err-put_meters.result c.from_residual-in_err-put_meters.ensures.1 in
+    fails_with machine a b x (taken c.put_meters.new.writer) s0 s c.from_residual-in_err-put_meters.result c.in_err-put_meters.field-0.0
+    (λ bytes text. IsDone machine s0 s bytes text) (from.1 ∙ ap (λ (f : LogFault). Err f) from.2)
+    (subst (λ (f : LogFault). Moves a b x (taken c.put_meters.new.writer) (λ bytes text. Means machine s0 s bytes text (IsDone machine s0 s bytes text) (ended_by f))) (sym put.0)
+    (closes_not machine taken failed a b x (c.play_all.new.writer, c.put_meters.new.writer) s0 s played.0 played.1 played.2 played.3 played.4 broken))
 
-pub returns-clause-unwritten : goal.returns-clause-unwritten
-returns-clause-unwritten g c =
+pub returns-in_err-put_meters-clause-history : goal.returns-in_err-put_meters-clause-history
+returns-in_err-put_meters-clause-history g c =
     let left = g.S.Source.left in
     let taken = g.T.Target.taken in
-    at_write machine (left c.args.reader.now) (left c.replay_all.new.reader) (taken c.args.writer.now) (taken c.replay_all.new.writer) c.args.session.now c.replay_all.new.session c.replay_all.result c.replay_all.ensures.replayed
+    replays_history (left c.args.reader.now) (left c.play_all.new.reader) (taken c.args.writer.now) (taken c.put_meters.new.writer) c.args.session.now c.play_all.new.session c.from_residual-in_err-put_meters.result (returns-in_err-put_meters-clause-replayed g c)
+
+pub returns-clause-replayed : goal.returns-clause-replayed
+returns-clause-replayed g c =
+    let left = g.S.Source.left in
+    let taken = g.T.Target.taken in
+    let failed = g.T.Target.failed in
+    let played = c.in_ok-play_all.ensures.played in
+    let put = subst (λ (m : Meters). IsTaken taken failed (c.play_all.new.writer, c.put_meters.new.writer) (meters_line m)) c.meters-meters.ensures c.in_ok-put_meters.ensures.puts in
+    let whole = closes machine taken failed (left c.args.reader.now) (left c.play_all.new.reader) (taken c.args.writer.now) (c.play_all.new.writer, c.put_meters.new.writer) c.args.session.now c.play_all.new.session played.0 played.1 played.2 played.3 played.4 put in
+    (whole.0, whole.1, whole.2, whole.3, (whole.4, c.meters-meters.ensures))
+
+pub returns-clause-again : goal.returns-clause-again
+returns-clause-again g c =
+    let taken = g.T.Target.taken in
+    let played = c.in_ok-play_all.ensures.played in
+    let meters = c.meters-meters.ensures in
+    let y = taken c.play_all.new.writer in
+    let z = taken c.put_meters.new.writer in
+    repeats (taken c.args.writer.now) y z c.args.session.now c.play_all.new.session played.0 played.1 played.3 played.4 (subst (λ (m : Meters). Appends y z (meters_line m)) meters c.in_ok-put_meters.ensures.puts.0)
+    (subst FitsMeters meters c.put_meters.ensures.fits)
 
 pub returns-clause-history : goal.returns-clause-history
 returns-clause-history g c =
     let left = g.S.Source.left in
     let taken = g.T.Target.taken in
-    replays_history (left c.args.reader.now) (left c.replay_all.new.reader) (taken c.args.writer.now) (taken c.replay_all.new.writer) c.args.session.now c.replay_all.new.session c.replay_all.result c.replay_all.ensures.replayed
+    replays_history (left c.args.reader.now) (left c.play_all.new.reader) (taken c.args.writer.now) (taken c.put_meters.new.writer) c.args.session.now c.play_all.new.session (Ok c.meters-meters.result) (returns-clause-replayed g c)

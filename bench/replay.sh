@@ -1,0 +1,76 @@
+#!/usr/bin/env bash
+# Counts what a line costs that `hidlog replay` plays: instructions (callgrind), system calls (strace) and processor
+# time, for logs of PINGs, authenticatorGetInfo, ticks and comments, of 1,000 and 100,000 lines, from a file to a file;
+# beside bench/replay_c.c, a C program of the same promises for these lines. Needs rt, gcc, valgrind, strace and Python 3.
+#
+# What a log of no line costs is taken off, so start-up doesn't count.
+#
+#     bench/replay.sh [FOLDER]
+set -euo pipefail
+here=$(cd "$(dirname "$0")" && pwd)
+work=${1:-$(mktemp -d)}
+mkdir -p "$work"
+"$here/../hidlog" --help >"$work/help"
+program=$here/../crates/hidlog/out/hidlog
+gcc -O2 -march=x86-64-v2 -o "$work/replay_c" "$here/replay_c.c"
+
+# A log of so many lines of a kind, behind the INIT that gives channel 1.
+log() {
+    python3 - "$1" "$2" <<'PYTHON'
+import sys
+kind, count = sys.argv[1], int(sys.argv[2])
+packet = {"ping": "00000001810005" + b"hello".hex(), "get_info": "0000000190000104"}.get(kind)
+line = f"> 5 {packet.ljust(128, '0')}\n" if packet else {"tick": "t 5\n", "comment": "# a comment\n"}[kind]
+print("> 0 " + "ffffffff8600080001020304050607".ljust(128, "0"))
+sys.stdout.write(line * count)
+PYTHON
+}
+
+instructions() {
+    valgrind --tool=callgrind --callgrind-out-file=/dev/null "${@:2}" <"$1" 2>&1 >/dev/null |
+        sed -n 's/.*Collected : \([0-9]*\).*/\1/p'
+}
+
+calls() {
+    strace -f -c -o "$work/calls" "${@:2}" <"$1" >"$work/output"
+    awk '$NF == "total" { print $4 }' "$work/calls"
+}
+
+# Processor time in nanoseconds.
+nanoseconds() {
+    python3 - "$work/output" "$@" <<'PYTHON'
+import resource, subprocess, sys
+best = None
+for _ in range(5):
+    before = resource.getrusage(resource.RUSAGE_CHILDREN)
+    with open(sys.argv[2]) as log, open(sys.argv[1], "w") as out:
+        subprocess.run(sys.argv[3:], stdin=log, stdout=out, check=True)
+    after = resource.getrusage(resource.RUSAGE_CHILDREN)
+    took = after.ru_utime + after.ru_stime - before.ru_utime - before.ru_stime
+    best = took if best is None else min(best, took)
+print(int(best * 1e9))
+PYTHON
+}
+
+per_line() {
+    local measure=$1 kind=$2 count=$3
+    shift 3
+    awk -v all="$("$measure" "$work/$kind.$count" "$@")" -v none="$("$measure" "$work/$kind.0" "$@")" -v n="$count" \
+        'BEGIN { printf "%.1f", (all - none) / n }'
+}
+
+printf '%-9s %7s  %21s  %21s  %21s\n' lines '' 'instructions (C)' 'system calls (C)' 'ns (C)'
+for kind in ping get_info tick comment; do
+    log "$kind" 0 >"$work/$kind.0"
+    for count in 1000 100000; do
+        log "$kind" "$count" >"$work/$kind.$count"
+        "$program" replay <"$work/$kind.$count" >"$work/first"
+        "$work/replay_c" <"$work/$kind.$count" | cmp - "$work/first"
+        printf '%-9s %7s' "$kind" "$count"
+        for measure in instructions calls nanoseconds; do
+            printf '  %10s %10s' "$(per_line $measure $kind $count "$program" replay)" \
+                "($(per_line $measure $kind $count "$work/replay_c"))"
+        done
+        printf '\n'
+    done
+done

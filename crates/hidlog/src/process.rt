@@ -1,0 +1,50 @@
+//! What the program's process gives it.
+ghost use Rattle.std.specs.Prelude.{◌≡◌, ◌<◌, ◌-◌, ◌^◌, ◌⊎◌, IfErr, OnOk, OnErr};
+ghost use Rattle.hidlog.specs.Program.{IsGiven, no_memory as no_memory_text, not_text};
+
+use session_log::{Target, put_all};
+use std::alloc::AllocGlobal;
+use std::env;
+use std::io::{self, ErrorKind};
+use std::rt::Env;
+
+/// Gives a text to the faults. One that can't be written is let go.
+pub fn tell<E: Target>(faults: &mut E, text: &[u8])
+    requires { E.failed faults.old < 2 ^ 64 - 1 }
+    ensures { IsGiven E.taken E.failed (faults.old, faults.new) text.now }
+{
+    let _ = put_all(faults, text);
+}
+
+/// Tells that memory is wanting. The exit status, 2.
+pub fn no_memory<E: Target>(faults: &mut E) -> u8
+    requires { E.failed faults.old < 2 ^ 64 - 1 }
+    ensures status { result ≡ 2 }
+    ensures told { IsGiven E.taken E.failed (faults.old, faults.new) no_memory_text }
+{
+    tell(faults, b"hidlog: no memory\n");
+    2
+}
+
+fn arguments<R: Env + AllocGlobal>(rt: &R) -> io::Result<Vec<String>> {
+    Ok(env::args(rt)?.collect(rt.alloc())?)
+}
+
+/// The program's arguments, the first of them its name. Where one isn't UTF-8, or memory is wanting, that
+/// is told, and an error holds the exit status, 2.
+pub fn words_of<R: Env + AllocGlobal, E: Target>(rt: &R, faults: &mut E) -> Result<Vec<String>, u8>
+    requires { E.failed faults.old < 2 ^ 64 - 1 }
+    ensures silent { OnOk result (faults.new ≡ faults.old) }
+    ensures status { IfErr result (λ code. code ≡ 2) }
+    ensures told { OnErr result (IsGiven E.taken E.failed (faults.old, faults.new) no_memory_text
+        ⊎ IsGiven E.taken E.failed (faults.old, faults.new) not_text) }
+{
+    match arguments(rt) {
+        Ok(words) => Ok(words),
+        Err(error) if error.kind() == ErrorKind::OutOfMemory => Err(no_memory(faults)),
+        Err(_) => {
+            tell(faults, b"hidlog: an argument is not UTF-8\n");
+            Err(2)
+        }
+    }
+}

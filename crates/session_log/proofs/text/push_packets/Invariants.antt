@@ -1,0 +1,15 @@
+use Rattle.std.proofs.Common.{◌≡◌, ◌≤◌, ◌+◌, ◌*◌, ℕ, List, ◌++◌, length, flat_map}
+use Rattle.session_log.specs.Sent.{ArePackets}
+use Rattle.session_log.specs.Text.{sent_text}
+use Rattle.session_log.proofs.text.push_packets.Given as goal
+
+-- what was appended and what is left are the packets
+abbrev pub invariant-loop-packet : goal.invariant-loop-packet
+invariant-loop-packet l =
+    record {
+      room : length l.text.items + 131 * length l.outbox ≤ 17286;
+      done : (first : List (List ℕ)) × (l.fn.outbox ≡ first ++ l.outbox) × ArePackets first × (l.text.items ≡ l.fn.text.items ++ flat_map sent_text first);
+    }
+
+abbrev pub decreases-loop-packet : goal.decreases-loop-packet
+decreases-loop-packet l = length l.outbox

@@ -1,0 +1,31 @@
+-- How the playing of a log ends.
+use Rattle.std.specs.Prelude.{ℕ, Bool, true, false, Result, Ok, Err}
+use Rattle.session_log.specs.declared.fault.LogFault.{LogFault}
+use Rattle.session_log.specs.declared.fault.LogFault.TheVariants.{BadLine, TooLong, Read, Write, TooManyLines}
+
+-- at the log's end, at a faulty line, at a read that failed in this line, or at a write that failed
+pub data Ending : Type 0 where
+  Done : Ending
+  Refused : (fault : LogFault) → Ending
+  Unread : (line : ℕ) → Ending
+  Unwritten : Ending
+
+abbrev pub ended_by : LogFault → Ending
+ended_by (BadLine n) = Refused (BadLine n)
+ended_by (TooLong n) = Refused (TooLong n)
+ended_by TooManyLines = Refused TooManyLines
+ended_by (Read n) = Unread n
+ended_by Write = Unwritten
+
+abbrev pub ending_of : {A : Type 0} → Result A LogFault → Ending
+ending_of (Ok x) = Done
+ending_of (Err fault) = ended_by fault
+
+-- whether a read failed, and whether a write did
+abbrev pub read_fails : Ending → Bool
+read_fails (Unread n) = true
+read_fails _ = false
+
+abbrev pub write_fails : Ending → Bool
+write_fails Unwritten = true
+write_fails _ = false

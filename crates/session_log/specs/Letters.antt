@@ -1,0 +1,38 @@
+-- The first byte of a line says what the line is.
+use Rattle.std.specs.Prelude.{ℕ}
+
+-- `>`, a packet that the host sends
+abbrev pub host_letter : ℕ
+host_letter = 62
+
+-- `<`, a packet that the key sent
+abbrev pub key_letter : ℕ
+key_letter = 60
+
+-- `t`, a tick
+abbrev pub tick_letter : ℕ
+tick_letter = 116
+
+-- `p`, a reply to a test of the user's presence
+abbrev pub presence_letter : ℕ
+presence_letter = 112
+
+-- `k`, a new key pair
+abbrev pub new_key_letter : ℕ
+new_key_letter = 107
+
+-- `s`, a signature
+abbrev pub signature_letter : ℕ
+signature_letter = 115
+
+-- `#`, a remark
+abbrev pub remark_letter : ℕ
+remark_letter = 35
+
+-- `=`, what was counted
+abbrev pub count_letter : ℕ
+count_letter = 61
+
+-- the space between fields
+abbrev pub space : ℕ
+space = 32

@@ -1,0 +1,125 @@
+-- What a line says, computed: `the_grammar_is_read` shows that this is the grammar.
+use Rattle.std.specs.Prelude.{ℕ, ◌+◌, ◌/◌, ◌==◌, ◌&&◌, ◌^◌, nat_le, nat_lt, Bool, List, [], ◌∷◌, length, take, drop, position, codes, decimal, Option, Some, None, Result, Ok, Err, if◌then◌else◌}
+use Rattle.std.specs.Option.{option_map}
+use Rattle.std.specs.Cmp.Lexicographic.{pointwise}
+use Rattle.std.specs.Str.Parse.{digits_value}
+use Rattle.hex.specs.Hex.{decode_sized}
+use Rattle.authn_core.specs.declared.replies.NewKey.{NewKey}
+use Rattle.authn_core.specs.declared.replies.Presence.TheVariants.{Granted, Denied, TimedOut}
+use Rattle.token_session.specs.declared.input.Input.{Input as AnyInput}
+use Rattle.token_session.specs.declared.input.Input.TheVariants.{Packet, Tick, Presence, Key, Signature}
+use Rattle.session_log.specs.declared.line.Line.{Line}
+use Rattle.session_log.specs.declared.line.Line.TheVariants.{Input, Sent, Remark, Count}
+use Rattle.session_log.specs.Letters.{host_letter, key_letter, tick_letter, presence_letter, new_key_letter, signature_letter, remark_letter, count_letter, space}
+use Rattle.session_log.specs.Words.{refusal_word}
+
+-- a value where there is one, and else nothing
+infixl 10 ◌>>=◌
+abbrev pub ◌>>=◌ : {A B : Type 0} → Option A → (A → Option B) → Option B
+None >>= f = None
+(Some x) >>= f = f x
+
+abbrev pub ok_of : {A E : Type 0} → Result A E → Option A
+ok_of (Ok x) = Some x
+ok_of (Err e) = None
+
+-- the parts before and after the first space
+abbrev pub first_field : List ℕ → Option (List ℕ × List ℕ)
+first_field fields = option_map (λ end. (take end fields, drop (end + 1) fields)) (position (λ b. b == space) fields)
+
+-- the number below 2^64 whose decimal text this is
+unfoldable pub moment : List ℕ → Option ℕ
+moment digits =
+    let n = digits_value 10 digits in
+    if nat_lt n (2 ^ 64) && pointwise ◌==◌ (decimal n) digits then Some n else None
+
+-- the bytes that this many pairs of hexadecimal digits write, in either case
+abbrev pub bytes_of : ℕ → List ℕ → Option (List ℕ)
+bytes_of n digits = ok_of (decode_sized digits n)
+
+abbrev pub is_word : List ℕ → List ℕ → Bool
+is_word word field = pointwise ◌==◌ field word
+
+-- `P`
+abbrev pub packet_said : List ℕ → Option AnyInput
+packet_said field = do
+  packet ← bytes_of 64 field
+  Some (Packet (record { 0 = packet }))
+
+-- `granted`, `denied`, `timeout`
+abbrev pub presence_said : List ℕ → Option AnyInput
+presence_said field =
+    if is_word (codes "granted") field then Some (Presence Granted)
+    else if is_word (codes "denied") field then Some (Presence Denied)
+    else if is_word (codes "timeout") field then Some (Presence TimedOut)
+    else None
+
+-- `ID X Y`
+abbrev pub key_of : List ℕ → Option NewKey
+key_of field = do
+  first ← first_field field
+  second ← first_field first.1
+  id ← bytes_of 32 first.0
+  x ← bytes_of 32 second.0
+  y ← bytes_of 32 second.1
+  Some (record { id = id; x = x; y = y })
+
+-- `ID X Y`, `no`
+abbrev pub key_said : List ℕ → Option AnyInput
+key_said field = if is_word refusal_word field then Some (Key None) else (key_of field >>= (λ key. Some (Key (Some key))))
+
+-- 1 to 72 bytes
+abbrev pub signature_of : List ℕ → Option (List ℕ)
+signature_of digits =
+    let n = length digits / 2 in
+    if nat_le 1 n && nat_le n 72 then bytes_of n digits else None
+
+-- `S`, `no`
+abbrev pub signature_said : List ℕ → Option AnyInput
+signature_said field = if is_word refusal_word field then Some (Signature None) else (signature_of field >>= (λ bytes. Some (Signature (Some bytes))))
+
+-- an input but for a tick, by the letter at the line's front
+abbrev pub input_by : ℕ → List ℕ → Option AnyInput
+input_by letter field =
+    if letter == host_letter then packet_said field
+    else if letter == presence_letter then presence_said field
+    else if letter == new_key_letter then key_said field
+    else if letter == signature_letter then signature_said field
+    else None
+
+-- `M` and a field
+abbrev pub input_line : ℕ → List ℕ → Option Line
+input_line letter fields = do
+  parts ← first_field fields
+  at ← moment parts.0
+  input ← input_by letter parts.1
+  Some (Input (record { at = at; input = input }))
+
+-- `M`
+abbrev pub tick_line : List ℕ → Option Line
+tick_line fields = do
+  at ← moment fields
+  Some (Input (record { at = at; input = Tick }))
+
+-- `P`
+abbrev pub sent_line : List ℕ → Option Line
+sent_line fields = do
+  packet ← bytes_of 64 fields
+  Some (Sent (record { 0 = packet }))
+
+-- by the letter at the line's front
+abbrev pub said_by : ℕ → List ℕ → Option Line
+said_by letter fields =
+    if letter == key_letter then sent_line fields
+    else if letter == tick_letter then tick_line fields
+    else input_line letter fields
+
+-- what the line says, if it is a log line
+abbrev pub said : List ℕ → Option Line
+said [] = Some Remark
+said (first ∷ []) = if first == remark_letter then Some Remark else if first == count_letter then Some Count else None
+said (first ∷ second ∷ fields) =
+    if first == remark_letter then Some Remark
+    else if first == count_letter then Some Count
+    else if second == space then said_by first fields
+    else None

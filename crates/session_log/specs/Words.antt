@@ -1,0 +1,13 @@
+-- The words of the caller's replies.
+use Rattle.std.specs.Prelude.{ℕ, List, codes}
+use Rattle.authn_core.specs.declared.replies.Presence.{Presence}
+use Rattle.authn_core.specs.declared.replies.Presence.TheVariants.{Granted, Denied, TimedOut}
+
+abbrev pub presence_word : Presence → List ℕ
+presence_word Granted = codes "granted"
+presence_word Denied = codes "denied"
+presence_word TimedOut = codes "timeout"
+
+-- no key was made, or nothing was signed
+abbrev pub refusal_word : List ℕ
+refusal_word = codes "no"
