@@ -40,6 +40,7 @@ fn is_same(alloc: Global, folder: &str, log: &[u8]) -> bool {
         "capacity_1" => replayed::<1>(alloc, log),
         "capacity_2" => replayed::<2>(alloc, log),
         "capacity_64" => replayed::<64>(alloc, log),
+        "capacity_256" => replayed::<256>(alloc, log),
         _ => None,
     };
     text.is_some_and(|text| text.as_slice() == log)
