@@ -46,8 +46,7 @@ fn main(rt: HostRuntime) -> io::Result<()> {
             steps = steps.saturating_add(steps_of(bytes[1] != 0, &bytes[2..]));
         }
     }
-    println!(rt; "{steps}");
-    Ok(())
+    println!(rt; "{steps}")
 }
 PROGRAM
 python3 - "$work" <<'MESSAGES'
@@ -80,9 +79,7 @@ for name, message in messages.items():
                 file.write(bytes([rounds, way]) + message)
 MESSAGES
 cd "$work/crates/requests_bench"
-for name in makeCredential getAssertion "64 descriptors"; do
-    echo "$name: steps of 250 rounds $(rt run < "$work/$name.0.250" 2> /dev/null | tail -n 1), of the checks alone $(rt run < "$work/$name.1.250" 2> /dev/null | tail -n 1)"
-done
+rt run < "$work/makeCredential.0.0" > "$work/answer"
 program=$(find out -maxdepth 3 -type f -executable -name 'requests_bench*' | head -n 1)
 instructions() {
     valgrind --tool=callgrind --callgrind-out-file="$work/callgrind" "$program" < "$1" 2>&1 > "$work/answer" |
@@ -91,5 +88,6 @@ instructions() {
 for name in makeCredential getAssertion "64 descriptors"; do
     read=$((($(instructions "$work/$name.0.250") - $(instructions "$work/$name.0.0")) / 250))
     check=$((($(instructions "$work/$name.1.250") - $(instructions "$work/$name.1.0")) / 250))
-    echo "$name: $read instructions to read, $check to check, $((100 * read / check)) %"
+    steps=$(($("$program" < "$work/$name.0.250") / 250))
+    echo "$name: $read instructions to read in $steps steps, $check to check, $((100 * read / check)) %"
 done
