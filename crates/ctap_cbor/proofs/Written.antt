@@ -1,13 +1,13 @@
 -- From one item or pair that is written to the next, by what is left to be written.
-use Rattle.std.proofs.Common.{◌≡◌, ℕ, zero, suc, ◌+◌, ◌-◌, ◌<◌, ◌≤◌, ◌^◌, true, false, List, [], ◌∷◌, ◌++◌, length, get_or, take, drop, Option, Some, None, refl, arith, sym, ap, subst, ◌∙◌, append_assoc, length-append, length-drop}
-use Rattle.std.specs.Prelude.{if◌then◌else◌}
+use Rattle.std.proofs.Common.{◌≡◌, ℕ, zero, suc, ◌+◌, ◌-◌, ◌<◌, ◌≤◌, ◌^◌, true, false, List, [], ◌∷◌, ◌++◌, length, get_or, take, drop, Option, Some, None, Result, Ok, Err, refl, arith, sym, ap, subst, ◌∙◌, append_assoc, length-append, length-drop}
+use Rattle.std.specs.Prelude.{if◌then◌else◌, IfErr}
 use Rattle.std.specs.Option.{ForSome}
 use Rattle.std.proofs.Math.Seq.{take-length}
 use Rattle.std.proofs.lemmas.Bool.{ne_eqb}
 use Rattle.std.proofs.lemmas.List.{append-nil, at_drop_more, drop_at, take-append-le, drop-append-le}
 use Rattle.ctap_cbor.specs.declared.encoding.Span.{Span}
 use Rattle.ctap_cbor.specs.declared.fault.Kind.{Kind}
-use Rattle.ctap_cbor.specs.declared.fault.Kind.TheVariants.{TooDeep, KeyOrder}
+use Rattle.ctap_cbor.specs.declared.fault.Kind.TheVariants.{TooDeep, KeyOrder, Memory}
 use Rattle.ctap_cbor.specs.declared.value.Value.{Value}
 use Rattle.ctap_cbor.specs.Tree.{Tree, Array, Map, Trees, no_trees, tree, Pairs, no_pairs, pair, depth_all, depth_pairs, count, count_pairs}
 use Rattle.ctap_cbor.specs.Head.{head}
@@ -15,7 +15,7 @@ use Rattle.ctap_cbor.specs.Grammar.{text, texts, pair_texts, Rises, AreLawful, A
 use Rattle.ctap_cbor.specs.Faults.{AKey, is_above}
 use Rattle.ctap_cbor.specs.Refusals.{or_else, own_refusal, order_refusal, refusal, refusal_all, refusal_pairs}
 use Rattle.ctap_cbor.specs.Values.{tree_of, trees_of, pairs_of}
-use Rattle.ctap_cbor.specs.Writes.{Extends, Writes, WritesAll, WritesPairs, WritesKey, GivesUp, text_at, last_text}
+use Rattle.ctap_cbor.specs.Writes.{Extends, Writes, WritesAll, WritesPairs, WritesKey, GivesUp, IsShort, text_at, last_text}
 use Rattle.ctap_cbor.proofs.Items.{above_from}
 
 nonzero : (n : ℕ) → (n ≡ 0 → ⊥) → 0 < n
@@ -220,3 +220,45 @@ map_gives_up room n vs old middle new kind some e g = (
   λ differs. ap (λ b. if b then Some TooDeep else refusal_pairs (room - 1) None (pairs_of vs)) (ne_eqb room 0 some) ∙ g.0 differs,
   goes_on old middle new (head 5 n, e) g.1,
 )
+
+-- ---- where the capacity was short
+
+-- of a piece, and so of all that was to be written
+item_short : (room : ℕ) (all rest : Trees) (t : Tree) (start a : List ℕ) (c d : ℕ) → ItemsLeft room all (tree t rest) start a → c ≤ d → IsShort d a (text t) → IsShort c start (texts all)
+item_short room all rest t start a c d h le short =
+    omega (arith, ap length h.spelled, length-append a (text t ++ texts rest), length-append (text t) (texts rest), length-append start (texts all))
+
+pub item_short_here : (room : ℕ) (vs : List Value) (i : ℕ) (v : Value) (start a : List ℕ) (c d : ℕ) → i < length vs → v ≡ get_or vs i v → ItemsLeft room (trees_of vs) (trees_of (drop i vs)) start a → c ≤ d → IsShort d a (text (tree_of v)) → IsShort c start (texts (trees_of vs))
+item_short_here room vs i v start a c d lt is h le short = item_short room (trees_of vs) (trees_of (drop (i + 1) vs)) (tree_of v) start a c d (items_here room vs i v start a lt is h) le short
+
+key_short : (room : ℕ) (all rest : Pairs) (k v : Tree) (last : Option (List ℕ)) (start a : List ℕ) (c d : ℕ) → PairsLeft room all (pair k v rest) last start a → c ≤ d → IsShort d a (text k) → IsShort c start (pair_texts all)
+key_short room all rest k v last start a c d h le short =
+    omega (arith, ap length h.spelled, length-append a (text k ++ (text v ++ pair_texts rest)), length-append (text k) (text v ++ pair_texts rest), length-append start (pair_texts all))
+
+pub key_short_here : (room : ℕ) (vs : List (Value × Value)) (i : ℕ) (v : Value × Value) (last : Option (List ℕ)) (start a : List ℕ) (c d : ℕ) → i < length vs → v ≡ get_or vs i v → PairsLeft room (pairs_of vs) (pairs_of (drop i vs)) last start a → c ≤ d → IsShort d a (text (tree_of v.0)) → IsShort c start (pair_texts (pairs_of vs))
+key_short_here room vs i v last start a c d lt is h le short = key_short room (pairs_of vs) (pairs_of (drop (i + 1) vs)) (tree_of v.0) (tree_of v.1) last start a c d (pairs_here room vs i v last start a lt is h) le short
+
+value_short : (room : ℕ) (all rest : Pairs) (k v : Tree) (last : Option (List ℕ)) (start a b : List ℕ) (c d : ℕ) → PairsLeft room all (pair k v rest) last start a → b ≡ a ++ text k → c ≤ d → IsShort d b (text v) → IsShort c start (pair_texts all)
+value_short room all rest k v last start a b c d h e le short =
+    omega (arith, ap length e, length-append a (text k), ap length h.spelled, length-append a (text k ++ (text v ++ pair_texts rest)), length-append (text k) (text v ++ pair_texts rest), length-append (text v) (pair_texts rest), length-append start (pair_texts all))
+
+pub value_short_here : (room : ℕ) (vs : List (Value × Value)) (i : ℕ) (v : Value × Value) (last : Option (List ℕ)) (start a b : List ℕ) (c d : ℕ) → i < length vs → v ≡ get_or vs i v → PairsLeft room (pairs_of vs) (pairs_of (drop i vs)) last start a → b ≡ a ++ text (tree_of v.0) → c ≤ d → IsShort d b (text (tree_of v.1)) → IsShort c start (pair_texts (pairs_of vs))
+value_short_here room vs i v last start a b c d lt is h e le short = value_short room (pairs_of vs) (pairs_of (drop (i + 1) vs)) (tree_of v.0) (tree_of v.1) last start a b c d (pairs_here room vs i v last start a lt is h) e le short
+
+-- of a head, and behind it
+pub front_short : (c : ℕ) (old head rest : List ℕ) → IsShort c old head → IsShort c old (head ++ rest)
+front_short c old head rest short = omega (arith, length-append head rest)
+
+pub behind_short : (c d : ℕ) (old middle head rest : List ℕ) → middle ≡ old ++ head → c ≤ d → IsShort d middle rest → IsShort c old (head ++ rest)
+behind_short c d old middle head rest e le short = omega (arith, ap length e, length-append old head, length-append head rest)
+
+pub array_short : (c n : ℕ) (vs : List Value) (old : List ℕ) → n ≡ length vs → IsShort c old (head 4 n ++ texts (trees_of vs)) → IsShort c old (text (Array (trees_of vs)))
+array_short c n vs old e short = subst (λ m. IsShort c old (head 4 m ++ texts (trees_of vs))) (e ∙ sym (count_trees vs)) short
+
+pub map_short : (c n : ℕ) (vs : List (Value × Value)) (old : List ℕ) → n ≡ length vs → IsShort c old (head 5 n ++ pair_texts (pairs_of vs)) → IsShort c old (text (Map (pairs_of vs)))
+map_short c n vs old e short = subst (λ m. IsShort c old (head 5 m ++ pair_texts (pairs_of vs))) (e ∙ sym (count_both vs)) short
+
+-- whatever the refusal is
+pub if_memory : (r : Result (Unit {0}) Kind) (Q : Type 0) → Q → IfErr r (λ k. k ≡ Memory → Q)
+if_memory (Ok u) Q q = tt
+if_memory (Err k) Q q = λ _. q

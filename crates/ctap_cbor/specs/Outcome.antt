@@ -40,15 +40,11 @@ abbrev pub CanHold : Open → List Open → Type 0
 CanHold (AtKey total done) (o ∷ os) = ⊥
 CanHold _ _ = Unit {0}
 
--- what is due behind the open arrays and maps, from the outermost inward
+-- what is due behind what is inside of it
 abbrev pub due_in : Open → Due
 due_in (InArray total done) = AnItem
 due_in (AtKey total done) = AKey (last_key None done)
 due_in (AtValue total done key) = AnItem
-
-abbrev pub due_after : Due → List Open → Due
-due_after due [] = due
-due_after due (o ∷ os) = due_after (due_in o) os
 
 -- the arrays and maps that are open, where so many may be, and the fault of the item behind them
 abbrev pub HaltsIn : ℕ → Due → List Open → Kind → List ℕ → Type 0

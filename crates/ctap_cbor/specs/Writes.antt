@@ -1,5 +1,5 @@
 -- What an encoder does with its vector.
-use Rattle.std.specs.Prelude.{◌≡◌, ◌≢◌, ℕ, ◌-◌, ◌≤◌, List, ◌++◌, take, drop, Option, Some, None}
+use Rattle.std.specs.Prelude.{◌≡◌, ◌≢◌, ℕ, ◌+◌, ◌-◌, ◌<◌, ◌≤◌, List, ◌++◌, length, take, drop, Option, Some, None}
 use Rattle.ctap_cbor.specs.declared.fault.Kind.{Kind}
 use Rattle.ctap_cbor.specs.declared.fault.Kind.TheVariants.{Memory}
 use Rattle.ctap_cbor.specs.declared.encoding.Span.{Span}
@@ -10,6 +10,10 @@ use Rattle.ctap_cbor.specs.Refusals.{refusal, refusal_all, refusal_pairs, own_re
 -- a list goes on
 abbrev pub Extends : List ℕ → List ℕ → Type 0
 Extends old new = (more : List ℕ) × (new ≡ old ++ more)
+
+-- the vector's capacity was short of these bytes more
+abbrev pub IsShort : (capacity : ℕ) (old more : List ℕ) → Type 0
+IsShort capacity old more = capacity < length old + length more
 
 -- a scalar was written
 pub record WritesScalar (s : Scalar) (old new : List ℕ) : Type 0 where

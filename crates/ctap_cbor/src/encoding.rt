@@ -1,14 +1,14 @@
 //! From an owned value to its canonical text.
 
-ghost use Rattle.std.specs.Prelude.{◌≡◌, ◌≢◌, ◌++◌, ◌∷◌, [], ◌<◌, ◌≤◌, length, drop, Some, OnOk, OnErr, IfErr, MatchResult};
+ghost use Rattle.std.specs.Prelude.{◌≡◌, ◌≢◌, ◌++◌, ◌∷◌, [], ◌<◌, ◌≤◌, length, drop, Some, Err, OnOk, OnErr, IfErr, MatchResult, vec_capacity};
 ghost use Rattle.std.specs.Option.{ForSome};
 ghost use Rattle.ctap_cbor.specs.Head.{head};
 ghost use Rattle.ctap_cbor.specs.Tree as tree;
-ghost use Rattle.ctap_cbor.specs.Grammar.{text, IsCanonical};
+ghost use Rattle.ctap_cbor.specs.Grammar.{scalar_text, text, texts, pair_texts, IsCanonical};
 ghost use Rattle.ctap_cbor.specs.Faults.{AKey, is_above};
 ghost use Rattle.ctap_cbor.specs.Values.{tree_of, trees_of, pairs_of};
 ghost use Rattle.ctap_cbor.specs.Refusals.{refusal, refusal_all, refusal_pairs, own_refusal, range_refusal};
-ghost use Rattle.ctap_cbor.specs.Writes.{Writes, WritesAll, WritesPairs, WritesKey, WritesScalar, GivesUp, Extends, last_text};
+ghost use Rattle.ctap_cbor.specs.Writes.{Writes, WritesAll, WritesPairs, WritesKey, WritesScalar, GivesUp, Extends, IsShort, last_text};
 
 use crate::fault::Kind;
 use crate::laws::known_bytes;
@@ -47,13 +47,16 @@ impl<T: Drop> From<AllocFailed<T>> for Kind {
 ///
 /// A value that has none is refused with the kind that is met first as it is written: for a key its type (5), then an
 /// integer out of range (8), then its order in the map (6), and then its value; for an array or a map a fifth level
-/// (4), and then what is inside; for another integer its range (8). Where memory is refused the kind is 10. After a
-/// refusal the vector holds what it held before.
+/// (4), and then what is inside; for another integer its range (8). Where memory is refused the kind is 10, and that only
+/// where the vector's capacity was short of the encoding. After a refusal the vector holds what it held before.
 pub fn encode_value(value: &Value, out: &mut Vec<u8>) -> Result<(), Kind>
     ensures ok { OnOk result (IsCanonical (tree_of value.now) (text (tree_of value.now))) }
     ensures appends { OnOk result (out.new.items ≡ out.old.items ++ text (tree_of value.now)) }
     ensures err { IfErr result (λ k. k ≢ Kind.Memory → refusal 4 (tree_of value.now) ≡ Some k) }
     ensures unchanged { OnErr result (out.new.items ≡ out.old.items) }
+
+    // Memory is refused only where the vector would have to grow.
+    ensures memory { result ≡ Err Kind.Memory → IsShort (vec_capacity out.old) out.old.items (text (tree_of value.now)) }
 {
     let len = out.len();
     let written = write_value(value, out, 4);
@@ -66,9 +69,11 @@ pub fn encode_value(value: &Value, out: &mut Vec<u8>) -> Result<(), Kind>
 /// Writes a value that may hold so many levels of arrays and maps.
 #[cycle(write)]
 fn write_value(value: &Value, out: &mut Vec<u8>, room: u8) -> Result<(), Kind>
-    ensures { MatchResult result
+    ensures writes { MatchResult result
         (λ _. Writes room (tree_of value.now) out.old.items out.new.items)
         (λ k. GivesUp k (refusal room (tree_of value.now)) out.old.items out.new.items) }
+    ensures grows { vec_capacity out.old ≤ vec_capacity out.new }
+    ensures short { IfErr result (λ k. k ≡ Kind.Memory → IsShort (vec_capacity out.old) out.old.items (text (tree_of value.now))) }
 {
     match value {
         Value::Int(i) => write_int(*i, out),
@@ -84,9 +89,11 @@ fn write_value(value: &Value, out: &mut Vec<u8>, room: u8) -> Result<(), Kind>
 /// Writes an array: its head and its items.
 #[cycle(write)]
 fn write_array(items: &[Value], out: &mut Vec<u8>, room: u8) -> Result<(), Kind>
-    ensures { MatchResult result
+    ensures writes { MatchResult result
         (λ _. Writes room (tree.Array (trees_of items.now)) out.old.items out.new.items)
         (λ k. GivesUp k (refusal room (tree.Array (trees_of items.now))) out.old.items out.new.items) }
+    ensures grows { vec_capacity out.old ≤ vec_capacity out.new }
+    ensures short { IfErr result (λ k. k ≡ Kind.Memory → IsShort (vec_capacity out.old) out.old.items (text (tree.Array (trees_of items.now)))) }
 {
     if room == 0 {
         return Err(Kind::TooDeep);
@@ -98,9 +105,11 @@ fn write_array(items: &[Value], out: &mut Vec<u8>, room: u8) -> Result<(), Kind>
 /// Writes a map: its head and its pairs.
 #[cycle(write)]
 fn write_map(pairs: &[(Value, Value)], out: &mut Vec<u8>, room: u8) -> Result<(), Kind>
-    ensures { MatchResult result
+    ensures writes { MatchResult result
         (λ _. Writes room (tree.Map (pairs_of pairs.now)) out.old.items out.new.items)
         (λ k. GivesUp k (refusal room (tree.Map (pairs_of pairs.now))) out.old.items out.new.items) }
+    ensures grows { vec_capacity out.old ≤ vec_capacity out.new }
+    ensures short { IfErr result (λ k. k ≡ Kind.Memory → IsShort (vec_capacity out.old) out.old.items (text (tree.Map (pairs_of pairs.now)))) }
 {
     if room == 0 {
         return Err(Kind::TooDeep);
@@ -112,9 +121,11 @@ fn write_map(pairs: &[(Value, Value)], out: &mut Vec<u8>, room: u8) -> Result<()
 /// Writes the items of an array.
 #[cycle(write)]
 fn write_items(items: &[Value], out: &mut Vec<u8>, room: u8) -> Result<(), Kind>
-    ensures { MatchResult result
+    ensures writes { MatchResult result
         (λ _. WritesAll room (trees_of items.now) out.old.items out.new.items)
         (λ k. GivesUp k (refusal_all room (trees_of items.now)) out.old.items out.new.items) }
+    ensures grows { vec_capacity out.old ≤ vec_capacity out.new }
+    ensures short { IfErr result (λ k. k ≡ Kind.Memory → IsShort (vec_capacity out.old) out.old.items (texts (trees_of items.now))) }
 {
     for item in items {
         write_value(item, out, room)?;
@@ -125,9 +136,11 @@ fn write_items(items: &[Value], out: &mut Vec<u8>, room: u8) -> Result<(), Kind>
 /// Writes the pairs of a map, whose keys have to rise.
 #[cycle(write)]
 fn write_pairs(pairs: &[(Value, Value)], out: &mut Vec<u8>, room: u8) -> Result<(), Kind>
-    ensures { MatchResult result
+    ensures writes { MatchResult result
         (λ _. WritesPairs room (pairs_of pairs.now) out.old.items out.new.items)
         (λ k. GivesUp k (refusal_pairs room None (pairs_of pairs.now)) out.old.items out.new.items) }
+    ensures grows { vec_capacity out.old ≤ vec_capacity out.new }
+    ensures short { IfErr result (λ k. k ≡ Kind.Memory → IsShort (vec_capacity out.old) out.old.items (pair_texts (pairs_of pairs.now))) }
 {
     let mut previous = None;
     for pair in pairs {
@@ -147,9 +160,11 @@ fn write_pairs(pairs: &[(Value, Value)], out: &mut Vec<u8>, room: u8) -> Result<
 
 /// Writes a key of a map, whose order is left out.
 fn write_key(key: &Value, out: &mut Vec<u8>) -> Result<(), Kind>
-    ensures { MatchResult result
+    ensures writes { MatchResult result
         (λ _. WritesKey (tree_of key.now) out.old.items out.new.items)
         (λ k. GivesUp k (own_refusal (tree_of key.now)) out.old.items out.new.items) }
+    ensures grows { vec_capacity out.old ≤ vec_capacity out.new }
+    ensures short { IfErr result (λ k. k ≡ Kind.Memory → IsShort (vec_capacity out.old) out.old.items (text (tree_of key.now))) }
 {
     match key {
         Value::Int(i) => write_int(*i, out),
@@ -173,9 +188,11 @@ fn is_above_last(previous: Option<Span>, out: &[u8], start: usize) -> bool
 
 /// Writes an integer.
 fn write_int(value: i128, out: &mut Vec<u8>) -> Result<(), Kind>
-    ensures { MatchResult result
+    ensures writes { MatchResult result
         (λ _. WritesScalar (tree.Int value) out.old.items out.new.items)
         (λ k. GivesUp k (range_refusal (tree.Int value)) out.old.items out.new.items) }
+    ensures grows { vec_capacity out.old ≤ vec_capacity out.new }
+    ensures short { IfErr result (λ k. k ≡ Kind.Memory → IsShort (vec_capacity out.old) out.old.items (scalar_text (tree.Int value))) }
 {
     if !(-0x1_0000_0000_0000_0000 <= value && value <= 0xffff_ffff_ffff_ffff) {
         return Err(Kind::Unsupported);
@@ -190,9 +207,11 @@ fn write_int(value: i128, out: &mut Vec<u8>) -> Result<(), Kind>
 
 /// Writes a byte string.
 fn write_bytes(bytes: &[u8], out: &mut Vec<u8>) -> Result<(), Kind>
-    ensures { MatchResult result
+    ensures writes { MatchResult result
         (λ _. WritesScalar (tree.Bytes bytes.now) out.old.items out.new.items)
         (λ k. (k ≡ Kind.Memory) × Extends out.old.items out.new.items) }
+    ensures grows { vec_capacity out.old ≤ vec_capacity out.new }
+    ensures short { IfErr result (λ k. k ≡ Kind.Memory → IsShort (vec_capacity out.old) out.old.items (scalar_text (tree.Bytes bytes.now))) }
 {
     known_bytes(bytes);
     write_head(2, bytes.len() as u64, out)?;
@@ -202,9 +221,11 @@ fn write_bytes(bytes: &[u8], out: &mut Vec<u8>) -> Result<(), Kind>
 
 /// Writes a text.
 fn write_text(text: &str, out: &mut Vec<u8>) -> Result<(), Kind>
-    ensures { MatchResult result
+    ensures writes { MatchResult result
         (λ _. WritesScalar (tree.Text text.now) out.old.items out.new.items)
         (λ k. (k ≡ Kind.Memory) × Extends out.old.items out.new.items) }
+    ensures grows { vec_capacity out.old ≤ vec_capacity out.new }
+    ensures short { IfErr result (λ k. k ≡ Kind.Memory → IsShort (vec_capacity out.old) out.old.items (scalar_text (tree.Text text.now))) }
 {
     write_head(3, text.len() as u64, out)?;
     out.extend_from_slice(text.as_bytes())?;
@@ -216,6 +237,8 @@ fn write_head(major: u8, argument: u64, out: &mut Vec<u8>) -> Result<(), AllocEr
     requires { major < 8 }
     ensures ok { OnOk result (out.new.items ≡ out.old.items ++ head major argument) }
     ensures err { OnErr result (out.new.items ≡ out.old.items) }
+    ensures grows { vec_capacity out.old ≤ vec_capacity out.new }
+    ensures short { OnErr result (IsShort (vec_capacity out.old) out.old.items (head major argument)) }
 {
     let mut buffer = [0u8; 9];
     let len = head_into(major, argument, &mut buffer);
@@ -224,9 +247,11 @@ fn write_head(major: u8, argument: u64, out: &mut Vec<u8>) -> Result<(), AllocEr
 
 /// Writes one byte.
 fn write_byte(byte: u8, out: &mut Vec<u8>) -> Result<(), Kind>
-    ensures { MatchResult result
+    ensures writes { MatchResult result
         (λ _. out.new.items ≡ out.old.items ++ byte ∷ [])
         (λ k. (k ≡ Kind.Memory) × Extends out.old.items out.new.items) }
+    ensures grows { vec_capacity out.old ≤ vec_capacity out.new }
+    ensures short { IfErr result (λ k. k ≡ Kind.Memory → IsShort (vec_capacity out.old) out.old.items (byte ∷ [])) }
 {
     out.push(byte)?;
     Ok(())

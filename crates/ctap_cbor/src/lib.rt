@@ -3,12 +3,28 @@
 //! - [`check`] tells whether bytes are the canonical encoding of one data item, and if not, where the first
 //!   faulty item begins and which [`Kind`] of fault it has. It also tells how many steps reading took.
 //! - [`Cursor`] reads item by item: heads with the bytes of strings, map keys with their order, whole items. It
-//!   lends strings from the message, and keeps the count of steps.
-//! - [`Sink`] writes heads and items in their shortest form.
+//!   lends strings from the message, and keeps the count of steps. [`read_map`] and [`read_array`] hand the members
+//!   of a map and the entries of an array to what collects them.
+//! - [`Sink`] writes heads and items in their shortest form into a lent buffer.
+//! - [`decode_value`] and [`encode_value`] read and write a [`Value`], an owned tree.
 //! - [`laws`] has what holds of the encoding itself, as that no encoding begins another.
 //!
-//! Nothing here takes memory. Nesting ends at four levels, and a count that a head declares costs nothing before
-//! its items are there.
+//! ```text
+//! let canonical = check(message).result.is_ok();
+//! let mut cursor = Cursor::new(message); //          {1: "usb", 2: [true]}
+//! let head = cursor.item(1)?; //                     Item::Map(2)
+//! let first = cursor.key(None)?; //                  Item::Int(1), by its bytes too
+//! cursor.skip(2)?; //                                "usb"
+//! let second = cursor.key(Some(first.bytes))?; //    has to stand above the first
+//! let mut sink = Sink::new(&mut buffer);
+//! sink.array(1);
+//! sink.flag(true); //                                [true]
+//! let value = decode_value(alloc, message)?;
+//! encode_value(&value, &mut bytes)?; //              appends the message again
+//! ```
+//!
+//! Only `decode_value` and `encode_value` take memory: the first as items come, the second as its vector grows. Nesting
+//! ends at four levels, and a count that a head declares costs nothing before its items are there.
 //!
 //! What is canonical is stated in `specs/Grammar.antt`, which fault is the first in `specs/Faults.antt` and
 //! `specs/Outcome.antt`, and what each call of a cursor does in `specs/Reading.antt`.

@@ -189,6 +189,49 @@ fn passes_whole_items(rt: HostRuntime) -> Result<(), Fail> {
     Ok(())
 }
 
+/// How many members or entries there are.
+#[derive(Drop)]
+struct Counted {
+    count: u64,
+}
+
+impl<'a> Members<'a> for Counted {
+    ghost Holds = { λ _ _. Unit {0} };
+
+    fn member(&mut self, cursor: &mut Cursor<'a>, _key: Item<'a>, level: u8) -> Result<(), Fault> {
+        self.count = self.count.saturating_add(1);
+        cursor.skip(level)
+    }
+}
+
+impl<'a> Entries<'a> for Counted {
+    ghost HoldsAll = { λ _ _. Unit {0} };
+
+    fn entry(&mut self, cursor: &mut Cursor<'a>, level: u8) -> Result<(), Fault> {
+        self.count = self.count.saturating_add(1);
+        cursor.skip(level)
+    }
+}
+
+#[test]
+fn collects_members_and_entries(rt: HostRuntime) -> Result<(), Fail> {
+    let mut cursor = Cursor::new(b"\x82\xa2\x01\x41\x07\x02\x80\x82\x00\xa0\x00");
+    cursor.item(1)?;
+    let mut members = Counted { count: 0 };
+    assert!(rt; read_map(&mut members, &mut cursor, 2)?);
+    assert_eq!(rt; members.count, 2);
+    assert!(rt; !read_map(&mut members, &mut cursor, 2)?);
+    assert_eq!(rt; cursor.place(), 10);
+    cursor.rewind();
+    let mut entries = Counted { count: 0 };
+    assert!(rt; read_array(&mut entries, &mut cursor, 1)?);
+    assert_eq!(rt; entries.count, 2);
+    assert!(rt; !read_array(&mut entries, &mut cursor, 1)?);
+    assert_eq!(rt; entries.count, 2);
+    cursor.end()?;
+    Ok(())
+}
+
 /// Behind a fault the cursor stands behind what counts as passed.
 #[test]
 fn stands_behind_faults(rt: HostRuntime) {

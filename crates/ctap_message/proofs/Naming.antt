@@ -70,8 +70,7 @@ pub gives_some : OneTreePasses → (r s s' : Reading) (n m : ℕ) (d : Bool × D
 unfolding Onward
 gives_some law r s s' n m d id h lt k e there = λ ts l.
     let g = h ts l in
-    let o = onward law r s s' m ts g.0 g.1 d g.2 lt k in
-    (
+    let o = onward law r s s' m ts g.0 g.1 d g.2 lt k in (
       o.0,
       o.1,
       o.2,

@@ -42,7 +42,6 @@ info : info_answer (replicate 16 0x00)
 unfolding head info_tree info_answer
 info = refl
 
-
 -- ---- requests with parameters, and the steps of reading them
 
 -- a message of so many bytes asks this, or is refused, in so many steps

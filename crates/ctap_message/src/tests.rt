@@ -192,6 +192,225 @@ fn checks_stand_in_their_order(rt: HostRuntime) {
     assert_eq!(rt; told(b"\x01\x00"), (0x11, 4));
 }
 
+/// The status that a makeCredential of these members comes to.
+fn make_told(rt: &impl Abort, parts: &[&[u8]]) -> u8 {
+    told_of(rt, 0xa0 + (parts.len() % 16) as u8, parts).0
+}
+
+#[test]
+fn another_algorithm_is_refused(rt: HostRuntime) {
+    let parameters = b"\x04\x81\xa2\x63alg\x39\x01\x00\x64type\x6apublic-key";
+    assert_eq!(rt;
+        make_told(&rt, &[HASH, RP, USER, parameters, OPTIONS]),
+        0x26
+    );
+    let another_type = b"\x04\x81\xa2\x63alg\x26\x64type\x66public";
+    assert_eq!(rt; make_told(&rt, &[HASH, RP, USER, another_type]), 0x26);
+}
+
+#[test]
+fn a_required_parameter_of_another_type_is_refused(rt: HostRuntime) {
+    let hashes: [&[u8]; 2] = [b"\x01\x61h", b"\x01\x01"];
+    for hash in hashes.iter() {
+        assert_eq!(rt; make_told(&rt, &[hash, RP, USER, PARAMETERS]), 0x11);
+    }
+    let rps: [&[u8]; 3] = [
+        b"\x02\x61b",
+        b"\x02\xa1\x62id\x41b",
+        b"\x02\xa2\x62id\x61b\x64name\x00",
+    ];
+    for rp in rps.iter() {
+        assert_eq!(rt; make_told(&rt, &[HASH, rp, USER, PARAMETERS]), 0x11);
+    }
+    let users: [&[u8]; 4] = [
+        b"\x03\x41\x01",
+        b"\x03\xa1\x62id\x611",
+        b"\x03\xa2\x62id\x41\x01\x64name\x41n",
+        b"\x03\xa2\x62id\x41\x01\x6bdisplayName\xf6",
+    ];
+    for user in users.iter() {
+        assert_eq!(rt; make_told(&rt, &[HASH, RP, user, PARAMETERS]), 0x11);
+    }
+    let parameters: [&[u8]; 4] = [
+        b"\x04\xa2\x63alg\x26\x64type\x6apublic-key",
+        b"\x04\x81\x26",
+        b"\x04\x81\xa2\x63alg\x61a\x64type\x6apublic-key",
+        b"\x04\x81\xa2\x63alg\x26\x64type\x4apublic-key",
+    ];
+    for parameters in parameters.iter() {
+        assert_eq!(rt; make_told(&rt, &[HASH, RP, USER, parameters]), 0x11);
+    }
+}
+
+/// Lists of descriptors of other types.
+fn wrong_lists<'a>() -> [&'a [u8]; 6] {
+    [
+        b"\xa0",
+        b"\x81\x80",
+        b"\x81\xa2\x62id\x61i\x64type\x6apublic-key",
+        b"\x81\xa2\x62id\x41\x09\x64type\x00",
+        b"\x81\xa3\x62id\x41\x09\x64type\x6apublic-key\x6atransports\x63usb",
+        b"\x81\xa3\x62id\x41\x09\x64type\x6apublic-key\x6atransports\x82\x63usb\x01",
+    ]
+}
+
+/// Options of other types.
+fn wrong_options<'a>() -> [&'a [u8]; 4] {
+    [
+        b"\x80",
+        b"\xa1\x62rk\x01",
+        b"\xa1\x62up\xf6",
+        b"\xa1\x62uv\x60",
+    ]
+}
+
+#[test]
+fn an_optional_parameter_of_another_type_is_refused(rt: HostRuntime) {
+    for list in wrong_lists().iter() {
+        let member = joined(&rt, &[b"\x05", list]);
+        assert_eq!(rt;
+            make_told(&rt, &[HASH, RP, USER, PARAMETERS, member.as_slice()]),
+            0x11
+        );
+    }
+    for options in wrong_options().iter() {
+        let member = joined(&rt, &[b"\x07", options]);
+        assert_eq!(rt;
+            make_told(&rt, &[HASH, RP, USER, PARAMETERS, member.as_slice()]),
+            0x11
+        );
+    }
+    let members: [&[u8]; 4] = [b"\x06\x80", b"\x08\x60", b"\x09\x20", b"\x0a\x20"];
+    for member in members.iter() {
+        assert_eq!(rt; make_told(&rt, &[HASH, RP, USER, PARAMETERS, member]), 0x11);
+    }
+}
+
+#[test]
+fn a_parameter_that_is_not_there_is_missed(rt: HostRuntime) {
+    assert_eq!(rt; make_told(&rt, &[RP, USER, PARAMETERS]), 0x14);
+    assert_eq!(rt; make_told(&rt, &[HASH, USER, PARAMETERS]), 0x14);
+    assert_eq!(rt; make_told(&rt, &[HASH, RP, PARAMETERS]), 0x14);
+    assert_eq!(rt; make_told(&rt, &[HASH, RP, USER]), 0x14);
+    assert_eq!(rt;
+        make_told(&rt, &[HASH, b"\x02\xa0", USER, PARAMETERS]),
+        0x14
+    );
+    assert_eq!(rt; make_told(&rt, &[HASH, RP, b"\x03\xa0", PARAMETERS]), 0x14);
+    let parameters: [&[u8]; 2] = [
+        b"\x04\x81\xa1\x63alg\x26",
+        b"\x04\x81\xa1\x64type\x6apublic-key",
+    ];
+    for parameters in parameters.iter() {
+        assert_eq!(rt; make_told(&rt, &[HASH, RP, USER, parameters]), 0x14);
+    }
+    let lists: [&[u8]; 2] = [
+        b"\x05\x81\xa1\x62id\x41\x09",
+        b"\x05\x81\xa1\x64type\x6apublic-key",
+    ];
+    for list in lists.iter() {
+        assert_eq!(rt; make_told(&rt, &[HASH, RP, USER, PARAMETERS, list]), 0x14);
+    }
+}
+
+#[test]
+fn a_long_key_is_passed(rt: HostRuntime) {
+    let message = joined(&rt, &[b"\x01\xa2\x00\x00\x59\x01\x00", &[0; 256], b"\x00"]);
+    assert_eq!(rt; message.len(), 264);
+    assert_eq!(rt; told(message.as_slice()), (0x14, 1046));
+}
+
+/// The members of the getAssertion.
+const RP_ID: &[u8] = b"\x01\x6bexample.com";
+
+const CLIENT_HASH: &[u8] =
+    b"\x02\x58\x20\x22\x22\x22\x22\x22\x22\x22\x22\x22\x22\x22\x22\x22\x22\x22\x22\x22\x22\x22\x22\x22\x22\x22\x22\x22\x22\x22\x22\x22\x22\x22\x22";
+
+/// The status that a getAssertion of these members comes to.
+fn assertion_told(rt: &impl Abort, parts: &[&[u8]]) -> u8 {
+    let mut message = ArrayVec::<u8, 400>::new();
+    message.push(0x02);
+    message.push(0xa0 + (parts.len() % 16) as u8);
+    for part in parts {
+        message.try_extend_from_slice(part).expect(rt, "room");
+    }
+    told(message.as_slice()).0
+}
+
+#[test]
+fn an_assertion_of_other_types_is_refused(rt: HostRuntime) {
+    assert_eq!(rt; assertion_told(&rt, &[RP_ID, CLIENT_HASH]), 0x00);
+    assert_eq!(rt; assertion_told(&rt, &[b"\x01\x41b", CLIENT_HASH]), 0x11);
+    assert_eq!(rt; assertion_told(&rt, &[RP_ID, b"\x02\x61h"]), 0x11);
+    for list in wrong_lists().iter() {
+        let member = joined(&rt, &[b"\x03", list]);
+        assert_eq!(rt;
+            assertion_told(&rt, &[RP_ID, CLIENT_HASH, member.as_slice()]),
+            0x11
+        );
+    }
+    for options in wrong_options().iter() {
+        let member = joined(&rt, &[b"\x05", options]);
+        assert_eq!(rt;
+            assertion_told(&rt, &[RP_ID, CLIENT_HASH, member.as_slice()]),
+            0x11
+        );
+    }
+    let members: [&[u8]; 3] = [b"\x04\x80", b"\x06\x60", b"\x07\x20"];
+    for member in members.iter() {
+        assert_eq!(rt; assertion_told(&rt, &[RP_ID, CLIENT_HASH, member]), 0x11);
+    }
+}
+
+#[test]
+fn the_checks_of_an_assertion(rt: HostRuntime) {
+    assert_eq!(rt; assertion_told(&rt, &[CLIENT_HASH]), 0x14);
+    assert_eq!(rt; assertion_told(&rt, &[RP_ID]), 0x14);
+    let lists: [&[u8]; 2] = [
+        b"\x03\x81\xa1\x62id\x41\x09",
+        b"\x03\x81\xa1\x64type\x6apublic-key",
+    ];
+    for list in lists.iter() {
+        assert_eq!(rt; assertion_told(&rt, &[RP_ID, CLIENT_HASH, list]), 0x14);
+    }
+    let refused: [(&[u8], u8); 4] = [
+        (b"\x06\x40", 0x02),
+        (b"\x05\xa1\x62uv\xf5", 0x2c),
+        (b"\x05\xa1\x62rk\xf4", 0x2b),
+        (b"\x05\xa2\x62rk\xf5\x62uv\xf5", 0x2c),
+    ];
+    for (member, status) in refused.iter() {
+        assert_eq!(rt; assertion_told(&rt, &[RP_ID, CLIENT_HASH, member]), *status);
+    }
+    assert_eq!(rt; assertion_told(&rt, &[RP_ID, b"\x02\x41\x22"]), 0x03);
+}
+
+#[test]
+fn a_descriptor_of_another_type_names_nothing(rt: HostRuntime) {
+    let list =
+        b"\x03\x82\xa2\x62id\x41\x08\x64type\x65other\xa2\x62id\x41\x09\x64type\x6apublic-key";
+    let message = joined(&rt, &[b"\x02\xa3", RP_ID, CLIENT_HASH, list]);
+    let (request, _) = read_request(message.as_slice());
+    let Ok(Request::Assert { mut allow, .. }) = request else {
+        panic!(rt; "no getAssertion");
+    };
+    assert!(rt; allow.is_given());
+    assert_eq!(rt; allow.steps(), 1);
+    assert_eq!(rt; allow.next(), Some([0x09].as_slice()));
+    assert_eq!(rt; allow.next(), None);
+    // 40 bytes, and the five of the second key in both descriptors once more.
+    assert_eq!(rt; allow.steps(), 50);
+    assert!(rt; allow.is_given());
+    let empty = joined(&rt, &[b"\x02\xa3", RP_ID, CLIENT_HASH, b"\x03\x80"]);
+    let (request, _) = read_request(empty.as_slice());
+    let Ok(Request::Assert { mut allow, .. }) = request else {
+        panic!(rt; "no getAssertion");
+    };
+    assert!(rt; !allow.is_given());
+    assert_eq!(rt; allow.next(), None);
+    assert_eq!(rt; allow.steps(), 0);
+}
+
 /// What a makeCredential asks, with the steps of reading it.
 #[derive(Drop)]
 struct Made<'a> {
@@ -332,46 +551,82 @@ fn info_is_answered(rt: HostRuntime) {
     assert_eq!(rt; answer.as_slice(), INFO);
 }
 
-/// The answer of a makeCredential with authenticator data of 164 bytes and a signature of 70.
+/// Authenticator data of a new credential for `example.com`.
+const MADE: &[u8; 164] = b"\xa3\x79\xa6\xf6\xee\xaf\xb9\xa5\x5e\x37\x8c\x11\x80\x34\xe2\x75\
+    \x1e\x68\x2f\xab\x9f\x2d\x30\xab\x13\xd2\x12\x55\x86\xce\x19\x47\
+    \x41\x00\x00\x00\x00\
+    \x00\x00\x00\x00\x00\x00\x00\x00\x00\x00\x00\x00\x00\x00\x00\x00\
+    \x00\x20\
+    \xaa\xaa\xaa\xaa\xaa\xaa\xaa\xaa\xaa\xaa\xaa\xaa\xaa\xaa\xaa\xaa\
+    \xaa\xaa\xaa\xaa\xaa\xaa\xaa\xaa\xaa\xaa\xaa\xaa\xaa\xaa\xaa\xaa\
+    \xa5\x01\x02\x03\x26\x20\x01\x21\x58\x20\
+    \xbb\xbb\xbb\xbb\xbb\xbb\xbb\xbb\xbb\xbb\xbb\xbb\xbb\xbb\xbb\xbb\
+    \xbb\xbb\xbb\xbb\xbb\xbb\xbb\xbb\xbb\xbb\xbb\xbb\xbb\xbb\xbb\xbb\
+    \x22\x58\x20\
+    \xcc\xcc\xcc\xcc\xcc\xcc\xcc\xcc\xcc\xcc\xcc\xcc\xcc\xcc\xcc\xcc\
+    \xcc\xcc\xcc\xcc\xcc\xcc\xcc\xcc\xcc\xcc\xcc\xcc\xcc\xcc\xcc\xcc";
+
+/// Authenticator data of its first assertion.
+const ASSERTED: &[u8; 37] = b"\xa3\x79\xa6\xf6\xee\xaf\xb9\xa5\x5e\x37\x8c\x11\x80\x34\xe2\x75\
+    \x1e\x68\x2f\xab\x9f\x2d\x30\xab\x13\xd2\x12\x55\x86\xce\x19\x47\
+    \x01\x00\x00\x00\x01";
+
+fn joined(rt: &impl Abort, parts: &[&[u8]]) -> ArrayVec<u8, 400> {
+    let mut bytes = ArrayVec::<u8, 400>::new();
+    for part in parts {
+        bytes.try_extend_from_slice(part).expect(rt, "room");
+    }
+    bytes
+}
+
 #[test]
 fn a_made_credential_is_answered(rt: HostRuntime) {
-    let answer = write_created(&[0x41; 164], &[0xdd; 70]);
+    let want = joined(
+        &rt,
+        &[
+            b"\x00\xa3\x01\x66packed\x02\x58\xa4",
+            MADE,
+            b"\x03\xa2\x63alg\x26\x63sig\x58\x46",
+            &[0xdd; 70],
+        ],
+    );
+    let answer = write_created(MADE, &[0xdd; 70]);
     assert_eq!(rt; answer.len(), 260);
-    assert_eq!(rt;
-        answer
-            .as_slice()
-            .starts_with(b"\x00\xa3\x01\x66packed\x02\x58\xa4\x41\x41"),
-        true
-    );
-    assert_eq!(rt;
-        &answer.as_slice()[177..191],
-        b"\x03\xa2\x63alg\x26\x63sig\x58\x46\xdd".as_slice()
-    );
+    assert_eq!(rt; answer.as_slice(), want.as_slice());
+}
+
+/// An assertion's answer with so many members, up to the signature.
+fn assertion_by(rt: &impl Abort, members: u8, id: u8) -> ArrayVec<u8, 400> {
+    joined(
+        rt,
+        &[
+            &[0x00, members],
+            b"\x01\xa2\x62id\x58\x20",
+            &[id; 32],
+            b"\x64type\x6apublic-key\x02\x58\x25",
+            ASSERTED,
+            b"\x03\x58\x46",
+            &[0xdd; 70],
+        ],
+    )
 }
 
 #[test]
 fn assertions_are_answered(rt: HostRuntime) {
-    let answer = write_assertion(&[0xaa; 32], &[0x01; 37], &[0xdd; 70], Some(&[0x01]), None);
-    assert_eq!(rt; answer.len(), 177);
-    assert_eq!(rt;
-        answer
-            .as_slice()
-            .starts_with(b"\x00\xa4\x01\xa2\x62id\x58\x20\xaa"),
-        true
-    );
-    assert_eq!(rt;
-        answer.as_slice().ends_with(b"\xdd\x04\xa1\x62id\x41\x01"),
-        true
-    );
-    let counted = write_assertion(
-        &[0xaa; 32],
-        &[0x01; 37],
-        &[0xdd; 70],
-        Some(&[0x03]),
-        Some(3),
-    );
-    assert_eq!(rt; counted.len(), 179);
-    assert_eq!(rt; counted.as_slice().ends_with(b"\x41\x03\x05\x03"), true);
-    let bare = write_assertion(&[0xaa; 32], &[0x01; 37], &[0xdd; 1], None, None);
-    assert_eq!(rt; bare.len(), 100);
+    let sig = [0xdd; 70];
+    let one = write_assertion(&[0xaa; 32], ASSERTED, &sig, Some(&[0x01]), None);
+    let mut want = assertion_by(&rt, 0xa4, 0xaa);
+    want.try_extend_from_slice(b"\x04\xa1\x62id\x41\x01")
+        .expect(&rt, "room");
+    assert_eq!(rt; one.len(), 177);
+    assert_eq!(rt; one.as_slice(), want.as_slice());
+    let first = write_assertion(&[0xac; 32], ASSERTED, &sig, Some(&[0x03]), Some(3));
+    let mut want = assertion_by(&rt, 0xa5, 0xac);
+    want.try_extend_from_slice(b"\x04\xa1\x62id\x41\x03\x05\x03")
+        .expect(&rt, "room");
+    assert_eq!(rt; first.len(), 179);
+    assert_eq!(rt; first.as_slice(), want.as_slice());
+    let bare = write_assertion(&[0xab; 32], ASSERTED, &sig, None, None);
+    let want = assertion_by(&rt, 0xa3, 0xab);
+    assert_eq!(rt; bare.as_slice(), want.as_slice());
 }

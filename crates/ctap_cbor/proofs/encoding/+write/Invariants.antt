@@ -1,4 +1,5 @@
 use Rattle.std.proofs.Common.{◌≤◌, length, drop}
+use Rattle.std.specs.Prelude.{vec_capacity}
 use Rattle.std.specs.Option.{ForSome}
 use Rattle.ctap_cbor.specs.Values.{trees_of, pairs_of}
 use Rattle.ctap_cbor.specs.Writes.{last_text}
@@ -6,10 +7,14 @@ use Rattle.ctap_cbor.proofs.Written.{ItemsLeft, PairsLeft}
 use Rattle.ctap_cbor.proofs.encoding.+write.Given as goal
 
 abbrev pub invariant-write_items-loop-item : goal.invariant-write_items-loop-item
-invariant-write_items-loop-item l = ItemsLeft l.room (trees_of l.items) (trees_of (drop l.item-index l.items)) l.fn.out.items l.out.items
+invariant-write_items-loop-item l = record {
+  left : ItemsLeft l.room (trees_of l.items) (trees_of (drop l.item-index l.items)) l.fn.out.items l.out.items;
+  grows : vec_capacity l.fn.out ≤ vec_capacity l.out;
+}
 
 abbrev pub invariant-write_pairs-loop-pair : goal.invariant-write_pairs-loop-pair
 invariant-write_pairs-loop-pair l = record {
   span : ForSome l.previous (λ s. (s.start ≤ s.end) × (s.end ≤ length l.out.items));
+  grows : vec_capacity l.fn.out ≤ vec_capacity l.out;
   left : PairsLeft l.room (pairs_of l.pairs) (pairs_of (drop l.pair-index l.pairs)) (last_text l.out.items l.previous) l.fn.out.items l.out.items;
 }
