@@ -1,6 +1,6 @@
 -- A log that is played again gives the same bytes.
 use Rattle.std.proofs.Common.{◌≡◌, ◌≢◌, ℕ, suc, ◌+◌, ◌≤◌, ◌<◌, ◌^◌, nat_lt, Bool, true, false, cond, List, [], ◌∷◌, ◌++◌, length, map, flat_map, codes, decimal, Option, Some, None, Ok, IsOk, refl, sym, ap, ◌∙◌, arith, append_assoc, append-nil, length-append}
-use Rattle.std.proofs.lemmas.Bool.Decides.{nat_tests}
+use Rattle.std.proofs.lemmas.Bool.{ltb-false}
 use Rattle.std.proofs.lemmas.Fmt.{length-decimal-le}
 use Rattle.std.proofs.lemmas.List.{length-map}
 use Rattle.std.proofs.lemmas.Grind.{flat_map-append}
@@ -64,7 +64,7 @@ none_chosen false true x y o h = cc
 none_chosen false false x y o h = (refl, h)
 
 short_is : (n : ℕ) → nat_lt 255 n ≡ false → n < 256
-short_is n h = grind (arith, nat_tests)
+short_is n h = omega (arith, ltb-false 255 n h)
 
 pub record IsSound (line : List ℕ) : Type 0 where
   pub short : length line < 256

@@ -1,5 +1,6 @@
 -- Bytes cut at line feeds, from the front.
 use Rattle.std.proofs.Common.{◌≡◌, ℕ, suc, zero, ◌+◌, ◌≤◌, ◌<◌, ◌==◌, nat_lt, Bool, true, false, cond, List, [], ◌∷◌, ◌++◌, length, get_or, take, drop, position, Some, None, refl, sym, ap, ◌∙◌, arith, add-one, take-append-drop}
+use Rattle.std.proofs.lemmas.Bool.{ltb-false}
 use Rattle.std.proofs.lemmas.Bool.Decides.{nat_tests}
 use Rattle.std.proofs.lemmas.List.Quantifiers.{position-Some}
 use Rattle.std.proofs.lemmas.List.Sums.{fails_before_first}
@@ -24,13 +25,10 @@ none_is : (b : Bool) (n : ℕ) → cond b (Some n) None ≡ None → b ≡ false
 none_is true n e = cc
 none_is false n e = refl
 
-le_is : (a b : ℕ) → nat_lt a b ≡ false → b ≤ a
-le_is a b h = grind (arith, nat_tests)
-
 -- what has no line feed is one piece
 pub one_piece : (w : List ℕ) → position is_feed w ≡ None → pieces w ≡ w ∷ []
 one_piece w e =
-    let far : length w ≤ position_or_len is_feed w = le_is (position_or_len is_feed w) (length w) (none_is (nat_lt (position_or_len is_feed w) (length w)) (position_or_len is_feed w) e) in
+    let far : length w ≤ position_or_len is_feed w = ltb-false (position_or_len is_feed w) (length w) (none_is (nat_lt (position_or_len is_feed w) (length w)) (position_or_len is_feed w) e) in
     slice_split_none is_feed w (λ k d l. fails_before_first is_feed w k d (omega arith))
 
 -- there is a piece

@@ -9,7 +9,7 @@ use Rattle.hex.specs.Hex.{is_hex_digit}
 use Rattle.session_log.specs.Lines.{is_feed, pieces, lines_of_pieces, lines}
 use Rattle.session_log.specs.Text.{ended}
 use Rattle.session_log.proofs.Cutting.{pieces_some, lines_behind}
-use Rattle.session_log.proofs.Fields.{eq_is}
+use Rattle.std.proofs.lemmas.Bool.{eqb-true}
 
 abbrev pub feedless : List ℕ → Bool
 feedless [] = true
@@ -83,7 +83,7 @@ digit_no_feed c h = go (is_feed c) refl
   where
     go : (b : Bool) → is_feed c ≡ b → is_feed c ≡ false
     go false e = e
-    go true e = let at : digit_value 10 < 10 = subst (λ (x : ℕ). digit_value x < 10) (eq_is c 10 e) h in absurd (omega arith)
+    go true e = let at : digit_value 10 < 10 = subst (λ (x : ℕ). digit_value x < 10) (eqb-true c 10 e) h in absurd (omega arith)
 
 digits_feedless : (ds : List ℕ) → AllDigits 10 ds → feedless ds ≡ true
 digits_feedless [] h = refl
@@ -97,7 +97,7 @@ hex_no_feed c h = go (is_feed c) refl
   where
     go : (b : Bool) → is_feed c ≡ b → is_feed c ≡ false
     go false e = e
-    go true e = let at : is_hex_digit 10 ≡ true = subst (λ (x : ℕ). is_hex_digit x ≡ true) (eq_is c 10 e) h in cc
+    go true e = let at : is_hex_digit 10 ≡ true = subst (λ (x : ℕ). is_hex_digit x ≡ true) (eqb-true c 10 e) h in cc
 
 pub hex_feedless : (ds : List ℕ) → AllPass is_hex_digit ds → feedless ds ≡ true
 hex_feedless [] h = refl

@@ -1,6 +1,6 @@
 -- The fields of a line: a number has no space, so the first space parts it from what follows.
 use Rattle.std.proofs.Common.{◌≡◌, ℕ, suc, ◌+◌, ◌<◌, ◌^◌, ◌==◌, nat_lt, Bool, true, false, cond, not, List, [], ◌∷◌, ◌++◌, length, get_or, take, drop, position, decimal, Option, Some, None, refl, sym, ap, ◌∙◌, subst, arith, add-one, length-append, take-append-drop}
-use Rattle.std.proofs.lemmas.Bool.Decides.{nat_tests}
+use Rattle.std.proofs.lemmas.Bool.{eqb-true, lt-ltb}
 use Rattle.std.proofs.lemmas.Fmt.{decimal_is_IsNumeral}
 use Rattle.std.proofs.lemmas.List.Quantifiers.{position-Some}
 use Rattle.std.proofs.Math.Seq.{take-append_seam, drop-append-add, drop-cons}
@@ -13,12 +13,6 @@ use Rattle.session_log.specs.Said.{first_field}
 abbrev is_space : ℕ → Bool
 is_space b = b == 32
 
-pub eq_is : (a b : ℕ) → (a == b) ≡ true → a ≡ b
-eq_is a b h = grind (arith, nat_tests)
-
-lt_is : (a b : ℕ) → a < b → nat_lt a b ≡ true
-lt_is a b h = grind (arith, nat_tests)
-
 -- fields without a space
 abbrev pub NoSpace : List ℕ → Type 0
 NoSpace [] = Unit {0}
@@ -29,7 +23,7 @@ digit_no_space c h = go (is_space c) refl
   where
     go : (b : Bool) → is_space c ≡ b → is_space c ≡ false
     go false e = e
-    go true e = let at : digit_value 32 < 10 = subst (λ (x : ℕ). digit_value x < 10) (eq_is c 32 e) h in absurd (omega arith)
+    go true e = let at : digit_value 32 < 10 = subst (λ (x : ℕ). digit_value x < 10) (eqb-true c 32 e) h in absurd (omega arith)
 
 pub digits_no_space : (digits : List ℕ) → AllDigits 10 digits → NoSpace digits
 digits_no_space [] h = tt
@@ -40,7 +34,7 @@ hex_digit_no_space c h = go (is_space c) refl
   where
     go : (b : Bool) → is_space c ≡ b → is_space c ≡ false
     go false e = e
-    go true e = let at : is_hex_digit 32 ≡ true = subst (λ (x : ℕ). is_hex_digit x ≡ true) (eq_is c 32 e) h in cc
+    go true e = let at : is_hex_digit 32 ≡ true = subst (λ (x : ℕ). is_hex_digit x ≡ true) (eqb-true c 32 e) h in cc
 
 pub hex_no_space : (digits : List ℕ) → AllPass is_hex_digit digits → NoSpace digits
 hex_no_space [] h = tt
@@ -61,7 +55,7 @@ parted front rest h =
     let at : position_or_len is_space all ≡ length front = space_behind front rest h in
     let inside : length front < length all = omega (arith, length-append front (32 ∷ rest)) in
     let found : position is_space all ≡ Some (length front) =
-    ap (λ (k : ℕ). cond (nat_lt k (length all)) (Some k) None) at ∙ ap (λ (b : Bool). cond b (Some (length front)) None) (lt_is (length front) (length all) inside) in
+    ap (λ (k : ℕ). cond (nat_lt k (length all)) (Some k) None) at ∙ ap (λ (b : Bool). cond b (Some (length front)) None) (lt-ltb (length front) (length all) inside) in
     ap (λ (o : Option ℕ). elim o as (λ _. Option (List ℕ × List ℕ)) [ None ↦ None | Some k ↦ Some (take k all, drop (k + 1) all) ]) found
     ∙ λ i. Some (take-append_seam front (32 ∷ rest) i, drop-append-add front (32 ∷ rest) 1 i)
 
@@ -77,7 +71,7 @@ fields_are fields parts e = go (position is_space fields) refl e
     go None is e = cc
     go (Some k) is e =
         let at = position-Some is_space fields k 0 is in
-        let space : get_or fields k 0 ≡ 32 = eq_is (get_or fields k 0) 32 at.1 in
+        let space : get_or fields k 0 ≡ 32 = eqb-true (get_or fields k 0) 32 at.1 in
         let whole : fields ≡ take k fields ++ 32 ∷ drop (k + 1) fields =
         sym (take-append-drop k fields) ∙ ap (λ (l : List ℕ). take k fields ++ l) (drop-cons fields k 0 at.0 ∙ λ i. space i ∷ drop (sym (add-one k) i) fields) in
         let first : take k fields ≡ parts.0 = cc in

@@ -1,6 +1,6 @@
 -- A number has one spelling in digits.
-use Rattle.std.proofs.Common.{◌≡◌, ℕ, ◌<◌, ◌^◌, ◌==◌, ◌&&◌, nat_lt, Bool, true, false, cond, List, Option, Some, None, decimal, refl, sym, ap, ◌∙◌, subst, arith}
-use Rattle.std.proofs.lemmas.Bool.Decides.{nat_tests}
+use Rattle.std.proofs.Common.{◌≡◌, ℕ, ◌<◌, ◌^◌, ◌==◌, ◌&&◌, nat_lt, Bool, true, false, cond, List, Option, Some, None, decimal, refl, sym, ap, ◌∙◌, subst}
+use Rattle.std.proofs.lemmas.Bool.{lt-ltb, ltb-true}
 use Rattle.std.proofs.lemmas.Fmt.{decimal_is_IsNumeral}
 use Rattle.std.specs.Cmp.Lexicographic.{pointwise, same_text, other_text}
 use Rattle.std.specs.Str.Parse.{digits_value}
@@ -13,18 +13,12 @@ same xs ys e = go (pointwise ◌==◌ xs ys) refl
     go true h = sym h
     go false h = absurd (other_text xs ys h e)
 
-pub lt_true : (a b : ℕ) → a < b → nat_lt a b ≡ true
-lt_true a b h = grind (arith, nat_tests)
-
-pub lt_is : (a b : ℕ) → nat_lt a b ≡ true → a < b
-lt_is a b h = grind (arith, nat_tests)
-
 -- digits that write n are read as n
 pub moment_of : (digits : List ℕ) (n : ℕ) → n < 2 ^ 64 → digits ≡ decimal n → moment digits ≡ Some n
 unfolding moment
 moment_of digits n fits e =
     let value : digits_value 10 digits ≡ n = ap (digits_value 10) e ∙ (decimal_is_IsNumeral n fits).1 in
-    rw value (rw (lt_true n (2 ^ 64) fits, same (decimal n) digits (sym e)) refl)
+    rw value (rw (lt-ltb n (2 ^ 64) fits, same (decimal n) digits (sym e)) refl)
 
 chosen : (n m : ℕ) (a b : Bool) → cond (a && b) (Some n) None ≡ Some m → (n ≡ m) × (a ≡ true) × (b ≡ true)
 chosen n m true true e = (cc, refl, refl)
@@ -36,7 +30,7 @@ pub moment_is : (digits : List ℕ) (n : ℕ) → moment digits ≡ Some n → (
 unfolding moment
 moment_is digits n e =
     let parts = chosen (digits_value 10 digits) n (nat_lt (digits_value 10 digits) (2 ^ 64)) (pointwise ◌==◌ (decimal (digits_value 10 digits)) digits) e in
-    let fits : digits_value 10 digits < 2 ^ 64 = lt_is (digits_value 10 digits) (2 ^ 64) parts.1 in
+    let fits : digits_value 10 digits < 2 ^ 64 = ltb-true (digits_value 10 digits) (2 ^ 64) parts.1 in
     (subst (λ (m : ℕ). m < 2 ^ 64) parts.0 fits, sym (same_text (decimal (digits_value 10 digits)) digits (sym parts.2)) ∙ ap decimal parts.0)
 
 -- what isn't the text of a number isn't read

@@ -1,8 +1,9 @@
 -- What a line says is what the grammar lets it spell.
 use Rattle.std.proofs.Common.{◌≡◌, ℕ, ◌*◌, ◌/◌, ◌<◌, ◌≤◌, ◌^◌, ◌==◌, ◌&&◌, nat_le, Bool, true, false, cond, List, [], ◌∷◌, ◌++◌, length, codes, decimal, Option, Some, None, Result, Ok, Err, inl, inr, refl, sym, ap, ◌∙◌, subst, arith, length-append}
-use Rattle.std.proofs.lemmas.Bool.Decides.{nat_tests}
+use Rattle.std.proofs.lemmas.Bool.{eqb-true, le-leb, leb-true}
 use Rattle.std.specs.Cmp.Lexicographic.{same_text}
 use Rattle.std.specs.List.{AllPass}
+use Rattle.std.specs.Result.{result_ok}
 use Rattle.hex.specs.Hex.{decode_sized, is_hex_digit}
 use Rattle.hex.proofs.HexLemmas.{IsOk-decode_sized, decode_sized-ok, decode_sized-twice, decode_of-ok}
 use Rattle.authn_core.specs.declared.replies.NewKey.{NewKey}
@@ -13,15 +14,15 @@ use Rattle.token_session.specs.declared.input.Input.TheVariants.{Packet, Tick, P
 use Rattle.session_log.specs.declared.line.Line.{Line}
 use Rattle.session_log.specs.declared.line.Line.TheVariants.{Input, Sent, Remark, Count}
 use Rattle.session_log.specs.Grammar.{IsHexOf, SpellsField, SpellsInput, Spells, front_of}
-use Rattle.session_log.specs.Said.{◌>>=◌, ok_of, first_field, moment, bytes_of, is_word, packet_said, presence_said, key_of, key_said, signature_of, signature_said, input_by, input_line, tick_line, sent_line, said_by, said}
+use Rattle.session_log.specs.Said.{◌>>=◌, first_field, moment, bytes_of, is_word, packet_said, presence_said, key_of, key_said, signature_of, signature_said, input_by, input_line, tick_line, sent_line, said_by, said}
 use Rattle.session_log.specs.Words.{presence_word, refusal_word}
-use Rattle.session_log.proofs.Fields.{eq_is, fields_of, fields_are, parted, hex_no_space}
+use Rattle.session_log.proofs.Fields.{fields_of, fields_are, parted, hex_no_space}
 use Rattle.session_log.proofs.Moments.{moment_of, moment_is}
 
 -- Digits.
 
 digits_of : (digits : List ℕ) (n : ℕ) (bytes : List ℕ) → IsHexOf digits n bytes → bytes_of n digits ≡ Some bytes
-digits_of digits n bytes h = ap ok_of h
+digits_of digits n bytes h = ap result_ok h
 
 all_hex : (digits : List ℕ) (n : ℕ) (bytes : List ℕ) → IsHexOf digits n bytes → AllPass is_hex_digit digits
 all_hex digits n bytes h = ((IsOk-decode_sized digits n).0 (rw h refl)).1
@@ -87,18 +88,12 @@ halves digits bytes n h =
     half : (d n : ℕ) → d ≡ 2 * n → d / 2 ≡ n
     half d n e = omega (arith, e)
 
-le_true : (a b : ℕ) → a ≤ b → nat_le a b ≡ true
-le_true a b h = grind (arith, nat_tests)
-
-le_is : (a b : ℕ) → nat_le a b ≡ true → a ≤ b
-le_is a b h = grind (arith, nat_tests)
-
 signature_bytes : (field bytes : List ℕ) → IsHexOf field (length bytes) bytes → 1 ≤ length bytes → length bytes ≤ 72 → signature_of field ≡ Some bytes
 signature_bytes field bytes h low high =
     let n = length bytes in
     ap (λ (k : ℕ). cond (nat_le 1 k && nat_le k 72) (bytes_of k field) None) (halves field bytes n h).0
-    ∙ ap (λ (b : Bool). cond (b && nat_le n 72) (bytes_of n field) None) (le_true 1 n low)
-    ∙ ap (λ (b : Bool). cond b (bytes_of n field) None) (le_true n 72 high) ∙ digits_of field n bytes h
+    ∙ ap (λ (b : Bool). cond (b && nat_le n 72) (bytes_of n field) None) (le-leb 1 n low)
+    ∙ ap (λ (b : Bool). cond b (bytes_of n field) None) (le-leb n 72 high) ∙ digits_of field n bytes h
 
 signature_read : (field bytes : List ℕ) → IsHexOf field (length bytes) bytes → 1 ≤ length bytes → length bytes ≤ 72 → signature_said field ≡ Some (Signature (Some bytes))
 signature_read field bytes h low high =
@@ -152,7 +147,7 @@ bind_is (Some a) f b e = (a, refl, e)
 some_is : {A : Type 0} (a b : A) → Some a ≡ Some b → a ≡ b
 some_is a b e = cc
 
-ok_is : {A E : Type 0} (r : Result A E) (a : A) → ok_of r ≡ Some a → r ≡ Ok a
+ok_is : {A E : Type 0} (r : Result A E) (a : A) → result_ok r ≡ Some a → r ≡ Ok a
 ok_is (Ok x) a e = cc
 ok_is (Err x) a e = cc
 
@@ -207,8 +202,8 @@ signature_bytes_are field bytes e =
     let decoded = ok_is (decode_sized field n) bytes parts.2 in
     let count : length bytes ≡ n = (halves field bytes n decoded).1 in (
       subst (λ (k : ℕ). IsHexOf field k bytes) (sym count) decoded,
-      subst (λ (k : ℕ). 1 ≤ k) (sym count) (le_is 1 n parts.0),
-      subst (λ (k : ℕ). k ≤ 72) (sym count) (le_is n 72 parts.1),
+      subst (λ (k : ℕ). 1 ≤ k) (sym count) (leb-true 1 n parts.0),
+      subst (λ (k : ℕ). k ≤ 72) (sym count) (leb-true n 72 parts.1),
     )
 
 signature_is : (field : List ℕ) (input : AnyInput) (a : Bool) → is_word refusal_word field ≡ a → cond a (Some (Signature None)) (signature_of field >>= (λ bytes. Some (Signature (Some bytes)))) ≡ Some input → IsSpelled 115 field input
@@ -219,10 +214,10 @@ signature_is field input false p e =
 
 input_is : (letter : ℕ) (field : List ℕ) (input : AnyInput) (a b c d : Bool) → (letter == 62) ≡ a → (letter == 112) ≡ b → (letter == 107) ≡ c → (letter == 115) ≡ d
     → cond a (packet_said field) (cond b (presence_said field) (cond c (key_said field) (cond d (signature_said field) None))) ≡ Some input → IsSpelled letter field input
-input_is letter field input true b c d p q r s e = subst (λ (x : ℕ). IsSpelled x field input) (sym (eq_is letter 62 p)) (packet_is field input e)
-input_is letter field input false true c d p q r s e = subst (λ (x : ℕ). IsSpelled x field input) (sym (eq_is letter 112 q)) (presence_is field input (is_word (codes "granted") field) (is_word (codes "denied") field) (is_word (codes "timeout") field) refl refl refl e)
-input_is letter field input false false true d p q r s e = subst (λ (x : ℕ). IsSpelled x field input) (sym (eq_is letter 107 r)) (key_is field input (is_word refusal_word field) refl e)
-input_is letter field input false false false true p q r s e = subst (λ (x : ℕ). IsSpelled x field input) (sym (eq_is letter 115 s)) (signature_is field input (is_word refusal_word field) refl e)
+input_is letter field input true b c d p q r s e = subst (λ (x : ℕ). IsSpelled x field input) (sym (eqb-true letter 62 p)) (packet_is field input e)
+input_is letter field input false true c d p q r s e = subst (λ (x : ℕ). IsSpelled x field input) (sym (eqb-true letter 112 q)) (presence_is field input (is_word (codes "granted") field) (is_word (codes "denied") field) (is_word (codes "timeout") field) refl refl refl e)
+input_is letter field input false false true d p q r s e = subst (λ (x : ℕ). IsSpelled x field input) (sym (eqb-true letter 107 r)) (key_is field input (is_word refusal_word field) refl e)
+input_is letter field input false false false true p q r s e = subst (λ (x : ℕ). IsSpelled x field input) (sym (eqb-true letter 115 s)) (signature_is field input (is_word refusal_word field) refl e)
 input_is letter field input false false false false p q r s e = cc
 
 -- a field spells an input's line
@@ -260,15 +255,15 @@ sent_spelled fields l e =
 -- by the letter in front, as it is told apart
 by_letter : (first : ℕ) (fields : List ℕ) (l : Line) (sent tick : Bool) → (first == 60) ≡ sent → (first == 116) ≡ tick
     → cond sent (sent_line fields) (cond tick (tick_line fields) (input_line first fields)) ≡ Some l → Spells (first ∷ 32 ∷ fields) l
-by_letter first fields l true tick s t e = subst (λ (x : ℕ). Spells (x ∷ 32 ∷ fields) l) (sym (eq_is first 60 s)) (sent_spelled fields l e)
-by_letter first fields l false true s t e = subst (λ (x : ℕ). Spells (x ∷ 32 ∷ fields) l) (sym (eq_is first 116 t)) (tick_spelled fields l e)
+by_letter first fields l true tick s t e = subst (λ (x : ℕ). Spells (x ∷ 32 ∷ fields) l) (sym (eqb-true first 60 s)) (sent_spelled fields l e)
+by_letter first fields l false true s t e = subst (λ (x : ℕ). Spells (x ∷ 32 ∷ fields) l) (sym (eqb-true first 116 t)) (tick_spelled fields l e)
 by_letter first fields l false false s t e = input_spelled first fields l e
 
 remark_spelled : (first : ℕ) (rest : List ℕ) (l : Line) → (first == 35) ≡ true → Some Remark ≡ Some l → Spells (first ∷ rest) l
-remark_spelled first rest l h e = subst (Spells (first ∷ rest)) (some_is Remark l e) (inr (rest, ap (λ (x : ℕ). x ∷ rest) (eq_is first 35 h)))
+remark_spelled first rest l h e = subst (Spells (first ∷ rest)) (some_is Remark l e) (inr (rest, ap (λ (x : ℕ). x ∷ rest) (eqb-true first 35 h)))
 
 count_spelled : (first : ℕ) (rest : List ℕ) (l : Line) → (first == 61) ≡ true → Some Count ≡ Some l → Spells (first ∷ rest) l
-count_spelled first rest l h e = subst (Spells (first ∷ rest)) (some_is Count l e) (rest, ap (λ (x : ℕ). x ∷ rest) (eq_is first 61 h))
+count_spelled first rest l h e = subst (Spells (first ∷ rest)) (some_is Count l e) (rest, ap (λ (x : ℕ). x ∷ rest) (eqb-true first 61 h))
 
 one_byte : (first : ℕ) (l : Line) (remark count : Bool) → (first == 35) ≡ remark → (first == 61) ≡ count → cond remark (Some Remark) (cond count (Some Count) None) ≡ Some l → Spells (first ∷ []) l
 one_byte first l true count r c e = remark_spelled first [] l r e
@@ -280,7 +275,7 @@ more_bytes : (first second : ℕ) (fields : List ℕ) (l : Line) (remark count s
 more_bytes first second fields l true count space r c s e = remark_spelled first (second ∷ fields) l r e
 more_bytes first second fields l false true space r c s e = count_spelled first (second ∷ fields) l c e
 more_bytes first second fields l false false true r c s e =
-    subst (λ (x : ℕ). Spells (first ∷ x ∷ fields) l) (sym (eq_is second 32 s)) (by_letter first fields l (first == 60) (first == 116) refl refl e)
+    subst (λ (x : ℕ). Spells (first ∷ x ∷ fields) l) (sym (eqb-true second 32 s)) (by_letter first fields l (first == 60) (first == 116) refl refl e)
 more_bytes first second fields l false false false r c s e = cc
 
 pub read_is_spelled : (line : List ℕ) (l : Line) → said line ≡ Some l → Spells line l

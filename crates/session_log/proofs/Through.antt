@@ -1,6 +1,6 @@
 -- What has been played when lines were read and played one by one.
 use Rattle.std.proofs.Common.{◌≡◌, ℕ, ◌+◌, ◌≤◌, ◌<◌, ◌^◌, nat_le, nat_lt, Bool, true, false, cond, List, [], ◌∷◌, ◌++◌, length, take, position, Option, Some, None, is_some, is_none, refl, sym, ap, ◌∙◌, subst, arith, append_assoc, append-nil, length-append}
-use Rattle.std.proofs.lemmas.Bool.Decides.{nat_tests}
+use Rattle.std.proofs.lemmas.Bool.{le-leb, le-ltb, lt-leb, lt-ltb}
 use Rattle.session_log.specs.declared.fault.LogFault.{LogFault}
 use Rattle.session_log.specs.declared.fault.LogFault.TheVariants.{TooLong, TooManyLines}
 use Rattle.session_log.specs.Said.{said}
@@ -169,24 +169,12 @@ chosen n many long other = cond many (Some TooManyLines) (cond long (Some (TooLo
 tests : {S : Type 0} (world : World S) (n : ℕ) (s : S) (line : List ℕ) (many long : Bool) → nat_le (2 ^ 32) n ≡ many → nat_lt 255 (length line) ≡ long → fault_at world n s line ≡ chosen n many long (fault_by world n s (said line))
 tests world n s line many long p q = λ i. chosen n (p i) (q i) (fault_by world n s (said line))
 
-le_false : (a b : ℕ) → b < a → nat_le a b ≡ false
-le_false a b h = grind (arith, nat_tests)
-
-le_true : (a b : ℕ) → a ≤ b → nat_le a b ≡ true
-le_true a b h = grind (arith, nat_tests)
-
-lt_false : (a b : ℕ) → b ≤ a → nat_lt a b ≡ false
-lt_false a b h = grind (arith, nat_tests)
-
-lt_true : (a b : ℕ) → a < b → nat_lt a b ≡ true
-lt_true a b h = grind (arith, nat_tests)
-
 -- a line that is in the count and short has the fault of what it says
 pub said_fault : {S : Type 0} (world : World S) (n : ℕ) (s : S) (line : List ℕ) → n < 2 ^ 32 → length line < 256 → fault_at world n s line ≡ fault_by world n s (said line)
-said_fault world n s line few short = tests world n s line false false (le_false (2 ^ 32) n few) (lt_false 255 (length line) (omega arith))
+said_fault world n s line few short = tests world n s line false false (lt-leb (2 ^ 32) n few) (le-ltb 255 (length line) (omega arith))
 
 pub too_long : {S : Type 0} (world : World S) (n : ℕ) (s : S) (line : List ℕ) → n < 2 ^ 32 → 256 ≤ length line → fault_at world n s line ≡ Some (TooLong n)
-too_long world n s line few long = tests world n s line false true (le_false (2 ^ 32) n few) (lt_true 255 (length line) (omega arith))
+too_long world n s line few long = tests world n s line false true (lt-leb (2 ^ 32) n few) (lt-ltb 255 (length line) (omega arith))
 
 pub too_many : {S : Type 0} (world : World S) (n : ℕ) (s : S) (line : List ℕ) → 2 ^ 32 ≤ n → fault_at world n s line ≡ Some TooManyLines
-too_many world n s line many = tests world n s line true (nat_lt 255 (length line)) (le_true (2 ^ 32) n many) refl
+too_many world n s line many = tests world n s line true (nat_lt 255 (length line)) (le-leb (2 ^ 32) n many) refl

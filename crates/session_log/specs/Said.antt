@@ -1,6 +1,7 @@
 -- What a line says, computed: `the_grammar_is_read` shows that this is the grammar.
-use Rattle.std.specs.Prelude.{ℕ, ◌+◌, ◌/◌, ◌==◌, ◌&&◌, ◌^◌, nat_le, nat_lt, Bool, List, [], ◌∷◌, length, take, drop, position, codes, decimal, Option, Some, None, Result, Ok, Err, if◌then◌else◌}
-use Rattle.std.specs.Option.{option_map}
+use Rattle.std.specs.Prelude.{ℕ, ◌+◌, ◌/◌, ◌==◌, ◌&&◌, ◌^◌, nat_le, nat_lt, Bool, List, [], ◌∷◌, length, take, drop, position, codes, decimal, Option, Some, None, if◌then◌else◌}
+use Rattle.std.specs.Option.{option_and_then, option_map}
+use Rattle.std.specs.Result.{result_ok}
 use Rattle.std.specs.Cmp.Lexicographic.{pointwise}
 use Rattle.std.specs.Str.Parse.{digits_value}
 use Rattle.hex.specs.Hex.{decode_sized}
@@ -16,12 +17,7 @@ use Rattle.session_log.specs.Words.{refusal_word}
 -- a value where there is one, and else nothing
 infixl 10 ◌>>=◌
 abbrev pub ◌>>=◌ : {A B : Type 0} → Option A → (A → Option B) → Option B
-None >>= f = None
-(Some x) >>= f = f x
-
-abbrev pub ok_of : {A E : Type 0} → Result A E → Option A
-ok_of (Ok x) = Some x
-ok_of (Err e) = None
+o >>= f = option_and_then f o
 
 -- the parts before and after the first space
 abbrev pub first_field : List ℕ → Option (List ℕ × List ℕ)
@@ -35,7 +31,7 @@ moment digits =
 
 -- the bytes that this many pairs of hexadecimal digits write, in either case
 abbrev pub bytes_of : ℕ → List ℕ → Option (List ℕ)
-bytes_of n digits = ok_of (decode_sized digits n)
+bytes_of n digits = result_ok (decode_sized digits n)
 
 abbrev pub is_word : List ℕ → List ℕ → Bool
 is_word word field = pointwise ◌==◌ field word

@@ -77,12 +77,13 @@ struct Watching<'a> {
 impl Read for Watching<'_> {
     fn read(&mut self, out: &mut [u8]) -> io::Result<usize> {
         let _ = self.seen.try_push(self.taken.get());
-        let Some((piece, rest)) = self.pieces.split_first() else {
+        if self.pieces.is_empty() {
             return Ok(0);
-        };
+        }
+        let piece = self.pieces[0].as_bytes();
         let n = piece.len().min(out.len());
-        out[..n].copy_from_slice(&piece.as_bytes()[..n]);
-        self.pieces = rest;
+        out[..n].copy_from_slice(&piece[..n]);
+        self.pieces = &self.pieces[1..];
         Ok(n)
     }
 }
