@@ -56,7 +56,7 @@ requested_on u rows p t cid (Ok GetInfo) = none_on cid
 requested_on u rows p t cid (Ok Reset) = cond_case (On cid) (nat_lt (u.began + RESET_LIMIT) t) _ _ (λ _. none_on cid) (λ _. some_on cid _)
 requested_on u rows p t cid (Ok Selection) = some_on cid _
 requested_on u rows p t cid (Ok (MakeCredential hash rp_id user_id user_name discoverable exclude)) = some_on cid _
-requested_on u rows p t cid (Ok (GetAssertion rp_id hash allow up)) = begins_on rows t cid hash (rp_hash rp_id) up (has_entries allow) (ids (applicable rows (rp_hash rp_id) (has_entries allow) (ids_of allow)))
+requested_on u rows p t cid (Ok (GetAssertion hash rp_id allow up)) = begins_on rows t cid hash (rp_hash rp_id) up (has_entries allow) (ids (applicable rows (rp_hash rp_id) (has_entries allow) (ids_of allow)))
 requested_on u rows p t cid (Ok GetNextAssertion) = next_on rows p t cid
 
 presence_on : (room : ℕ) (s : State) (cid : ℕ) (k : Task) (p : Presence) → s.work ≡ Some (record { cid = cid; task = k }) → On cid (presence_at room s cid k p)

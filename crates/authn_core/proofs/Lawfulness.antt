@@ -67,7 +67,7 @@ requested_lawful u rows p t cid (Ok GetInfo) h = h
 requested_lawful u rows p t cid (Ok Reset) h = cond_case (LawfulIn u.room) (nat_lt (u.began + RESET_LIMIT) t) _ _ (λ _. h) (λ _. h)
 requested_lawful u rows p t cid (Ok Selection) h = h
 requested_lawful u rows p t cid (Ok (MakeCredential hash rp_id user_id user_name discoverable exclude)) h = h
-requested_lawful u rows p t cid (Ok (GetAssertion rp_id hash allow up)) h =
+requested_lawful u rows p t cid (Ok (GetAssertion hash rp_id allow up)) h =
     begins_lawful u.room rows t cid hash (rp_hash rp_id) up (has_entries allow) (ids (applicable rows (rp_hash rp_id) (has_entries allow) (ids_of allow))) h
 requested_lawful u rows p t cid (Ok GetNextAssertion) h = next_lawful u.room rows p t cid h
 

@@ -118,7 +118,7 @@ requested_follows u rows p t cid bytes (Ok Reset) =
     cond_case (Follows rows None (Request cid bytes)) (nat_lt (u.began + RESET_LIMIT) t) _ _ (λ _. sym (mark_keeps rows)) (λ _. sym (mark_keeps rows))
 requested_follows u rows p t cid bytes (Ok Selection) = sym (mark_keeps rows)
 requested_follows u rows p t cid bytes (Ok (MakeCredential hash rp_id user_id user_name discoverable exclude)) = sym (mark_keeps rows)
-requested_follows u rows p t cid bytes (Ok (GetAssertion rp_id hash allow up)) =
+requested_follows u rows p t cid bytes (Ok (GetAssertion hash rp_id allow up)) =
     begins_follows rows t cid cid bytes hash (rp_hash rp_id) up (has_entries allow) (ids (applicable rows (rp_hash rp_id) (has_entries allow) (ids_of allow)))
 requested_follows u rows p t cid bytes (Ok GetNextAssertion) = next_follows rows p t cid cid bytes
 

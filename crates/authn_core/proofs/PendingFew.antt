@@ -86,7 +86,7 @@ requested_few u rows p t cid (Ok GetInfo) l h = none_few u.room
 requested_few u rows p t cid (Ok Reset) l h = cond_case (Few u.room) (nat_lt (u.began + RESET_LIMIT) t) _ _ (λ _. none_few u.room) (λ _. none_few u.room)
 requested_few u rows p t cid (Ok Selection) l h = none_few u.room
 requested_few u rows p t cid (Ok (MakeCredential hash rp_id user_id user_name discoverable exclude)) l h = none_few u.room
-requested_few u rows p t cid (Ok (GetAssertion rp_id hash allow up)) l h =
+requested_few u rows p t cid (Ok (GetAssertion hash rp_id allow up)) l h =
     begins_few u.room rows t cid hash (rp_hash rp_id) up (has_entries allow) (ids (applicable rows (rp_hash rp_id) (has_entries allow) (ids_of allow)))
     (applicable_few u.room rows (rp_hash rp_id) (has_entries allow) (ids_of allow) l)
 requested_few u rows p t cid (Ok GetNextAssertion) l h = next_few u.room rows p t cid h

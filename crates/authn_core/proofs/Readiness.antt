@@ -205,7 +205,7 @@ requested_ready u rows p t cid (Ok Reset) h =
     cond_case (λ (v : Turned). Ready u.room v.state) (nat_lt (u.began + RESET_LIMIT) t) _ _ (λ _. ended_ready u.room rows None tt) (λ _. record { pending = tt; work = tt })
 requested_ready u rows p t cid (Ok Selection) h = record { pending = tt; work = tt }
 requested_ready u rows p t cid (Ok (MakeCredential hash rp_id user_id user_name discoverable exclude)) h = record { pending = tt; work = tt }
-requested_ready u rows p t cid (Ok (GetAssertion rp_id hash allow up)) h =
+requested_ready u rows p t cid (Ok (GetAssertion hash rp_id allow up)) h =
     begins_ready u.room rows t cid hash (rp_hash rp_id) up (has_entries allow) (ids (applicable rows (rp_hash rp_id) (has_entries allow) (ids_of allow))) (applicable_there rows (rp_hash rp_id) (has_entries allow) (ids_of allow))
 requested_ready u rows p t cid (Ok GetNextAssertion) h = next_ready u.room rows p t cid h
 

@@ -73,7 +73,7 @@ requested_rise u rows p t cid (Ok GetInfo) h = tt
 requested_rise u rows p t cid (Ok Reset) h = cond_case (Rises rows None) (nat_lt (u.began + RESET_LIMIT) t) _ _ (λ _. tt) (λ _. λ id e. cc)
 requested_rise u rows p t cid (Ok Selection) h = λ id e. cc
 requested_rise u rows p t cid (Ok (MakeCredential hash rp_id user_id user_name discoverable exclude)) h = λ id e. cc
-requested_rise u rows p t cid (Ok (GetAssertion rp_id hash allow up)) h =
+requested_rise u rows p t cid (Ok (GetAssertion hash rp_id allow up)) h =
     begins_rise rows t cid hash (rp_hash rp_id) up (has_entries allow) (ids (applicable rows (rp_hash rp_id) (has_entries allow) (ids_of allow)))
     (applicable_there rows (rp_hash rp_id) (has_entries allow) (ids_of allow))
 requested_rise u rows p t cid (Ok GetNextAssertion) h = next_rise rows p t cid h

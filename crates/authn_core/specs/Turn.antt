@@ -27,7 +27,7 @@ requested u rows pending now cid (Ok Reset) = reset_begins rows u.began now cid
 requested u rows pending now cid (Ok Selection) = selection_begins rows cid
 requested u rows pending now cid (Ok (MakeCredential hash rp_id user_id user_name discoverable exclude)) =
     make_begins rows cid (making hash rp_id user_id user_name discoverable) (ids_of exclude)
-requested u rows pending now cid (Ok (GetAssertion rp_id hash allow presence)) =
+requested u rows pending now cid (Ok (GetAssertion hash rp_id allow presence)) =
     assert_begins rows now cid hash (rp_hash rp_id) (has_entries allow) (ids_of allow) presence
 requested u rows pending now cid (Ok GetNextAssertion) = next_begins rows pending now cid
 
