@@ -104,6 +104,7 @@ impl<const C: usize> Table<C> for Chained<C> {
     }
 
     fn clear(&mut self) {
-        *self = Chained::new();
+        self.chains.clear();
+        self.count = 0;
     }
 }

@@ -41,6 +41,20 @@ impl<const C: usize> Chains<C> {
         }
     }
 
+    /// Frees all slots.
+    pub(crate) fn clear(&mut self)
+        requires some { 1 ≤ C }
+        requires few { C ≤ 256 }
+        ensures linked { Linked [] self.new }
+        ensures rows { rows_in self.new ≡ [] }
+    {
+        slot::chain_all(&mut self.slots);
+        self.heads = [None; 32];
+        self.free = Some(0);
+        self.oldest = None;
+        self.newest = None;
+    }
+
     /// The row at a place in order of age.
     pub(crate) fn row(&self, place: usize) -> &Row
         requires linked { Linked [] self.now }

@@ -1,0 +1,162 @@
+#!/usr/bin/env bash
+# Counts the instructions of a credential table's calls, by callgrind, on both tables: with 1, 64 and 256 rows, in tables
+# for 256. Needs rt and valgrind.
+#
+# A count is that of 1,020 rounds less that of none, over 1,020. A round is one call with what its condition asks: `put`
+# and `raise` with a `find`, `replace` with a `find` and a `same_user`. `put` is that of filling a table, less that of
+# clearing it, over its rows. The program is made in a folder of its own, beside copies of the crates.
+set -eu
+here=$(cd "$(dirname "$0")" && pwd)
+work=${1:-$(mktemp -d)}
+mkdir -p "$work/crates/table_bench/src"
+cp "$here/../HANDLES" "$work/"
+for crate in ctap_cbor cred_table; do
+    rm -rf "$work/crates/$crate"
+    cp -r "$here/../crates/$crate" "$work/crates/"
+done
+printf 'ctap_cbor: thiserror\ncred_table: ctap_cbor arrayvec thiserror\ntable_bench: cred_table\n' > "$work/crates.txt"
+cat > "$work/crates/table_bench/src/main.rt" <<'PROGRAM'
+//! Makes calls on a table, as four bytes of standard input say: the table, the call, its rows less one, and the rounds
+//! over four.
+#![tactic(auto)]
+
+use cred_table::{Chained, Listed, Row, Table};
+use std::io;
+use std::io::Read;
+
+/// A row, by a number: its id is spread over the 256 first bytes.
+fn row_of(number: u32, user: u32) -> Row {
+    let mut row = Row {
+        discoverable: true,
+        ..Row::default()
+    };
+    row.id[0] = (number % 256 * 37 % 256) as u8;
+    row.id[1] = (number / 256 % 256) as u8;
+    row.id[2] = (number / 65536 % 256) as u8;
+    let handle = [(user % 256) as u8, (user / 256 % 256) as u8];
+    let _ = row.user.try_extend_from_slice(&handle);
+    row
+}
+
+/// Puts a row in, where its id and user are new.
+fn put<T: Table<256>>(table: &mut T, row: Row) {
+    if table.len() >= 256 {
+        return;
+    }
+    if table.find(&row.id).is_some() {
+        return;
+    }
+    if row.discoverable && table.same_user(&row.rp, row.user.as_slice()).is_some() {
+        return;
+    }
+    table.put(row);
+}
+
+/// Puts so many rows in. Hidden ones ask for no user.
+fn fill<T: Table<256>>(table: &mut T, rows: u32, discoverable: bool) {
+    for number in 0..rows {
+        let mut row = row_of(number, number);
+        row.discoverable = discoverable;
+        put(table, row);
+    }
+}
+
+/// Puts a row in the place of its user's.
+fn replace<T: Table<256>>(table: &mut T, row: Row) {
+    if table.find(&row.id).is_some() {
+        return;
+    }
+    match table.same_user(&row.rp, row.user.as_slice()) {
+        Some(old) => table.replace(&old, row),
+        None => (),
+    }
+}
+
+/// Raises a row's counter.
+fn raise<T: Table<256>>(table: &mut T, id: &[u8; 32]) -> u32 {
+    match table.find(id).map(|row| row.counter) {
+        Some(counter) if counter < u32::MAX => table.raise(id),
+        _ => 0,
+    }
+}
+
+/// One round of a call, on the row of a number. What it gives depends on what was found.
+fn round<T: Table<256>>(table: &mut T, call: u8, rows: u32, number: u32) -> u32 {
+    let row = row_of(number, number);
+    match call {
+        b'f' => table.find(&row.id).map_or(0, |row| row.counter),
+        b'n' => table.named(&row.rp, &row.id).map_or(0, |row| row.counter),
+        b'u' => table
+            .same_user(&row.rp, row.user.as_slice())
+            .map_or(0, |id| u32::from(id[0])),
+        b'r' => raise(table, &row.id),
+        b'c' => {
+            table.clear();
+            0
+        }
+        b'p' => {
+            table.clear();
+            fill(table, rows, false);
+            0
+        }
+        _ => 0,
+    }
+}
+
+/// The rounds of a call. Rows are taken in a mixed order, and replaced ones get new ids.
+fn run<T: Table<256>>(table: &mut T, call: u8, rows: u32, rounds: u32) -> u32 {
+    fill(table, rows, true);
+    let mut sum: u32 = 0;
+    for count in 0..rounds {
+        let number = count % 1024 * 101 % 1024 % rows.max(1);
+        if call == b'x' {
+            replace(table, row_of(count.saturating_add(256), number));
+        } else {
+            sum = sum.wrapping_add(round(table, call, rows, number));
+        }
+    }
+    sum
+}
+
+fn main(rt: HostRuntime) -> io::Result<()> {
+    let mut bytes = Vec::new(rt.alloc());
+    rt.stdin().read_to_end(&mut bytes)?;
+    let mut sum = 0;
+    if let [table, call, less_one, quarter] = *bytes.as_slice() {
+        let rows = u32::from(less_one) + 1;
+        let rounds = u32::from(quarter) * 4;
+        if table == b'c' {
+            sum = run(&mut Chained::<256>::new(), call, rows, rounds);
+        } else {
+            sum = run(&mut Listed::<256>::new(), call, rows, rounds);
+        }
+    }
+    println!(rt; "{sum}")
+}
+PROGRAM
+cd "$work/crates/table_bench"
+printf 'cf\0\0' > "$work/input"
+rt run < "$work/input" > "$work/answer"
+program=$(find out -maxdepth 3 -type f -executable -name 'table_bench*' | head -n 1)
+# instructions TABLE CALL ROWS QUARTERS: all of a run's
+instructions() {
+    printf "$1$2\\x$(printf %x $(($3 - 1)))\\x$(printf %x "$4")" > "$work/input"
+    valgrind --tool=callgrind --callgrind-out-file="$work/callgrind" "$program" < "$work/input" 2>&1 > "$work/answer" |
+        sed -n 's/.*Collected : //p'
+}
+# round TABLE CALL ROWS: a round's
+round() {
+    local quarters=$((256 - 1))
+    if [ "$2" = p ]; then quarters=4; fi
+    echo $((($(instructions "$1" "$2" "$3" "$quarters") - $(instructions "$1" "$2" "$3" 0)) / (quarters * 4)))
+}
+printf '%-10s %6s %8s %8s\n' call rows Listed Chained
+for rows in 1 64 256; do
+    for call in find:f named:n same_user:u replace:x raise:r clear:c; do
+        printf '%-10s %6s %8s %8s\n' "${call%:*}" "$rows" "$(round l "${call#*:}" "$rows")" "$(round c "${call#*:}" "$rows")"
+    done
+    for table in l c; do
+        eval "put_$table=$((($(round $table p "$rows") - $(round $table c 1)) / rows))"
+    done
+    printf '%-10s %6s %8s %8s\n' put "$rows" "$put_l" "$put_c"
+done

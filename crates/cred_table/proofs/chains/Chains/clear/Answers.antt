@@ -1,0 +1,8 @@
+use Rattle.std.proofs.Common.{◌≤◌, length, arith}
+use Rattle.cred_table.proofs.New.{new}
+use Rattle.cred_table.proofs.chains.Chains.clear.Goals as goal
+
+pub returns-clause-linked : goal.returns-clause-linked
+returns-clause-linked g c =
+    let some : 1 ≤ length c.chain_all.new.slots = omega arith in
+    new c.chain_all.new.slots some c.chain_all.ensures
