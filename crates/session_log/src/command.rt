@@ -34,7 +34,8 @@ pub fn replay_command<S: Source, O: Target, E: Target>(
     requires writes { O.failed output.old < 2 ^ 64 - 1 }
     requires tells { E.failed faults.old < 2 ^ 64 - 1 }
     // It is the log of the empty history, of the program's start, that was written.
-    ensures replayed { IsReplayed program_start S.left S.failed S.ended O.taken O.failed result (input.old, input.new) (output.old, output.new) }
+    ensures replayed { IsReplayed program_start S.left S.failed S.ended O.taken O.failed result
+        (input.old, input.new) (output.old, output.new) }
     // Without a fault nothing is told.
     ensures silent { OnOk result (faults.new ≡ faults.old) }
 {

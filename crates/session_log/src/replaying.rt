@@ -78,7 +78,8 @@ fn play_line<T: Target, const C: usize>(
     requires write { T.failed writer.old < 2 ^ 64 - 1 }
     requires short { length line.now < 256 }
     requires empty { outbox.old ≡ [] }
-    ensures played { PlaysLine machine T.taken T.failed number session.old session.new line.now (writer.old, writer.new) (ending_of result) }
+    ensures played { PlaysLine machine T.taken T.failed number session.old session.new line.now
+        (writer.old, writer.new) (ending_of result) }
     ensures emptied { outbox.new ≡ [] }
 {
     match read_line(line) {
@@ -104,7 +105,8 @@ fn play_all<S: Source, T: Target, const C: usize>(
     ensures played { Moves (S.left reader.old) (S.left reader.new) (T.taken writer.old) (T.taken writer.new)
         (λ bytes text. Plays machine session.old session.new bytes text (ending_of result)) }
     ensures end { OnOk result (IsAllRead S.left S.ended reader.new) }
-    ensures reach { ReadsTo (S.left reader.old) (S.left reader.new) (IsAllRead S.left S.ended reader.new) (ending_of result) }
+    ensures reach { ReadsTo (S.left reader.old) (S.left reader.new)
+        (IsAllRead S.left S.ended reader.new) (ending_of result) }
     ensures reads { Counts S.failed (reader.old, reader.new) (read_fails (ending_of result)) }
     ensures writes { Counts T.failed (writer.old, writer.new) (write_fails (ending_of result)) }
 {
@@ -156,7 +158,8 @@ pub fn replay<S: Source, T: Target, const C: usize>(
     // Replayed again on an equal session, what was written gives the same bytes.
     ensures again { OnOk result (Repeats (T.taken writer.old) (T.taken writer.new) session.old) }
     // At a line fault at most 256 bytes were read after the lines before the faulty one.
-    ensures reach { ReadsTo (S.left reader.old) (S.left reader.new) (IsAllRead S.left S.ended reader.new) (ending_of result) }
+    ensures reach { ReadsTo (S.left reader.old) (S.left reader.new)
+        (IsAllRead S.left S.ended reader.new) (ending_of result) }
     // Behind any history, all this holds of what the history names in place of what the session holds.
     ensures history { (start : Start) (h : List OneInput) → StandsBehind session.old start h
         → (later : List OneInput) × StandsBehind session.new start later

@@ -109,7 +109,8 @@ pub fn put_input<T: Target>(
     requires write { T.failed writer.old < 2 ^ 64 - 1 }
     requires short { length line.now < 256 }
     requires few { length outbox.old ≤ 130 }
-    ensures puts { PutsLine T.taken T.failed (writer.old, writer.new) (ended line.now ++ flat_map sent_text outbox.old) result }
+    ensures puts { PutsLine T.taken T.failed (writer.old, writer.new)
+        (ended line.now ++ flat_map sent_text outbox.old) result }
     ensures empty { outbox.new ≡ [] }
     ensures packets { ArePackets outbox.old }
 {
