@@ -26,7 +26,9 @@ use crate::task::{Asserting, Job, Making, Name, Task};
 use crate::work::KeepaliveStatus;
 use arrayvec::ArrayVec;
 use cred_table::{Pending, Table};
-use ctap_message::{Descriptors, Request, Status, write_assertion, write_created, write_info, write_status};
+use ctap_message::{
+    Descriptors, Request, Status, write_assertion, write_created, write_info, write_status,
+};
 use fido_authdata::{AuthData, to_sign};
 use sha2::{Digest, Sha256};
 use std::marker::Model;
@@ -84,7 +86,8 @@ pub(crate) fn need_of(work: &Option<Job>) -> Need<'_>
     match work {
         None => Need::None,
         Some(Job { task, .. }) => match task {
-            Task::Resets | Task::Selects | Task::AsksMake(..) | Task::AsksAssert(_) => Need::Presence,
+            Task::Resets | Task::Selects | Task::AsksMake(..) | Task::AsksAssert(_) =>
+                Need::Presence,
             Task::WantsKey(_) => Need::Key,
             Task::SignsMake(_, key, signed) => Need::Sign {
                 id: &key.id,
@@ -99,7 +102,13 @@ pub(crate) fn need_of(work: &Option<Job>) -> Need<'_>
 }
 
 /// What is to be made.
-fn making_of(hash: &[u8], rp_id: &str, user_id: &[u8], user_name: &str, discoverable: bool) -> Making
+fn making_of(
+    hash: &[u8],
+    rp_id: &str,
+    user_id: &[u8],
+    user_name: &str,
+    discoverable: bool,
+) -> Making
     requires hash { length hash.now ≡ 32 }
     requires user { length user_id.now ≤ 64 }
     ensures { result ≡ make.making hash.now rp_id.now user_id.now user_name.now discoverable }
