@@ -42,7 +42,7 @@ returns-in_err-put_meters-clause-replayed g c =
     let b = left c.play_all.new.reader in
     let x = taken c.args.writer.now in
     let put = c.in_err-put_meters.ensures.puts in
-    let broken = subst (λ (m : Meters). IsBroken taken failed (c.play_all.new.writer, c.put_meters.new.writer) (meters_line m)) c.meters-meters.ensures put.1 in
+    let broken = subst (λ (m : Meters). IsBroken taken failed (c.play_all.new.writer, c.put_meters.new.writer) (meters_line m)) c.meters-meters.ensures.value put.1 in
     let from = err_from_is_err_and c.from_residual-in_err-put_meters.result c.from_residual-in_err-put_meters.ensures.1 in
     fails_with machine a b x (taken c.put_meters.new.writer) s0 s c.from_residual-in_err-put_meters.result c.in_err-put_meters.field-0.0
     (λ bytes text. IsDone machine s0 s bytes text) (from.1 ∙ ap (λ (f : LogFault). Err f) from.2)
@@ -61,15 +61,15 @@ returns-clause-replayed g c =
     let taken = g.T.Target.taken in
     let failed = g.T.Target.failed in
     let played = c.in_ok-play_all.ensures.played in
-    let put = subst (λ (m : Meters). IsTaken taken failed (c.play_all.new.writer, c.put_meters.new.writer) (meters_line m)) c.meters-meters.ensures c.in_ok-put_meters.ensures.puts in
+    let put = subst (λ (m : Meters). IsTaken taken failed (c.play_all.new.writer, c.put_meters.new.writer) (meters_line m)) c.meters-meters.ensures.value c.in_ok-put_meters.ensures.puts in
     let whole = closes machine taken failed (left c.args.reader.now) (left c.play_all.new.reader) (taken c.args.writer.now) (c.play_all.new.writer, c.put_meters.new.writer) c.args.session.now c.play_all.new.session played.0 played.1 played.2 played.3 played.4 put in
-    (whole.0, whole.1, whole.2, whole.3, (whole.4, c.meters-meters.ensures))
+    (whole.0, whole.1, whole.2, whole.3, (whole.4, c.meters-meters.ensures.value))
 
 pub returns-clause-again : goal.returns-clause-again
 returns-clause-again g c =
     let taken = g.T.Target.taken in
     let played = c.in_ok-play_all.ensures.played in
-    let meters = c.meters-meters.ensures in
+    let meters = c.meters-meters.ensures.value in
     let y = taken c.play_all.new.writer in
     let z = taken c.put_meters.new.writer in
     repeats (taken c.args.writer.now) y z c.args.session.now c.play_all.new.session played.0 played.1 played.3 played.4 (subst (λ (m : Meters). Appends y z (meters_line m)) meters c.in_ok-put_meters.ensures.puts.0)
