@@ -8,32 +8,26 @@ use Rattle.ctap_cbor.specs.Head.{head}
 use Rattle.ctap_cbor.specs.Grammar.{text, texts, pair_texts, scalar_text, IsLawful, AreLawful, AreLawfulPairs, IsCanonical}
 use Rattle.ctap_cbor.specs.Parts.{One, OpensArray, OpensMap}
 use Rattle.ctap_cbor.specs.Reading.{Reading, rest_of}
-use Rattle.ctap_cbor.specs.Parse.{Parse, Done, Halt, parse}
-use Rattle.ctap_cbor.proofs.Again.{parse_again}
+use Rattle.ctap_cbor.specs.Laws.{NoneBeginsAnother, NoItemBeginsAnother}
 use Rattle.cred_table.specs.declared.row.Row.{Row}
 use Rattle.cred_table.specs.declared.fault.SnapshotFault.{SnapshotFault}
 use Rattle.cred_table.specs.declared.fault.SnapshotFault.TheVariants.{NotSnapshot, TooMany, RowBroken, Memory}
 use Rattle.cred_table.specs.Rows.{Lawful}
 use Rattle.cred_table.specs.Snapshots.{number, version, IsRow, row_tree, rows_then, snapshot_of, IsSnapshot, Holds, Refuses, Loads}
 use Rattle.cred_table.specs.Parsing.{Reads, heads_text, row_text, rows_text, TakesRows, BreaksOff, ReadsRows}
-use Rattle.cred_table.proofs.Members.{parts_same}
 use Rattle.cred_table.proofs.Entries.{IsHeads}
 use Rattle.cred_table.proofs.RowTrees.{row_lawful}
 
-abbrev tree_of : Tree → Parse → Tree
-tree_of d (Done t rest) = t
-tree_of d (Halt os kind rest) = d
-
-abbrev rest_from : Parse → List ℕ
-rest_from (Done t rest) = rest
-rest_from (Halt os kind rest) = []
+-- No tree's encoding begins another's, and no item's head does.
+pub record Apart : Type 0 where
+  pub trees : NoneBeginsAnother
+  pub items : NoItemBeginsAnother
 
 -- of one text only one tree stands at the front
-pub trees_same : (t u : Tree) (x y : List ℕ) → IsLawful t → IsLawful u → text t ++ x ≡ text u ++ y → (t ≡ u) × (x ≡ y)
-trees_same t u x y p q e =
-    let room : ℕ = depth t + depth u in
-    let same : Done t x ≡ Done u y = sym (parse_again t room x p (omega arith)) ∙ ap (parse room) e ∙ parse_again u room y q (omega arith) in
-    (ap (tree_of t) same, ap rest_from same)
+pub trees_same : (none : NoneBeginsAnother) (t u : Tree) (x y : List ℕ) → IsLawful t → IsLawful u → text t ++ x ≡ text u ++ y → (t ≡ u) × (x ≡ y)
+trees_same none t u x y p q e =
+    let same = none t u (text t) (text u) x y (record { lawful = p; spelled = refl }) (record { lawful = q; spelled = refl }) e in
+    (same.0, same.2)
 
 -- ---- trees by their heads
 
@@ -44,12 +38,12 @@ record IsArray (n : ℕ) (t : Tree) (x rest : List ℕ) : Type 0 where
   number : count items ≡ n
   spelled : texts items ++ x ≡ rest
 
-opened_array : (n : ℕ) (t : Tree) (x rest : List ℕ) → n < 2 ^ 64 → IsLawful t → text t ++ x ≡ head 4 n ++ rest → IsArray n t x rest
-opened_array n (Plain s) x rest fits lawful e = let no = (parts_same 4 (One s) (OpensArray n) x rest lawful (omega arith, fits) e).0 in cc
-opened_array n (Map ps) x rest fits lawful e =
-    let no = (parts_same 4 (OpensMap (count_pairs ps)) (OpensArray n) (pair_texts ps ++ x) rest (omega arith, lawful.0) (omega arith, fits) (sym (append_assoc (head 5 (count_pairs ps)) (pair_texts ps) x) ∙ e)).0 in cc
-opened_array n (Array ts) x rest fits lawful e =
-    let same = parts_same 4 (OpensArray (count ts)) (OpensArray n) (texts ts ++ x) rest (omega arith, lawful.0) (omega arith, fits) (sym (append_assoc (head 4 (count ts)) (texts ts) x) ∙ e) in
+opened_array : (apart : Apart) → (n : ℕ) (t : Tree) (x rest : List ℕ) → n < 2 ^ 64 → IsLawful t → text t ++ x ≡ head 4 n ++ rest → IsArray n t x rest
+opened_array apart n (Plain s) x rest fits lawful e = let no = (apart.items 4 (One s) (OpensArray n) x rest lawful (omega arith, fits) e).0 in cc
+opened_array apart n (Map ps) x rest fits lawful e =
+    let no = (apart.items 4 (OpensMap (count_pairs ps)) (OpensArray n) (pair_texts ps ++ x) rest (omega arith, lawful.0) (omega arith, fits) (sym (append_assoc (head 5 (count_pairs ps)) (pair_texts ps) x) ∙ e)).0 in cc
+opened_array apart n (Array ts) x rest fits lawful e =
+    let same = apart.items 4 (OpensArray (count ts)) (OpensArray n) (texts ts ++ x) rest (omega arith, lawful.0) (omega arith, fits) (sym (append_assoc (head 4 (count ts)) (texts ts) x) ∙ e) in
     record { items = ts; is = refl; lawful = lawful.1; number = counts (count ts) n same.0; spelled = same.1 }
   where
     counts : (a b : ℕ) → OpensArray a ≡ OpensArray b → a ≡ b
@@ -62,12 +56,12 @@ record IsMap (n : ℕ) (t : Tree) (x rest : List ℕ) : Type 0 where
   number : count_pairs pairs ≡ n
   spelled : pair_texts pairs ++ x ≡ rest
 
-opened_map : (n : ℕ) (t : Tree) (x rest : List ℕ) → n < 2 ^ 64 → IsLawful t → text t ++ x ≡ head 5 n ++ rest → IsMap n t x rest
-opened_map n (Plain s) x rest fits lawful e = let no = (parts_same 4 (One s) (OpensMap n) x rest lawful (omega arith, fits) e).0 in cc
-opened_map n (Array ts) x rest fits lawful e =
-    let no = (parts_same 4 (OpensArray (count ts)) (OpensMap n) (texts ts ++ x) rest (omega arith, lawful.0) (omega arith, fits) (sym (append_assoc (head 4 (count ts)) (texts ts) x) ∙ e)).0 in cc
-opened_map n (Map ps) x rest fits lawful e =
-    let same = parts_same 4 (OpensMap (count_pairs ps)) (OpensMap n) (pair_texts ps ++ x) rest (omega arith, lawful.0) (omega arith, fits) (sym (append_assoc (head 5 (count_pairs ps)) (pair_texts ps) x) ∙ e) in
+opened_map : (apart : Apart) → (n : ℕ) (t : Tree) (x rest : List ℕ) → n < 2 ^ 64 → IsLawful t → text t ++ x ≡ head 5 n ++ rest → IsMap n t x rest
+opened_map apart n (Plain s) x rest fits lawful e = let no = (apart.items 4 (One s) (OpensMap n) x rest lawful (omega arith, fits) e).0 in cc
+opened_map apart n (Array ts) x rest fits lawful e =
+    let no = (apart.items 4 (OpensArray (count ts)) (OpensMap n) (texts ts ++ x) rest (omega arith, lawful.0) (omega arith, fits) (sym (append_assoc (head 4 (count ts)) (texts ts) x) ∙ e)).0 in cc
+opened_map apart n (Map ps) x rest fits lawful e =
+    let same = apart.items 4 (OpensMap (count_pairs ps)) (OpensMap n) (pair_texts ps ++ x) rest (omega arith, lawful.0) (omega arith, fits) (sym (append_assoc (head 5 (count_pairs ps)) (pair_texts ps) x) ∙ e) in
     record { pairs = ps; is = refl; lawful = lawful.2; number = counts (count_pairs ps) n same.0; spelled = same.1 }
   where
     counts : (a b : ℕ) → OpensMap a ≡ OpensMap b → a ≡ b
@@ -93,16 +87,16 @@ version_fits : (named : Bool) → version named < 2 ^ 64
 version_fits true = omega arith
 version_fits false = omega arith
 
-two_pairs : (named : Bool) (n : ℕ) (ps : Pairs) (rest : List ℕ) → n < 2 ^ 64 → count_pairs ps ≡ 2 → AreLawfulPairs ps →
+two_pairs : (apart : Apart) → (named : Bool) (n : ℕ) (ps : Pairs) (rest : List ℕ) → n < 2 ^ 64 → count_pairs ps ≡ 2 → AreLawfulPairs ps →
     pair_texts ps ≡ scalar_text (Int (pos 1)) ++ (scalar_text (Int (pos (version named))) ++ (scalar_text (Int (pos 2)) ++ (head 4 n ++ rest))) → TwoPairs named n ps rest
-two_pairs named n no_pairs rest fits two lawful e = absurd (omega arith)
-two_pairs named n (pair k v no_pairs) rest fits two lawful e = absurd (omega arith)
-two_pairs named n (pair k v (pair j w (pair l u ps))) rest fits two lawful e = absurd (omega arith)
-two_pairs named n (pair k v (pair j w no_pairs)) rest fits two lawful e =
-    let first = trees_same k (number 1) (text v ++ (text j ++ (text w ++ []))) (text (number (version named)) ++ (text (number 2) ++ (head 4 n ++ rest))) lawful.0 (omega arith) e in
-    let second = trees_same v (number (version named)) (text j ++ (text w ++ [])) (text (number 2) ++ (head 4 n ++ rest)) lawful.1 (version_fits named) first.1 in
-    let third = trees_same j (number 2) (text w ++ []) (head 4 n ++ rest) lawful.2.0 (omega arith) second.1 in
-    let h = opened_array n w [] rest fits lawful.2.1 third.1 in
+two_pairs apart named n no_pairs rest fits two lawful e = absurd (omega arith)
+two_pairs apart named n (pair k v no_pairs) rest fits two lawful e = absurd (omega arith)
+two_pairs apart named n (pair k v (pair j w (pair l u ps))) rest fits two lawful e = absurd (omega arith)
+two_pairs apart named n (pair k v (pair j w no_pairs)) rest fits two lawful e =
+    let first = trees_same apart.trees k (number 1) (text v ++ (text j ++ (text w ++ []))) (text (number (version named)) ++ (text (number 2) ++ (head 4 n ++ rest))) lawful.0 (omega arith) e in
+    let second = trees_same apart.trees v (number (version named)) (text j ++ (text w ++ [])) (text (number 2) ++ (head 4 n ++ rest)) lawful.1 (version_fits named) first.1 in
+    let third = trees_same apart.trees j (number 2) (text w ++ []) (head 4 n ++ rest) lawful.2.0 (omega arith) second.1 in
+    let h = opened_array apart n w [] rest fits lawful.2.1 third.1 in
     record {
       entries = h.items;
       is = ap (λ x. pair x v (pair j w no_pairs)) first.0 ∙ ap (λ x. pair (number 1) x (pair j w no_pairs)) second.0 ∙ ap (λ x. pair (number 1) (number (version named)) (pair x w no_pairs)) third.0
@@ -112,12 +106,12 @@ two_pairs named n (pair k v (pair j w no_pairs)) rest fits two lawful e =
       spelled = sym h.spelled ∙ append-nil (texts h.items);
     }
 
-has_entries : (named : Bool) (n : ℕ) (t : Tree) (b rest : List ℕ) → n < 2 ^ 64 → IsCanonical t b → b ≡ heads_text (named, n) ++ rest → HasEntries named n b rest
-has_entries named n t b rest fits is e =
+has_entries : (apart : Apart) → (named : Bool) (n : ℕ) (t : Tree) (b rest : List ℕ) → n < 2 ^ 64 → IsCanonical t b → b ≡ heads_text (named, n) ++ rest → HasEntries named n b rest
+has_entries apart named n t b rest fits is e =
     let inner = scalar_text (Int (pos 1)) ++ (scalar_text (Int (pos (version named))) ++ (scalar_text (Int (pos 2)) ++ (head 4 n ++ rest))) in
     let front : heads_text (named, n) ++ rest ≡ head 5 2 ++ inner = simp append_assoc refl in
-    let m = opened_map 2 t [] inner (omega arith) is.enc.lawful (append-nil (text t) ∙ sym is.enc.spelled ∙ e ∙ front) in
-    let p = two_pairs named n m.pairs rest fits m.number m.lawful (sym (append-nil (pair_texts m.pairs)) ∙ m.spelled) in
+    let m = opened_map apart 2 t [] inner (omega arith) is.enc.lawful (append-nil (text t) ∙ sym is.enc.spelled ∙ e ∙ front) in
+    let p = two_pairs apart named n m.pairs rest fits m.number m.lawful (sym (append-nil (pair_texts m.pairs)) ∙ m.spelled) in
     record {
       entries = p.entries;
       holds = subst (λ x. IsCanonical x b) (map_is m.is p.is) is;
@@ -148,12 +142,12 @@ record Behind (named : Bool) (rows : List Row) (entries : Trees) (rest : List �
   lawful : AreLawful others
   spelled : rest ≡ texts others
 
-behind_rows : (named : Bool) (rows : List Row) (entries : Trees) (rest : List ℕ) → AllByRecursion (IsRow named) rows → AreLawful entries → length rows ≤ count entries → texts entries ≡ rows_text named rows ++ rest → Behind named rows entries rest
-behind_rows named [] entries rest typed lawful few e = record { others = entries; is = refl; lawful = lawful; spelled = sym e }
-behind_rows named (row ∷ rows) no_trees rest typed lawful few e = absurd (omega arith)
-behind_rows named (row ∷ rows) (tree t ts) rest typed lawful few e =
-    let same = trees_same t (row_tree named row) (texts ts) (rows_text named rows ++ rest) lawful.0 (row_lawful named row typed.0) (e ∙ append_assoc (row_text named row) (rows_text named rows) rest) in
-    let b = behind_rows named rows ts rest typed.1 lawful.1 (omega arith) same.1 in
+behind_rows : (apart : Apart) → (named : Bool) (rows : List Row) (entries : Trees) (rest : List ℕ) → AllByRecursion (IsRow named) rows → AreLawful entries → length rows ≤ count entries → texts entries ≡ rows_text named rows ++ rest → Behind named rows entries rest
+behind_rows apart named [] entries rest typed lawful few e = record { others = entries; is = refl; lawful = lawful; spelled = sym e }
+behind_rows apart named (row ∷ rows) no_trees rest typed lawful few e = absurd (omega arith)
+behind_rows apart named (row ∷ rows) (tree t ts) rest typed lawful few e =
+    let same = trees_same apart.trees t (row_tree named row) (texts ts) (rows_text named rows ++ rest) lawful.0 (row_lawful named row typed.0) (e ∙ append_assoc (row_text named row) (rows_text named rows) rest) in
+    let b = behind_rows apart named rows ts rest typed.1 lawful.1 (omega arith) same.1 in
     record {
       others = b.others;
       is = ap (λ x. tree x ts) same.0 ∙ ap (tree (row_tree named row)) b.is;
@@ -178,9 +172,9 @@ one_left : (ts : Trees) → 0 < count ts → OneLeft ts
 one_left no_trees lt = absurd (omega arith)
 one_left (tree t ts) lt = record { entry = t; after = ts; is = refl }
 
-all_load : (named : Bool) (room n : ℕ) (b : List ℕ) (a c : Reading) (rows : List Row) → Lawful room rows → HasEntries named n b (rest_of a) → TakesRows named n a c rows → IsSnapshot named room rows b
-all_load named room n b a c rows lawful h k =
-    let d = behind_rows named rows h.entries (rest_of c) k.typed h.lawful (omega (arith, h.number, k.number)) (sym h.spelled ∙ k.spelled) in
+all_load : (apart : Apart) → (named : Bool) (room n : ℕ) (b : List ℕ) (a c : Reading) (rows : List Row) → Lawful room rows → HasEntries named n b (rest_of a) → TakesRows named n a c rows → IsSnapshot named room rows b
+all_load apart named room n b a c rows lawful h k =
+    let d = behind_rows apart named rows h.entries (rest_of c) k.typed h.lawful (omega (arith, h.number, k.number)) (sym h.spelled ∙ k.spelled) in
     let none = none_left d.others (omega (arith, ap count d.is, count_then named rows d.others, h.number, k.number)) in
     record {
       typed = k.typed;
@@ -188,9 +182,9 @@ all_load named room n b a c rows lawful h k =
       canonical = subst (λ x. Holds named x b) (d.is ∙ ap (rows_then named rows) none) h.holds;
     }
 
-broken_at : (named : Bool) (room n place : ℕ) (b : List ℕ) (a : Reading) → HasEntries named n b (rest_of a) → n ≤ room → BreaksOff named room n place a → Refuses room b (RowBroken place)
-broken_at named room n place b a h few k =
-    let d = behind_rows named k.rows h.entries (rest_of k.between) k.takes.typed h.lawful (omega (arith, h.number, k.takes.number, k.fewer)) (sym h.spelled ∙ k.takes.spelled) in
+broken_at : (apart : Apart) → (named : Bool) (room n place : ℕ) (b : List ℕ) (a : Reading) → HasEntries named n b (rest_of a) → n ≤ room → BreaksOff named room n place a → Refuses room b (RowBroken place)
+broken_at apart named room n place b a h few k =
+    let d = behind_rows apart named k.rows h.entries (rest_of k.between) k.takes.typed h.lawful (omega (arith, h.number, k.takes.number, k.fewer)) (sym h.spelled ∙ k.takes.spelled) in
     let l = one_left d.others (omega (arith, ap count d.is, count_then named k.rows d.others, h.number, k.takes.number, k.fewer)) in (
       named,
       h.entries,
@@ -209,14 +203,14 @@ broken_at named room n place b a h few k =
     )
 
 -- the entries were read, all or up to a broken one
-pub rows_load : (named : Bool) (room n : ℕ) (t : Tree) (b : List ℕ) (a c : Reading) (rows : List Row) (r : Result (Unit {0}) SnapshotFault) →
+pub rows_load : (apart : Apart) → (named : Bool) (room n : ℕ) (t : Tree) (b : List ℕ) (a c : Reading) (rows : List Row) (r : Result (Unit {0}) SnapshotFault) →
     n < 2 ^ 64 → n ≤ room → IsCanonical t b → b ≡ heads_text (named, n) ++ rest_of a → Lawful room rows → ReadsRows named room n a c rows r → Loads room b r rows
-rows_load named room n t b a c rows (Ok u) fits few is e lawful k = (named, all_load named room n b a c rows lawful (has_entries named n t b (rest_of a) fits is e) k)
-rows_load named room n t b a c rows (Err (RowBroken place)) fits few is e lawful k = broken_at named room n place b a (has_entries named n t b (rest_of a) fits is e) few k
-rows_load named room n t b a c rows (Err NotSnapshot) fits few is e lawful k = absurd k
-rows_load named room n t b a c rows (Err TooMany) fits few is e lawful k = absurd k
-rows_load named room n t b a c rows (Err Memory) fits few is e lawful k = absurd k
+rows_load apart named room n t b a c rows (Ok u) fits few is e lawful k = (named, all_load apart named room n b a c rows lawful (has_entries apart named n t b (rest_of a) fits is e) k)
+rows_load apart named room n t b a c rows (Err (RowBroken place)) fits few is e lawful k = broken_at apart named room n place b a (has_entries apart named n t b (rest_of a) fits is e) few k
+rows_load apart named room n t b a c rows (Err NotSnapshot) fits few is e lawful k = absurd k
+rows_load apart named room n t b a c rows (Err TooMany) fits few is e lawful k = absurd k
+rows_load apart named room n t b a c rows (Err Memory) fits few is e lawful k = absurd k
 
 -- there are too many
-pub too_many : (named : Bool) (room n : ℕ) (t : Tree) (b rest : List ℕ) → n < 2 ^ 64 → room < n → IsCanonical t b → b ≡ heads_text (named, n) ++ rest → Refuses room b TooMany
-too_many named room n t b rest fits many is e = let h = has_entries named n t b rest fits is e in (named, h.entries, h.holds, omega (arith, h.number))
+pub too_many : (apart : Apart) → (named : Bool) (room n : ℕ) (t : Tree) (b rest : List ℕ) → n < 2 ^ 64 → room < n → IsCanonical t b → b ≡ heads_text (named, n) ++ rest → Refuses room b TooMany
+too_many apart named room n t b rest fits many is e = let h = has_entries apart named n t b rest fits is e in (named, h.entries, h.holds, omega (arith, h.number))

@@ -1,49 +1,25 @@
 -- Reading by heads, and members of maps by them.
 use Rattle.std.proofs.Common.{◌≡◌, ℕ, List, [], ◌++◌, Option, Some, None, Result, Ok, Err, refl, sym, ap, ◌∙◌, append_assoc}
 use Rattle.std.specs.Prelude.{pos, is_some, ⊤}
-use Rattle.ctap_cbor.specs.declared.fault.Kind.{Kind}
 use Rattle.ctap_cbor.specs.Tree.{Int}
 use Rattle.ctap_cbor.specs.Grammar.{scalar_text}
 use Rattle.ctap_cbor.specs.Faults.{AnItem}
-use Rattle.ctap_cbor.specs.Parts.{Part, item_text, Suits, read}
+use Rattle.ctap_cbor.specs.Parts.{Part, item_text, Suits}
 use Rattle.ctap_cbor.specs.Reading.{Reading, rest_of, Takes}
-use Rattle.ctap_cbor.proofs.Items.{read_again}
 use Rattle.cred_table.specs.Parsing.{Given, and_then, Reads, ReadsPart, member_text}
 
-abbrev part_in : Part → Result (Part × List ℕ) Kind → Part
-part_in d (Ok p) = p.0
-part_in d (Err k) = d
-
-abbrev rest_in : Result (Part × List ℕ) Kind → List ℕ
-rest_in (Ok p) = p.1
-rest_in (Err k) = []
-
--- where an item stands, it is read
-pub item_same : (room : ℕ) (i j : Part) (rest new old : List ℕ) → Suits room AnItem i → old ≡ item_text i ++ rest → read room AnItem old ≡ Ok (j, new) → (j ≡ i) × (new ≡ rest)
-item_same room i j rest new old suits e is =
-    let same : ◌≡◌ {A = Result (Part × List ℕ) Kind} (Ok (j, new)) (Ok (i, rest)) = sym is ∙ ap (read room AnItem) e ∙ read_again room AnItem i rest suits in
-    (ap (part_in i) same, ap rest_in same)
-
-pub item_there : (room : ℕ) (i : Part) (rest old : List ℕ) (kind : Kind) → Suits room AnItem i → old ≡ item_text i ++ rest → read room AnItem old ≡ Err kind → ⊥
-item_there room i rest old kind suits e is =
-    let same : ◌≡◌ {A = Result (Part × List ℕ) Kind} (Err kind) (Ok (i, rest)) = sym is ∙ ap (read room AnItem) e ∙ read_again room AnItem i rest suits in
-    cc
-
--- two items at one place are one
-pub parts_same : (room : ℕ) (i j : Part) (x y : List ℕ) → Suits room AnItem i → Suits room AnItem j → item_text i ++ x ≡ item_text j ++ y → (i ≡ j) × (x ≡ y)
-parts_same room i j x y p q e = item_same room j i y x (item_text i ++ x) q e (read_again room AnItem i x p)
-
--- what a call of the cursor took, and what stops it
-pub item_taken : (room : ℕ) (i : Part) (old new : Reading) → Takes room old new i → read room AnItem (rest_of old) ≡ Ok (i, rest_of new) → ReadsPart room item_text old new (Some i)
-item_taken room i old new takes is = record {
+-- what a call of the cursor took, and what stops it; nothing else is there
+pub item_taken : (room : ℕ) (i : Part) (old new : Reading) → Takes room old new i
+    → ((k : Part) (rest : List ℕ) → Suits room AnItem k → rest_of old ≡ item_text k ++ rest → (i ≡ k) × (rest_of new ≡ rest)) → ReadsPart room item_text old new (Some i)
+item_taken room i old new takes only = record {
   took = (takes.suits, takes.spelled);
-  found = λ k rest suits there. let s = item_same room k i rest (rest_of new) (rest_of old) suits there is in (ap Some (s.0), s.1);
+  found = λ k rest suits there. let s = only k rest suits there in (ap Some (s.0), s.1);
 }
 
-pub item_missed : (room : ℕ) (kind : Kind) (old new : Reading) → read room AnItem (rest_of old) ≡ Err kind → ReadsPart room item_text old new None
-item_missed room kind old new is = record {
+pub item_missed : (room : ℕ) (old new : Reading) → ((k : Part) (rest : List ℕ) → Suits room AnItem k → rest_of old ≡ item_text k ++ rest → ⊥) → ReadsPart room item_text old new None
+item_missed room old new none = record {
   took = tt;
-  found = λ k rest suits there. absurd (item_there room k rest (rest_of old) kind suits there is);
+  found = λ k rest suits there. absurd (none k rest suits there);
 }
 
 -- the key, and an item or none

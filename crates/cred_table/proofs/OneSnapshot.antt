@@ -11,6 +11,7 @@ use Rattle.cred_table.specs.Rows.{has_id, replaces, Lawful}
 use Rattle.cred_table.specs.Snapshots.{number, version, IsRow, row_tree, rows_then, snapshot_of, Holds, clashes, FirstBroken}
 use Rattle.cred_table.specs.Laws.{SameRows, SnapshotsAreOne, RefusedIsNone, OneRefusal}
 use Rattle.cred_table.proofs.RowTrees.{pairs_in, first_of_pairs, behind_first, bytes_in, flag_in}
+use Rattle.ctap_cbor.specs.Laws.{NoneBeginsAnother}
 use Rattle.cred_table.proofs.Contents.{trees_same, count_then}
 use Rattle.cred_table.proofs.Clashing.{free_before}
 
@@ -29,9 +30,9 @@ version_same true false e = absurd (omega arith)
 version_same false true e = absurd (omega arith)
 
 -- one text holds entries of one version
-pub holds_same : (named other : Bool) (es fs : Trees) (text : List ℕ) → Holds named es text → Holds other fs text → (named ≡ other) × (es ≡ fs)
-holds_same named other es fs text p q =
-    let same = (trees_same (snapshot_of named es) (snapshot_of other fs) [] [] p.enc.lawful q.enc.lawful (ap (λ x. x ++ []) (sym p.enc.spelled ∙ q.enc.spelled))).0 in (
+pub holds_same : (none : NoneBeginsAnother) → (named other : Bool) (es fs : Trees) (text : List ℕ) → Holds named es text → Holds other fs text → (named ≡ other) × (es ≡ fs)
+holds_same none named other es fs text p q =
+    let same = (trees_same none (snapshot_of named es) (snapshot_of other fs) [] [] p.enc.lawful q.enc.lawful (ap (λ x. x ++ []) (sym p.enc.spelled ∙ q.enc.spelled))).0 in (
       version_same named other (ap (λ t. number_in (first_of_pairs (pairs_in t))) same),
       ap (λ t. entries_in (first_of_pairs (behind_first (pairs_in t)))) same,
     )
@@ -62,11 +63,11 @@ nameless_same (a ∷ rows) (b ∷ others) p q e =
     let first : row_tree true a ≡ row_tree true b = named_tree a p.0 ∙ ap add_name (ap first_in e) ∙ sym (named_tree b q.0) in
     ap (λ t. tree t (rows_then true rows no_trees)) first ∙ ap (tree (row_tree true b)) (nameless_same rows others p.1 q.1 (ap others_in e))
 
-pub snapshots_are_one : SnapshotsAreOne
-snapshots_are_one named other room space rows others text p q = (same.0, go named other same.0 p.typed q.typed same.1)
+pub snapshots_are_one : NoneBeginsAnother → SnapshotsAreOne
+snapshots_are_one none named other room space rows others text p q = (same.0, go named other same.0 p.typed q.typed same.1)
   where
     same : (named ≡ other) × (rows_then named rows no_trees ≡ rows_then other others no_trees)
-    same = holds_same named other (rows_then named rows no_trees) (rows_then other others no_trees) text p.canonical q.canonical
+    same = holds_same none named other (rows_then named rows no_trees) (rows_then other others no_trees) text p.canonical q.canonical
 
     go : (n m : Bool) → n ≡ m → AllByRecursion (IsRow n) rows → AllByRecursion (IsRow m) others → rows_then n rows no_trees ≡ rows_then m others no_trees → SameRows rows others
     go true true e p q same = same
@@ -135,16 +136,16 @@ none_broken named room place rows entries others typed lawful e b lt =
 place_below : (named : Bool) (room place : ℕ) (entries : Trees) → FirstBroken named room entries place → place < count entries
 place_below named room place entries b = omega (arith, b.place_is, ap count b.split, count_then named b.before (tree b.entry b.after))
 
-pub refused_is_none : RefusedIsNone
-refused_is_none room text NotSnapshot r named rows is = r named (rows_then named rows no_trees) is.canonical
-refused_is_none room text TooMany r named rows is =
-    let same = (holds_same r.0 named r.1 (rows_then named rows no_trees) text r.2 is.canonical).1 in
+pub refused_is_none : NoneBeginsAnother → RefusedIsNone
+refused_is_none none room text NotSnapshot r named rows is = r named (rows_then named rows no_trees) is.canonical
+refused_is_none none room text TooMany r named rows is =
+    let same = (holds_same none r.0 named r.1 (rows_then named rows no_trees) text r.2 is.canonical).1 in
     absurd (omega (arith, r.3, ap count same, count_then named rows no_trees, is.lawful.few))
-refused_is_none room text (RowBroken place) r named rows is =
-    let same = holds_same r.0 named r.1 (rows_then named rows no_trees) text r.2 is.canonical in
+refused_is_none none room text (RowBroken place) r named rows is =
+    let same = holds_same none r.0 named r.1 (rows_then named rows no_trees) text r.2 is.canonical in
     let b = subst (λ n. FirstBroken n room r.1 place) same.0 r.4 in
     none_broken named room place rows r.1 no_trees is.typed is.lawful same.1 b (omega (arith, place_below named room place r.1 b, ap count same.1, count_then named rows no_trees))
-refused_is_none room text Memory r named rows is = r
+refused_is_none none room text Memory r named rows is = r
 
 -- ---- one refusal
 
@@ -159,21 +160,21 @@ one_place named room i j entries a b = go (nat_lt i j) (nat_lt j i) refl refl
     go false true e f = absurd (not_before named room j i entries b a (grind (arith, nat_tests)))
     go false false e f = grind (arith, nat_tests)
 
-pub one_refusal : OneRefusal
-one_refusal room text NotSnapshot NotSnapshot r s = refl
-one_refusal room text NotSnapshot TooMany r s = absurd (r s.0 s.1 s.2)
-one_refusal room text NotSnapshot (RowBroken j) r s = absurd (r s.0 s.1 s.2)
-one_refusal room text TooMany NotSnapshot r s = absurd (s r.0 r.1 r.2)
-one_refusal room text (RowBroken i) NotSnapshot r s = absurd (s r.0 r.1 r.2)
-one_refusal room text TooMany TooMany r s = refl
-one_refusal room text TooMany (RowBroken j) r s =
-    let same = (holds_same r.0 s.0 r.1 s.1 text r.2 s.2).1 in
+pub one_refusal : NoneBeginsAnother → OneRefusal
+one_refusal none room text NotSnapshot NotSnapshot r s = refl
+one_refusal none room text NotSnapshot TooMany r s = absurd (r s.0 s.1 s.2)
+one_refusal none room text NotSnapshot (RowBroken j) r s = absurd (r s.0 s.1 s.2)
+one_refusal none room text TooMany NotSnapshot r s = absurd (s r.0 r.1 r.2)
+one_refusal none room text (RowBroken i) NotSnapshot r s = absurd (s r.0 r.1 r.2)
+one_refusal none room text TooMany TooMany r s = refl
+one_refusal none room text TooMany (RowBroken j) r s =
+    let same = (holds_same none r.0 s.0 r.1 s.1 text r.2 s.2).1 in
     absurd (omega (arith, r.3, s.3, ap count same))
-one_refusal room text (RowBroken i) TooMany r s =
-    let same = (holds_same r.0 s.0 r.1 s.1 text r.2 s.2).1 in
+one_refusal none room text (RowBroken i) TooMany r s =
+    let same = (holds_same none r.0 s.0 r.1 s.1 text r.2 s.2).1 in
     absurd (omega (arith, r.3, s.3, ap count same))
-one_refusal room text (RowBroken i) (RowBroken j) r s =
-    let same = holds_same r.0 s.0 r.1 s.1 text r.2 s.2 in
+one_refusal none room text (RowBroken i) (RowBroken j) r s =
+    let same = holds_same none r.0 s.0 r.1 s.1 text r.2 s.2 in
     ap RowBroken (one_place s.0 room i j s.1 (subst (λ n. FirstBroken n room s.1 i) same.0 (subst (λ es. FirstBroken r.0 room es i) same.1 r.4)) s.4)
-one_refusal room text Memory g r s = absurd r
-one_refusal room text f Memory r s = absurd s
+one_refusal none room text Memory g r s = absurd r
+one_refusal none room text f Memory r s = absurd s

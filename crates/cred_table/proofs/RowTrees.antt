@@ -6,7 +6,7 @@ use Rattle.ctap_cbor.specs.Tree.{Bytes, Flag, Null, Tree, Plain, Map, Pairs, no_
 use Rattle.ctap_cbor.specs.Head.{head}
 use Rattle.ctap_cbor.specs.Grammar.{IsLawful, IsEncoding}
 use Rattle.ctap_cbor.specs.Reading.{Reading, rest_of}
-use Rattle.ctap_cbor.proofs.Uniqueness.{none_begins_another}
+use Rattle.ctap_cbor.specs.Laws.{NoneBeginsAnother}
 use Rattle.cred_table.specs.declared.row.Row.{Row}
 use Rattle.cred_table.specs.Rows.{has_id, is_user, replaces}
 use Rattle.cred_table.specs.Snapshots.{IsRow, row_tree, clashes}
@@ -87,8 +87,8 @@ pub row_encoding : (named : Bool) (row : Row) → IsRow named row → IsEncoding
 row_encoding named row is = record { lawful = row_lawful named row is; spelled = refl }
 
 -- where one row's text stands, no other row's does
-pub row_same : (named : Bool) (a b : Row) (x y : List ℕ) → IsRow named a → IsRow named b → row_text named a ++ x ≡ row_text named b ++ y → row_tree named a ≡ row_tree named b
-row_same named a b x y p q e = (none_begins_another (row_tree named a) (row_tree named b) (row_text named a) (row_text named b) x y (row_encoding named a p) (row_encoding named b q) e).0
+pub row_same : (none : NoneBeginsAnother) → (named : Bool) (a b : Row) (x y : List ℕ) → IsRow named a → IsRow named b → row_text named a ++ x ≡ row_text named b ++ y → row_tree named a ≡ row_tree named b
+row_same none named a b x y p q e = (none (row_tree named a) (row_tree named b) (row_text named a) (row_text named b) x y (row_encoding named a p) (row_encoding named b q) e).0
 
 -- ---- what a tree tells of its row
 
@@ -168,10 +168,10 @@ no_clash row rows e =
     )
 
 -- a row was read, and put or not
-pub entry_read : (named : Bool) (old new : Reading) (row : Row) (rows more : List Row) (put : Bool) → Reads (IsRow named) (row_text named) old new (Some row) → put ≡ not (clashes row rows) →
+pub entry_read : (none : NoneBeginsAnother) → (named : Bool) (old new : Reading) (row : Row) (rows more : List Row) (put : Bool) → Reads (IsRow named) (row_text named) old new (Some row) → put ≡ not (clashes row rows) →
     more ≡ cond (clashes row rows) rows (rows ++ row ∷ []) → ReadsEntry named old new rows more put
-entry_read named old new row rows more put r e f = rw e (go (clashes row rows) refl f)
+entry_read none named old new row rows more put r e f = rw e (go (clashes row rows) refl f)
   where
     go : (b : Bool) → clashes row rows ≡ b → more ≡ cond b rows (rows ++ row ∷ []) → ReadsEntry named old new rows more (not b)
-    go true clash f = λ other rest is there. clashes_same named other row rows (row_same named other row rest (rest_of new) is r.took.0 (sym there ∙ r.took.1)) ∙ clash
+    go true clash f = λ other rest is there. clashes_same named other row rows (row_same none named other row rest (rest_of new) is r.took.0 (sym there ∙ r.took.1)) ∙ clash
     go false free f = record { row = row; typed = r.took.0; spelled = r.took.1; more_is = f }

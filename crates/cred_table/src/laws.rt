@@ -3,17 +3,25 @@
 
 ghost use Rattle.cred_table.specs.Laws.{SnapshotsAreOne, RefusedIsNone, OneRefusal};
 
+use ctap_cbor::laws::none_begins_another;
+
 /// One text is the snapshot of one list of rows, of one version. So what was saved is loaded again as the same rows.
 pub fn snapshots_are_one()
     ensures { SnapshotsAreOne }
-{}
+{
+    none_begins_another();
+}
 
 /// What is refused is the snapshot of no rows for which there is room. So whatever is a snapshot is loaded.
 pub fn refused_is_none()
     ensures { RefusedIsNone }
-{}
+{
+    none_begins_another();
+}
 
 /// A text is refused for one thing.
 pub fn one_refusal()
     ensures { OneRefusal }
-{}
+{
+    none_begins_another();
+}

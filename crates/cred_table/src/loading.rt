@@ -10,6 +10,7 @@ use crate::listed::Listed;
 use crate::parsing::{read_heads, read_row};
 use crate::row::Row;
 use crate::table::Table;
+use ctap_cbor::laws::{no_item_begins_another, none_begins_another};
 use ctap_cbor::{Cursor, check};
 
 /// Whether a row can't stand behind those of a table: it has the id of one, or is discoverable as one of its RP and user
@@ -44,6 +45,7 @@ fn read_entry<const C: usize>(cursor: &mut Cursor, named: bool, rows: &mut Liste
     requires room { length rows.old.list.items < C }
     ensures { ReadsEntry named cursor.old cursor.new rows.old.list.items rows.new.list.items result }
 {
+    none_begins_another();
     match read_row(cursor, named) {
         Some(row) => put_row(rows, row),
         None => false,
@@ -77,6 +79,8 @@ fn read_snapshot<const C: usize>(bytes: &[u8], rows: &mut Listed<C>) -> Result<(
     if check(bytes).result.is_err() {
         return Err(SnapshotFault::NotSnapshot);
     }
+    none_begins_another();
+    no_item_begins_another();
     let mut cursor = Cursor::new(bytes);
     match read_heads(&mut cursor) {
         None => Err(SnapshotFault::NotSnapshot),
