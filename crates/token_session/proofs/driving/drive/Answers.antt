@@ -5,12 +5,12 @@ use Rattle.token_session.specs.Drive.{as_pair}
 use Rattle.token_session.proofs.Drives.{driven_more, sends_more, room_here, driven_stands, driven_follows}
 use Rattle.token_session.proofs.driving.drive.Goals as goal
 
-pub returns-then-remaining_capacity-lt130-clause-behind : goal.returns-then-remaining_capacity-lt130-clause-behind
-returns-then-remaining_capacity-lt130-clause-behind g c = λ start h b.
+pub returns-then-remaining_capacity-lt-OUTBOX_CAPACITY-clause-behind : goal.returns-then-remaining_capacity-lt-OUTBOX_CAPACITY-clause-behind
+returns-then-remaining_capacity-lt-OUTBOX_CAPACITY-clause-behind g c = λ start h b.
     c.loop-i.invariant.state ∙ driven_stands (take c.loop-i.i c.args.inputs.now) _ start h b
 
-pub returns-then-remaining_capacity-lt130-clause-sent : goal.returns-then-remaining_capacity-lt130-clause-sent
-returns-then-remaining_capacity-lt130-clause-sent g c = λ start h b.
+pub returns-then-remaining_capacity-lt-OUTBOX_CAPACITY-clause-sent : goal.returns-then-remaining_capacity-lt-OUTBOX_CAPACITY-clause-sent
+returns-then-remaining_capacity-lt-OUTBOX_CAPACITY-clause-sent g c = λ start h b.
     c.loop-i.invariant.packets ∙ ap (λ q. map as_pair c.args.sent.now.items ++ q) (driven_follows (take c.loop-i.i c.args.inputs.now) _ start 0 h b)
 
 pub returns-clause-behind : goal.returns-clause-behind
