@@ -4,7 +4,7 @@ use Rattle.std.specs.Io.KnownBytes.{Consumes, Appends, Keeps}
 use Rattle.std.proofs.KnownBytes.{Appends-trans, Appends-kept, Consumes-trans}
 use Rattle.token_session.specs.declared.input.Meters.{Meters}
 use Rattle.session_log.specs.declared.fault.LogFault.{LogFault}
-use Rattle.session_log.specs.declared.fault.LogFault.TheVariants.{BadLine, TooLong, Read, Write, TooManyLines}
+use Rattle.session_log.specs.declared.fault.LogFault.TheVariants.{BadLine, TooLong, Differs, Read, Write, TooManyLines, Memory}
 use Rattle.session_log.specs.Ending.{Ending, ended_by, ending_of}
 use Rattle.session_log.specs.Said.{said}
 use Rattle.session_log.specs.World.{World}
@@ -26,7 +26,9 @@ as_err {A} r e P is h = subst (λ (q : Result A LogFault). P (ending_of q)) (sym
 pub passed_on : {S : Type 0} (world : World S) (s t : S) (bytes text : List ℕ) (P Q : Type 0) (e : LogFault) → Means world s t bytes text P (ended_by e) → Means world s t bytes text Q (ended_by e)
 passed_on world s t bytes text P Q (BadLine n) h = h
 passed_on world s t bytes text P Q (TooLong n) h = h
+passed_on world s t bytes text P Q (Differs l k) h = h
 passed_on world s t bytes text P Q TooManyLines h = h
+passed_on world s t bytes text P Q (Memory n) h = h
 passed_on world s t bytes text P Q (Read n) h = h
 passed_on world s t bytes text P Q Write h = h
 
@@ -47,6 +49,8 @@ stops_reading world left left' taken taken' s0 s read text w n (TooLong m) p q t
 stops_reading world left left' taken taken' s0 s read text w n (Read m) p q t h =
     (read ++ w, text, p, q, subst (λ (k : ℕ). IsUnread world s0 s (read ++ w) text k) (sym h.0) (unread world s0 read text s n w t h.1))
 stops_reading world left left' taken taken' s0 s read text w n (BadLine m) p q t h = absurd h
+stops_reading world left left' taken taken' s0 s read text w n (Differs l k) p q t h = absurd h
+stops_reading world left left' taken taken' s0 s read text w n (Memory m) p q t h = absurd h
 stops_reading world left left' taken taken' s0 s read text w n Write p q t h = absurd h
 
 -- a line was faulty, and nothing was written for it
@@ -71,6 +75,10 @@ stops_at_line world taken failed left left' start target s0 s t read text w line
     stops_faulty world taken left left' start target s0 s t read text w line more n (TooLong m) p q through first short few h.0 h.1 h.2
 stops_at_line world taken failed left left' start target s0 s t read text w line more n TooManyLines p q through first short few h =
     stops_faulty world taken left left' start target s0 s t read text w line more n TooManyLines p q through first short few h.0 h.1 h.2
+stops_at_line world taken failed left left' start target s0 s t read text w line more n (Differs l k) p q through first short few h =
+    stops_faulty world taken left left' start target s0 s t read text w line more n (Differs l k) p q through first short few h.0 h.1 h.2
+stops_at_line world taken failed left left' start target s0 s t read text w line more n (Memory m) p q through first short few h =
+    stops_faulty world taken left left' start target s0 s t read text w line more n (Memory m) p q through first short few h.0 h.1 h.2
 stops_at_line {S} {F} world taken failed left left' start target s0 s t read text w line more n Write p q through first short few h =
     let broken = h.2.0 in (
       read ++ w,

@@ -2,7 +2,7 @@
 use Rattle.std.proofs.Common.{◌≡◌, ℕ, suc, ◌+◌, ◌≤◌, ◌^◌, List, [], ◌∷◌, ◌++◌, length, take, drop, Option, Some, None, Result, Ok, Err, inl, inr, refl, sym, ap, ◌∙◌, subst, arith, append-nil, length-append, take-append-drop}
 use Rattle.std.specs.Io.KnownBytes.{Consumes}
 use Rattle.session_log.specs.declared.fault.LogFault.{LogFault}
-use Rattle.session_log.specs.declared.fault.LogFault.TheVariants.{BadLine, TooLong, Read, Write, TooManyLines}
+use Rattle.session_log.specs.declared.fault.LogFault.TheVariants.{BadLine, TooLong, Differs, Read, Write, TooManyLines, Memory}
 use Rattle.session_log.specs.declared.line.Line.{Line}
 use Rattle.session_log.specs.Ending.{ended_by, ending_of}
 use Rattle.session_log.specs.World.{Course, World, replaying}
@@ -55,6 +55,8 @@ bad_reaches : {S F : Type 0} (world : World S) (taken : F → Option (List ℕ))
 bad_reaches world taken failed a b target s t bytes line n all (BadLine m) only p reach h = (bytes, p, subst (Reaches bytes all) (sym (only (BadLine m) h.0)) reach)
 bad_reaches world taken failed a b target s t bytes line n all (TooLong m) only p reach h = (bytes, p, subst (Reaches bytes all) (sym (only (TooLong m) h.0)) reach)
 bad_reaches world taken failed a b target s t bytes line n all TooManyLines only p reach h = (bytes, p, subst (Reaches bytes all) (sym (only TooManyLines h.0)) reach)
+bad_reaches world taken failed a b target s t bytes line n all (Differs l k) only p reach h = (bytes, p, subst (Reaches bytes all) (sym (only (Differs l k) h.0)) reach)
+bad_reaches world taken failed a b target s t bytes line n all (Memory m) only p reach h = (bytes, p, subst (Reaches bytes all) (sym (only (Memory m) h.0)) reach)
 bad_reaches world taken failed a b target s t bytes line n all (Read m) only p reach h = tt
 bad_reaches world taken failed a b target s t bytes line n all Write only p reach h = tt
 
@@ -74,6 +76,8 @@ bad_last world taken failed (Err e) a b target s0 s t read text w line n all onl
 -- no line could be read
 pub none_bad : {S : Type 0} (world : World S) (a b : Option (List ℕ)) (s0 s : S) (read text w : List ℕ) (n : ℕ) (all : Type 0) (e : LogFault) → n ≤ 2 ^ 32 → Consumes a b (read ++ w) → Through world s0 read text s n → Stops n w e → ReadsTo a b all (ended_by e)
 none_bad world a b s0 s read text w n all (BadLine m) most p t h = absurd h
+none_bad world a b s0 s read text w n all (Differs l k) most p t h = absurd h
+none_bad world a b s0 s read text w n all (Memory m) most p t h = absurd h
 none_bad world a b s0 s read text w n all Write most p t h = tt
 none_bad world a b s0 s read text w n all (TooLong m) most p t h =
     let cut : pieces (read ++ w) ≡ t.done ++ w ∷ [] = t.cut w ∙ ap (λ (l : List (List ℕ)). t.done ++ l) (one_piece w h.2) in

@@ -2,7 +2,7 @@
 use Rattle.std.proofs.Common.{◌≡◌, ℕ, ◌+◌, ◌^◌, nat_le, nat_lt, Bool, true, false, cond, List, [], ◌∷◌, ◌++◌, length, Option, Some, None, Result, Ok, Err, is_some, is_none, refl, sym, ap, ◌∙◌, subst}
 use Rattle.token_session.specs.declared.input.Meters.{Meters}
 use Rattle.session_log.specs.declared.fault.LogFault.{LogFault}
-use Rattle.session_log.specs.declared.fault.LogFault.TheVariants.{BadLine, TooLong, Read, Write, TooManyLines}
+use Rattle.session_log.specs.declared.fault.LogFault.TheVariants.{BadLine, TooLong, Differs, Read, Write, TooManyLines, Memory}
 use Rattle.session_log.specs.declared.line.Line.{Line}
 use Rattle.session_log.specs.Lines.{lines, whole_lines}
 use Rattle.session_log.specs.Log.{Played, played, playing, text_by, after_by, fault_by, fault_at, log_of}
@@ -141,5 +141,7 @@ logs_alike v w R f s t b k bytes text (Ok m) h = let found = done_alike v w R f 
 logs_alike v w R f s t b k bytes text (Err (BadLine n)) h = let found = refused_alike v w R f s t b k bytes text (BadLine n) h.0 in (found.0, found.1, (found.2, tt))
 logs_alike v w R f s t b k bytes text (Err (TooLong n)) h = let found = refused_alike v w R f s t b k bytes text (TooLong n) h.0 in (found.0, found.1, (found.2, tt))
 logs_alike v w R f s t b k bytes text (Err TooManyLines) h = let found = refused_alike v w R f s t b k bytes text TooManyLines h.0 in (found.0, found.1, (found.2, tt))
+logs_alike v w R f s t b k bytes text (Err (Differs l p)) h = let found = refused_alike v w R f s t b k bytes text (Differs l p) h.0 in (found.0, found.1, (found.2, tt))
+logs_alike v w R f s t b k bytes text (Err (Memory n)) h = let found = refused_alike v w R f s t b k bytes text (Memory n) h.0 in (found.0, found.1, (found.2, tt))
 logs_alike v w R f s t b k bytes text (Err (Read n)) h = let found = unread_alike v w R f s t b k bytes text n h.0 in (found.0, found.1, (found.2, tt))
 logs_alike v w R f s t b k bytes text (Err Write) h = let found = unwritten_alike v w R f s t b k bytes text h.0 in (found.0, found.1, (found.2, tt))

@@ -3,7 +3,7 @@ use Rattle.std.specs.Prelude.{◌≡◌, ℕ, ◌+◌, ◌<◌, ◌≤◌, ◌^�
 use Rattle.std.specs.Io.KnownBytes.{Consumes, Keeps}
 use Rattle.token_session.specs.declared.input.Meters.{Meters}
 use Rattle.session_log.specs.declared.fault.LogFault.{LogFault}
-use Rattle.session_log.specs.declared.fault.LogFault.TheVariants.{BadLine, TooLong, Read, Write, TooManyLines}
+use Rattle.session_log.specs.declared.fault.LogFault.TheVariants.{BadLine, TooLong, Differs, Read, Write, TooManyLines, Memory}
 use Rattle.session_log.specs.Ending.{Ending, Done, Refused, Unread, Unwritten, ending_of}
 use Rattle.session_log.specs.Lines.{lines, whole_lines, last_piece}
 use Rattle.session_log.specs.Log.{played, playing, log, text_of, after, fault_by}
@@ -104,8 +104,10 @@ abbrev pub Reaches : List ℕ → Type 0 → LogFault → Type 0
 Reaches bytes all (BadLine n) = IsNear bytes n × ((n ≤ length (whole_lines bytes)) ⊎ all)
 Reaches bytes all (TooLong n) = IsNear bytes n × (n ≡ length (whole_lines bytes) + 1) × (length (last_piece bytes) ≡ 256)
 Reaches bytes all TooManyLines = IsNear bytes (2 ^ 32)
+Reaches bytes all (Differs line packet) = ⊥
 Reaches bytes all (Read n) = ⊥
 Reaches bytes all Write = ⊥
+Reaches bytes all (Memory n) = ⊥
 
 abbrev pub ReadsTo : Option (List ℕ) → Option (List ℕ) → Type 0 → Ending → Type 0
 ReadsTo left left' all (Refused fault) = (bytes : List ℕ) × Consumes left left' bytes × Reaches bytes all fault

@@ -8,63 +8,16 @@ ghost use Rattle.token_session.specs.declared.input.Timed.{Timed as OneInput};
 ghost use Rattle.authn_core.specs.Turn.{Start};
 ghost use Rattle.token_session.specs.Meters.{StandsBehind};
 ghost use Rattle.session_log.specs.Streams.{Counts, IsAllRead, Moves};
-ghost use Rattle.session_log.specs.Window.{HasLine, IsUnfinished, Stops};
 
 use crate::fault::LogFault;
 use crate::line::{Line, read_line};
+use crate::lines::next_line;
 use crate::source::Source;
 use crate::target::Target;
 use crate::text::{Text, put_input, put_line, put_meters};
 use crate::window::Window;
 use hid_packet::Outbox;
 use token_session::{Meters, Session};
-
-/// The most lines of a log.
-const MOST_LINES: u64 = 0xFFFF_FFFF;
-
-/// Whether something stands in the window as a line too many.
-fn is_too_many(window: &Window, number: u64) -> bool
-    ensures value { MatchBool result
-        ((2 ^ 32 ≤ number) × (0 < length window.now))
-        (2 ^ 32 ≤ number → window.now ≡ []) }
-    ensures fits { length window.now ≤ 256 }
-{
-    let held = window.len();
-    number > MOST_LINES && held > 0
-}
-
-/// Reads until a whole line stands in front, which has this length; or none at the reader's end.
-fn next_line<S: Source>(
-    window: &mut Window,
-    reader: &mut S,
-    number: u64,
-) -> Result<Option<usize>, LogFault>
-    requires { S.failed reader.old < 2 ^ 64 - 1 }
-    ensures bytes { (more : List ℕ) × (window.new ≡ window.old ++ more)
-        × Consumes (S.left reader.old) (S.left reader.new) more }
-    ensures found { IfOk result (λ found. MatchOption found
-        (IsUnfinished number window.new × IsAllRead S.left S.ended reader.new)
-        (λ end. HasLine number window.new end)) }
-    ensures stopped { IfErr result (Stops number window.new) }
-    ensures reads { Counts S.failed (reader.old, reader.new) (read_fails (ending_of result)) }
-{
-    'reading: loop {
-        if is_too_many(window, number) {
-            return Err(LogFault::TooManyLines);
-        }
-        if let Some(end) = window.first_feed() {
-            return Ok(Some(end));
-        }
-        if window.is_full() {
-            return Err(LogFault::TooLong(number));
-        }
-        match window.fill(reader) {
-            Ok(true) => {}
-            Ok(false) => return Ok(None),
-            Err(_) => return Err(LogFault::Read(number)),
-        }
-    }
-}
 
 /// Plays one line.
 fn play_line<T: Target, const C: usize>(

@@ -312,9 +312,11 @@ fn faults_have_texts_and_numbers(rt: HostRuntime) -> Result<(), AllocError> {
     let cases = [
         (LogFault::BadLine(7), 1, "line 7: not a log line"),
         (LogFault::TooLong(7), 2, "line 7: longer than 255 bytes"),
+        (LogFault::Differs { line: 7, packet: 3 }, 3, "line 7: differs at packet 3"),
         (LogFault::Read(7), 4, "line 7: reading failed"),
         (LogFault::Write, 5, "writing failed"),
         (LogFault::TooManyLines, 6, "too many lines"),
+        (LogFault::Memory(7), 7, "line 7: no memory"),
     ];
     for (fault, number, text) in cases {
         assert_eq!(rt; fault.number(), number);
