@@ -28,16 +28,16 @@ fn show_line<T: Target>(
     put_all(writer, transcript.text().as_bytes()).map_err(|_| LogFault::Write)
 }
 
-/// Shows a log to a person (docs/LOG_FORMAT.md, "Shown to a person"): writes a line for each packet, tick and reply, and
-/// after the last packet of a CBOR message a line with its item in diagnostic notation. Remarks and counts are left out.
-/// The text for a line is handed to the target whole, before more is asked of the source than that line.
+/// Shows a log to a person (docs/LOG_FORMAT.md, "Shown to a person"): writes a line for each packet, tick and
+/// reply, and after the last packet of a CBOR message a line with its item in diagnostic notation. Remarks and
+/// counts are left out. The text for a line is handed to the target whole, before more is asked of the source.
 ///
-/// It allocates, from `alloc`, for the text of one line and for the item of one message. So what it takes doesn't grow
-/// with the log.
+/// It allocates, from `alloc`, for the text of one line and for the item of one message, so that what it takes
+/// doesn't grow with the log.
 ///
-/// After [`LogFault::BadLine`], [`LogFault::TooLong`], [`LogFault::TooManyLines`] and [`LogFault::Memory`] the texts of the
-/// lines before the faulty one were written, after [`LogFault::Read`] those of the whole lines that were read, and after
-/// [`LogFault::Write`] a beginning of the text. No read or write that failed is tried again.
+/// After [`LogFault::BadLine`], [`LogFault::TooLong`], [`LogFault::TooManyLines`] and [`LogFault::Memory`] the texts
+/// of the lines before the faulty one were written, after [`LogFault::Read`] those of the whole lines that were
+/// read, and after [`LogFault::Write`] a beginning of the text. No read or write that failed is tried again.
 pub fn show<S: Source, T: Target>(
     alloc: Global,
     reader: &mut S,

@@ -1,7 +1,7 @@
 //! What no clause says: the texts, readers and writers that fail in mid-stream, and refused memory.
 //!
-//! The test `shows_after_refused_memory` is for allocations that fail (`rt try --test --fail-alloc N`): whichever it is, the
-//! texts of the lines before it were written, and the same call with memory succeeds.
+//! The test `shows_after_refused_memory` is for allocations that fail (`rt try --test --fail-alloc N`): whichever
+//! it is, the texts of the lines before were written, and the same call with memory succeeds.
 use crate::diagnostic::Diagnostic;
 use crate::show;
 use arrayvec::ArrayVec;
