@@ -6,10 +6,10 @@ ghost use Rattle.authn_core.specs.Views.{status_number};
 /// What waiting work waits for, the byte that a KEEPALIVE carries (CTAP 2.1, section 11.2.9.1.7).
 #[derive(Clone, Copy, Debug, PartialEq, Eq)]
 pub enum KeepaliveStatus {
-    /// 1: the authenticator is processing.
-    Processing,
-    /// 2: the user's presence is needed.
-    PresenceNeeded,
+    /// The authenticator is processing.
+    Processing = 1,
+    /// The user's presence is needed.
+    PresenceNeeded = 2,
 }
 
 impl KeepaliveStatus {
@@ -17,10 +17,7 @@ impl KeepaliveStatus {
     pub fn number(self) -> u8
         ensures { result ≡ status_number self }
     {
-        match self {
-            KeepaliveStatus::Processing => 1,
-            KeepaliveStatus::PresenceNeeded => 2,
-        }
+        self as u8
     }
 }
 

@@ -2,12 +2,12 @@
 use Rattle.std.proofs.Common.{◌≡◌, ℕ, ◌+◌, List, [], ◌++◌, drop, arith, refl, sym, ap, subst, ◌∙◌, append_assoc, append-nil}
 use Rattle.std.proofs.lemmas.List.{drop-drop}
 use Rattle.ctap_cbor.specs.declared.sink.Sink.{Sink}
-use Rattle.ctap_cbor.specs.Writing.{written, Appends}
+use Rattle.ctap_cbor.specs.Writing.{contents, Appends}
 
 -- one piece behind another
 pub then : {a b c : Sink} {x y : List ℕ} {m n : ℕ} → Appends a b x m → Appends b c y n → Appends a c (x ++ y) (m + n)
 then {a = a} {x = x} {y = y} {m = m} {n = n} p q = record {
-  grows = q.grows ∙ ap (λ w. w ++ y) p.grows ∙ append_assoc (written a) x y;
+  grows = q.grows ∙ ap (λ w. w ++ y) p.grows ∙ append_assoc (contents a) x y;
   len_is = omega arith;
   room_is = omega arith;
   keeps = q.keeps ∙ ap (drop n) p.keeps ∙ drop-drop n m _;
@@ -15,7 +15,7 @@ then {a = a} {x = x} {y = y} {m = m} {n = n} p q = record {
 
 -- nothing
 pub done : {a : Sink} → Appends a a [] 0
-done {a = a} = record { grows = sym (append-nil (written a)); len_is = omega arith; room_is = omega arith; keeps = refl }
+done {a = a} = record { grows = sym (append-nil (contents a)); len_is = omega arith; room_is = omega arith; keeps = refl }
 
 -- so many bytes, by another sum
 pub sized : {a b : Sink} {x : List ℕ} {m n : ℕ} → m ≡ n → Appends a b x m → Appends a b x n

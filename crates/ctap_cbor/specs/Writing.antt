@@ -6,8 +6,8 @@ use Rattle.ctap_cbor.specs.Head.{head_len}
 use Rattle.ctap_cbor.specs.declared.sink.Sink.{Sink}
 
 -- what is written
-abbrev pub written : Sink → List ℕ
-written s = take s.len s.buffer.now
+abbrev pub contents : Sink → List ℕ
+contents s = take s.len s.buffer.now
 
 -- what the buffer holds behind that
 abbrev pub behind : Sink → List ℕ
@@ -28,8 +28,8 @@ room_of s = length s.buffer.now - s.len
 
 -- so many bytes were written at the end, these, and the buffer keeps its length and what stands behind them
 pub record Appends (old new : Sink) (bytes : List ℕ) (len : ℕ) : Type 0 where
-  pub grows : written new ≡ written old ++ bytes
-  pub len_is : length (written new) ≡ length (written old) + len
+  pub grows : contents new ≡ contents old ++ bytes
+  pub len_is : length (contents new) ≡ length (contents old) + len
   pub room_is : room_of old ≡ room_of new + len
   pub keeps : behind new ≡ drop len (behind old)
 

@@ -2,13 +2,14 @@
 
 ghost use Rattle.std.specs.Prelude.{◌≡◌, ◌≢◌, ◌<◌, ◌≤◌, length, MatchOption, true, false};
 ghost use Rattle.std.specs.Str.{is_utf8};
-ghost use Rattle.ctap_cbor.specs.Head.{info, argument_len, argument, least_argument, number_after};
+ghost use Rattle.ctap_cbor.specs.Head.{info, argument_len, argument, least_argument};
 ghost use Rattle.ctap_cbor.specs.Faults.{first_of, first_faults};
 ghost use Rattle.ctap_cbor.specs.Parts.{read};
 ghost use Rattle.ctap_cbor.specs.Views.{Finds, FindsRest, part_of, due_of, headed};
 
 use crate::fault::Kind;
 use crate::item::Item;
+use byteorder::{BigEndian, ByteOrder};
 
 /// The item or the key that begins a text, with its length, or its fault and how many bytes count as passed
 /// then. The order of keys is left out.
@@ -122,24 +123,13 @@ fn argument_of(first: u8, rest: &[u8]) -> u64
     requires room { argument_len (info first) ≤ length rest.now }
     ensures { result ≡ argument first rest.now }
 {
-    let info = first % 32;
-    if info < 24 {
-        u64::from(info)
-    } else {
-        number(&rest[..len_of_argument(info)])
+    match first % 32 {
+        24 => u64::from(rest[0]),
+        25 => u64::from(BigEndian::read_u16(rest)),
+        26 => u64::from(BigEndian::read_u32(rest)),
+        27 => BigEndian::read_u64(rest),
+        info => u64::from(info),
     }
-}
-
-/// The number that at most eight bytes spell, the highest first.
-fn number(bytes: &[u8]) -> u64
-    requires { length bytes.now ≤ 8 }
-    ensures { result ≡ number_after 0 bytes.now }
-{
-    let mut n: u64 = 0;
-    for b in bytes {
-        n = n * 256 + u64::from(*b);
-    }
-    n
 }
 
 /// What a head with this major type and additional information opens or is, unless it is a string.

@@ -18,11 +18,11 @@ pub struct Sink<'a> {
 }
 
 impl<'a> Sink<'a> {
-    ghost use Rattle.ctap_cbor.specs.Writing.{written, behind, room_of, scalar_len, Appends, IsOver, SameBuffer};
+    ghost use Rattle.ctap_cbor.specs.Writing.{contents, behind, room_of, scalar_len, Appends, IsOver, SameBuffer};
 
     /// A sink over the whole buffer, with nothing written.
     pub fn new(buffer: &'a mut [u8]) -> Self
-        ensures empty { written result ≡ [] }
+        ensures empty { contents result ≡ [] }
         ensures behind { behind result ≡ buffer.old }
         ensures room { room_of result ≡ length buffer.old }
         ensures same { IsOver buffer.entry result }
@@ -32,14 +32,14 @@ impl<'a> Sink<'a> {
 
     /// How many bytes are written.
     pub fn len(&self) -> usize
-        ensures { result ≡ length (written self.now) }
+        ensures { result ≡ length (contents self.now) }
     {
         self.len
     }
 
     /// Whether nothing is written.
     pub fn is_empty(&self) -> bool
-        ensures { IsTrue result ↔ (written self.now ≡ []) }
+        ensures { IsTrue result ↔ (contents self.now ≡ []) }
     {
         self.len == 0
     }

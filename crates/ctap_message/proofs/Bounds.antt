@@ -5,7 +5,7 @@ use Rattle.ctap_cbor.specs.Telling.{canonical_tree, check_steps}
 use Rattle.ctap_cbor.specs.Laws.{CheckStepsAreBounded}
 use Rattle.ctap_message.specs.declared.command.Command.{Command}
 use Rattle.ctap_message.specs.declared.command.Command.TheVariants.{MakeCredential, GetAssertion, GetInfo, Reset, GetNextAssertion, Selection}
-use Rattle.ctap_message.specs.Requests.{command, reading_steps, command_steps, served_steps, steps_of}
+use Rattle.ctap_message.specs.Requests.{named_command, reading_steps, command_steps, served_steps, steps_of}
 
 twice_bounded : (n s : ℕ) (b : Bool) → s ≤ 2 * n + 1 → (if b then 2 * s else s) ≤ 4 * n + 2
 twice_bounded n s true h = omega arith
@@ -29,4 +29,4 @@ served_bounded law (Some c) behind = command_bounded law c behind
 pub steps_bounded : CheckStepsAreBounded → (message : List ℕ) → steps_of message ≤ 4 * (length message - 1) + 2
 unfolding steps_of
 steps_bounded law [] = omega arith
-steps_bounded law (byte ∷ behind) = omega (arith, served_bounded law (command byte) behind)
+steps_bounded law (byte ∷ behind) = omega (arith, served_bounded law (named_command byte) behind)

@@ -11,8 +11,8 @@ use Rattle.ctap_message.specs.MakeCredential.{make_request}
 use Rattle.ctap_message.specs.GetAssertion.{assertion_request}
 
 -- The command that a byte names (CTAP 2.1, section 8.1, "Commands").
-abbrev pub command : ℕ → Option Command
-command byte =
+abbrev pub named_command : ℕ → Option Command
+named_command byte =
     if byte == 0x01 then Some served.MakeCredential
     else (if byte == 0x02 then Some served.GetAssertion
     else (if byte == 0x04 then Some served.GetInfo
@@ -42,7 +42,7 @@ served_request (Some c) behind = request_of c behind
 -- parameters stand behind it. A message without a command byte has a wrong length.
 unfoldable pub read_of : List ℕ → Result Asked ℕ
 read_of [] = Err INVALID_LENGTH
-read_of (byte ∷ behind) = served_request (command byte) behind
+read_of (byte ∷ behind) = served_request (named_command byte) behind
 
 -- The steps of reading parameters: those of checking them, and as many again where they are canonical, for they are walked once
 -- more.
@@ -62,7 +62,7 @@ served_steps (Some c) behind = command_steps c behind
 -- The steps of reading a message.
 unfoldable pub steps_of : List ℕ → ℕ
 steps_of [] = 0
-steps_of (byte ∷ behind) = served_steps (command byte) behind
+steps_of (byte ∷ behind) = served_steps (named_command byte) behind
 
 -- a count of steps stops at 2^64-1
 abbrev pub LARGEST : ℕ

@@ -1,7 +1,7 @@
 //! The commands that are served.
 
 ghost use Rattle.std.specs.Prelude.{◌≡◌};
-ghost use Rattle.ctap_message.specs.Requests.{command};
+ghost use Rattle.ctap_message.specs.Requests.{named_command};
 
 /// A command that is served, by the first byte of its message (CTAP 2.1, section 8.1, "Commands").
 #[derive(Clone, Copy, Debug, PartialEq, Eq)]
@@ -23,7 +23,7 @@ pub enum Command {
 impl Command {
     /// The command with this byte, None where none is served.
     pub fn named(byte: u8) -> Option<Command>
-        ensures { result ≡ command byte }
+        ensures { result ≡ named_command byte }
     {
         match byte {
             0x01 => Some(Command::MakeCredential),

@@ -1,9 +1,10 @@
 -- The rows of an initialization packet by the kind of its command: CANCEL, INIT, and any other.
 use Rattle.std.proofs.Common.{◌≡◌, ℕ, Bool, true, false, cond, not, ◌&&◌, ◌||◌, ◌==◌, nat_le, nat_lt, Option, refl}
-use Rattle.hid_packet.specs.Commands.{PING, INIT, CBOR, CANCEL, BROADCAST, LONGEST}
+use Rattle.hid_packet.specs.Commands.{PING, INIT, CBOR, CANCEL, BROADCAST}
 use Rattle.hid_assemble.specs.declared.table.Row.{Row}
 use Rattle.hid_assemble.specs.declared.table.Row.TheVariants.{CancelsWork, CancelsNothing, NoSuchChannel, InitLength, InitFull, InitNew, InitAgain, BusyElsewhere, BusyHere, BrokenOff, NoSuchCommand, BadLength, Short, Long}
 use Rattle.hid_assemble.specs.Table.{LAST_CHANNEL, is_given, is_on, is_elsewhere, initialization_row}
+use Rattle.hid_packet.specs.declared.limit.TheConstants.{LONGEST_MESSAGE}
 
 unfoldable pub init_row : ℕ → ℕ → ℕ → Row
 init_row given cid len =
@@ -15,7 +16,7 @@ begin_row current work cid cmd len =
     (cond (is_on work cid) BusyHere
     (cond (is_on current cid) BrokenOff
     (cond (not (cmd == PING || cmd == CBOR)) NoSuchCommand
-    (cond (nat_lt LONGEST len || (cmd == CBOR && (len == 0))) BadLength
+    (cond (nat_lt LONGEST_MESSAGE len || (cmd == CBOR && (len == 0))) BadLength
     (cond (nat_le len 57) Short Long)))))
 
 kinds : (cancel work strange init length_is broadcast full : Bool) (r : Row)

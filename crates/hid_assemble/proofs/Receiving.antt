@@ -1,7 +1,7 @@
 -- The packets of a message finish it.
 use Rattle.std.proofs.Common.{◌≡◌, ℕ, ◌+◌, ◌*◌, ◌≤◌, ◌<◌, ◌⊎◌, inl, inr, Bool, true, false, cond, not, ◌&&◌, ◌||◌, ◌==◌, nat_le, nat_lt, List, [], ◌∷◌, ◌++◌, length, take, flat_map, append-nil, append_assoc, Some, None, refl, sym, ◌∙◌, ap, arith}
 use Rattle.std.proofs.lemmas.Bool.Decides.{nat_tests}
-use Rattle.hid_packet.specs.Commands.{PING, INIT, CBOR, CANCEL, BROADCAST, LONGEST}
+use Rattle.hid_packet.specs.Commands.{PING, INIT, CBOR, CANCEL, BROADCAST}
 use Rattle.hid_packet.specs.Packet.{Fields, fields, channel, is_initialization, command, message_length, sequence, initialization_data, continuation_data, initialization, continuation}
 use Rattle.hid_packet.specs.Carries.{Continue, IsLeast, Carries, CarriesMessage}
 use Rattle.hid_assemble.specs.declared.table.Row.TheVariants.{Short, Long}
@@ -12,6 +12,7 @@ use Rattle.hid_assemble.specs.Assembly.{Assembly, is_overdue, still_open, open_a
 use Rattle.hid_assemble.specs.Receiving.{Arrival, packets_of, received_one, received, last_verdict, InTime, ComeInTime, IsServed}
 use Rattle.hid_assemble.specs.Verdicts.{verdict, ruling_verdict}
 use Rattle.hid_assemble.specs.declared.verdict.Verdict.TheVariants.{Finished}
+use Rattle.hid_packet.specs.declared.limit.TheConstants.{LONGEST_MESSAGE}
 
 -- the fields of either kind of packet
 starts : (p : List ℕ) → is_initialization p ≡ true → fields p ≡ initialization (channel p) (command p) (message_length p) (initialization_data p)
@@ -75,7 +76,7 @@ continues (x ∷ y ∷ more) given since m finished some last time follow enough
 -- the row of an initialization packet where nothing is open
 served_tests : (given cid cmd len : ℕ) → 1 ≤ cid → cid ≤ given → (cmd ≡ 1) ⊎ ((cmd ≡ 16) × (1 ≤ len)) → len ≤ 7609
     → ((cmd == CANCEL) ≡ false) × (not (is_given given cid || ((cid == BROADCAST) && (cmd == INIT))) ≡ false) × ((cmd == INIT) ≡ false)
-    × (not ((cmd == PING) || (cmd == CBOR)) ≡ false) × ((nat_lt LONGEST len || ((cmd == CBOR) && (len == 0))) ≡ false)
+    × (not ((cmd == PING) || (cmd == CBOR)) ≡ false) × ((nat_lt LONGEST_MESSAGE len || ((cmd == CBOR) && (len == 0))) ≡ false)
 served_tests given cid cmd len low high (inl ping) fits = (grind (arith, nat_tests), grind (arith, nat_tests), grind (arith, nat_tests), grind (arith, nat_tests), grind (arith, nat_tests))
 served_tests given cid cmd len low high (inr cbor) fits =
     let asks = cbor.0 in

@@ -1,7 +1,7 @@
 -- What the row of a packet says of it.
 use Rattle.std.proofs.Common.{◌≡◌, ℕ, ◌+◌, ◌*◌, ◌≤◌, ◌<◌, false, not, ◌&&◌, ◌||◌, ◌==◌, nat_le, nat_lt, ◌⊎◌, Option, sym, subst, arith}
 use Rattle.std.proofs.lemmas.Bool.Decides.{nat_tests}
-use Rattle.hid_packet.specs.Commands.{PING, INIT, CBOR, CANCEL, BROADCAST, LONGEST}
+use Rattle.hid_packet.specs.Commands.{PING, INIT, CBOR, CANCEL, BROADCAST}
 use Rattle.hid_assemble.specs.declared.table.Row.{Row}
 use Rattle.hid_assemble.specs.declared.table.Row.TheVariants.{InitNew, Short, Long}
 use Rattle.hid_assemble.specs.declared.table.Continuation.{Continuation}
@@ -10,6 +10,7 @@ use Rattle.hid_assemble.specs.Table.{LAST_CHANNEL, is_given, is_on, is_elsewhere
 use Rattle.hid_assemble.specs.Assembly.{IsOpenMessage}
 use Rattle.hid_assemble.proofs.Comparing.{cond_case, at_most, above, below, no_less}
 use Rattle.hid_assemble.proofs.ByCommand.{init_row, begin_row, by_command}
+use Rattle.hid_packet.specs.declared.limit.TheConstants.{LONGEST_MESSAGE}
 
 -- what the row of an initialization packet says of it
 abbrev pub RowSays : (given cid cmd len : ℕ) → Row → Type 0
@@ -37,7 +38,7 @@ init_says given cid cmd len few =
 served : (cmd : ℕ) → not ((cmd == PING) || (cmd == CBOR)) ≡ false → (cmd ≡ PING) ⊎ (cmd ≡ CBOR)
 served cmd h = grind (arith, nat_tests)
 
-within : (cmd len : ℕ) → (nat_lt LONGEST len || ((cmd == CBOR) && (len == 0))) ≡ false → len ≤ LONGEST
+within : (cmd len : ℕ) → (nat_lt LONGEST_MESSAGE len || ((cmd == CBOR) && (len == 0))) ≡ false → len ≤ LONGEST_MESSAGE
 within cmd len h = grind (arith, nat_tests)
 
 begin_says : (given : ℕ) (current work : Option ℕ) (cid cmd len : ℕ) → 1 ≤ cid → cid ≤ given → RowSays given cid cmd len (begin_row current work cid cmd len)
@@ -48,7 +49,7 @@ begin_says given current work cid cmd len low high =
     (λ _. cond_case P (is_on work cid) _ _ (λ _. tt)
     (λ _. cond_case P (is_on current cid) _ _ (λ _. tt)
     (λ _. cond_case P (not ((cmd == PING) || (cmd == CBOR))) _ _ (λ _. tt)
-    (λ command. cond_case P (nat_lt LONGEST len || ((cmd == CBOR) && (len == 0))) _ _ (λ _. tt)
+    (λ command. cond_case P (nat_lt LONGEST_MESSAGE len || ((cmd == CBOR) && (len == 0))) _ _ (λ _. tt)
     (λ fits. cond_case P (nat_le len 57) _ _ (λ short. at_most len 57 short)
     (λ long. record { low = low; high = high; served = served cmd command; longer = above len 57 long; longest = within cmd len fits; more = above len 57 long }))))))
 

@@ -1,10 +1,13 @@
 -- What is kept of the packets that came, and what each row of the reply table makes of it.
 use Rattle.std.specs.Prelude.{◌≡◌, ℕ, ◌+◌, ◌*◌, ◌≤◌, ◌<◌, ◌⊎◌, Bool, false, ◌==◌, nat_le, List, [], ◌++◌, take, length, Option, Some, None, option_map, if◌then◌else◌}
-use Rattle.hid_packet.specs.Commands.{PING, CBOR, LONGEST}
+use Rattle.hid_packet.specs.Commands.{PING, CBOR}
 use Rattle.hid_packet.specs.Packet.{Fields, channel_of, command_of, length_of, data_of}
 use Rattle.hid_assemble.specs.Table.{Open, Ruling, Begins, Continues, LAST_CHANNEL, ruling_of}
 use Rattle.hid_assemble.specs.declared.table.Row.TheVariants.{InitLength, InitNew, InitAgain, BrokenOff, Short, Long}
 use Rattle.hid_assemble.specs.declared.table.Continuation.TheVariants.{Stray, WrongNumber, Kept, Whole}
+use Rattle.hid_packet.specs.Limits.{data_room}
+use Rattle.hid_packet.specs.declared.limit.TheConstants.{INITIALIZATION_DATA, LONGEST_MESSAGE}
+use Rattle.hid_assemble.specs.declared.assembler.TheConstants.{MESSAGE_TIMEOUT}
 
 -- a finished message
 pub record Message : Type 0 where
@@ -21,7 +24,7 @@ pub record Assembly : Type 0 where
 -- An open message is overdue 500 ms after its last packet (CTAP 2.1, section 11.2.5.2).
 unfoldable pub is_overdue : Option Open → ℕ → Bool
 is_overdue None at = false
-is_overdue (Some m) at = nat_le (m.last + 500) at
+is_overdue (Some m) at = nat_le (m.last + MESSAGE_TIMEOUT) at
 
 -- the open message, less an overdue one
 abbrev pub still_open : Option Open → ℕ → Option Open
@@ -30,7 +33,7 @@ still_open current at = if is_overdue current at then None else current
 -- how many data bytes are held of the open message: 57 of its initialization packet, and 59 of each continuation packet
 abbrev pub held_bytes : Option Open → ℕ
 held_bytes None = 0
-held_bytes (Some m) = 57 + 59 * m.kept
+held_bytes (Some m) = data_room m.kept
 
 -- What a packet makes of the channels and of the open message.
 abbrev pub given_after : ℕ → Ruling → ℕ
@@ -87,16 +90,16 @@ pub record IsOpenMessage (given cid cmd len kept : ℕ) : Type 0 where
   pub low : 1 ≤ cid
   pub high : cid ≤ given
   pub served : (cmd ≡ PING) ⊎ (cmd ≡ CBOR)
-  pub longer : 57 < len
-  pub longest : len ≤ LONGEST
-  pub more : 57 + 59 * kept < len
+  pub longer : INITIALIZATION_DATA < len
+  pub longest : len ≤ LONGEST_MESSAGE
+  pub more : data_room kept < len
 
 abbrev pub OpenIsLawful : ℕ → Option Open → Type 0
 OpenIsLawful given None = Unit {0}
-OpenIsLawful given (Some m) = IsOpenMessage given m.cid m.cmd m.len m.kept × (length m.bytes ≡ 57 + 59 * m.kept)
+OpenIsLawful given (Some m) = IsOpenMessage given m.cid m.cmd m.len m.kept × (length m.bytes ≡ data_room m.kept)
 
 -- what holds of everything that is kept
 pub record IsLawful (a : Assembly) : Type 0 where
   pub channels : a.given ≤ LAST_CHANNEL
   pub current : OpenIsLawful a.given a.current
-  pub short : length a.finished ≤ LONGEST
+  pub short : length a.finished ≤ LONGEST_MESSAGE

@@ -1,15 +1,16 @@
 -- What the fields of an `Assembler` stand for.
 use Rattle.std.specs.Prelude.{◌≡◌, ℕ, ◌+◌, ◌*◌, ◌≤◌, List, [], take, length, Option, Some, None}
-use Rattle.hid_packet.specs.Commands.{LONGEST}
 use Rattle.hid_assemble.specs.Table.{Open, LAST_CHANNEL}
 use Rattle.hid_assemble.specs.Assembly.{Assembly, IsOpenMessage}
 use Rattle.hid_assemble.specs.declared.assembler.OpenMessage.{OpenMessage}
 use Rattle.hid_assemble.specs.declared.assembler.Contents.{Contents}
 use Rattle.hid_assemble.specs.declared.assembler.Contents.TheVariants.{Nothing, Open as HoldsOpen, Finished}
+use Rattle.hid_packet.specs.Limits.{data_room}
+use Rattle.hid_packet.specs.declared.limit.TheConstants.{LONGEST_MESSAGE}
 
 -- the open message, whose data bytes are the first of the buffer
 abbrev pub opened : List ℕ → OpenMessage → Open
-opened buffer m = record { cid = m.cid; cmd = m.cmd; len = m.len; bytes = take (57 + 59 * m.kept) buffer; kept = m.kept; last = m.last }
+opened buffer m = record { cid = m.cid; cmd = m.cmd; len = m.len; bytes = take (data_room m.kept) buffer; kept = m.kept; last = m.last }
 
 abbrev pub open_in : List ℕ → Contents → Option Open
 open_in buffer Nothing = None
@@ -27,9 +28,9 @@ assembly given contents buffer = record { given = given; current = open_in buffe
 abbrev pub MayBeHeld : ℕ → Contents → Type 0
 MayBeHeld given Nothing = Unit {0}
 MayBeHeld given (HoldsOpen m) = IsOpenMessage given m.cid m.cmd m.len m.kept
-MayBeHeld given (Finished len) = len ≤ LONGEST
+MayBeHeld given (Finished len) = len ≤ LONGEST_MESSAGE
 
 pub record IsKept (given : ℕ) (contents : Contents) (buffer : List ℕ) : Type 0 where
   pub channels : given ≤ LAST_CHANNEL
-  pub size : length buffer ≡ LONGEST
+  pub size : length buffer ≡ LONGEST_MESSAGE
   pub held : MayBeHeld given contents

@@ -6,6 +6,7 @@ use Rattle.hid_assemble.specs.Assembly.{Assembly, still_open, accepted}
 use Rattle.hid_assemble.specs.Verdicts.{verdict}
 use Rattle.hid_assemble.specs.declared.verdict.Verdict.{Verdict}
 use Rattle.hid_assemble.specs.declared.verdict.Verdict.TheVariants.{Ignored}
+use Rattle.hid_assemble.specs.declared.assembler.TheConstants.{MESSAGE_TIMEOUT}
 
 -- a packet's bytes, with the moment at which it comes
 pub record Arrival : Type 0 where
@@ -35,7 +36,7 @@ received a (arrival ∷ arrivals) = received (received_one a arrival) arrivals
 -- Each comes less than 500 ms after the one before, the first less than 500 ms after `since`.
 abbrev pub InTime : ℕ → List Arrival → Type 0
 InTime since [] = Unit {0}
-InTime since (arrival ∷ arrivals) = (arrival.at < since + 500) × InTime arrival.at arrivals
+InTime since (arrival ∷ arrivals) = (arrival.at < since + MESSAGE_TIMEOUT) × InTime arrival.at arrivals
 
 -- the first may come at any moment
 abbrev pub ComeInTime : List Arrival → Type 0

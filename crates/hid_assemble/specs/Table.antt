@@ -2,12 +2,14 @@
 -- project's choices). It looks at the packet's fields, at how many channels were given out, at the open message and at the
 -- channel of waiting work.
 use Rattle.std.specs.Prelude.{ℕ, ◌+◌, ◌*◌, Bool, true, false, not, ◌&&◌, ◌||◌, ◌==◌, nat_le, nat_lt, List, [], ◌∷◌, Option, Some, None, option_map, if◌then◌else◌}
-use Rattle.hid_packet.specs.Commands.{PING, INIT, CBOR, CANCEL, BROADCAST, LONGEST}
+use Rattle.hid_packet.specs.Commands.{PING, INIT, CBOR, CANCEL, BROADCAST}
 use Rattle.hid_packet.specs.Packet.{Fields, initialization, continuation}
 use Rattle.hid_assemble.specs.declared.table.Row.{Row}
 use Rattle.hid_assemble.specs.declared.table.Row.TheVariants.{CancelsWork, CancelsNothing, NoSuchChannel, InitLength, InitFull, InitNew, InitAgain, BusyElsewhere, BusyHere, BrokenOff, NoSuchCommand, BadLength, Short, Long}
 use Rattle.hid_assemble.specs.declared.table.Continuation.{Continuation}
 use Rattle.hid_assemble.specs.declared.table.Continuation.TheVariants.{Stray, WrongNumber, Kept, Whole}
+use Rattle.hid_packet.specs.Limits.{data_room}
+use Rattle.hid_packet.specs.declared.limit.TheConstants.{INITIALIZATION_DATA, LONGEST_MESSAGE}
 
 -- An open message: what its initialization packet said, the data bytes so far, how many continuation packets brought them,
 -- and the moment of the last packet.
@@ -58,8 +60,8 @@ initialization_row given current work cid cmd len =
     ∷ (is_on work cid, BusyHere)
     ∷ (is_on current cid, BrokenOff)
     ∷ (not (cmd == PING || cmd == CBOR), NoSuchCommand)
-    ∷ (nat_lt LONGEST len || (cmd == CBOR && (len == 0)), BadLength)
-    ∷ (nat_le len 57, Short)
+    ∷ (nat_lt LONGEST_MESSAGE len || (cmd == CBOR && (len == 0)), BadLength)
+    ∷ (nat_le len INITIALIZATION_DATA, Short)
     ∷ []) Long
 
 -- A continuation packet, where a message of `len` bytes is open on the channel `on` and `kept` of its packets were kept.
@@ -67,7 +69,7 @@ abbrev pub continues : (on len kept cid number : ℕ) → Continuation
 continues on len kept cid number =
     if not (on == cid) then Stray
     else if not (number == kept) then WrongNumber
-    else if nat_lt (57 + 59 * (kept + 1)) len then Kept
+    else if nat_lt (data_room (kept + 1)) len then Kept
     else Whole
 
 unfoldable pub continuation_row : Option Open → ℕ → ℕ → Continuation

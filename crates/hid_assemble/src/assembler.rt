@@ -5,21 +5,17 @@ ghost use Rattle.hid_packet.specs.Packet.{fields, initialization, continuation};
 ghost use Rattle.hid_assemble.specs.Assembly.{IsLawful, is_overdue, still_open, held_bytes, accepted, drop_on};
 ghost use Rattle.hid_assemble.specs.Table.{is_noise, ruling_of};
 ghost use Rattle.hid_assemble.specs.Verdicts.{verdict, greeted_again};
+ghost use Rattle.hid_packet.specs.Limits.{data_room};
+ghost use Rattle.hid_packet.specs.declared.limit.TheConstants.{CONTINUATION_DATA, INITIALIZATION_DATA, LONGEST_MESSAGE};
 
 use crate::code::ErrorCode;
 use crate::table::{Continuation, LAST_CHANNEL, Row, continuation_row, initialization_row};
 use crate::verdict::Verdict;
-use hid_packet::{BROADCAST, LONGEST_MESSAGE, Packet, View};
+use hid_packet::{BROADCAST, CONTINUATION_DATA, INITIALIZATION_DATA, LONGEST_MESSAGE, Packet, View};
 use std::marker::Model;
 
 /// How long after its last packet an open message is given up, in milliseconds.
 pub const MESSAGE_TIMEOUT: u64 = 500;
-
-/// The data bytes of an initialization packet.
-const INITIALIZATION_DATA: usize = 57;
-
-/// The data bytes of a continuation packet.
-const CONTINUATION_DATA: usize = 59;
 
 /// An open message: what its initialization packet said, how many continuation packets were kept, and
 /// the moment of the last packet.
@@ -43,9 +39,22 @@ enum Contents {
 }
 
 impl OpenMessage {
+    /// As its initialization packet began it.
+    fn new(cid: u32, cmd: u8, len: u16, at: u64) -> Self
+        ensures { result ≡ record { cid = cid; cmd = cmd; len = len; kept = 0; last = at } }
+    {
+        OpenMessage {
+            cid,
+            cmd,
+            len,
+            kept: 0,
+            last: at,
+        }
+    }
+
     /// How many data bytes are held of it.
     fn held(&self) -> usize
-        ensures { result ≡ 57 + 59 * self.now.kept }
+        ensures { result ≡ data_room self.now.kept }
     {
         INITIALIZATION_DATA + CONTINUATION_DATA * usize::from(self.kept)
     }
@@ -69,6 +78,12 @@ fn nonce_of(part: &[u8]) -> [u8; 8]
     nonce
 }
 
+fn greet(on: u32, channel: u32, nonce: [u8; 8]) -> Verdict
+    ensures { result ≡ Verdict.Greet on channel nonce }
+{
+    Verdict::Greet { on, channel, nonce }
+}
+
 /// What an INIT on a given channel is answered: work that waits there must be dropped.
 fn greet_again(cid: u32, nonce: [u8; 8], working: Option<u32>) -> Verdict
     ensures { result ≡ greeted_again working cid nonce }
@@ -79,11 +94,7 @@ fn greet_again(cid: u32, nonce: [u8; 8], working: Option<u32>) -> Verdict
             channel: cid,
             nonce,
         },
-        _ => Verdict::Greet {
-            on: cid,
-            channel: cid,
-            nonce,
-        },
+        _ => greet(cid, cid, nonce),
     }
 }
 
@@ -226,7 +237,7 @@ impl Assembler {
         len: u16,
         part: &[u8],
     ) -> Verdict
-        requires data { length part.now ≡ 57 }
+        requires data { length part.now ≡ INITIALIZATION_DATA }
         requires forgotten { self.old.finished ≡ [] }
         ensures verdict { result ≡ verdict self.old working (initialization cid cmd len part.now) }
         ensures state { self.new ≡ accepted self.old at working (initialization cid cmd len part.now) }
@@ -242,11 +253,7 @@ impl Assembler {
             Row::InitFull => refuse(cid, ErrorCode::Other),
             Row::InitNew => {
                 self.given += 1;
-                Verdict::Greet {
-                    on: BROADCAST,
-                    channel: self.given,
-                    nonce: nonce_of(part),
-                }
+                greet(BROADCAST, self.given, nonce_of(part))
             }
             Row::InitAgain => {
                 self.drop_on(cid);
@@ -266,13 +273,7 @@ impl Assembler {
             }
             Row::Long => {
                 put_data(&mut self.buffer, 0, part);
-                self.contents = Contents::Open(OpenMessage {
-                    cid,
-                    cmd,
-                    len,
-                    kept: 0,
-                    last: at,
-                });
+                self.contents = Contents::Open(OpenMessage::new(cid, cmd, len, at));
                 Verdict::Kept
             }
         }
@@ -280,7 +281,7 @@ impl Assembler {
 
     /// Serves a continuation packet.
     fn go_on(&mut self, at: u64, cid: u32, number: u8, part: &[u8]) -> Verdict
-        requires data { length part.now ≡ 59 }
+        requires data { length part.now ≡ CONTINUATION_DATA }
         requires forgotten { self.old.finished ≡ [] }
         ensures verdict { (working : Option ℕ) → result ≡ verdict self.old working (continuation cid number part.now) }
         ensures state { (working : Option ℕ) → self.new ≡ accepted self.old at working (continuation cid number part.now) }
@@ -316,7 +317,7 @@ impl Assembler {
     /// none.
     pub fn message(&self) -> &[u8]
         ensures bytes { result.now ≡ self.now.finished }
-        ensures limit { length self.now.finished ≤ 7609 }
+        ensures limit { length self.now.finished ≤ LONGEST_MESSAGE }
     {
         match self.contents {
             Contents::Finished(len) => &self.buffer[..usize::from(len)],

@@ -4,7 +4,7 @@ ghost use Rattle.hid_assemble.specs.Table.{Begins};
 
 use crate::assembler::OpenMessage;
 use hid_packet::command::{CANCEL, CBOR, INIT, PING};
-use hid_packet::{BROADCAST, LONGEST_MESSAGE};
+use hid_packet::{BROADCAST, CONTINUATION_DATA, INITIALIZATION_DATA, LONGEST_MESSAGE};
 
 /// The channel that is given out last.
 pub const LAST_CHANNEL: u32 = 0xffff_fffe;
@@ -120,7 +120,7 @@ pub(crate) fn initialization_row(
         Row::NoSuchCommand
     } else if len > LONGEST_MESSAGE || (cmd == CBOR && len == 0) {
         Row::BadLength
-    } else if len <= 57 {
+    } else if usize::from(len) <= INITIALIZATION_DATA {
         Row::Short
     } else {
         Row::Long
@@ -131,11 +131,12 @@ pub(crate) fn initialization_row(
 pub(crate) fn continuation_row(message: &OpenMessage, cid: u32, number: u8) -> Continuation
     ensures { result ≡ spec.continues message.now.cid message.now.len message.now.kept cid number }
 {
+    let kept = usize::from(message.kept);
     if message.cid != cid {
         Continuation::Stray
     } else if number != message.kept {
         Continuation::WrongNumber
-    } else if 57 + 59 * (u32::from(message.kept) + 1) < u32::from(message.len) {
+    } else if INITIALIZATION_DATA + CONTINUATION_DATA * (kept + 1) < usize::from(message.len) {
         Continuation::Kept
     } else {
         Continuation::Whole

@@ -1,6 +1,8 @@
 -- What it is that packets carry a message (CTAP 2.1, section 11.2.4, "Message and packet structure").
 use Rattle.std.specs.Prelude.{◌≡◌, ℕ, ◌+◌, ◌*◌, ◌≤◌, ◌<◌, ◌⊎◌, true, false, List, [], ◌∷◌, ◌++◌, length, take, flat_map}
 use Rattle.hid_packet.specs.Packet.{channel, is_initialization, command, message_length, sequence, initialization_data, continuation_data}
+use Rattle.hid_packet.specs.declared.limit.TheConstants.{CONTINUATION_DATA, INITIALIZATION_DATA, LONGEST_MESSAGE}
+use Rattle.hid_packet.specs.Limits.{data_room}
 
 -- These are continuation packets on the channel, numbered one after the other from `number` on.
 abbrev pub Continue : ℕ → ℕ → List (List ℕ) → Type 0
@@ -10,7 +12,7 @@ Continue cid number (packet ∷ packets) =
 
 -- The least number of continuation packets with which so many bytes fit.
 abbrev pub IsLeast : (count len : ℕ) → Type 0
-IsLeast count len = ((len ≤ 57) × (count ≡ 0)) ⊎ ((len ≤ 57 + 59 * count) × (57 + 59 * count < len + 59))
+IsLeast count len = ((len ≤ INITIALIZATION_DATA) × (count ≡ 0)) ⊎ ((len ≤ data_room count) × (data_room count < len + CONTINUATION_DATA))
 
 -- the data of an initialization packet and of the continuation packets behind it, joined
 abbrev pub joined : List ℕ → List (List ℕ) → List ℕ
@@ -19,7 +21,7 @@ joined first others = initialization_data first ++ flat_map continuation_data ot
 -- An initialization packet and the packets behind it carry a message: the first names the channel, the command and the
 -- length, the others continue it, they are as few as can be, and the bytes are the beginning of the joined data.
 pub record Carries (first : List ℕ) (others : List (List ℕ)) (cid cmd : ℕ) (bytes : List ℕ) : Type 0 where
-  pub short : length bytes ≤ 7609
+  pub short : length bytes ≤ LONGEST_MESSAGE
   pub begins : is_initialization first ≡ true
   pub on : channel first ≡ cid
   pub asks : command first ≡ cmd

@@ -1,4 +1,4 @@
--- The commands and the limits of CTAPHID (CTAP 2.1, sections 11.2.4 and 11.2.9).
+-- The commands of CTAPHID, and its broadcast channel (CTAP 2.1, sections 11.2.4 and 11.2.9).
 use Rattle.std.specs.Prelude.{ℕ}
 
 abbrev pub PING : ℕ
@@ -22,7 +22,3 @@ ERROR = 0x3f
 -- the channel on which a host asks for a channel of its own
 abbrev pub BROADCAST : ℕ
 BROADCAST = 0xffff_ffff
-
--- the bytes of the longest message
-abbrev pub LONGEST : ℕ
-LONGEST = 7609

@@ -1,4 +1,5 @@
 pub mod Commands
+pub mod Limits
 pub mod Packet
 pub mod Message
 pub mod Carries

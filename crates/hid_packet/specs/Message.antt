@@ -1,6 +1,7 @@
 -- The packets that are written for a message (CTAP 2.1, section 11.2.4, "Message and packet structure").
 use Rattle.std.specs.Prelude.{ℕ, ◌+◌, ◌-◌, List, [], ◌∷◌, zero, suc, ◌++◌, length, take, drop, replicate}
 use Rattle.byteorder.specs.Endian.{big_bytes}
+use Rattle.hid_packet.specs.declared.limit.TheConstants.{CONTINUATION_DATA, INITIALIZATION_DATA}
 
 -- the bytes, and zero bytes behind them up to 64
 unfoldable pub padded : List ℕ → List ℕ
@@ -20,10 +21,10 @@ unfoldable pub continuation_packets : (most : ℕ) → ℕ → ℕ → List ℕ 
 continuation_packets zero cid number bytes = []
 continuation_packets (suc most) cid number [] = []
 continuation_packets (suc most) cid number (b ∷ bytes) =
-    continuation_packet cid number (take 59 (b ∷ bytes)) ∷ continuation_packets most cid (number + 1) (drop 59 (b ∷ bytes))
+    continuation_packet cid number (take CONTINUATION_DATA (b ∷ bytes)) ∷ continuation_packets most cid (number + 1) (drop CONTINUATION_DATA (b ∷ bytes))
 
 -- The packets of the message with these bytes: the initialization packet with the first 57 of them, and continuation
 -- packets with the rest.
 unfoldable pub written : ℕ → ℕ → List ℕ → List (List ℕ)
 written cid cmd bytes =
-    initialization_packet cid cmd (length bytes) (take 57 bytes) ∷ continuation_packets 128 cid 0 (drop 57 bytes)
+    initialization_packet cid cmd (length bytes) (take INITIALIZATION_DATA bytes) ∷ continuation_packets 128 cid 0 (drop INITIALIZATION_DATA bytes)

@@ -3,6 +3,7 @@ use Rattle.std.specs.Prelude.{◌≡◌, ℕ, ◌-◌, Bool, ◌&&◌, ◌==◌,
 use Rattle.byteorder.specs.Endian.{big_number}
 use Rattle.hid_packet.specs.declared.packet.View.{View}
 use Rattle.hid_packet.specs.declared.packet.View.TheVariants.{Start, More}
+use Rattle.hid_packet.specs.declared.limit.TheConstants.{CONTINUATION_DATA, INITIALIZATION_DATA}
 
 -- the channel: bytes 0 to 3, big endian
 unfoldable pub channel : List ℕ → ℕ
@@ -22,7 +23,7 @@ message_length packet = big_number 2 (drop 5 packet)
 
 -- the data of an initialization packet: bytes 7 to 63
 unfoldable pub initialization_data : List ℕ → List ℕ
-initialization_data packet = take 57 (drop 7 packet)
+initialization_data packet = take INITIALIZATION_DATA (drop 7 packet)
 
 -- the sequence number of a continuation packet: byte 4
 unfoldable pub sequence : List ℕ → ℕ
@@ -30,7 +31,7 @@ sequence packet = slice_index packet 4
 
 -- the data of a continuation packet: bytes 5 to 63
 unfoldable pub continuation_data : List ℕ → List ℕ
-continuation_data packet = take 59 (drop 5 packet)
+continuation_data packet = take CONTINUATION_DATA (drop 5 packet)
 
 -- an initialization packet with this command
 abbrev pub is_command : ℕ → List ℕ → Bool
@@ -66,8 +67,8 @@ data_of (continuation cid number part) = part
 
 -- The data bytes fill the packet: 57 of an initialization packet, 59 of a continuation packet.
 abbrev pub FillsPacket : Fields → Type 0
-FillsPacket (initialization cid cmd len part) = length part ≡ 57
-FillsPacket (continuation cid number part) = length part ≡ 59
+FillsPacket (initialization cid cmd len part) = length part ≡ INITIALIZATION_DATA
+FillsPacket (continuation cid number part) = length part ≡ CONTINUATION_DATA
 
 -- the same fields, as a `View` lends them
 abbrev pub shown : View → Fields

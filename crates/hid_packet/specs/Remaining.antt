@@ -3,6 +3,7 @@ use Rattle.std.specs.Prelude.{ℕ, ◌*◌, ◌-◌, ◌<◌, ◌≤◌, List, l
 use Rattle.hid_packet.specs.Message.{written, continuation_packets}
 use Rattle.hid_packet.specs.declared.fragments.Due.{Due}
 use Rattle.hid_packet.specs.declared.fragments.Due.TheVariants.{Initialization, Continuation}
+use Rattle.hid_packet.specs.declared.limit.TheConstants.{CONTINUATION_DATA, LONGEST_MESSAGE}
 
 -- With the initialization packet due, these are all packets of the message; else the continuation packets of the rest.
 abbrev pub packets_left : ℕ → Due → List ℕ → List (List ℕ)
@@ -11,5 +12,5 @@ packets_left cid (Continuation number) rest = continuation_packets (128 - number
 
 -- The rest fits the packets that may still come.
 abbrev pub CanCarry : Due → List ℕ → Type 0
-CanCarry (Initialization cmd) rest = (cmd < 128) × (length rest ≤ 7609)
-CanCarry (Continuation number) rest = length rest ≤ 59 * (128 - number)
+CanCarry (Initialization cmd) rest = (cmd < 128) × (length rest ≤ LONGEST_MESSAGE)
+CanCarry (Continuation number) rest = length rest ≤ CONTINUATION_DATA * (128 - number)

@@ -2,25 +2,18 @@ ghost use Rattle.std.specs.Prelude.{◌≡◌, ℕ, ◌+◌, ◌-◌, ◌<◌, �
 ghost use Rattle.byteorder.specs.Endian.{big_bytes};
 ghost use Rattle.hid_packet.specs.Message.{written, initialization_packet, continuation_packet};
 ghost use Rattle.hid_packet.specs.Carries.{IsLeast};
+ghost use Rattle.hid_packet.specs.declared.limit.TheConstants.{CONTINUATION_DATA, INITIALIZATION_DATA, LONGEST_MESSAGE};
 ghost use Rattle.std.specs.Iterator.{YieldsFirstBy, item_count};
 
+use crate::limit::{CONTINUATION_DATA, INITIALIZATION_DATA};
 use crate::packet::Packet;
 use byteorder::{BigEndian, ByteOrder};
 use std::marker::Model;
 
-/// The bytes of the longest message, which takes 129 packets.
-pub const LONGEST_MESSAGE: u16 = 57 + 59 * 128;
-
-/// The data bytes of an initialization packet.
-const INITIALIZATION_DATA: usize = 57;
-
-/// The data bytes of a continuation packet.
-const CONTINUATION_DATA: usize = 59;
-
 /// The number of packets that carry a message of `len` bytes: 1 for at most 57, else 1 and the
 /// least number of continuation packets of 59 data bytes that hold the rest, so at most 129.
 pub fn packets_for(len: u16) -> u16
-    requires { len ≤ 7609 }
+    requires { len ≤ LONGEST_MESSAGE }
     ensures some { 1 ≤ result }
     ensures least { IsLeast (result - 1) len }
     ensures written { (cid cmd : ℕ) (bytes : List ℕ) → length bytes ≡ len → length (written cid cmd bytes) ≡ result }
@@ -67,7 +60,7 @@ fn put_continuation(out: &mut [u8], cid: u32, number: u8, part: &[u8])
 /// The initialization packet with these data bytes, and zeros behind them.
 fn initialization(cid: u32, cmd: u8, len: u16, part: &[u8]) -> Packet
     requires command { cmd < 128 }
-    requires fits { length part.now ≤ 57 }
+    requires fits { length part.now ≤ INITIALIZATION_DATA }
     ensures { result.0 ≡ initialization_packet cid cmd len part.now }
 {
     let mut packet = [0; 64];
@@ -77,7 +70,7 @@ fn initialization(cid: u32, cmd: u8, len: u16, part: &[u8]) -> Packet
 
 /// The continuation packet with these data bytes, and zeros behind them.
 fn continuation(cid: u32, number: u8, part: &[u8]) -> Packet
-    requires { length part.now ≤ 59 }
+    requires { length part.now ≤ CONTINUATION_DATA }
     ensures { result.0 ≡ continuation_packet cid number part.now }
 {
     let mut packet = [0; 64];
@@ -119,7 +112,7 @@ impl<'a> Fragments<'a> {
     /// The packets of the message `bytes` with the command `cmd` on the channel `cid`: those that
     /// [`packets_for`] counts.
     pub fn new(cid: u32, cmd: u8, bytes: &'a [u8]) -> Self
-        requires short { length bytes.now ≤ 7609 }
+        requires short { length bytes.now ≤ LONGEST_MESSAGE }
         requires command { cmd < 128 }
         ensures { result ≡ written cid cmd bytes.now }
     {

@@ -5,16 +5,17 @@ ghost use Rattle.std.specs.Prelude.{◌≡◌, ℕ, ◌-◌, ◌^◌, ◌<◌, �
 ghost use Rattle.hid_packet.specs.Message.{written};
 ghost use Rattle.hid_packet.specs.Carries.{IsLeast, CarriesMessage};
 ghost use Rattle.hid_packet.specs.Padding.{AreBytes, ArePackets, FurtherDataIsZero};
+ghost use Rattle.hid_packet.specs.declared.limit.TheConstants.{LONGEST_MESSAGE};
 
 /// The packets that are written for a message carry it.
 pub fn written_packets_carry_their_message()
-    ensures { (cid cmd : ℕ) (bytes : List ℕ) → cid < 2 ^ 32 → length bytes ≤ 7609 → CarriesMessage (written cid cmd bytes) cid cmd bytes }
+    ensures { (cid cmd : ℕ) (bytes : List ℕ) → cid < 2 ^ 32 → length bytes ≤ LONGEST_MESSAGE → CarriesMessage (written cid cmd bytes) cid cmd bytes }
 {}
 
 /// They are one initialization packet and the least number of continuation packets, at most 129
 /// packets in all, and there is only one least number.
 pub fn written_packets_are_the_fewest()
-    ensures least { (cid cmd : ℕ) (bytes : List ℕ) → length bytes ≤ 7609 → IsLeast (length (written cid cmd bytes) - 1) (length bytes) }
+    ensures least { (cid cmd : ℕ) (bytes : List ℕ) → length bytes ≤ LONGEST_MESSAGE → IsLeast (length (written cid cmd bytes) - 1) (length bytes) }
     ensures few { (cid cmd : ℕ) (bytes : List ℕ) → length (written cid cmd bytes) ≤ 129 }
     ensures one { (a b len : ℕ) → IsLeast a len → IsLeast b len → a ≡ b }
 {}
@@ -22,7 +23,7 @@ pub fn written_packets_are_the_fewest()
 /// They are packets of 64 bytes, and their data bytes behind the message are zero.
 pub fn written_packets_end_in_zeros()
     ensures packets { (cid cmd : ℕ) (bytes : List ℕ) → cmd < 128 → AreBytes bytes → ArePackets (written cid cmd bytes) }
-    ensures zeros { (cid cmd : ℕ) (bytes : List ℕ) → length bytes ≤ 7609 → FurtherDataIsZero bytes (written cid cmd bytes) }
+    ensures zeros { (cid cmd : ℕ) (bytes : List ℕ) → length bytes ≤ LONGEST_MESSAGE → FurtherDataIsZero bytes (written cid cmd bytes) }
 {}
 
 /// No other packets of 64 bytes carry the message with zeros behind it.

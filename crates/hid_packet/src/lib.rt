@@ -5,11 +5,13 @@
 pub mod command;
 mod fragments;
 pub mod laws;
+mod limit;
 mod outbox;
 mod packet;
 
-pub use fragments::{Fragments, LONGEST_MESSAGE, packets_for};
-pub use outbox::{OUTBOX_CAPACITY, Outbox};
+pub use fragments::{Fragments, packets_for};
+pub use limit::{CONTINUATION_DATA, INITIALIZATION_DATA, LONGEST_MESSAGE, OUTBOX_CAPACITY};
+pub use outbox::Outbox;
 pub use packet::{BROADCAST, PACKET_SIZE, Packet, View};
 
 #[cfg(test)]

@@ -1,12 +1,11 @@
 ghost use Rattle.std.specs.Prelude.{◌≡◌, ℕ, ◌+◌, ◌<◌, ◌≤◌, ◌↔◌, ◌++◌, ◌∷◌, [], length, IsTrue, MatchOption};
 ghost use Rattle.hid_packet.specs.Message.{written};
+ghost use Rattle.hid_packet.specs.declared.limit.TheConstants.{LONGEST_MESSAGE, OUTBOX_CAPACITY};
 
 use crate::fragments::Fragments;
+use crate::limit::OUTBOX_CAPACITY;
 use crate::packet::Packet;
 use std::marker::Model;
-
-/// The most packets that wait in an [`Outbox`]: one that time sends and the 129 of a longest message.
-pub const OUTBOX_CAPACITY: usize = 130;
 
 /// The packets that wait to be sent, first in, first out, at most [`OUTBOX_CAPACITY`] of them. It
 /// takes no memory.
@@ -21,12 +20,13 @@ pub struct Outbox {
 impl Model for Outbox {
     ghost use Rattle.std.specs.Prelude.{◌≡◌, ℕ, ◌<◌, ◌≤◌, List, length};
     ghost use Rattle.hid_packet.specs.Queue.{waiting};
+    ghost use Rattle.hid_packet.specs.declared.limit.TheConstants.{OUTBOX_CAPACITY};
 
     ghost Value = { List (List ℕ) };
 
     ghost view = { λ o. waiting o.first o.len o.slots };
 
-    ghost invariant = { λ o. (o.first < 130) × (o.len ≤ 130) × (length o.slots ≡ 130) };
+    ghost invariant = { λ o. (o.first < OUTBOX_CAPACITY) × (o.len ≤ OUTBOX_CAPACITY) × (length o.slots ≡ OUTBOX_CAPACITY) };
 }
 
 impl Outbox {
@@ -44,7 +44,7 @@ impl Outbox {
     /// How many packets wait.
     pub fn len(&self) -> usize
         ensures count { result ≡ length self.now }
-        ensures limit { length self.now ≤ 130 }
+        ensures limit { length self.now ≤ OUTBOX_CAPACITY }
     {
         self.len
     }
@@ -71,7 +71,7 @@ impl Outbox {
 
     /// Puts a packet behind those that wait.
     pub fn put_packet(&mut self, packet: Packet)
-        requires { length self.old < 130 }
+        requires { length self.old < OUTBOX_CAPACITY }
         ensures { self.new ≡ self.old ++ packet.0 ∷ [] }
     {
         self.slots[(self.first + self.len) % OUTBOX_CAPACITY] = packet;
@@ -81,9 +81,9 @@ impl Outbox {
     /// Puts the packets of the message `bytes`, with the command `cmd` on the channel `cid`, behind
     /// those that wait. Bytes behind the message are zero.
     pub fn put_message(&mut self, cid: u32, cmd: u8, bytes: &[u8])
-        requires short { length bytes.now ≤ 7609 }
+        requires short { length bytes.now ≤ LONGEST_MESSAGE }
         requires command { cmd < 128 }
-        requires room { length self.old + length (written cid cmd bytes.now) ≤ 130 }
+        requires room { length self.old + length (written cid cmd bytes.now) ≤ OUTBOX_CAPACITY }
         ensures { self.new ≡ self.old ++ written cid cmd bytes.now }
     {
         for packet in Fragments::new(cid, cmd, bytes) {

@@ -17,11 +17,13 @@ use Rattle.hid_packet.specs.declared.packet.Packet.{Packet as Packet64}
 use Rattle.hid_packet.specs.Message.{written}
 use Rattle.hid_packet.specs.Packet.{Fields, fields}
 use Rattle.token_session.specs.Carried.{}
-use Rattle.token_session.specs.History.{finished_at, Judged, admits, core, end, event, finished, given, judge, judged, open_at, packet_event, service_packets}
-use Rattle.token_session.specs.History.{as_open}
+use Rattle.token_session.specs.Inputs.{Judged, end, given}
+use Rattle.token_session.specs.Messages.{finished_at, finished, open_at}
+use Rattle.token_session.specs.History.{admits, core, event, judge, judged, packet_event, service_packets}
+use Rattle.token_session.specs.Messages.{as_open}
 use Rattle.token_session.specs.Machine.{event_after}
 use Rattle.token_session.specs.Events.{event_core, event_packets}
-use Rattle.token_session.specs.Replies.{answer_packets, asker, ping_packets, request_of, row_packets, status_of}
+use Rattle.token_session.specs.Replies.{answer_packets, asker, ping_packets, request_event, row_packets, status_of}
 use Rattle.token_session.specs.declared.input.Input.{Input}
 use Rattle.token_session.specs.declared.input.Input.TheVariants.{Packet}
 use Rattle.token_session.specs.declared.input.Timed.{Timed}
@@ -31,7 +33,7 @@ use Rattle.token_session.proofs.Serve.{Serves, new_open, serves}
 -- A row that finishes a message sends nothing of its own, and the message is the event.
 record Ends (g : ℕ) (w : Option ℕ) (f : Fields) (m : Message) (r : Ruling) : Type 0 where
   quiet : row_packets g f r ≡ []
-  asks : event_after w f (Some m) r ≡ request_of (Some m)
+  asks : event_after w f (Some m) r ≡ request_event (Some m)
 
 ends : (g : ℕ) (w : Option ℕ) (o : Option Open) (f : Fields) (m : Message) (r : Ruling) → message_after o f r ≡ Some m → Ends g w f m r
 unfolding message_after row_packets event_after
@@ -54,7 +56,7 @@ ends g w o f m (Continues Kept) h = cc
 ends g w o f m (Continues WrongNumber) h = cc
 ends g w o f m (Continues Stray) h = cc
 
-asked : (m : Message) → m.cmd ≡ CBOR → request_of (Some m) ≡ Some (Request m.cid m.bytes)
+asked : (m : Message) → m.cmd ≡ CBOR → request_event (Some m) ≡ Some (Request m.cid m.bytes)
 asked m h = rw h refl
 
 no_ping : (m : Message) → m.cmd ≡ CBOR → ping_packets (Some m) ≡ []

@@ -6,9 +6,12 @@ use Rattle.authn_core.specs.Turn.{Start}
 use Rattle.token_session.proofs.Opens.{From, Lawful, from_earlier, none_stays, open_is_admitted, and_true, cond_none}
 use Rattle.token_session.proofs.Serve.{cond_case, long_says}
 use Rattle.hid_packet.specs.Packet.{channel, message_length}
-use Rattle.token_session.specs.History.{Begun, Judged, end, goes_on, held, is_long, is_next, is_open, open_among, open_at, own, packet}
+use Rattle.token_session.specs.Inputs.{Judged, end, own, packet}
+use Rattle.token_session.specs.Messages.{Begun, goes_on, is_long, is_next, is_open, open_among, open_at}
+use Rattle.token_session.specs.History.{held}
 use Rattle.token_session.specs.Law.{all_open}
-use Rattle.token_session.specs.Meters.{LARGEST, peak_held}
+use Rattle.ctap_message.specs.Requests.{LARGEST}
+use Rattle.token_session.specs.Meters.{peak_held}
 
 none_all : (h L : List Judged) (t : ℕ) → open_among L h t ≡ None → all_open L h t ≡ []
 unfolding open_among all_open

@@ -5,14 +5,16 @@ use Rattle.std.proofs.lemmas.List.{length-map}
 use Rattle.authn_core.specs.Turn.{Start}
 use Rattle.token_session.proofs.Bounds.{goes_on_below}
 use Rattle.std.proofs.lemmas.Option.{same_Some}
-use Rattle.token_session.specs.Carried.{Are64, IsWhole, AreWhole, ArePackets, carriers, long_carriers, carriers_at}
+use Rattle.token_session.specs.Carried.{Are64, IsWhole, AreWhole, ArriveWhole, carriers, long_carriers, carriers_at}
 use Rattle.token_session.proofs.Opens.{and_true}
 use Rattle.token_session.proofs.Serve.{is_eq, not_is, all_four, long_says, is_le, says_admitted}
 use Rattle.hid_assemble.specs.Assembly.{Message}
 use Rattle.hid_packet.specs.Carries.{Carries, CarriesMessage, Continue, joined}
 use Rattle.hid_packet.specs.Commands.{CANCEL}
 use Rattle.hid_packet.specs.Packet.{channel, command, continuation_data, initialization_data, is_command, is_initialization, message_length, sequence}
-use Rattle.token_session.specs.History.{finished_at, Begun, Judged, admits, end, finished, finished_long, goes_on, is_last, is_long, is_next, is_open, is_own, is_own_packet, is_packet, judge, judged, message, open_among, open_at, own, packet, packets_of}
+use Rattle.token_session.specs.Inputs.{Judged, end, is_own, is_own_packet, is_packet, own, packet}
+use Rattle.token_session.specs.Messages.{finished_at, Begun, finished, finished_long, goes_on, is_last, is_long, is_next, is_open, message, open_among, open_at, packets_of}
+use Rattle.token_session.specs.History.{admits, judge, judged}
 use Rattle.token_session.specs.declared.input.Input.{Input}
 use Rattle.token_session.specs.declared.input.Input.TheVariants.{Packet}
 use Rattle.token_session.specs.declared.input.Timed.{Timed}
@@ -212,7 +214,7 @@ carried o t admitted (Packet p) m k whole starts h = go (admitted && nat_le (mes
 carried o t admitted other m k whole starts h = cc
 
 -- a judged history's inputs
-whole_judged : (start : Start) (h : List Timed) → ArePackets h → AreWhole (judged start h)
+whole_judged : (start : Start) (h : List Timed) → ArriveWhole h → AreWhole (judged start h)
 unfolding judged judge
 whole_judged start [] w = tt
 whole_judged start (x ∷ h) w = (w.0, whole_judged start h w.1)
@@ -221,12 +223,12 @@ admitted_starts : (g : ℕ) (o : Option Begun) (w : Option ℕ) (i : Input) → 
 admitted_starts g o w (Packet p) whole h = ((says_admitted g o w p.0 h).start, whole)
 admitted_starts g o w other whole h = cc
 
-starts_judged : (start : Start) (h : List Timed) → ArePackets h → AdmitsStarts (judged start h)
+starts_judged : (start : Start) (h : List Timed) → ArriveWhole h → AdmitsStarts (judged start h)
 unfolding judged judge
 starts_judged start [] w = tt
 starts_judged start (x ∷ h) w = ((λ a. admitted_starts _ _ _ x.input w.0 a), starts_judged start h w.1)
 
-pub finished_is_carried : (start : Start) (h : List Timed) (x : Timed) (m : Message) → ArePackets (x ∷ h)
+pub finished_is_carried : (start : Start) (h : List Timed) (x : Timed) (m : Message) → ArriveWhole (x ∷ h)
     → finished_at (judge start x (judged start h)) (judged start h) ≡ Some m
     → CarriesMessage (carriers_at (judge start x (judged start h)) (judged start h)) m.cid m.cmd m.bytes
 unfolding judge open_at

@@ -15,9 +15,11 @@ use Rattle.authn_core.specs.Marks.{Step, Comes, Orderly, core_behind, marks, row
 use Rattle.token_session.specs.declared.input.Input.{Input}
 use Rattle.token_session.specs.declared.input.Input.TheVariants.{Packet}
 use Rattle.token_session.specs.declared.input.Timed.{Timed}
-use Rattle.token_session.specs.History.{Begun, Judged, admits, core, end, event, event_to, finished, finished_long, given, is_last, judge, judged, open_at, packet_event}
+use Rattle.token_session.specs.Inputs.{Judged, end, given}
+use Rattle.token_session.specs.Messages.{Begun, finished, finished_long, is_last, open_at}
+use Rattle.token_session.specs.History.{admits, core, event, event_to, judge, judged, packet_event}
 use Rattle.token_session.specs.Events.{event_core, reply_in}
-use Rattle.token_session.specs.Replies.{request_of}
+use Rattle.token_session.specs.Replies.{request_event}
 use Rattle.token_session.specs.Law.{event_at}
 use Rattle.token_session.specs.Credentials.{step_of, steps}
 use Rattle.token_session.proofs.Opens.{and_true}
@@ -52,10 +54,10 @@ FinishesIdle : Option ℕ → Option Message → Type 0
 FinishesIdle work None = Unit {0}
 FinishesIdle work (Some m) = work ≡ None
 
-message_idle : (work : Option ℕ) (m : Option Message) → FinishesIdle work m → AsksIdle work (request_of m)
+message_idle : (work : Option ℕ) (m : Option Message) → FinishesIdle work m → AsksIdle work (request_event m)
 unfolding FinishesIdle
 message_idle work None h = tt
-message_idle work (Some m) h = asks_idle work (request_of (Some m)) h
+message_idle work (Some m) h = asks_idle work (request_event (Some m)) h
 
 long_idle : (g : ℕ) (o : Option Begun) (work : Option ℕ) (p : List ℕ) → OpenGiven g o work → FinishesIdle work (finished_long o p)
 unfolding FinishesIdle finished_long

@@ -8,7 +8,7 @@ use Rattle.hid_assemble.specs.declared.verdict.Verdict.TheVariants.{Greet, Greet
 use Rattle.hid_assemble.specs.Assembly.{Message, message_after, bytes_of}
 use Rattle.hid_assemble.specs.Verdicts.{ruling_verdict, finished_verdict}
 use Rattle.authn_core.specs.State.{Drop}
-use Rattle.token_session.specs.Replies.{row_packets, ping_packets, request_of, greeting}
+use Rattle.token_session.specs.Replies.{row_packets, ping_packets, request_event, greeting}
 use Rattle.token_session.specs.Machine.{event_after}
 use Rattle.token_session.specs.Effects.{verdict_packets, verdict_event}
 
@@ -16,7 +16,7 @@ pub record Effects (given : ℕ) (work : Option ℕ) (f : Fields) (m : Option Me
   pub sends : row_packets given f row ++ ping_packets m ≡ verdict_packets (ruling_verdict given work f m row) (bytes_of m)
   pub does : event_after work f m row ≡ verdict_event (ruling_verdict given work f m row) (bytes_of m)
 
-finished_effects : (m : Option Message) → ([] ++ ping_packets m ≡ verdict_packets (finished_verdict m) (bytes_of m)) × (request_of m ≡ verdict_event (finished_verdict m) (bytes_of m))
+finished_effects : (m : Option Message) → ([] ++ ping_packets m ≡ verdict_packets (finished_verdict m) (bytes_of m)) × (request_event m ≡ verdict_event (finished_verdict m) (bytes_of m))
 finished_effects None = (refl, refl)
 finished_effects (Some m) = (refl, refl)
 

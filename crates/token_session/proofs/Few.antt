@@ -13,9 +13,9 @@ use Rattle.hid_assemble.specs.declared.table.Continuation.TheVariants.{Kept, Str
 use Rattle.hid_packet.specs.Commands.{BROADCAST, CBOR, ERROR, INIT, KEEPALIVE, PING}
 use Rattle.hid_packet.specs.Message.{continuation_packets, written}
 use Rattle.hid_packet.specs.Packet.{Fields, channel_of, data_of, fields}
-use Rattle.token_session.specs.Machine.{State, Turn, event_after, overdue_packets, passed, served, turn}
+use Rattle.token_session.specs.Machine.{State, Turn, event_after, overdue_packets, time_passed, served, turn}
 use Rattle.token_session.specs.Events.{reply_in, event_keeps_alive, event_packets, keepalive_due, keepalive_packets}
-use Rattle.token_session.specs.Replies.{answer_keeps_alive, answer_packets, asker, greeting, is_status, ping_packets, request_of, row_packets, status_of}
+use Rattle.token_session.specs.Replies.{answer_keeps_alive, answer_packets, asker, greeting, is_status, ping_packets, request_event, row_packets, status_of}
 use Rattle.token_session.specs.declared.input.Input.{Input}
 use Rattle.token_session.specs.declared.input.Input.TheVariants.{Packet}
 use Rattle.token_session.specs.declared.input.Timed.{Timed}
@@ -51,7 +51,7 @@ drop_sends_nothing k t = ap (answer_packets (asker (waiting k) Drop) (status_of 
 pub drop_keeps_silent : (k : CoreState) (t : ℕ) → event_keeps_alive k t (Some Drop) ≡ false
 drop_keeps_silent k t = ap (answer_keeps_alive (asker (waiting k) Drop) (status_of (waiting k))) (drop_answers_nothing k t) ∙ (nothing_sent (asker (waiting k) Drop) (status_of (waiting k))).1
 
-message_few : (k : CoreState) (t : ℕ) (m : Option Message) → length (ping_packets m ++ event_packets k t (request_of m)) ≤ 129
+message_few : (k : CoreState) (t : ℕ) (m : Option Message) → length (ping_packets m ++ event_packets k t (request_event m)) ≤ 129
 message_few k t None = omega arith
 message_few k t (Some m) = go (m.cmd == PING) (m.cmd == CBOR) (λ p c. let a : m.cmd ≡ 1 = is_eq m.cmd 1 p in let b : m.cmd ≡ 16 = is_eq m.cmd 16 c in omega arith)
   where
@@ -98,8 +98,8 @@ keepalive_few : (w : Option Work) → length (keepalive_packets w) ≤ 1
 keepalive_few None = omega arith
 keepalive_few (Some w) = one_packet w.cid KEEPALIVE (w.status ∷ []) (omega arith)
 
-pub time_few : (s : State) (t : ℕ) → length (passed s t).packets ≤ 1
-unfolding passed
+pub time_few : (s : State) (t : ℕ) → length (time_passed s t).packets ≤ 1
+unfolding time_passed
 time_few s t = cond_case (λ (v : Turn). length v.packets ≤ 1) (is_overdue s.current t) _ _ (λ _. overdue_few s.current)
     (λ _. cond_case (λ (v : Turn). length v.packets ≤ 1) (keepalive_due (waiting s.core) s.keepalive_at t) _ _ (λ _. keepalive_few (waiting s.core)) (λ _. omega arith))
 

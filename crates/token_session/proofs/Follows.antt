@@ -13,10 +13,12 @@ use Rattle.hid_assemble.specs.Table.{Open}
 use Rattle.hid_assemble.specs.Assembly.{given_after, is_overdue, message_after, open_after}
 use Rattle.hid_assemble.specs.Table.{LAST_CHANNEL, ruling_of}
 use Rattle.hid_packet.specs.Packet.{fields}
-use Rattle.token_session.specs.History.{Begun, Judged, admits, asks_channel, core, cut_packets, end, event, finished, given, is_cut, is_own, is_packet, judge, judged, last_keepalive, message, open_at, packet_event, sent_at, service_packets, table_packets, time_packets}
-use Rattle.token_session.specs.History.{as_open, last_at}
+use Rattle.token_session.specs.Inputs.{Judged, asks_channel, end, given, is_own, is_packet}
+use Rattle.token_session.specs.Messages.{Begun, finished, message, open_at}
+use Rattle.token_session.specs.History.{admits, core, cut_packets, event, is_cut, judge, judged, last_keepalive, packet_event, sent_at, service_packets, table_packets, time_packets}
+use Rattle.token_session.specs.Messages.{as_open, last_at}
 use Rattle.token_session.specs.Law.{event_at, named}
-use Rattle.token_session.specs.Machine.{State, Turn, event_after, happens, machine, overdue_packets, passed, served, start_state, turn}
+use Rattle.token_session.specs.Machine.{State, Turn, event_after, happens, machine, overdue_packets, time_passed, served, start_state, turn}
 use Rattle.token_session.specs.Events.{reply_in, event_core, event_keeps_alive, keepalive_due, keepalive_packets}
 use Rattle.token_session.specs.Replies.{ping_packets, row_packets}
 use Rattle.token_session.specs.declared.input.Input.{Input}
@@ -57,8 +59,8 @@ pass_open : (v : Bool) (g t keepalive_at : ℕ) (b : Begun) (k : CoreState)
 pass_open true g t keepalive_at b k = pass_both (keepalive_due (waiting k) keepalive_at t) g t keepalive_at (Some (as_open b)) k
 pass_open false g t keepalive_at b k = refl
 
-pass_named : (now g t keepalive_at : ℕ) (o : Option Begun) (k : CoreState) → passed (record { now = now; given = g; current = option_map as_open o; core = k; keepalive_at = keepalive_at }) t ≡ timed g o (still t o) k keepalive_at t
-unfolding passed is_overdue
+pass_named : (now g t keepalive_at : ℕ) (o : Option Begun) (k : CoreState) → time_passed (record { now = now; given = g; current = option_map as_open o; core = k; keepalive_at = keepalive_at }) t ≡ timed g o (still t o) k keepalive_at t
+unfolding time_passed is_overdue
 pass_named now g t keepalive_at None k = pass_both (keepalive_due (waiting k) keepalive_at t) g t keepalive_at None k
 pass_named now g t keepalive_at (Some b) k =
     rw (not_below (last_at b.at b.own + 500) t) (pass_open (nat_lt t (last_at b.at b.own + 500)) g t keepalive_at b k)
@@ -82,7 +84,7 @@ safe_at start t h good le =
 
 -- Time passes for the state that a history names.
 pub time_named : (start : Start) (t : ℕ) (h : List Judged) → Good start h → end start h ≤ t
-    → passed (named start h) t ≡ record {
+    → time_passed (named start h) t ≡ record {
       state = record { now = t; given = given h; current = option_map as_open (open_at h t); core = core start h; keepalive_at = time_keepalive (open_at h (end start h)) (open_at h t) (waiting (core start h)) (last_keepalive start h) t };
       packets = time_packets start h t;
       event = None;

@@ -2,19 +2,22 @@
 use Rattle.std.proofs.Common.{◌≡◌, ℕ, ◌+◌, ◌-◌, ◌*◌, ◌≤◌, List, [], ◌∷◌, ◌++◌, length, max, min, sum_by, Option, Some, None, option_map, refl, sym, ◌∙◌, ap, arith}
 use Rattle.std.proofs.lemmas.List.Sums.{sum_by-cons}
 use Rattle.hid_assemble.specs.Assembly.{held_bytes}
-use Rattle.ctap_message.specs.Requests.{steps_of}
+use Rattle.ctap_message.specs.Requests.{steps_of, LARGEST}
 use Rattle.authn_core.specs.State.{Event, Request, Cancel, Drop}
 use Rattle.authn_core.specs.Turn.{Start}
 use Rattle.token_session.specs.declared.input.Timed.{Timed}
 use Rattle.token_session.specs.declared.input.Meters.{Meters}
-use Rattle.token_session.specs.Effects.{request_in, reading_in}
+use Rattle.token_session.specs.Effects.{request_in}
+use Rattle.token_session.specs.Readings.{with_reading, reading_in, reading_of}
 use Rattle.token_session.specs.declared.authenticator.Reading.{Reading}
-use Rattle.token_session.specs.History.{Judged, Begun, judged, judge, held, open_at, end, open_among, given, core, last_keepalive}
+use Rattle.token_session.specs.Inputs.{Judged, end, given}
+use Rattle.token_session.specs.Messages.{Begun, open_at, open_among}
+use Rattle.token_session.specs.History.{judged, judge, held, core, last_keepalive}
 use Rattle.token_session.specs.Machine.{State, Turn, turn, start_state}
-use Rattle.token_session.specs.History.{as_open}
+use Rattle.token_session.specs.Messages.{as_open}
 use Rattle.token_session.specs.Law.{named, event_at, Behind}
 use Rattle.cred_table.specs.Waiting.{pending_count}
-use Rattle.token_session.specs.Meters.{AreBounded, LARGEST, peak_rows, peak_pending, metered_by, listed, requests, peak_held, meters_of, one_more, bytes_in, steps_in, metered, SessionState, StandsBehind, stepped, session_of}
+use Rattle.token_session.specs.Meters.{AreBounded, peak_rows, peak_pending, metered_by, as_list, requests, peak_held, meters_of, one_more, bytes_in, steps_in, metered, SessionState, StandsBehind, stepped, session_of}
 use Rattle.token_session.proofs.Runs.{turn_behind}
 
 -- the bytes held are those that the history names
@@ -29,28 +32,28 @@ held_named start h = go (open_at h (end start h))
 capped : (n k m : ℕ) → m ≡ k + n → min m LARGEST ≡ min (min n LARGEST + k) LARGEST
 capped n k m e = omega arith
 
-count_more : (e : Option Event) (rs : List (List ℕ)) → length (listed (request_in e) ++ rs) ≡ one_more (reading_in e) + length rs
+count_more : (e : Option Event) (rs : List (List ℕ)) → length (as_list (request_in e) ++ rs) ≡ one_more (request_in e) + length rs
 count_more None rs = omega arith
 count_more (Some (Request cid bytes)) rs = omega arith
 count_more (Some other) rs = omega arith
 
-sum_more : (e : Option Event) (rs : List (List ℕ)) → sum_by (λ bytes. length bytes - 1) (listed (request_in e) ++ rs) ≡ bytes_in (reading_in e) + sum_by (λ bytes. length bytes - 1) rs
+sum_more : (e : Option Event) (rs : List (List ℕ)) → sum_by (λ bytes. length bytes - 1) (as_list (request_in e) ++ rs) ≡ bytes_in (request_in e) + sum_by (λ bytes. length bytes - 1) rs
 sum_more None rs = omega arith
 sum_more (Some (Request cid bytes)) rs = sum_by-cons (λ (b : List ℕ). length b - 1) bytes rs
 sum_more (Some other) rs = omega arith
 
-steps_more : (e : Option Event) (rs : List (List ℕ)) → sum_by steps_of (listed (request_in e) ++ rs) ≡ steps_in (reading_in e) + sum_by steps_of rs
+steps_more : (e : Option Event) (rs : List (List ℕ)) → sum_by steps_of (as_list (request_in e) ++ rs) ≡ steps_in (request_in e) + sum_by steps_of rs
 steps_more None rs = omega arith
 steps_more (Some (Request cid bytes)) rs = sum_by-cons steps_of bytes rs
 steps_more (Some other) rs = omega arith
 
-pub meters_more : (start : Start) (e : Judged) (h : List Judged) → metered (meters_of start h) (held start (e ∷ h)) (length (core start (e ∷ h)).state.rows) (pending_count (core start (e ∷ h)).state.pending) (reading_in (event_at start e h))
+pub meters_more : (start : Start) (e : Judged) (h : List Judged) → metered (meters_of start h) (held start (e ∷ h)) (length (core start (e ∷ h)).state.rows) (pending_count (core start (e ∷ h)).state.pending) (request_in (event_at start e h))
     ≡ meters_of start (e ∷ h)
 unfolding meters_of metered requests peak_held peak_rows peak_pending
 meters_more start e h =
-    let counts = sym (capped (length (requests start h)) (one_more (reading_in (event_at start e h))) _ (count_more (event_at start e h) (requests start h))) in
-    let sums = sym (capped (sum_by (λ bytes. length bytes - 1) (requests start h)) (bytes_in (reading_in (event_at start e h))) _ (sum_more (event_at start e h) (requests start h))) in
-    let steps = sym (capped (sum_by steps_of (requests start h)) (steps_in (reading_in (event_at start e h))) _ (steps_more (event_at start e h) (requests start h))) in
+    let counts = sym (capped (length (requests start h)) (one_more (request_in (event_at start e h))) _ (count_more (event_at start e h) (requests start h))) in
+    let sums = sym (capped (sum_by (λ bytes. length bytes - 1) (requests start h)) (bytes_in (request_in (event_at start e h))) _ (sum_more (event_at start e h) (requests start h))) in
+    let steps = sym (capped (sum_by steps_of (requests start h)) (steps_in (request_in (event_at start e h))) _ (steps_more (event_at start e h) (requests start h))) in
     λ i. record { held = max (peak_held start h) (held start (e ∷ h)); rows = peak_rows start (e ∷ h); pending = peak_pending start (e ∷ h); requests = counts i; bytes = sums i; steps = steps i }
 
 -- A session that stands behind a history stands behind the longer one.
@@ -63,21 +66,28 @@ stands_longer s start h x b =
       machine = (ap (λ (t : Turn). t.state) turned) i;
       meters = (ap (λ (m : Meters). metered_by m (turn s.machine x)) (ap (λ (v : SessionState). v.meters) b)
           ∙ ap (metered_by (meters_of start (judged start h))) turned
-          ∙ ap (λ n. metered (meters_of start (judged start h)) n (length (core start (e ∷ judged start h)).state.rows) (pending_count (core start (e ∷ judged start h)).state.pending) (reading_in (event_at start e (judged start h))))
+          ∙ ap (λ n. metered (meters_of start (judged start h)) n (length (core start (e ∷ judged start h)).state.rows) (pending_count (core start (e ∷ judged start h)).state.pending) (request_in (event_at start e (judged start h))))
           (held_named start (e ∷ judged start h))
           ∙ meters_more start e (judged start h)) i;
     }
 
+-- What reading a message took is counted as the meters count the message.
+counted_is : (m : Meters) (held rows pending : ℕ) (request : Option (List ℕ)) → with_reading m held rows pending (option_map reading_of request) ≡ metered m held rows pending request
+unfolding with_reading metered
+counted_is m held rows pending None = refl
+counted_is m held rows pending (Some message) = refl
+
 -- A turn of the machine, counted, is a step of the session.
 pub stepped_is : (m n : State) (k l : Meters) (s : SessionState) (x : Timed) (request : Option Reading) (held rows pending : ℕ) → record { machine = m; meters = k } ≡ s
     → n ≡ (turn m x).state → request ≡ reading_in (turn m x).event
-    → held ≡ held_bytes n.current → rows ≡ length n.core.state.rows → pending ≡ pending_count n.core.state.pending → l ≡ metered k held rows pending request
+    → held ≡ held_bytes n.current → rows ≡ length n.core.state.rows → pending ≡ pending_count n.core.state.pending → l ≡ with_reading k held rows pending request
     → record { machine = n; meters = l } ≡ stepped s x
 unfolding stepped
-stepped_is m n k l s x request held rows pending is state finished held_is rows_are pending_is counted =
+stepped_is m n k l s x request held rows pending is state finished held_is rows_are pending_is more =
     let same : l ≡ metered_by k (turn m x) =
-    counted ∙ (λ i. metered k (held_is i) (rows_are i) (pending_is i) (finished i))
-    ∙ ap (λ (v : State). metered k (held_bytes v.current) (length v.core.state.rows) (pending_count v.core.state.pending) (reading_in (turn m x).event)) state in
+    more ∙ (λ i. with_reading k (held_is i) (rows_are i) (pending_is i) (finished i))
+    ∙ counted_is k (held_bytes n.current) (length n.core.state.rows) (pending_count n.core.state.pending) (request_in (turn m x).event)
+    ∙ ap (λ (v : State). metered k (held_bytes v.current) (length v.core.state.rows) (pending_count v.core.state.pending) (request_in (turn m x).event)) state in
     rw (← is) (λ i. record { machine = state i; meters = same i })
 
 -- the session at its start
@@ -97,8 +107,8 @@ unfolding session_of
 session_held start h = held_named start h
 
 -- The meters stay bounded, where each message takes at most four steps for each byte after the first and two more.
-pub metered_bounded : (each : (m : List ℕ) → steps_of m ≤ 4 * (length m - 1) + 2) (m : Meters) (held rows pending : ℕ) (e : Option Event) → AreBounded m → AreBounded (metered m held rows pending (reading_in e))
-unfolding metered
-metered_bounded each m held rows pending None h = omega arith
-metered_bounded each m held rows pending (Some (Request cid bytes)) h = let few = each bytes in omega arith
-metered_bounded each m held rows pending (Some other) h = omega arith
+pub counted_bounded : (each : (m : List ℕ) → steps_of m ≤ 4 * (length m - 1) + 2) (m : Meters) (held rows pending : ℕ) (e : Option Event) → AreBounded m → AreBounded (with_reading m held rows pending (reading_in e))
+unfolding with_reading
+counted_bounded each m held rows pending None h = omega arith
+counted_bounded each m held rows pending (Some (Request cid bytes)) h = let few = each bytes in omega arith
+counted_bounded each m held rows pending (Some other) h = omega arith

@@ -14,10 +14,12 @@ use Rattle.token_session.specs.declared.input.Input.{Input}
 use Rattle.token_session.specs.declared.input.Input.TheVariants.{Packet, Tick, Presence, Key, Signature}
 use Rattle.token_session.specs.declared.input.Timed.{Timed}
 use Rattle.token_session.specs.Replies.{asker, status_of, answer_keeps_alive}
-use Rattle.token_session.specs.Effects.{reading_in}
+use Rattle.token_session.specs.Effects.{request_in}
 use Rattle.token_session.specs.Events.{keepalive_due}
-use Rattle.token_session.specs.Machine.{State, Turn, turn, passed, served, served_by, happens, event_after}
-use Rattle.token_session.specs.History.{Judged, end, given, core, open_at, as_open, judge, judged, sent, sent_at, time_packets}
+use Rattle.token_session.specs.Machine.{State, Turn, turn, time_passed, served, served_by, happens, event_after}
+use Rattle.token_session.specs.Inputs.{Judged, end, given}
+use Rattle.token_session.specs.Messages.{open_at, as_open}
+use Rattle.token_session.specs.History.{core, judge, judged, sent, sent_at, time_packets}
 use Rattle.token_session.specs.Law.{named, Behind, onto, numbered, sent_now, sent_from}
 use Rattle.token_session.specs.Meters.{SessionState, stepped, session_of, metered}
 use Rattle.token_session.specs.Noise.{is_noise_among, is_noise_to, is_noise_at, is_noise_behind, tick_at, IsQuiet, Quiet, is_replaced, quiet_now, quiet_sent, quiet_from}
@@ -28,15 +30,15 @@ use Rattle.token_session.proofs.Metering.{stands_longer}
 -- What a turn leaves behind, beside the packets: the state, and what a request that it finished took to read.
 pub record Leaves (t : Turn) (u : Turn) : Type 0 where
   pub state : t.state ≡ u.state
-  pub reading : reading_in t.event ≡ reading_in u.event
+  pub request : request_in t.event ≡ request_in u.event
 
 row_leaves : (s : State) (f : Fields) (early : List (List ℕ)) (r : Ruling) → is_noise r ≡ true → Leaves (served_by s f early r) (served s early Tick)
 unfolding open_after message_after event_after
-row_leaves s f early (Begins CancelsNothing) h = record { state = refl; reading = refl }
-row_leaves s f early (Begins NoSuchChannel) h = record { state = refl; reading = refl }
-row_leaves s f early (Begins BusyElsewhere) h = record { state = refl; reading = refl }
-row_leaves s f early (Begins BusyHere) h = record { state = refl; reading = refl }
-row_leaves s f early (Continues Stray) h = record { state = refl; reading = refl }
+row_leaves s f early (Begins CancelsNothing) h = record { state = refl; request = refl }
+row_leaves s f early (Begins NoSuchChannel) h = record { state = refl; request = refl }
+row_leaves s f early (Begins BusyElsewhere) h = record { state = refl; request = refl }
+row_leaves s f early (Begins BusyHere) h = record { state = refl; request = refl }
+row_leaves s f early (Continues Stray) h = record { state = refl; request = refl }
 row_leaves s f early _ h = cc
 
 not_sent : (to before : Option ℕ) → answer_keeps_alive to before Ignored ≡ false
@@ -52,7 +54,7 @@ keepalive_stays s e ignored =
     ap (λ (v : Turned). cond (answer_keeps_alive to before v.answer) s.now s.keepalive_at) ignored ∙ ap (λ b. cond b s.now s.keepalive_at) (not_sent to before)
 
 -- An event that leaves the authenticator as it is, and that it doesn't answer, leaves what a tick leaves.
-event_leaves : (s : State) (early : List (List ℕ)) (e : Event) → turn_of (s.core).setup (s.core).state s.now e ≡ record { state = (s.core).state; answer = Ignored } → reading_in (Some e) ≡ None
+event_leaves : (s : State) (early : List (List ℕ)) (e : Event) → turn_of (s.core).setup (s.core).state s.now e ≡ record { state = (s.core).state; answer = Ignored } → request_in (Some e) ≡ None
     → Leaves (happens s.now s.given s.current s.core s.keepalive_at early [] (Some e)) (served s early Tick)
 event_leaves s early e ignored unread = record {
   state = λ i. record {
@@ -62,7 +64,7 @@ event_leaves s early e ignored unread = record {
     core = record { setup = (s.core).setup; state = (ignored i).state };
     keepalive_at = keepalive_stays s e ignored i;
   };
-  reading = unread;
+  request = unread;
 }
 
 unwanted : (b : Bool) → not b ≡ true → b ≡ false
@@ -80,14 +82,14 @@ served_leaves s early Tick h = cc
 
 pub noise_leaves : (s : State) (x : Timed) → is_noise_at s x ≡ true → Leaves (turn s x) (turn s (tick_at x.at))
 unfolding turn is_noise_at
-noise_leaves s x h = served_leaves (passed s (max s.now x.at)).state (passed s (max s.now x.at)).packets x.input h
+noise_leaves s x h = served_leaves (time_passed s (max s.now x.at)).state (time_passed s (max s.now x.at)).packets x.input h
 
 -- What noise is judged by, when time has passed: the same, less an overdue message.
 abbrev Sees : State → Input → State → Option Open → Type 0
 Sees s i u o = is_noise_to u i ≡ is_noise_among s.given o s.core i
 
-passed_sees : (s : State) (at : ℕ) (i : Input) → is_noise_to (passed s at).state i ≡ is_noise_among s.given (still_open s.current at) s.core i
-unfolding passed
+passed_sees : (s : State) (at : ℕ) (i : Input) → is_noise_to (time_passed s at).state i ≡ is_noise_among s.given (still_open s.current at) s.core i
+unfolding time_passed
 passed_sees s at i = by_time (is_overdue s.current at) (keepalive_due (waiting s.core) s.keepalive_at at) _ _ _ refl refl refl
   where
     by_time : (late due : Bool) (a b c : Turn) → Sees s i a.state None → Sees s i b.state s.current → Sees s i c.state s.current
@@ -120,11 +122,11 @@ noise_steps s x h =
     let same = noise_leaves s.machine x h in
     λ i. record {
       machine = same.state i;
-      meters = metered s.meters (held_bytes (same.state i).current) (length (same.state i).core.state.rows) (pending_count (same.state i).core.state.pending) (same.reading i);
+      meters = metered s.meters (held_bytes (same.state i).current) (length (same.state i).core.state.rows) (pending_count (same.state i).core.state.pending) (same.request i);
     }
 
 -- A tick sends the packets of time alone.
-pub tick_sends : (s : State) (at : ℕ) → (turn s (tick_at at)).packets ≡ (passed s (max s.now at)).packets
+pub tick_sends : (s : State) (at : ℕ) → (turn s (tick_at at)).packets ≡ (time_passed s (max s.now at)).packets
 unfolding turn
 tick_sends s at = append-nil _
 

@@ -12,7 +12,9 @@ use Rattle.hid_packet.specs.Commands.{CBOR, ERROR, INIT, KEEPALIVE, PING, BROADC
 use Rattle.hid_packet.specs.Message.{padded, initialization_packet, continuation_packet, continuation_packets, written}
 use Rattle.hid_packet.specs.Packet.{Fields, channel, channel_of, command, fields, is_command, is_initialization}
 use Rattle.token_session.specs.Events.{event_keeps_alive, event_packets, keepalive_due, keepalive_packets}
-use Rattle.token_session.specs.History.{Begun, Judged, core, cut_packets, end, event_to, finished_at, given, is_cut, last_keepalive, open_at, as_open, sent_at, service_packets, table_packets, time_packets}
+use Rattle.token_session.specs.Inputs.{Judged, end, given}
+use Rattle.token_session.specs.Messages.{Begun, finished_at, open_at, as_open}
+use Rattle.token_session.specs.History.{core, cut_packets, event_to, is_cut, last_keepalive, sent_at, service_packets, table_packets, time_packets}
 use Rattle.token_session.specs.Law.{keeps_alive}
 use Rattle.token_session.specs.Replies.{answer_keeps_alive, answer_packets, greeting, is_status, ping_packets, row_packets}
 use Rattle.token_session.specs.declared.input.Input.{Input}

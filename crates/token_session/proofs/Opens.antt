@@ -4,7 +4,8 @@ use Rattle.std.proofs.lemmas.Bool.Decides.{nat_tests}
 use Rattle.std.proofs.lemmas.List.Elements.{filter-append}
 use Rattle.hid_packet.specs.Packet.{channel, message_length}
 use Rattle.authn_core.specs.Turn.{Start}
-use Rattle.token_session.specs.History.{Begun, Judged, end, goes_on, is_long, is_next, is_open, is_own, open_among, open_at, own, packet}
+use Rattle.token_session.specs.Inputs.{Judged, end, is_own, own, packet}
+use Rattle.token_session.specs.Messages.{Begun, goes_on, is_long, is_next, is_open, open_among, open_at}
 
 -- each of these inputs came at t or later
 abbrev pub From : ℕ → List Judged → Type 0

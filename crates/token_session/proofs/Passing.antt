@@ -4,7 +4,7 @@ use Rattle.hid_assemble.specs.Table.{Open}
 use Rattle.hid_assemble.specs.Assembly.{Assembly, is_overdue, still_open}
 use Rattle.authn_core.specs.Turn.{CoreState, waiting}
 use Rattle.token_session.specs.Replies.{error}
-use Rattle.token_session.specs.Machine.{State, Turn, passed, overdue_packets}
+use Rattle.token_session.specs.Machine.{State, Turn, time_passed, overdue_packets}
 use Rattle.token_session.specs.Events.{keepalive_due, keepalive_packets}
 
 record Late (c : Option Open) (t x : ℕ) : Type 0 where
@@ -46,16 +46,16 @@ due_or_not false t g b c k ps = refl
 
 module _ (n b t : ℕ) (a d : Assembly) (k : CoreState) (v : State) (is : whole n a k b ≡ v) (kept : d ≡ passed_to a t) where
   pub late_turn : (x : ℕ) → Some x ≡ cond (is_overdue a.current t) (option_map (λ m. m.cid) a.current) None
-      → passed v t ≡ record { state = whole t d k b; packets = error x 5; event = None }
-  unfolding passed
+      → time_passed v t ≡ record { state = whole t d k b; packets = error x 5; event = None }
+  unfolding time_passed
   late_turn x r =
       let l = late_at a.current t x r in
       let late : is_overdue a.current t ≡ true = l.late in
       rw (← is, kept, late, l.packets) refl
 
   pub timely_turn : None ≡ cond (is_overdue a.current t) (option_map (λ m. m.cid) a.current) None
-      → passed v t ≡ record { state = whole t d k (cond (keepalive_due (waiting k) b t) t b); packets = cond (keepalive_due (waiting k) b t) (keepalive_packets (waiting k)) []; event = None }
-  unfolding passed
+      → time_passed v t ≡ record { state = whole t d k (cond (keepalive_due (waiting k) b t) t b); packets = cond (keepalive_due (waiting k) b t) (keepalive_packets (waiting k)) []; event = None }
+  unfolding time_passed
   timely_turn r =
       let late : is_overdue a.current t ≡ false = in_time_at a.current t r in
       rw (← is, kept, late) (due_or_not (keepalive_due (waiting k) b t) t a.given b a.current k (keepalive_packets (waiting k)))

@@ -11,9 +11,11 @@ use Rattle.hid_assemble.specs.Assembly.{is_overdue, message_after, open_after}
 use Rattle.hid_assemble.specs.Table.{continuation_row, initialization_row, ruling_of}
 use Rattle.hid_packet.specs.Message.{continuation_packet, continuation_packets, initialization_packet, padded, written}
 use Rattle.hid_packet.specs.Packet.{channel, command, continuation_data, initialization_data, is_initialization, message_length, sequence}
-use Rattle.token_session.specs.History.{admits, asks_channel, core, event, finished, finished_long, given, goes_on, held, is_last, is_long, is_next, is_open, is_own, judge, judged, last_keepalive, open_among, open_at, own, packet_event, sent, sent_at, service_packets, time_packets}
+use Rattle.token_session.specs.Inputs.{asks_channel, given, is_own, own}
+use Rattle.token_session.specs.Messages.{finished, finished_long, goes_on, is_last, is_long, is_next, is_open, open_among, open_at}
+use Rattle.token_session.specs.History.{admits, core, event, held, judge, judged, last_keepalive, packet_event, sent, sent_at, service_packets, time_packets}
 use Rattle.token_session.specs.Law.{run_sent}
-use Rattle.token_session.specs.Machine.{State, event_after, machine, passed, start_state, turn}
+use Rattle.token_session.specs.Machine.{State, event_after, machine, time_passed, start_state, turn}
 use Rattle.token_session.specs.Events.{keepalive_due}
 use Rattle.token_session.specs.Replies.{answer_keeps_alive, answer_packets, greeting, row_packets}
 use Rattle.token_session.specs.declared.input.Input.TheVariants.{Packet, Tick}
@@ -40,7 +42,7 @@ abbrev at_zero : Start
 at_zero = record { aaguid = replicate 16 0; moment = 0; room = 64; rows = [] }
 
 sent_by : List Timed → List (List ℕ)
-unfolding channel is_initialization command message_length initialization_data sequence continuation_data padded initialization_packet continuation_packet continuation_packets written read_of core_turn.turn initialization_row continuation_row ruling_of greeting row_packets answer_packets answer_keeps_alive is_overdue keepalive_due open_after message_after event_after passed turn start_state machine judged sent held asks_channel given is_own own is_next goes_on is_long is_open open_among open_at is_last finished_long finished packet_event event core admits judge last_keepalive time_packets service_packets sent_at
+unfolding channel is_initialization command message_length initialization_data sequence continuation_data padded initialization_packet continuation_packet continuation_packets written read_of core_turn.turn initialization_row continuation_row ruling_of greeting row_packets answer_packets answer_keeps_alive is_overdue keepalive_due open_after message_after event_after time_passed turn start_state machine judged sent held asks_channel given is_own own is_next goes_on is_long is_open open_among open_at is_last finished_long finished packet_event event core admits judge last_keepalive time_packets service_packets sent_at
 sent_by xs = sent at_zero (judged at_zero (reverse xs))
 
 -- the first lines of the plainest log
@@ -182,7 +184,7 @@ waiting : State
 waiting = record { now = 0; given = 2; current = None; core = record { setup = record { aaguid = replicate 16 0; began = 0; room = 64 }; state = record { rows = []; pending = None; work = Some (record { cid = 1; task = Selects }) } }; keepalive_at = 0 }
 
 runs : List Timed → List (ℕ × List ℕ)
-unfolding channel is_initialization command message_length initialization_data sequence continuation_data padded initialization_packet continuation_packet continuation_packets written read_of core_turn.turn initialization_row continuation_row ruling_of greeting row_packets answer_packets answer_keeps_alive is_overdue keepalive_due open_after message_after event_after passed turn start_state machine judged sent held asks_channel given is_own own is_next goes_on is_long is_open open_among open_at is_last finished_long finished packet_event event core admits judge last_keepalive time_packets service_packets sent_at waiting
+unfolding channel is_initialization command message_length initialization_data sequence continuation_data padded initialization_packet continuation_packet continuation_packets written read_of core_turn.turn initialization_row continuation_row ruling_of greeting row_packets answer_packets answer_keeps_alive is_overdue keepalive_due open_after message_after event_after time_passed turn start_state machine judged sent held asks_channel given is_own own is_next goes_on is_long is_open open_among open_at is_last finished_long finished packet_event event core admits judge last_keepalive time_packets service_packets sent_at waiting
 runs xs = run_sent 0 waiting xs
 
 -- busy, a new channel, KEEPALIVE at 100 and 200 but not at 150, an idle CANCEL and a real one
@@ -223,7 +225,7 @@ full : State
 full = record { now = 0; given = 4294967294; current = None; core = record { setup = record { aaguid = replicate 16 0; began = 0; room = 64 }; state = record { rows = []; pending = None; work = None } }; keepalive_at = 0 }
 
 runs_full : List Timed → List (ℕ × List ℕ)
-unfolding channel is_initialization command message_length initialization_data sequence continuation_data padded initialization_packet continuation_packet continuation_packets written read_of core_turn.turn initialization_row continuation_row ruling_of greeting row_packets answer_packets answer_keeps_alive is_overdue keepalive_due open_after message_after event_after passed turn start_state machine judged sent held asks_channel given is_own own is_next goes_on is_long is_open open_among open_at is_last finished_long finished packet_event event core admits judge last_keepalive time_packets service_packets sent_at full
+unfolding channel is_initialization command message_length initialization_data sequence continuation_data padded initialization_packet continuation_packet continuation_packets written read_of core_turn.turn initialization_row continuation_row ruling_of greeting row_packets answer_packets answer_keeps_alive is_overdue keepalive_due open_after message_after event_after time_passed turn start_state machine judged sent held asks_channel given is_own own is_next goes_on is_long is_open open_among open_at is_last finished_long finished packet_event event core admits judge last_keepalive time_packets service_packets sent_at full
 runs_full xs = run_sent 0 full xs
 
 -- INIT asks for one more, and then for one in vain with a length of 7; CANCEL there isn't answered, a command that isn't served is refused for its channel

@@ -10,9 +10,11 @@ use Rattle.hid_assemble.specs.Assembly.{Message}
 use Rattle.hid_assemble.specs.Table.{is_on}
 use Rattle.hid_packet.specs.Commands.{CANCEL, INIT}
 use Rattle.hid_packet.specs.Packet.{channel, is_command, is_initialization, message_length, sequence}
-use Rattle.token_session.specs.History.{Begun, Judged, admits, finished, finished_long, is_last, is_long, is_next, is_own, packet_event}
+use Rattle.token_session.specs.Inputs.{Judged, is_own}
+use Rattle.token_session.specs.Messages.{Begun, finished, finished_long, is_last, is_long, is_next}
+use Rattle.token_session.specs.History.{admits, packet_event}
 use Rattle.token_session.specs.Events.{event_core, reply_in}
-use Rattle.token_session.specs.Replies.{request_of}
+use Rattle.token_session.specs.Replies.{request_event}
 use Rattle.token_session.specs.declared.input.Input.{Input}
 use Rattle.token_session.specs.declared.input.Input.TheVariants.{Packet, Presence, Key, Signature}
 use Rattle.hid_packet.specs.declared.packet.Packet.{Packet as Packet64}
@@ -25,7 +27,7 @@ abbrev SomeGiven : ℕ → Option Event → Type 0
 SomeGiven g None = Unit {0}
 SomeGiven g (Some e) = EventIsGiven g e
 
-request_given : (g : ℕ) (m : Option Message) → MessageGiven g m → SomeGiven g (request_of m)
+request_given : (g : ℕ) (m : Option Message) → MessageGiven g m → SomeGiven g (request_event m)
 request_given g None h = tt
 request_given g (Some m) h = cond_case (SomeGiven g) (m.cmd == 16) _ _ (λ _. h) (λ _. tt)
 

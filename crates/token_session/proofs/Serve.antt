@@ -15,10 +15,12 @@ use Rattle.hid_assemble.specs.declared.table.Row.TheVariants.{BadLength, BrokenO
 use Rattle.hid_assemble.specs.declared.table.Continuation.TheVariants.{Kept, Stray, Whole, WrongNumber}
 use Rattle.hid_packet.specs.Commands.{BROADCAST, CANCEL, CBOR, INIT, PING}
 use Rattle.hid_packet.specs.Packet.{Fields, channel, command, continuation, continuation_data, fields, initialization, initialization_data, is_initialization, message_length, sequence}
-use Rattle.token_session.specs.History.{Begun, Judged, admits, asks_channel, finished, finished_long, is_last, is_long, is_next, is_own, packet, packet_event, packets_of}
-use Rattle.token_session.specs.History.{as_open, last_at}
+use Rattle.token_session.specs.Inputs.{Judged, asks_channel, is_own, packet}
+use Rattle.token_session.specs.Messages.{Begun, finished, finished_long, is_last, is_long, is_next, packets_of}
+use Rattle.token_session.specs.History.{admits, packet_event}
+use Rattle.token_session.specs.Messages.{as_open, last_at}
 use Rattle.token_session.specs.Machine.{event_after}
-use Rattle.token_session.specs.Replies.{request_of}
+use Rattle.token_session.specs.Replies.{request_event}
 use Rattle.token_session.specs.declared.input.Input.{Input}
 use Rattle.token_session.specs.declared.input.Input.TheVariants.{Packet}
 use Rattle.hid_packet.specs.declared.packet.Packet.{Packet as Packet64}
@@ -181,7 +183,7 @@ no_channel g p never =
     (λ _. refl)
 
 pub no_event : (w : Option ℕ) (m : Option Message) (p : List ℕ) → (command p ≡ CANCEL → is_on w (channel p) ≡ false) → (command p ≡ INIT → message_length p ≡ 8 → is_on w (channel p) ≡ false)
-    → packet_event w m p ≡ request_of m
+    → packet_event w m p ≡ request_event m
 unfolding packet_event
 no_event w m p a b =
     cond_at ((is_initialization p && (command p == CANCEL)) && is_on w (channel p)) _ _ _
@@ -201,7 +203,7 @@ unfolding packet_event
 cancel_event w m p a b c = rw (a, b, c) refl
 
 drop_event : (w : Option ℕ) (m : Option Message) (p : List ℕ) → is_initialization p ≡ true → (command p == CANCEL) ≡ false → (command p == INIT) ≡ true → (message_length p == 8) ≡ true
-    → packet_event w m p ≡ cond (is_on w (channel p)) (Some Drop) (request_of m)
+    → packet_event w m p ≡ cond (is_on w (channel p)) (Some Drop) (request_event m)
 unfolding packet_event
 drop_event w m p a b c d = rw (a, b, c, d) refl
 
@@ -249,7 +251,7 @@ pub record LongLength (p : List ℕ) : Type 0 where
   pub least : 58 ≤ message_length p
   pub most : message_length p ≤ 7609
 
-between_lengths : (n : ℕ) → (nat_le 58 n && nat_le n 7609) ≡ true → (58 ≤ n) × (n ≤ 7609)
+between_lengths : (n : ℕ) → (nat_lt 57 n && nat_le n 7609) ≡ true → (58 ≤ n) × (n ≤ 7609)
 between_lengths n h = grind (arith, nat_tests)
 
 pub long_says : (p : List ℕ) → is_long p ≡ true → LongLength p
@@ -270,7 +272,7 @@ is_above a b h = grind (arith, nat_tests)
 
 is_long_now : (p : List ℕ) → 58 ≤ message_length p → message_length p ≤ 7609 → is_long p ≡ true
 unfolding is_long
-is_long_now p a b = let x : nat_le 58 (message_length p) ≡ true = grind (arith, nat_tests) in let y : nat_le (message_length p) 7609 ≡ true = grind (arith, nat_tests) in both_true _ _ x y
+is_long_now p a b = let x : nat_lt 57 (message_length p) ≡ true = grind (arith, nat_tests) in let y : nat_le (message_length p) 7609 ≡ true = grind (arith, nat_tests) in both_true _ _ x y
 
 bad_row : (g : ℕ) (w : Option ℕ) (t : ℕ) (x : Packet64) → new_given g x.0 ≡ g → packet_event w None x.0 ≡ None
     → (7609 < message_length x.0) ⊎ ((command x.0 ≡ 16) × (message_length x.0 ≡ 0))
@@ -285,7 +287,7 @@ bad_row g w t x ch ev bad =
     elim bad [ inl z ↦ omega (arith, l, z) | inr z ↦ omega (arith, a.some z.0, z.1) ]))
     refl refl ev
 
-short_row : (g : ℕ) (w : Option ℕ) (t : ℕ) (x : Packet64) → new_given g x.0 ≡ g → ((m : Option Message) → packet_event w m x.0 ≡ request_of m)
+short_row : (g : ℕ) (w : Option ℕ) (t : ℕ) (x : Packet64) → new_given g x.0 ≡ g → ((m : Option Message) → packet_event w m x.0 ≡ request_event m)
     → admits g None w x.0 ≡ true → nat_le (message_length x.0) 57 ≡ true
     → Serves g None w t x.0 (starts x.0) (new_open g None w t x.0 (Packet x)) (finished None (admits g None w x.0) (Packet x)) (Begins Short)
 unfolding open_after message_after event_after finished finished_long
@@ -300,7 +302,7 @@ short_row g w t x ch ev adm sh =
       event = ev _;
     }
 
-long_row : (g : ℕ) (w : Option ℕ) (t : ℕ) (x : Packet64) → new_given g x.0 ≡ g → ((m : Option Message) → packet_event w m x.0 ≡ request_of m)
+long_row : (g : ℕ) (w : Option ℕ) (t : ℕ) (x : Packet64) → new_given g x.0 ≡ g → ((m : Option Message) → packet_event w m x.0 ≡ request_event m)
     → admits g None w x.0 ≡ true → nat_le (message_length x.0) 57 ≡ false → message_length x.0 ≤ 7609
     → Serves g None w t x.0 (starts x.0) (new_open g None w t x.0 (Packet x)) (finished None (admits g None w x.0) (Packet x)) (Begins Long)
 unfolding open_after message_after event_after finished finished_long
@@ -354,7 +356,7 @@ start_none g w t x few wg st =
     refused_row g w t x (starts x.0) (Begins InitAgain) never (no_channel g p (λ _ _ e. narrow e)) refl refl (drop_event w None p st k n eight))))
     (λ n. let not_init : command p ≡ INIT → ⊥ = not_eq (command p) INIT n in
     let ch = no_channel g p (λ i _ _. not_init i) in
-    let ev : (m : Option Message) → packet_event w m p ≡ request_of m = λ m. no_event w m p not_cancel (λ i. absurd (not_init i)) in
+    let ev : (m : Option Message) → packet_event w m p ≡ request_event m = λ m. no_event w m p not_cancel (λ i. absurd (not_init i)) in
     cond_case P (is_elsewhere w c) _ _ (λ we. refused_row g w t x (starts x.0) (Begins BusyElsewhere) (λ a. not_idle_elsewhere w c a.idle we) ch refl refl (ev None))
     (λ we. cond_case P (is_on w c) _ _ (λ wh. refused_row g w t x (starts x.0) (Begins BusyHere) (λ a. not_idle w c a.idle wh) ch refl refl (ev None))
     (λ wh. cond_case P (not ((command p == PING) || (command p == CBOR))) _ _
@@ -468,7 +470,7 @@ no_channel_more : (g : ℕ) (p : List ℕ) → is_initialization p ≡ false →
 unfolding asks_channel
 no_channel_more g p st = rw st refl
 
-no_event_more : (w : Option ℕ) (m : Option Message) (p : List ℕ) → is_initialization p ≡ false → packet_event w m p ≡ request_of m
+no_event_more : (w : Option ℕ) (m : Option Message) (p : List ℕ) → is_initialization p ≡ false → packet_event w m p ≡ request_event m
 unfolding packet_event
 no_event_more w m p st = rw st refl
 

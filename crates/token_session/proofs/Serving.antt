@@ -9,7 +9,7 @@ use Rattle.hid_assemble.specs.Verdicts.{verdict}
 use Rattle.authn_core.specs.Turn.{CoreState, working}
 use Rattle.token_session.specs.declared.input.Input.TheVariants.{Packet}
 use Rattle.token_session.specs.declared.input.Timed.{Timed}
-use Rattle.token_session.specs.Machine.{State, passed, turn, served, happens}
+use Rattle.token_session.specs.Machine.{State, time_passed, turn, served, happens}
 use Rattle.token_session.specs.Effects.{verdict_packets, verdict_event}
 use Rattle.token_session.proofs.Effects.{effects}
 use Rattle.token_session.proofs.Passing.{whole}
@@ -25,7 +25,7 @@ packet_turn n b a d k v x early w V B e ew ed eV eB =
     let e' = effects a.current a.given (working k) f row in
     rw (← e, eB, ed, eV, ew) (λ i. happens n (given_after a.given row) (open_after a.current n f row) k b early ((sym e'.sends) i) ((sym e'.does) i))
 
-pub step_turn : (v mid : State) (t : ℕ) (x : Timed) (early : List (List ℕ)) → t ≡ max v.now x.at → mid ≡ (passed v t).state → early ≡ (passed v t).packets
+pub step_turn : (v mid : State) (t : ℕ) (x : Timed) (early : List (List ℕ)) → t ≡ max v.now x.at → mid ≡ (time_passed v t).state → early ≡ (time_passed v t).packets
     → served mid early x.input ≡ turn v x
 unfolding turn
 step_turn v mid t x early a b e = rw (b, e, a) refl

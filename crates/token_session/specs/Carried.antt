@@ -4,7 +4,9 @@ use Rattle.hid_packet.specs.Packet.{message_length}
 use Rattle.token_session.specs.declared.input.Input.{Input}
 use Rattle.token_session.specs.declared.input.Input.TheVariants.{Packet}
 use Rattle.token_session.specs.declared.input.Timed.{Timed}
-use Rattle.token_session.specs.History.{Judged, Begun, open_at, is_last, packets_of}
+use Rattle.token_session.specs.Inputs.{Judged}
+use Rattle.token_session.specs.Messages.{Begun, open_at, is_last, packets_of}
+use Rattle.hid_packet.specs.declared.limit.TheConstants.{INITIALIZATION_DATA}
 
 -- each packet has 64 bytes
 abbrev pub Are64 : List (List ℕ) → Type 0
@@ -19,9 +21,9 @@ abbrev pub AreWhole : List Judged → Type 0
 AreWhole [] = Unit {0}
 AreWhole (e ∷ es) = IsWhole e.input × AreWhole es
 
-abbrev pub ArePackets : List Timed → Type 0
-ArePackets [] = Unit {0}
-ArePackets (x ∷ xs) = IsWhole x.input × ArePackets xs
+abbrev pub ArriveWhole : List Timed → Type 0
+ArriveWhole [] = Unit {0}
+ArriveWhole (x ∷ xs) = IsWhole x.input × ArriveWhole xs
 
 -- the initialization packet of the open message, its channel's own packets, and the last one
 unfoldable pub long_carriers : Option Begun → List ℕ → List (List ℕ)
@@ -29,7 +31,7 @@ long_carriers None p = []
 long_carriers (Some b) p = if is_last b p then b.packet ∷ (packets_of b.own ++ p ∷ []) else []
 
 unfoldable pub carriers : Option Begun → Bool → Input → List (List ℕ)
-carriers o admitted (Packet p) = if admitted && nat_le (message_length p.0) 57 then p.0 ∷ [] else long_carriers o p.0
+carriers o admitted (Packet p) = if admitted && nat_le (message_length p.0) INITIALIZATION_DATA then p.0 ∷ [] else long_carriers o p.0
 carriers o admitted other = []
 
 -- the packets that carried the message that an input finishes behind a history

@@ -3,7 +3,7 @@ use Rattle.std.specs.Prelude.{ℕ, List, [], ◌∷◌, ◌++◌, Option, Some, 
 use Rattle.authn_core.specs.State.{Event}
 use Rattle.authn_core.specs.Turn.{Start}
 use Rattle.authn_core.specs.Marks.{Step}
-use Rattle.token_session.specs.History.{Judged}
+use Rattle.token_session.specs.Inputs.{Judged}
 use Rattle.token_session.specs.Law.{event_at}
 
 abbrev pub step_of : ℕ → Option Event → List Step

@@ -8,6 +8,7 @@ use Rattle.token_session.specs.declared.driving.BothFault.{BothFault}
 use Rattle.token_session.specs.declared.driving.BothFault.TheVariants.{Full as BothFull}
 use Rattle.token_session.specs.Law.{numbered}
 use Rattle.token_session.specs.Meters.{SessionState, stepped, sent_by}
+use Rattle.hid_packet.specs.declared.limit.TheConstants.{OUTBOX_CAPACITY}
 
 -- a packet that was sent, with the number of its input
 abbrev pub as_pair : Sent → ℕ × List ℕ
@@ -37,4 +38,4 @@ second_done n (Err (BothFull first second)) = second
 
 -- before each of these inputs 130 places were free
 abbrev pub HadRoom : ℕ → List (ℕ × List ℕ) → SessionState → List Timed → ℕ → Type 0
-HadRoom places old s xs done = (j : ℕ) → j < done → length (old ++ driven_sends 0 s (take j xs)) + 130 ≤ places
+HadRoom places old s xs done = (j : ℕ) → j < done → length (old ++ driven_sends 0 s (take j xs)) + OUTBOX_CAPACITY ≤ places

@@ -1,13 +1,11 @@
 -- What a verdict sends and hands to the authenticator, and the request that an event is.
-use Rattle.std.specs.Prelude.{ℕ, ◌-◌, ◌==◌, List, [], length, Option, Some, None, option_map, if◌then◌else◌}
+use Rattle.std.specs.Prelude.{ℕ, ◌==◌, List, [], Option, Some, None, if◌then◌else◌}
 use Rattle.hid_packet.specs.Commands.{PING, CBOR}
 use Rattle.hid_packet.specs.Message.{written}
 use Rattle.hid_assemble.specs.Codes.{code_number}
 use Rattle.hid_assemble.specs.declared.verdict.Verdict.{Verdict}
 use Rattle.hid_assemble.specs.declared.verdict.Verdict.TheVariants.{Ignored, Kept, Finished, Refuse, Greet, GreetAndDrop, CancelWork}
 use Rattle.authn_core.specs.State.{Event, Request, Cancel, Drop}
-use Rattle.ctap_message.specs.Requests.{steps_of}
-use Rattle.token_session.specs.declared.authenticator.Reading.{Reading}
 use Rattle.token_session.specs.Replies.{error, greeting}
 
 -- the packets of a verdict on a packet that finished these bytes, but for those of an event
@@ -34,10 +32,3 @@ abbrev pub request_in : Option Event → Option (List ℕ)
 request_in None = None
 request_in (Some (Request cid bytes)) = Some bytes
 request_in (Some other) = None
-
--- what reading a request takes: the bytes behind its command byte, and the steps
-abbrev pub reading_of : List ℕ → Reading
-reading_of message = record { bytes = length message - 1; steps = steps_of message }
-
-abbrev pub reading_in : Option Event → Option Reading
-reading_in e = option_map reading_of (request_in e)

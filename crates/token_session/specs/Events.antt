@@ -6,6 +6,7 @@ use Rattle.authn_core.specs.Turn.{Work, CoreState, waiting, core_after, core_ans
 use Rattle.token_session.specs.declared.input.Input.{Input}
 use Rattle.token_session.specs.declared.input.Input.TheVariants.{Presence, Key, Signature}
 use Rattle.token_session.specs.Replies.{keepalive, status_of, asker, answer_packets, answer_keeps_alive}
+use Rattle.token_session.specs.declared.authenticator.TheConstants.{KEEPALIVE_PERIOD}
 
 -- the event that a reply of the caller is
 abbrev pub reply_in : Input → Option Event
@@ -36,7 +37,7 @@ pub record AuthenticatorState : Type 0 where
 -- A KEEPALIVE is due 100 ms after the last, where work waits (CTAP 2.1, section 11.2.9.1.7).
 unfoldable pub keepalive_due : Option Work → ℕ → ℕ → Bool
 keepalive_due None keepalive_at at = false
-keepalive_due (Some w) keepalive_at at = nat_le (keepalive_at + 100) at
+keepalive_due (Some w) keepalive_at at = nat_le (keepalive_at + KEEPALIVE_PERIOD) at
 
 abbrev pub keepalive_packets : Option Work → List (List ℕ)
 keepalive_packets None = []

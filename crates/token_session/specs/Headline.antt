@@ -8,9 +8,12 @@ use Rattle.ctap_message.specs.Requests.{steps_of}
 use Rattle.authn_core.specs.Turn.{Start}
 use Rattle.token_session.specs.declared.input.Timed.{Timed}
 use Rattle.token_session.specs.Carried.{carriers_at}
-use Rattle.token_session.specs.History.{Judged, judged, finished_at, sent, held, core}
+use Rattle.token_session.specs.Inputs.{Judged}
+use Rattle.token_session.specs.Messages.{finished_at}
+use Rattle.token_session.specs.History.{judged, sent, held, core}
 use Rattle.token_session.specs.Machine.{machine, turn}
 use Rattle.token_session.specs.Meters.{requests}
+use Rattle.hid_packet.specs.declared.limit.TheConstants.{LONGEST_MESSAGE}
 
 -- The packets that the composed turn sends for the inputs of a history, in order.
 unfoldable pub turns_send : Start → List Timed → List (List ℕ)
@@ -31,7 +34,7 @@ AllCarried (e ∷ past) = WasCarried e past × AllCarried past
 pub record IsAnswered (start : Start) (h : List Timed) : Type 0 where
   pub sent : turns_send start h ≡ sent start (judged start h)
   pub carried : AllCarried (judged start h)
-  pub held : held start (judged start h) ≤ 7609
+  pub held : held start (judged start h) ≤ LONGEST_MESSAGE
   pub rows : length (core start (judged start h)).state.rows ≤ start.room
   pub pending : pending_count (core start (judged start h)).state.pending ≤ start.room
   pub steps : AllByRecursion (λ m. steps_of m ≤ 4 * (length m - 1) + 2) (requests start (judged start h))

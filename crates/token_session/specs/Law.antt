@@ -7,7 +7,9 @@ use Rattle.authn_core.specs.State.{Event}
 use Rattle.authn_core.specs.Turn.{Start}
 use Rattle.token_session.specs.declared.input.Timed.{Timed}
 use Rattle.token_session.specs.Machine.{State, turn}
-use Rattle.token_session.specs.History.{begun_by, event_to, is_open, judge, judged, sent_at, Judged, Begun, end, given, open_at, core, last_keepalive, as_open}
+use Rattle.token_session.specs.Inputs.{Judged, end, given}
+use Rattle.token_session.specs.Messages.{begun_by, is_open, Begun, open_at, as_open}
+use Rattle.token_session.specs.History.{event_to, judge, judged, sent_at, core, last_keepalive}
 
 -- the state that a history names
 unfoldable pub named : Start → List Judged → State

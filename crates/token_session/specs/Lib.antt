@@ -1,10 +1,13 @@
 pub mod Replies
 pub mod Events
 pub mod Machine
+pub mod Inputs
+pub mod Messages
 pub mod History
 pub mod Law
 pub mod Effects
 pub mod Meters
+pub mod Readings
 pub mod Carried
 pub mod Noise
 pub mod Drive

@@ -7,7 +7,7 @@ use Rattle.hid_assemble.specs.declared.table.Row.TheVariants.{CancelsWork, InitA
 use Rattle.hid_assemble.specs.Assembly.{Message, is_overdue, given_after, open_after, message_after}
 use Rattle.authn_core.specs.State.{Event, Cancel, Drop}
 use Rattle.authn_core.specs.Turn.{Start, CoreState, working, first_state, waiting}
-use Rattle.token_session.specs.Replies.{error, row_packets, ping_packets, request_of}
+use Rattle.token_session.specs.Replies.{error, row_packets, ping_packets, request_event}
 use Rattle.token_session.specs.Events.{reply_in, event_core, event_packets, event_keeps_alive, keepalive_due, keepalive_packets}
 use Rattle.token_session.specs.declared.input.Input.{Input}
 use Rattle.token_session.specs.declared.input.Input.TheVariants.{Packet}
@@ -34,8 +34,8 @@ overdue_packets None = []
 overdue_packets (Some m) = error m.cid 0x05
 
 -- Time passes to a moment that is no earlier than the latest.
-unfoldable pub passed : State → ℕ → Turn
-passed s at =
+unfoldable pub time_passed : State → ℕ → Turn
+time_passed s at =
     if is_overdue s.current at
     then record { state = record s { now = at; current = None }; packets = overdue_packets s.current; event = None }
     else if keepalive_due (waiting s.core) s.keepalive_at at
@@ -61,7 +61,7 @@ happens at given current core keepalive_at early packets e =
 unfoldable pub event_after : Option ℕ → Fields → Option Message → Ruling → Option Event
 event_after work f m (Begins CancelsWork) = Some Cancel
 event_after work f m (Begins InitAgain) = if is_on work (channel_of f) then Some Drop else None
-event_after work f m _ = request_of m
+event_after work f m _ = request_event m
 
 abbrev pub served_by : State → Fields → List (List ℕ) → Ruling → Turn
 served_by s f early row =
@@ -76,7 +76,7 @@ served s early other = happens s.now s.given s.current s.core s.keepalive_at ear
 
 -- One input: its moment counts as the latest where it is earlier. First time passes, then the input is served.
 unfoldable pub turn : State → Timed → Turn
-turn s x = let at = max s.now x.at in served (passed s at).state (passed s at).packets x.input
+turn s x = let at = max s.now x.at in served (time_passed s at).state (time_passed s at).packets x.input
 
 unfoldable pub start_state : Start → State
 start_state start = record { now = start.moment; given = 0; current = None; core = first_state start; keepalive_at = 0 }

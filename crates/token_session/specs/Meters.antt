@@ -3,27 +3,23 @@ use Rattle.std.specs.Prelude.{◌≡◌, ◌≤◌, ℕ, ◌+◌, ◌-◌, ◌*�
 use Rattle.hid_assemble.specs.Assembly.{held_bytes}
 use Rattle.authn_core.specs.Turn.{Start}
 use Rattle.cred_table.specs.Waiting.{pending_count}
-use Rattle.ctap_message.specs.Requests.{steps_of}
+use Rattle.ctap_message.specs.Requests.{steps_of, LARGEST}
 use Rattle.token_session.specs.declared.input.Timed.{Timed}
 use Rattle.token_session.specs.declared.input.Meters.{Meters}
-use Rattle.token_session.specs.declared.authenticator.Reading.{Reading}
-use Rattle.token_session.specs.Effects.{request_in, reading_in}
-use Rattle.token_session.specs.History.{Judged, judged, held, core}
+use Rattle.token_session.specs.Effects.{request_in}
+use Rattle.token_session.specs.Inputs.{Judged}
+use Rattle.token_session.specs.History.{judged, held, core}
 use Rattle.token_session.specs.Machine.{State, Turn, turn}
 use Rattle.token_session.specs.Law.{event_at, named}
 
--- The totals stop at 2^64-1.
-abbrev pub LARGEST : ℕ
-LARGEST = 2 ^ 64 - 1
-
-abbrev pub listed : Option (List ℕ) → List (List ℕ)
-listed None = []
-listed (Some bytes) = bytes ∷ []
+abbrev pub as_list : Option (List ℕ) → List (List ℕ)
+as_list None = []
+as_list (Some bytes) = bytes ∷ []
 
 -- the messages of the requests that a history finished, the newest first
 unfoldable pub requests : Start → List Judged → List (List ℕ)
 requests start [] = []
-requests start (e ∷ past) = listed (request_in (event_at start e past)) ++ requests start past
+requests start (e ∷ past) = as_list (request_in (event_at start e past)) ++ requests start past
 
 -- the most data bytes held of an open message, at the start and behind each input
 unfoldable pub peak_held : Start → List Judged → ℕ
@@ -50,20 +46,21 @@ meters_of start h = record {
   steps = min (sum_by steps_of (requests start h)) LARGEST;
 }
 
--- What a turn adds: the bytes, rows and pending assertions held after it, and what reading the request took that it finished.
-abbrev pub one_more : Option Reading → ℕ
+-- What a turn adds: the bytes, rows and pending assertions held after it, and the request that it finished, if it did: one
+-- request, its bytes after the command byte, and the steps that reading it takes.
+abbrev pub one_more : Option (List ℕ) → ℕ
 one_more None = 0
-one_more (Some reading) = 1
+one_more (Some message) = 1
 
-abbrev pub bytes_in : Option Reading → ℕ
+abbrev pub bytes_in : Option (List ℕ) → ℕ
 bytes_in None = 0
-bytes_in (Some reading) = reading.bytes
+bytes_in (Some message) = length message - 1
 
-abbrev pub steps_in : Option Reading → ℕ
+abbrev pub steps_in : Option (List ℕ) → ℕ
 steps_in None = 0
-steps_in (Some reading) = reading.steps
+steps_in (Some message) = steps_of message
 
-unfoldable pub metered : Meters → (held rows pending : ℕ) → Option Reading → Meters
+unfoldable pub metered : Meters → (held rows pending : ℕ) → Option (List ℕ) → Meters
 metered m held rows pending request = record {
   held = max m.held held;
   rows = max m.rows rows;
@@ -84,7 +81,7 @@ pub record SessionState : Type 0 where
 
 abbrev pub metered_by : Meters → Turn → Meters
 metered_by m t =
-    metered m (held_bytes t.state.current) (length t.state.core.state.rows) (pending_count t.state.core.state.pending) (reading_in t.event)
+    metered m (held_bytes t.state.current) (length t.state.core.state.rows) (pending_count t.state.core.state.pending) (request_in t.event)
 
 -- the session behind one input more
 unfoldable pub stepped : SessionState → Timed → SessionState

@@ -9,8 +9,10 @@ use Rattle.authn_core.specs.Views.{wants_presence, wants_key, wants_signature}
 use Rattle.token_session.specs.declared.input.Input.{Input}
 use Rattle.token_session.specs.declared.input.Input.TheVariants.{Packet, Tick, Presence, Key, Signature}
 use Rattle.token_session.specs.declared.input.Timed.{Timed}
-use Rattle.token_session.specs.Machine.{State, passed}
-use Rattle.token_session.specs.History.{Judged, given, core, open_at, as_open, judge, judged, sent_at, time_packets}
+use Rattle.token_session.specs.Machine.{State, time_passed}
+use Rattle.token_session.specs.Inputs.{Judged, given}
+use Rattle.token_session.specs.Messages.{open_at, as_open}
+use Rattle.token_session.specs.History.{core, judge, judged, sent_at, time_packets}
 use Rattle.token_session.specs.Law.{numbered}
 
 -- By the channels given out, the open message and the authenticator: a packet is noise by its row of the reply table, a reply
@@ -27,7 +29,7 @@ abbrev pub is_noise_to : State → Input → Bool
 is_noise_to s i = is_noise_among s.given s.current s.core i
 
 unfoldable pub is_noise_at : State → Timed → Bool
-is_noise_at s x = is_noise_to (passed s (max s.now x.at)).state x.input
+is_noise_at s x = is_noise_to (time_passed s (max s.now x.at)).state x.input
 
 -- after a history
 unfoldable pub is_noise_behind : Start → Judged → List Judged → Bool

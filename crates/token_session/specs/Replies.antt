@@ -45,9 +45,9 @@ ping_packets None = []
 ping_packets (Some m) = if m.cmd == PING then written m.cid PING m.bytes else []
 
 -- A finished CBOR message is a request.
-abbrev pub request_of : Option Message → Option Event
-request_of None = None
-request_of (Some m) = if m.cmd == CBOR then Some (Request m.cid m.bytes) else None
+abbrev pub request_event : Option Message → Option Event
+request_event None = None
+request_event (Some m) = if m.cmd == CBOR then Some (Request m.cid m.bytes) else None
 
 -- the present status of waiting work
 abbrev pub status_of : Option Work → Option ℕ

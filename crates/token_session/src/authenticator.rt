@@ -6,7 +6,8 @@ ghost use Rattle.authn_core.specs.Turn.{first_state, waiting, working};
 ghost use Rattle.authn_core.specs.Views.{answer_of, needed, needs, status_number, work_of};
 ghost use Rattle.token_session.specs.Replies.{keepalive, work_channel, status_of, answer_packets, answer_keeps_alive};
 ghost use Rattle.token_session.specs.Events.{event_core, event_keeps_alive, event_packets, keepalive_due, keepalive_packets};
-ghost use Rattle.token_session.specs.Effects.{reading_of};
+ghost use Rattle.token_session.specs.Readings.{reading_of};
+ghost use Rattle.hid_packet.specs.declared.limit.TheConstants.{LONGEST_MESSAGE};
 
 use authn_core::{Config, Core, KeepaliveStatus, Need, NewKey, Presence, Signature, Turn, Work};
 use cred_table::{Store, Table};
@@ -127,7 +128,7 @@ impl<const C: usize> Authenticator<C> {
         outbox: &mut Outbox,
     ) -> Reading
         requires room { length outbox.old ≤ 1 }
-        requires short { length message.now ≤ 7609 }
+        requires short { length message.now ≤ LONGEST_MESSAGE }
         requires moment { self.old.latest ≤ now }
         ensures core { self.new.core ≡ event_core self.old.core now (Some (Request cid message.now)) }
         ensures latest { self.new.latest ≡ now }

@@ -7,11 +7,12 @@ ghost use Rattle.token_session.specs.Drive.{as_pair, driven, driven_sends, done_
 ghost use Rattle.token_session.specs.Law.{numbered, onto, sent_from};
 ghost use Rattle.token_session.specs.Meters.{StandsBehind};
 ghost use Rattle.token_session.specs.Noise.{Quiet, quiet_from};
+ghost use Rattle.hid_packet.specs.declared.limit.TheConstants.{OUTBOX_CAPACITY};
 
 use crate::input::{Meters, Sent, Timed};
 use crate::session::Session;
 use arrayvec::ArrayVec;
-use hid_packet::Outbox;
+use hid_packet::{OUTBOX_CAPACITY, Outbox};
 use thiserror::Error;
 
 /// Why a drive stopped.
@@ -57,7 +58,7 @@ pub fn drive<const C: usize, const N: usize>(
         ≡ map as_pair sent.old.items ++ driven_sends 0 session.old (take (done_of (length inputs.now) result) inputs.now) }
     ensures meters { IfOk result (λ meters. meters ≡ session.new.meters) }
     // It is full exactly where too few places are free.
-    ensures full { IfErr result (λ e. (done_of 0 result < length inputs.now) × (N < array_vec_len sent.new + 130)) }
+    ensures full { IfErr result (λ e. (done_of 0 result < length inputs.now) × (N < array_vec_len sent.new + OUTBOX_CAPACITY)) }
     ensures room { HadRoom N (map as_pair sent.old.items) session.old inputs.now (done_of (length inputs.now) result) }
     // Behind any history.
     ensures behind { (start : Start) (h : List OneInput) → StandsBehind session.old start h
@@ -67,7 +68,7 @@ pub fn drive<const C: usize, const N: usize>(
 {
     let mut outbox = Outbox::new();
     for (i, timed) in inputs.iter().enumerate() {
-        if sent.remaining_capacity() < 130 {
+        if sent.remaining_capacity() < OUTBOX_CAPACITY {
             return Err(DriveFault::Full { done: i });
         }
         session.step(timed.at, timed.input, &mut outbox);
@@ -97,8 +98,8 @@ pub fn drive_both<const C: usize, const N: usize>(
     ensures meters { IfOk result (λ meters. (meters.0 ≡ first.new.meters) × (meters.1 ≡ second.new.meters)) }
     // It is full exactly where one of the runs is; where the first is, the second isn't begun.
     ensures full { IfErr result (λ e.
-        ((first_done 0 result < length inputs.now) × (N < array_vec_len sent.new + 130) × (second_done 0 result ≡ 0))
-        ⊎ ((first_done 0 result ≡ length inputs.now) × (second_done 0 result < length quiet.now) × (N < array_vec_len quiet_sent.new + 130))) }
+        ((first_done 0 result < length inputs.now) × (N < array_vec_len sent.new + OUTBOX_CAPACITY) × (second_done 0 result ≡ 0))
+        ⊎ ((first_done 0 result ≡ length inputs.now) × (second_done 0 result < length quiet.now) × (N < array_vec_len quiet_sent.new + OUTBOX_CAPACITY))) }
     ensures first_room { HadRoom N (map as_pair sent.old.items) first.old inputs.now (first_done (length inputs.now) result) }
     ensures second_room { HadRoom N (map as_pair quiet_sent.old.items) second.old quiet.now (second_done (length quiet.now) result) }
     // Behind histories of one start of which the second has ticks in place of noise, before and after.

@@ -15,15 +15,18 @@ ghost use Rattle.hid_packet.specs.declared.packet.Packet.{Packet as AnyPacket};
 ghost use Rattle.token_session.specs.declared.input.Input.TheVariants.{Packet as PacketCame};
 ghost use Rattle.hid_packet.specs.Carries.{CarriesMessage};
 ghost use Rattle.hid_assemble.specs.Assembly.{Message};
-ghost use Rattle.token_session.specs.Carried.{ArePackets, carriers_at};
-ghost use Rattle.token_session.specs.History.{finished_at, judge, judged, open_at, end, given, held, core, sent, service_packets, last_keepalive};
-ghost use Rattle.token_session.specs.Machine.{State, machine, turn, passed};
+ghost use Rattle.token_session.specs.Carried.{ArriveWhole, carriers_at};
+ghost use Rattle.token_session.specs.Inputs.{end, given};
+ghost use Rattle.token_session.specs.Messages.{finished_at, open_at};
+ghost use Rattle.token_session.specs.History.{judge, judged, held, core, sent, service_packets, last_keepalive};
+ghost use Rattle.token_session.specs.Machine.{State, machine, turn, time_passed};
 ghost use Rattle.token_session.specs.Events.{event_packets};
 ghost use Rattle.token_session.specs.Law.{all_open, keeps_alive, Behind, sent_now, onto, sent_from, run_state, run_sent};
 ghost use Rattle.token_session.specs.Credentials.{steps};
 ghost use Rattle.token_session.specs.Headline.{IsAnswered};
 ghost use Rattle.token_session.specs.Meters.{SessionState, meters_of, session_of, stepped};
 ghost use Rattle.token_session.specs.Noise.{Quiet, is_noise_at, is_noise_behind, quiet_from, quiet_sent, tick_at};
+ghost use Rattle.hid_packet.specs.declared.limit.TheConstants.{OUTBOX_CAPACITY};
 
 use authn_core::laws::{rows_follow_history, texts_to_sign_differ};
 use ctap_message::laws::steps_are_bounded;
@@ -90,13 +93,13 @@ pub fn meters_are_bounded()
 
 /// One input sends at most 130 packets, whatever the state.
 pub fn one_input_sends_few_packets()
-    ensures { (s : State) (x : OneInput) → length (turn s x).packets ≤ 130 }
+    ensures { (s : State) (x : OneInput) → length (turn s x).packets ≤ OUTBOX_CAPACITY }
 {}
 
 /// A message that an input finishes is carried by its initialization packet and its channel's own
 /// packets up to this one: its bytes are just those that they carried.
 pub fn finished_messages_were_carried()
-    ensures { (start : Start) (h : List OneInput) (x : OneInput) (m : Message) → ArePackets (x ∷ h)
+    ensures { (start : Start) (h : List OneInput) (x : OneInput) (m : Message) → ArriveWhole (x ∷ h)
         → finished_at (judge start x (judged start h)) (judged start h) ≡ Some m
         → CarriesMessage (carriers_at (judge start x (judged start h)) (judged start h)) m.cid m.cmd m.bytes }
 {}
@@ -105,7 +108,7 @@ pub fn finished_messages_were_carried()
 /// alone. What is noise to the state that a history names is noise after that history.
 pub fn noise_is_a_tick()
     ensures step { (s : SessionState) (x : OneInput) → is_noise_at s.machine x ≡ true → stepped s x ≡ stepped s (tick_at x.at) }
-    ensures packets { (s : State) (at : ℕ) → (turn s (tick_at at)).packets ≡ (passed s (max s.now at)).packets }
+    ensures packets { (s : State) (at : ℕ) → (turn s (tick_at at)).packets ≡ (time_passed s (max s.now at)).packets }
     ensures named { (s : State) (start : Start) (h : List OneInput) (x : OneInput) → Behind s start h
         → is_noise_at s x ≡ is_noise_behind start (judge start x (judged start h)) (judged start h) }
 {}
@@ -139,7 +142,7 @@ pub fn credentials_follow_history()
 /// of n bytes took at most 4n + 2 steps. Its premises: the start's rows are lawful, and each packet has 64 bytes, as each
 /// packet and each table of this program do.
 pub fn every_history_is_answered()
-    ensures { (start : Start) (h : List OneInput) → Lawful start.room start.rows → ArePackets h → IsAnswered start h }
+    ensures { (start : Start) (h : List OneInput) → Lawful start.room start.rows → ArriveWhole h → IsAnswered start h }
 {
     rows_follow_history();
     steps_are_bounded();

@@ -15,6 +15,8 @@ pub use input::{Input, Meters, Sent, Timed};
 pub use session::Session;
 
 #[cfg(test)]
+mod counter_tests;
+#[cfg(test)]
 mod driving_tests;
 #[cfg(test)]
 mod registration_tests;

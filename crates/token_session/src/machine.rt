@@ -5,10 +5,12 @@ ghost use Rattle.authn_core.specs.Bare.{bare_rows};
 ghost use Rattle.authn_core.specs.Views.{needs, needed};
 ghost use Rattle.cred_table.specs.Waiting.{pending_count};
 ghost use Rattle.token_session.specs.Replies.{error, greeting};
-ghost use Rattle.token_session.specs.Machine.{start_state, passed, served, turn};
+ghost use Rattle.token_session.specs.Machine.{start_state, time_passed, served, turn};
 ghost use Rattle.token_session.specs.Events.{event_core, event_keeps_alive, event_packets};
 ghost use Rattle.token_session.specs.Noise.{is_noise_at};
-ghost use Rattle.token_session.specs.Effects.{verdict_packets, verdict_event, reading_in};
+ghost use Rattle.token_session.specs.Effects.{verdict_packets, verdict_event};
+ghost use Rattle.token_session.specs.Readings.{reading_in};
+ghost use Rattle.hid_packet.specs.declared.limit.TheConstants.{LONGEST_MESSAGE};
 
 use crate::authenticator::{Authenticator, Reading};
 use crate::input::Input;
@@ -58,7 +60,7 @@ fn react<const C: usize>(
     outbox: &mut Outbox,
 ) -> Option<Reading>
     requires room { length outbox.old ≤ 1 }
-    requires short { length message.now ≤ 7609 }
+    requires short { length message.now ≤ LONGEST_MESSAGE }
     requires moment { authenticator.old.latest ≤ now }
     ensures core { authenticator.new.core ≡ event_core authenticator.old.core now (verdict_event verdict message.now) }
     ensures latest { authenticator.new.latest ≤ now }
@@ -201,8 +203,8 @@ impl<const C: usize> Machine<C> {
     fn pass_time(&mut self, at: u64, outbox: &mut Outbox)
         requires sent { outbox.old ≡ [] }
         requires later { self.old.now ≤ at }
-        ensures state { self.new ≡ (passed self.old at).state }
-        ensures packets { outbox.new ≡ (passed self.old at).packets }
+        ensures state { self.new ≡ (time_passed self.old at).state }
+        ensures packets { outbox.new ≡ (time_passed self.old at).packets }
     {
         self.latest = at;
         match self.assembler.pass(at) {

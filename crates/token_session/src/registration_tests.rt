@@ -9,7 +9,7 @@ use hid_packet::{Fragments, Outbox, Packet};
 use std::process::Abort;
 
 /// SHA-256 of `example.com`.
-const RP_HASH: [u8; 32] = [
+pub(crate) const RP_HASH: [u8; 32] = [
     0xa3, 0x79, 0xa6, 0xf6, 0xee, 0xaf, 0xb9, 0xa5, 0x5e, 0x37, 0x8c, 0x11, 0x80, 0x34, 0xe2, 0x75,
     0x1e, 0x68, 0x2f, 0xab, 0x9f, 0x2d, 0x30, 0xab, 0x13, 0xd2, 0x12, 0x55, 0x86, 0xce, 0x19, 0x47,
 ];
@@ -34,7 +34,7 @@ fn make_credential() -> ArrayVec<u8, 300> {
 }
 
 /// authenticatorGetAssertion for `example.com`, with no allow list.
-fn get_assertion() -> ArrayVec<u8, 300> {
+pub(crate) fn get_assertion() -> ArrayVec<u8, 300> {
     join(&[b"\x02\xa2\x01\x6bexample.com\x02\x58\x20", &[0x22; 32]])
 }
 
@@ -53,7 +53,7 @@ fn created_data() -> ArrayVec<u8, 300> {
     ])
 }
 
-fn keepalive(status: u8) -> Packet {
+pub(crate) fn keepalive(status: u8) -> Packet {
     pad(&[0, 0, 0, 1, 0xbb, 0, 1, status])
 }
 
@@ -68,7 +68,7 @@ const KEY: NewKey = NewKey {
 };
 
 /// Steps the session by a CBOR message on channel 1, and asserts that its last packet sends just this one.
-fn ask(
+pub(crate) fn ask(
     rt: &impl Abort,
     session: &mut Session<4>,
     at: u64,
@@ -87,7 +87,7 @@ fn ask(
 }
 
 /// Steps the session by an input, and asserts that it sends just these packets.
-fn step(rt: &impl Abort, session: &mut Session<4>, at: u64, input: Input, expected: &[Packet]) {
+pub(crate) fn step(rt: &impl Abort, session: &mut Session<4>, at: u64, input: Input, expected: &[Packet]) {
     let mut outbox = Outbox::new();
     session.step(at, input, &mut outbox);
     for packet in expected {

@@ -7,8 +7,10 @@ ghost use Rattle.authn_core.specs.Turn.{Start};
 ghost use Rattle.token_session.specs.declared.input.Timed.{Timed as OneInput};
 ghost use Rattle.token_session.specs.History.{judge, judged, held};
 ghost use Rattle.token_session.specs.Law.{sent_now};
-ghost use Rattle.token_session.specs.Meters.{AreBounded, SessionState, StandsBehind, stepped, sent_by, session_of, metered};
+ghost use Rattle.token_session.specs.Meters.{AreBounded, SessionState, StandsBehind, stepped, sent_by, session_of};
+ghost use Rattle.token_session.specs.Readings.{with_reading};
 ghost use Rattle.token_session.specs.Noise.{is_noise_at, is_noise_behind};
+ghost use Rattle.hid_packet.specs.declared.limit.TheConstants.{OUTBOX_CAPACITY};
 
 use crate::authenticator::Reading;
 use crate::input::{Input, Meters};
@@ -39,9 +41,9 @@ impl<const C: usize> Model for Session<C> {
 }
 
 /// The meters after an input, with what is held now and what reading the request took that it finished.
-#[tactic(auto, unfolding(crate::specs::Meters::metered))]
+#[tactic(auto, unfolding(crate::specs::Readings::counted))]
 fn count(meters: Meters, held: u16, rows: u16, pending: u16, request: Option<Reading>) -> Meters
-    ensures { result ≡ metered meters held rows pending request }
+    ensures { result ≡ with_reading meters held rows pending request }
 {
     let mut counted = meters;
     counted.held = meters.held.max(held);
@@ -52,7 +54,7 @@ fn count(meters: Meters, held: u16, rows: u16, pending: u16, request: Option<Rea
         counted.bytes = meters.bytes.saturating_add(u64::from(reading.bytes));
         counted.steps = meters.steps.saturating_add(reading.steps);
     }
-    counted
+    with_reading
 }
 
 impl<const C: usize> Session<C> {
@@ -93,7 +95,7 @@ impl<const C: usize> Session<C> {
         // One turn of the composed machine.
         ensures state { self.new ≡ stepped self.old (record { at = at; input = input }) }
         ensures packets { outbox.new ≡ sent_by self.old (record { at = at; input = input }) }
-        ensures few { length outbox.new ≤ 130 }
+        ensures few { length outbox.new ≤ OUTBOX_CAPACITY }
         // Behind any history that the session stands behind, it stands behind the longer one, and it
         // sent just what that history names for the input.
         ensures behind { (start : Start) (h : List OneInput) → StandsBehind self.old start h → StandsBehind self.new start (record { at = at; input = input } ∷ h) }

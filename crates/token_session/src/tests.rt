@@ -37,7 +37,7 @@ fn step_by(rt: &impl Abort, session: &mut Session<4>, at: u64, input: Input, exp
 /// INIT with the nonce 08..08, and its answer.
 pub(crate) const INIT: [u8; 15] = [255, 255, 255, 255, 0x86, 0, 8, 8, 8, 8, 8, 8, 8, 8, 8];
 
-fn greeting(cid: u8) -> Packet {
+pub(crate) fn greeting(cid: u8) -> Packet {
     let start = [
         255, 255, 255, 255, 0x86, 0, 17, 8, 8, 8, 8, 8, 8, 8, 8, 0, 0, 0, cid, 2, 1, 0, 0, 0x0c,
     ];

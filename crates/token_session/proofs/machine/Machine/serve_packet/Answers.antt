@@ -1,6 +1,6 @@
 use Rattle.std.proofs.Common.{◌∙◌, ap}
 use Rattle.token_session.specs.Machine.{Turn}
-use Rattle.token_session.specs.Effects.{reading_in}
+use Rattle.token_session.specs.Readings.{reading_in}
 use Rattle.token_session.proofs.Serving.{packet_turn}
 use Rattle.token_session.proofs.machine.Machine.serve_packet.Goals as goal
 

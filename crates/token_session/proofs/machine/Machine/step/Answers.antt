@@ -1,6 +1,6 @@
 use Rattle.std.proofs.Common.{rules, ◌≡◌, ℕ, ◌≤◌, List, length, max, subst, sym, ◌∙◌, ap}
 use Rattle.token_session.specs.Machine.{Turn, State}
-use Rattle.token_session.specs.Effects.{reading_in}
+use Rattle.token_session.specs.Readings.{reading_in}
 use Rattle.token_session.proofs.Few.{time_few}
 use Rattle.token_session.proofs.Serving.{step_turn}
 use Rattle.token_session.proofs.machine.Machine.step.Goals as goal

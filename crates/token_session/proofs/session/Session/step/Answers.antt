@@ -1,15 +1,16 @@
 use Rattle.std.proofs.Common.{ℕ, ◌≤◌, List, length, subst, sym, ◌∙◌}
 use Rattle.token_session.proofs.Few.{turn_few}
 use Rattle.token_session.proofs.Runs.{step_sends}
-use Rattle.token_session.proofs.Metering.{stepped_is, stands_longer, machine_behind, metered_bounded}
-use Rattle.token_session.specs.Meters.{AreBounded, metered}
+use Rattle.token_session.proofs.Metering.{stepped_is, stands_longer, machine_behind, counted_bounded}
+use Rattle.token_session.specs.Meters.{AreBounded}
+use Rattle.token_session.specs.Readings.{with_reading}
 use Rattle.token_session.specs.Machine.{turn}
 use Rattle.token_session.proofs.session.Session.step.Goals as goal
 
 pub invariant_of-self : goal.invariant_of-self
 invariant_of-self g c =
-    subst AreBounded (sym c.count-self-inside.ensures) (subst (λ r. AreBounded (metered c.self.inside.meters c.held-held.result c.credentials-rows.result c.pending-pending.result r)) (sym c.step-reading.ensures.reading)
-    (metered_bounded c.steps_are_bounded.ensures c.self.inside.meters c.held-held.result c.credentials-rows.result c.pending-pending.result (turn c.self.inside.machine (record { at = c.args.at; input = c.args.input })).event c.self.invariant))
+    subst AreBounded (sym c.count-self-inside.ensures) (subst (λ r. AreBounded (with_reading c.self.inside.meters c.held-held.result c.credentials-rows.result c.pending-pending.result r)) (sym c.step-reading.ensures.reading)
+    (counted_bounded c.steps_are_bounded.ensures c.self.inside.meters c.held-held.result c.credentials-rows.result c.pending-pending.result (turn c.self.inside.machine (record { at = c.args.at; input = c.args.input })).event c.self.invariant))
 
 pub returns-clause-state : goal.returns-clause-state
 returns-clause-state g c =

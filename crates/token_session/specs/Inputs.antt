@@ -1,0 +1,50 @@
+-- What came: the inputs of a history as they are judged, the channels that were given out, and a channel's own packets. A
+-- history is a list of inputs, the newest first, so that what came before an input is the rest of the list. It begins with an
+-- authenticator's start.
+use Rattle.std.specs.Prelude.{ℕ, Bool, false, not, ◌&&◌, ◌==◌, List, [], ◌∷◌, min, filter, count_by}
+use Rattle.hid_packet.specs.Commands.{INIT, CANCEL, BROADCAST}
+use Rattle.hid_packet.specs.Packet.{channel, message_length, is_command}
+use Rattle.hid_assemble.specs.Table.{LAST_CHANNEL}
+use Rattle.authn_core.specs.Turn.{Start}
+use Rattle.token_session.specs.declared.input.Input.{Input}
+use Rattle.token_session.specs.declared.input.Input.TheVariants.{Packet}
+
+-- An input as it is judged when it comes: its moment, which is no earlier than any before it, and whether it is an admitted
+-- initialization packet.
+pub record Judged : Type 0 where
+  pub at : ℕ
+  pub input : Input
+  pub admitted : Bool
+
+-- the moment of the last input, that of the start without one
+abbrev pub end : Start → List Judged → ℕ
+end start [] = start.moment
+end start (e ∷ past) = e.at
+
+-- the bytes of an input's packet
+abbrev pub packet : Input → List ℕ
+packet (Packet p) = p.0
+packet other = []
+
+-- a packet that passes the test
+abbrev pub is_packet : (List ℕ → Bool) → Input → Bool
+is_packet test (Packet p) = test p.0
+is_packet test other = false
+
+-- The channels that were given out: one for each INIT of length 8 on the broadcast channel, as far as there are channels
+-- (CTAP 2.1, section 11.2.9.1.3).
+unfoldable pub asks_channel : List ℕ → Bool
+asks_channel p = is_command INIT p && (message_length p == 8) && (channel p == BROADCAST)
+
+unfoldable pub given : List Judged → ℕ
+given h = min (count_by (λ e. is_packet asks_channel e.input) h) LAST_CHANNEL
+
+-- A channel's own packets: those on it, but for CANCEL.
+abbrev pub is_own_packet : ℕ → List ℕ → Bool
+is_own_packet cid p = (cid == channel p) && not (is_command CANCEL p)
+
+unfoldable pub is_own : ℕ → Judged → Bool
+is_own cid e = is_packet (is_own_packet cid) e.input
+
+unfoldable pub own : ℕ → List Judged → List Judged
+own cid later = filter (is_own cid) later

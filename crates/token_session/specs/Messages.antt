@@ -1,0 +1,97 @@
+-- Which message is open after inputs, and which an input finishes, by their packets alone: there is no buffer.
+use Rattle.std.specs.Prelude.{ℕ, ◌+◌, Bool, not, ◌&&◌, ◌==◌, nat_le, nat_lt, List, [], ◌∷◌, ◌++◌, take, length, map, Option, Some, None, if◌then◌else◌}
+use Rattle.hid_packet.specs.Carries.{joined}
+use Rattle.hid_packet.specs.Limits.{data_room}
+use Rattle.hid_packet.specs.Packet.{channel, is_initialization, command, message_length, sequence}
+use Rattle.hid_packet.specs.declared.limit.TheConstants.{INITIALIZATION_DATA, LONGEST_MESSAGE}
+use Rattle.hid_assemble.specs.Assembly.{Message}
+use Rattle.hid_assemble.specs.Table.{Open}
+use Rattle.hid_assemble.specs.declared.assembler.TheConstants.{MESSAGE_TIMEOUT}
+use Rattle.token_session.specs.declared.input.Input.{Input}
+use Rattle.token_session.specs.declared.input.Input.TheVariants.{Packet}
+use Rattle.token_session.specs.Inputs.{Judged, packet, is_packet, own}
+
+-- continuation packet number m of a message of this length, and not its last
+unfoldable pub is_next : ℕ → ℕ → Judged → Bool
+is_next len m e = is_packet (λ p. not (is_initialization p) && (sequence p == m)) e.input && nat_lt (data_room (m + 1)) len
+
+-- These are continuation packets m, m + 1, .. below the message's length, with less than 500 ms from each to the next, and
+-- from the last to the moment t.
+unfoldable pub goes_on : ℕ → ℕ → ℕ → List Judged → ℕ → Bool
+goes_on len m since [] t = nat_lt t (since + MESSAGE_TIMEOUT)
+goes_on len m since (e ∷ es) t = is_next len m e && nat_lt e.at (since + MESSAGE_TIMEOUT) && goes_on len (m + 1) e.at es t
+
+-- an initialization packet, its moment, and the packets of its channel's own that came later
+pub record Begun : Type 0 where
+  pub packet : List ℕ
+  pub at : ℕ
+  pub own : List Judged
+
+-- too long for one packet, and no longer than a message may be
+unfoldable pub is_long : List ℕ → Bool
+is_long p = nat_lt INITIALIZATION_DATA (message_length p) && nat_le (message_length p) LONGEST_MESSAGE
+
+-- what an input begins, with its channel's own packets among those that came later
+abbrev pub begun_by : Judged → List Judged → Begun
+begun_by e later = record { packet = packet e.input; at = e.at; own = own (channel (packet e.input)) later }
+
+-- A message is open at t: its initialization packet was admitted and is long, and its channel's own packets since then go
+-- on with it.
+unfoldable pub is_open : Judged → List Judged → ℕ → Bool
+is_open e later t =
+    let b = begun_by e later in
+    e.admitted && is_long b.packet && goes_on (message_length b.packet) 0 b.at b.own t
+
+-- the open message at t among these inputs, behind which those others came
+unfoldable pub open_among : List Judged → List Judged → ℕ → Option Begun
+open_among later [] t = None
+open_among later (e ∷ before) t = if is_open e later t then Some (begun_by e later) else open_among (e ∷ later) before t
+
+unfoldable pub open_at : List Judged → ℕ → Option Begun
+open_at h t = open_among [] h t
+
+-- The message that an input finishes: an admitted short one, or the open one by its last continuation packet.
+abbrev pub packets_of : List Judged → List (List ℕ)
+packets_of es = map (λ e. packet e.input) es
+
+-- the moment of the last of a message's own packets
+abbrev pub last_at : ℕ → List Judged → ℕ
+last_at t [] = t
+last_at t (e ∷ es) = last_at e.at es
+
+-- the open message, with its joined data
+abbrev pub as_open : Begun → Open
+as_open b = record {
+  cid = channel b.packet;
+  cmd = command b.packet;
+  len = message_length b.packet;
+  bytes = joined b.packet (packets_of b.own);
+  kept = length b.own;
+  last = last_at b.at b.own;
+}
+
+abbrev pub message : List ℕ → List (List ℕ) → Message
+message first others = record { cid = channel first; cmd = command first; bytes = take (message_length first) (joined first others) }
+
+unfoldable pub is_last : Begun → List ℕ → Bool
+is_last b p =
+    not (is_initialization p) && (channel b.packet == channel p) && (sequence p == length b.own)
+    && not (nat_lt (data_room (length b.own + 1)) (message_length b.packet))
+
+unfoldable pub finished_long : Option Begun → List ℕ → Option Message
+finished_long None p = None
+finished_long (Some b) p = if is_last b p then Some (message b.packet (packets_of b.own ++ p ∷ [])) else None
+
+unfoldable pub finished : Option Begun → Bool → Input → Option Message
+finished o admitted (Packet p) =
+    if admitted && nat_le (message_length p.0) INITIALIZATION_DATA then Some (message p.0 []) else finished_long o p.0
+finished o admitted other = None
+
+-- the message that an input finishes after a history
+abbrev pub finished_at : Judged → List Judged → Option Message
+finished_at e past = finished (open_at past e.at) e.admitted e.input
+
+-- the data bytes that are held of the open message
+abbrev pub held_of : Option Begun → ℕ
+held_of None = 0
+held_of (Some b) = data_room (length b.own)
