@@ -3,12 +3,8 @@ use Rattle.std.proofs.Common.{◌≡◌, ℕ, ◌+◌, ◌-◌, ◌%◌, ◌<◌
 use native.Mathlib.Nat.{mod-add-mod}
 use Rattle.std.proofs.lemmas.List.{same_lists, get_or_append_left, get_or-append_right}
 use Rattle.std.proofs.lemmas.Bool.{cases_lt}
-use Rattle.hid_packet.specs.Queue.{window}
+use Rattle.hid_packet.specs.Queue.{overwritten, window}
 use Rattle.hid_packet.proofs.Windows.{wraps_once, length-window, get_or-window}
-
--- `front` written at e, and then `back` at 0
-abbrev pub overwritten : (e : ℕ) (front back xs : List ℕ) → List ℕ
-overwritten e front back xs = back ++ drop (length back) (take e xs ++ (front ++ drop (e + length front) xs))
 
 module _ (e : ℕ) (front back xs : List ℕ) (fits : e + length front ≤ length xs) where
   inner : List ℕ

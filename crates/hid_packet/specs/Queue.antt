@@ -1,5 +1,5 @@
 -- The packets that wait in an outbox, by its entries and the bytes of its ring.
-use Rattle.std.specs.Prelude.{◌≡◌, ℕ, ◌*◌, ◌-◌, ◌<◌, ◌≤◌, List, [], ◌∷◌, ◌++◌, length, take, drop, sum_by}
+use Rattle.std.specs.Prelude.{◌≡◌, ℕ, ◌+◌, ◌*◌, ◌-◌, ◌<◌, ◌≤◌, List, [], ◌∷◌, ◌++◌, length, take, drop, sum_by}
 use Rattle.std.specs.List.{AllByRecursion}
 use Rattle.hid_packet.specs.Remaining.{packets_left}
 use Rattle.hid_packet.specs.declared.entry.Entry.{Entry}
@@ -12,6 +12,10 @@ use Rattle.hid_packet.specs.declared.limit.TheConstants.{CONTINUATION_DATA, LONG
 -- `len` items of a ring, from the place `first` on and around the end
 abbrev pub window : {X : Type 0} → (first len : ℕ) → List X → List X
 window first len ring = take len (drop first ring ++ take first ring)
+
+-- `front` written from a place on, and then `back` from the first on
+abbrev pub overwritten : (place : ℕ) (front back ring : List ℕ) → List ℕ
+overwritten place front back ring = back ++ drop (length back) (take place ring ++ (front ++ drop (place + length front) ring))
 
 -- how many bytes of the ring belong to an entry, and the packets that they are
 abbrev pub held_by : Entry → ℕ

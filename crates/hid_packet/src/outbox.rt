@@ -1,4 +1,6 @@
 ghost use Rattle.std.specs.Prelude.{◌≡◌, ℕ, ◌+◌, ◌<◌, ◌≤◌, ◌↔◌, ◌++◌, ◌∷◌, [], List, length, IsTrue, MatchOption};
+ghost use Rattle.std.specs.List.{remove};
+ghost use Rattle.arrayvec.specs.ArrayVec.{array_vec_len};
 ghost use Rattle.hid_packet.specs.Message.{written};
 ghost use Rattle.hid_packet.specs.Queue.{waiting, IsHeld};
 ghost use Rattle.hid_packet.specs.declared.limit.TheConstants.{LONGEST_MESSAGE, OUTBOX_CAPACITY};
@@ -34,6 +36,18 @@ impl Model for Outbox {
     ghost invariant = { λ o. IsQueued o.entries.items o.ring o.len };
 }
 
+/// Takes the first entry out. It is most often the only one.
+fn drop_first(entries: &mut Entries)
+    requires { 1 ≤ array_vec_len entries.old }
+    ensures { entries.new.items ≡ remove entries.old.items 0 }
+{
+    if entries.len() == 1 {
+        entries.clear();
+    } else {
+        entries.remove(0);
+    }
+}
+
 /// Takes the first entry, a packet that was put whole.
 fn take_whole(entries: &mut Entries, ring: &mut Ring) -> Packet
     requires first { (more : List Entry) × (entries.old.items ≡ Entry.Whole ∷ more) }
@@ -42,7 +56,7 @@ fn take_whole(entries: &mut Entries, ring: &mut Ring) -> Packet
     ensures held { IsHeld entries.new.items ring.new }
 {
     let mut packet = [0; 64];
-    entries.remove(0);
+    drop_first(entries);
     ring.take(&mut packet);
     Packet(packet)
 }
@@ -59,7 +73,7 @@ fn take_part(mut message: Message, entries: &mut Entries, ring: &mut Ring) -> Pa
         entries[0] = Entry::Part(message);
         return packet;
     }
-    entries.remove(0);
+    drop_first(entries);
     packet
 }
 

@@ -1,5 +1,6 @@
 //! A queue of bytes in a ring.
 ghost use Rattle.std.specs.Prelude.{◌≡◌, ◌+◌, ◌-◌, ◌≤◌, ◌++◌, [], length, min, take, drop};
+ghost use Rattle.hid_packet.specs.Queue.{overwritten};
 
 use crate::fragments::put_front;
 use crate::limit::OUTBOX_CAPACITY;
@@ -36,6 +37,23 @@ fn write_at(out: &mut [u8], place: usize, bytes: &[u8])
     out[place..place + bytes.len()].copy_from_slice(bytes);
 }
 
+/// Writes bytes from a place on, and from the first on where the ring ends.
+fn write_round(ring: &mut [u8], place: usize, bytes: &[u8])
+    requires place { place ≤ length ring.old }
+    requires room { length bytes.now ≤ length ring.old }
+    ensures { ring.new ≡ overwritten place (take (min (length bytes.now) (length ring.old - place)) bytes.now)
+        (drop (min (length bytes.now) (length ring.old - place)) bytes.now) ring.old }
+{
+    let straight = ring.len() - place;
+    if bytes.len() <= straight {
+        write_at(ring, place, bytes);
+        return;
+    }
+    let (front, back) = bytes.split_at(straight);
+    write_at(ring, place, front);
+    put_front(ring, back);
+}
+
 /// Copies bytes from a place on, and from the first on where the ring ends.
 fn copy_round(out: &mut [u8], ring: &[u8], first: usize)
     requires place { first ≤ length ring.now }
@@ -43,7 +61,12 @@ fn copy_round(out: &mut [u8], ring: &[u8], first: usize)
     ensures { out.new ≡ take (min (length out.old) (length ring.now - first)) (drop first ring.now)
         ++ take (length out.old - min (length out.old) (length ring.now - first)) ring.now }
 {
-    let (front, back) = out.split_at_mut(out.len().min(ring.len() - first));
+    let straight = ring.len() - first;
+    if out.len() <= straight {
+        out.copy_from_slice(&ring[first..first + out.len()]);
+        return;
+    }
+    let (front, back) = out.split_at_mut(straight);
     front.copy_from_slice(&ring[first..first + front.len()]);
     back.copy_from_slice(&ring[..back.len()]);
 }
@@ -66,9 +89,7 @@ impl Ring {
         ensures { self.new ≡ self.old ++ bytes.now }
     {
         let end = (self.first + self.len) % RING_SIZE;
-        let (front, back) = bytes.split_at(bytes.len().min(RING_SIZE - end));
-        write_at(&mut self.bytes, end, front);
-        put_front(&mut self.bytes, back);
+        write_round(&mut self.bytes, end, bytes);
         self.len += bytes.len();
     }
 

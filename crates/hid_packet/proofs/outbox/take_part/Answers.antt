@@ -12,6 +12,6 @@ returns-then-message-gt0-clause-packets c =
 
 pub returns-clause-packets : goal.returns-clause-packets
 returns-clause-packets c =
-    part_last c.args.entries.now.items c.remove.new.self.items c.requires.first.0 (Part c.args.message) c.args.ring.now c.make-packet.new.ring _ c.make-packet.new.self.left
-    (packets_left c.make-packet.new.self.cid c.make-packet.new.self.due) c.requires.first.1 c.remove.ensures.items
+    part_last c.args.entries.now.items c.drop_first.new.entries.items c.requires.first.0 (Part c.args.message) c.args.ring.now c.make-packet.new.ring _ c.make-packet.new.self.left
+    (packets_left c.make-packet.new.self.cid c.make-packet.new.self.due) c.requires.first.1 c.drop_first.ensures
     c.make-packet.ensures.packet c.make-packet.ensures.others (omega (arith, c.if-message-gt0.false)) (c.make-packet.ensures.last (omega (arith, c.if-message-gt0.false)))
