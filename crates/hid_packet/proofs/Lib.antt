@@ -1,5 +1,8 @@
 pub mod Writing
-pub mod Ring
+pub mod Windows
+pub mod Filling
+pub mod Making
+pub mod Queueing
 pub mod Carrying
 pub mod Bytes
 pub mod Whole

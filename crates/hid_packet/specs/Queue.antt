@@ -1,11 +1,52 @@
--- The packets that wait in a ring of slots.
-use Rattle.std.specs.Prelude.{ℕ, List, ◌++◌, map, take, drop}
-use Rattle.hid_packet.specs.declared.packet.Packet.{Packet}
+-- The packets that wait in an outbox, by its entries and the bytes of its ring.
+use Rattle.std.specs.Prelude.{◌≡◌, ℕ, ◌+◌, ◌*◌, ◌-◌, ◌<◌, ◌≤◌, List, [], ◌∷◌, ◌++◌, length, take, drop, sum_by}
+use Rattle.std.specs.List.{AllByRecursion}
+use Rattle.hid_packet.specs.Remaining.{packets_left}
+use Rattle.hid_packet.specs.declared.entry.Entry.{Entry}
+use Rattle.hid_packet.specs.declared.entry.Entry.TheVariants.{Whole, Part}
+use Rattle.hid_packet.specs.declared.entry.Message.{Message}
+use Rattle.hid_packet.specs.declared.fragments.Due.{Due}
+use Rattle.hid_packet.specs.declared.fragments.Due.TheVariants.{Initialization, Continuation}
+use Rattle.hid_packet.specs.declared.limit.TheConstants.{CONTINUATION_DATA, LONGEST_MESSAGE, OUTBOX_CAPACITY}
 
--- `len` of the slots, from the slot `first` on and around the end
+-- `len` items of a ring, from the place `first` on and around the end
 abbrev pub window : {X : Type 0} → (first len : ℕ) → List X → List X
-window first len slots = take len (drop first slots ++ take first slots)
+window first len ring = take len (drop first ring ++ take first ring)
 
--- the bytes of the packets there
-unfoldable pub waiting : ℕ → ℕ → List Packet → List (List ℕ)
-waiting first len slots = map (λ packet. packet.0) (window first len slots)
+-- `front` written from a place on, and then `back` from the first on
+abbrev pub overwritten : (place : ℕ) (front back ring : List ℕ) → List ℕ
+overwritten place front back ring = back ++ drop (length back) (take place ring ++ (front ++ drop (place + length front) ring))
+
+-- how many bytes of the ring belong to an entry, and the packets that they are
+abbrev pub held_by : Entry → ℕ
+held_by Whole = 64
+held_by (Part message) = message.left
+
+abbrev pub packets_by : Entry → List ℕ → List (List ℕ)
+packets_by Whole bytes = bytes ∷ []
+packets_by (Part message) bytes = packets_left message.cid message.due bytes
+
+-- the packets of entries, whose bytes come one after the other
+unfoldable pub waiting : List Entry → List ℕ → List (List ℕ)
+waiting [] bytes = []
+waiting (entry ∷ more) bytes = packets_by entry (take (held_by entry) bytes) ++ waiting more (drop (held_by entry) bytes)
+
+-- A message has a packet to come, and its bytes fit the packets that may come.
+abbrev pub MayCome : Due → ℕ → Type 0
+MayCome (Initialization cmd) left = (cmd < 128) × (left ≤ LONGEST_MESSAGE)
+MayCome (Continuation number) left = (0 < left) × (left ≤ CONTINUATION_DATA * (128 - number))
+
+abbrev pub IsDue : Entry → Type 0
+IsDue Whole = Unit {0}
+IsDue (Part message) = MayCome message.due message.left
+
+-- The bytes are those of the entries, each of which has a packet to come.
+pub record IsHeld (entries : List Entry) (bytes : List ℕ) : Type 0 where
+  pub due : AllByRecursion IsDue entries
+  pub sum : sum_by held_by entries ≡ length bytes
+
+-- and the count is that of their packets
+pub record IsQueued (entries : List Entry) (bytes : List ℕ) (len : ℕ) : Type 0 where
+  pub held : IsHeld entries bytes
+  pub counted : len ≡ length (waiting entries bytes)
+  pub few : len ≤ OUTBOX_CAPACITY

@@ -23,7 +23,7 @@ pub fn packets_for(len: u16) -> u16
 }
 
 /// Writes `bytes` at the front.
-fn put_front(out: &mut [u8], bytes: &[u8])
+pub(crate) fn put_front(out: &mut [u8], bytes: &[u8])
     requires { length bytes.now ≤ length out.old }
     ensures { out.new ≡ bytes.now ++ drop (length bytes.now) out.old }
 {
@@ -39,7 +39,7 @@ fn put_header(out: &mut [u8], cid: u32, kind: u8)
     out[4] = kind;
 }
 
-fn put_initialization(out: &mut [u8], cid: u32, cmd: u8, len: u16, part: &[u8])
+pub(crate) fn put_initialization(out: &mut [u8], cid: u32, cmd: u8, len: u16, part: &[u8])
     requires command { cmd < 128 }
     requires room { 7 + length part.now ≤ length out.old }
     ensures { out.new ≡ (((big_bytes 4 cid ++ (cmd + 128) ∷ []) ++ big_bytes 2 len) ++ part.now) ++ drop (7 + length part.now) out.old }
@@ -49,7 +49,7 @@ fn put_initialization(out: &mut [u8], cid: u32, cmd: u8, len: u16, part: &[u8])
     put_front(&mut out[7..], part);
 }
 
-fn put_continuation(out: &mut [u8], cid: u32, number: u8, part: &[u8])
+pub(crate) fn put_continuation(out: &mut [u8], cid: u32, number: u8, part: &[u8])
     requires { 5 + length part.now ≤ length out.old }
     ensures { out.new ≡ ((big_bytes 4 cid ++ number ∷ []) ++ part.now) ++ drop (5 + length part.now) out.old }
 {
@@ -80,7 +80,7 @@ fn continuation(cid: u32, number: u8, part: &[u8]) -> Packet
 
 /// The packet that is to be made next.
 #[derive(Clone, Copy)]
-enum Due {
+pub(crate) enum Due {
     /// The initialization packet, with this command.
     Initialization(u8),
     /// A continuation packet with this sequence number, if any byte is left.

@@ -3,16 +3,20 @@
 #![tactic(auto)]
 
 pub mod command;
+mod entry;
 mod fragments;
 pub mod laws;
 mod limit;
 mod outbox;
 mod packet;
+mod ring;
 
 pub use fragments::{Fragments, packets_for};
 pub use limit::{CONTINUATION_DATA, INITIALIZATION_DATA, LONGEST_MESSAGE, OUTBOX_CAPACITY};
 pub use outbox::Outbox;
 pub use packet::{BROADCAST, PACKET_SIZE, Packet, View};
 
+#[cfg(test)]
+mod outbox_tests;
 #[cfg(test)]
 mod tests;

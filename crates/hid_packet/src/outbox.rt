@@ -1,32 +1,80 @@
-ghost use Rattle.std.specs.Prelude.{◌≡◌, ℕ, ◌+◌, ◌<◌, ◌≤◌, ◌↔◌, ◌++◌, ◌∷◌, [], length, IsTrue, MatchOption};
+ghost use Rattle.std.specs.Prelude.{◌≡◌, ℕ, ◌+◌, ◌<◌, ◌≤◌, ◌↔◌, ◌++◌, ◌∷◌, [], List, length, IsTrue, MatchOption};
+ghost use Rattle.std.specs.List.{remove};
+ghost use Rattle.arrayvec.specs.ArrayVec.{array_vec_len};
 ghost use Rattle.hid_packet.specs.Message.{written};
+ghost use Rattle.hid_packet.specs.Queue.{waiting, IsHeld};
 ghost use Rattle.hid_packet.specs.declared.limit.TheConstants.{LONGEST_MESSAGE, OUTBOX_CAPACITY};
 
-use crate::fragments::Fragments;
+use crate::entry::{Entry, Message};
+use crate::fragments::{Due, packets_for};
 use crate::limit::OUTBOX_CAPACITY;
 use crate::packet::Packet;
+use crate::ring::Ring;
+use arrayvec::ArrayVec;
 use std::marker::Model;
 
-/// The packets that wait to be sent, first in, first out, at most [`OUTBOX_CAPACITY`] of them. It
-/// takes no memory.
+type Entries = ArrayVec<Entry, OUTBOX_CAPACITY>;
+
+/// The packets that wait to be sent, first in, first out, at most [`OUTBOX_CAPACITY`] of them. It keeps a message's bytes
+/// and makes its packets as they are taken. It takes no memory.
 #[derive(Drop)]
 pub struct Outbox {
-    slots: [Packet; OUTBOX_CAPACITY],
-    first: usize,
+    entries: Entries,
+    ring: Ring,
     len: usize,
 }
 
 // Clauses see the waiting packets' bytes, the packet that is sent first in front.
 impl Model for Outbox {
-    ghost use Rattle.std.specs.Prelude.{◌≡◌, ℕ, ◌<◌, ◌≤◌, List, length};
-    ghost use Rattle.hid_packet.specs.Queue.{waiting};
-    ghost use Rattle.hid_packet.specs.declared.limit.TheConstants.{OUTBOX_CAPACITY};
+    ghost use Rattle.std.specs.Prelude.{ℕ, List};
+    ghost use Rattle.hid_packet.specs.Queue.{waiting, IsQueued};
 
     ghost Value = { List (List ℕ) };
 
-    ghost view = { λ o. waiting o.first o.len o.slots };
+    ghost view = { λ o. waiting o.entries.items o.ring };
 
-    ghost invariant = { λ o. (o.first < OUTBOX_CAPACITY) × (o.len ≤ OUTBOX_CAPACITY) × (length o.slots ≡ OUTBOX_CAPACITY) };
+    ghost invariant = { λ o. IsQueued o.entries.items o.ring o.len };
+}
+
+/// Takes the first entry out. It is most often the only one.
+fn drop_first(entries: &mut Entries)
+    requires { 1 ≤ array_vec_len entries.old }
+    ensures { entries.new.items ≡ remove entries.old.items 0 }
+{
+    if entries.len() == 1 {
+        entries.clear();
+    } else {
+        entries.remove(0);
+    }
+}
+
+/// Takes the first entry, a packet that was put whole.
+fn take_whole(entries: &mut Entries, ring: &mut Ring) -> Packet
+    requires first { (more : List Entry) × (entries.old.items ≡ Entry.Whole ∷ more) }
+    requires held { IsHeld entries.old.items ring.old }
+    ensures packets { waiting entries.old.items ring.old ≡ result.0 ∷ waiting entries.new.items ring.new }
+    ensures held { IsHeld entries.new.items ring.new }
+{
+    let mut packet = [0; 64];
+    drop_first(entries);
+    ring.take(&mut packet);
+    Packet(packet)
+}
+
+/// Makes the next packet of the first entry, a message; with its last packet the entry is gone.
+fn take_part(mut message: Message, entries: &mut Entries, ring: &mut Ring) -> Packet
+    requires first { (more : List Entry) × (entries.old.items ≡ Entry.Part message ∷ more) }
+    requires held { IsHeld entries.old.items ring.old }
+    ensures packets { waiting entries.old.items ring.old ≡ result.0 ∷ waiting entries.new.items ring.new }
+    ensures held { IsHeld entries.new.items ring.new }
+{
+    let packet = message.make(ring);
+    if message.left > 0 {
+        entries[0] = Entry::Part(message);
+        return packet;
+    }
+    drop_first(entries);
+    packet
 }
 
 impl Outbox {
@@ -35,8 +83,8 @@ impl Outbox {
         ensures { result ≡ [] }
     {
         Outbox {
-            slots: [Packet([0; 64]); OUTBOX_CAPACITY],
-            first: 0,
+            entries: ArrayVec::new(),
+            ring: Ring::new(),
             len: 0,
         }
     }
@@ -60,13 +108,15 @@ impl Outbox {
     pub fn pop(&mut self) -> Option<Packet>
         ensures { MatchOption result ((self.old ≡ []) × (self.new ≡ [])) (λ packet. self.old ≡ packet.0 ∷ self.new) }
     {
-        if self.len == 0 {
-            return None;
-        }
-        let packet = self.slots[self.first];
-        self.first = (self.first + 1) % OUTBOX_CAPACITY;
+        let entry = match self.entries.as_slice() {
+            [] => return None,
+            [entry, ..] => *entry,
+        };
         self.len -= 1;
-        Some(packet)
+        match entry {
+            Entry::Whole => Some(take_whole(&mut self.entries, &mut self.ring)),
+            Entry::Part(message) => Some(take_part(message, &mut self.entries, &mut self.ring)),
+        }
     }
 
     /// Puts a packet behind those that wait.
@@ -74,7 +124,8 @@ impl Outbox {
         requires { length self.old < OUTBOX_CAPACITY }
         ensures { self.new ≡ self.old ++ packet.0 ∷ [] }
     {
-        self.slots[(self.first + self.len) % OUTBOX_CAPACITY] = packet;
+        self.entries.push(Entry::Whole);
+        self.ring.put(&packet.0);
         self.len += 1;
     }
 
@@ -86,8 +137,10 @@ impl Outbox {
         requires room { length self.old + length (written cid cmd bytes.now) ≤ OUTBOX_CAPACITY }
         ensures { self.new ≡ self.old ++ written cid cmd bytes.now }
     {
-        for packet in Fragments::new(cid, cmd, bytes) {
-            self.put_packet(packet);
-        }
+        let left = bytes.len() as u16;
+        let due = Due::Initialization(cmd);
+        self.entries.push(Entry::Part(Message { cid, due, left }));
+        self.ring.put(bytes);
+        self.len += usize::from(packets_for(left));
     }
 }

@@ -1,11 +1,13 @@
-use Rattle.std.proofs.Common.{sym, ◌∙◌, arith}
-use Rattle.hid_packet.proofs.Ring.{waiting-pop, none_waits}
+use Rattle.std.proofs.Common.{length, ap, arith}
+use Rattle.hid_packet.proofs.Queueing.{bounds, no_entry, none_wait}
 use Rattle.hid_packet.proofs.outbox.Outbox.pop.Goals as goal
 
-pub returns-then-self-eq0 : goal.returns-then-self-eq0
-returns-then-self-eq0 c =
-    let none = none_waits _ _ _ c.self.invariant.0 c.self.invariant.1 c.self.invariant.2 _ c.self.view_is (omega arith) in
+pub returns-in-empty : goal.returns-in-empty
+returns-in-empty c =
+    let none = none_wait c.self.inside.entries.items c.self.inside.ring _ c.self.view_is (no_entry c.self.inside.entries.items c.as_slice.result.now c.as_slice.ensures.value c.in-empty.len_below) in
     (none, none)
 
-pub returns : goal.returns
-returns c = sym c.self.view_is ∙ waiting-pop _ _ _ c.self.invariant.0 c.self.invariant.1 c.self.invariant.2 _ (omega arith)
+pub overflow_sub-self : goal.overflow_sub-self
+overflow_sub-self c =
+    let b = bounds c.self.inside.entries.items c.self.inside.ring c.self.invariant.held in
+    omega (arith, b.entries, c.self.invariant.counted, ap length c.as_slice.ensures.value, c.in-len1-up.len_at_least)

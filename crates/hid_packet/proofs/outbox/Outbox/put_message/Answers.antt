@@ -1,11 +1,34 @@
-use Rattle.std.proofs.Common.{ℕ, List, ◌≡◌, ◌++◌, ap, length, arith, length-append}
+use Rattle.std.proofs.Common.{◌+◌, ◌≤◌, ◌∷◌, ◌++◌, [], List, ℕ, length, ap, ap₂, sym, ◌∙◌, refl, rules, arith}
 use Rattle.hid_packet.specs.Message.{written}
+use Rattle.hid_packet.specs.Queue.{waiting, IsQueued}
+use Rattle.hid_packet.specs.declared.entry.Entry.TheVariants.{Part}
+use Rattle.hid_packet.specs.declared.fragments.Due.TheVariants.{Initialization}
+use Rattle.hid_packet.proofs.Queueing.{first_written, queued-push, room, waiting-push, entry_fills}
 use Rattle.hid_packet.proofs.outbox.Outbox.put_message.Goals as goal
 
--- what was put and what is left are as many packets as the room was asked for
-pub put_packet-requires : goal.put_packet-requires
-put_packet-requires c =
-    let all : length (c.loop-packet.self ++ c.loop-packet.packet-iterator) ≡ length (c.args.self.now ++ written c.args.cid c.args.cmd c.args.bytes.now) = ap length c.loop-packet.invariant in
-    let one = ap length c.in-Some.ensures.steps in
-    let room = c.requires.room in
-    omega (arith, length-append {A = List ℕ})
+pub push-requires : goal.push-requires
+push-requires c =
+    let n = length (written c.args.cid c.args.cmd c.args.bytes.now) in
+    let r = room c.self.inside.entries.items c.self.inside.ring c.self.inside.len n c.self.invariant (first_written c.args.cid c.args.cmd c.args.bytes.now) (omega (arith, c.requires.room, c.self.invariant.counted, ap length c.self.view_is)) in
+    (search rules, r.entry)
+
+pub put-requires : goal.put-requires
+put-requires c =
+    let n = length (written c.args.cid c.args.cmd c.args.bytes.now) in
+    let r = room c.self.inside.entries.items c.self.inside.ring c.self.inside.len n c.self.invariant (first_written c.args.cid c.args.cmd c.args.bytes.now) (omega (arith, c.requires.room, c.self.invariant.counted, ap length c.self.view_is)) in
+    let e = entry_fills (Part (record { cid = c.args.cid; due = Initialization c.args.cmd; left = length c.args.bytes.now })) c.args.bytes.now (c.requires.command, c.requires.short) refl in
+    omega (arith, r.bytes_left, e.enough)
+
+pub invariant_of-self : goal.invariant_of-self
+invariant_of-self c =
+    let count = c.packets_for.ensures.written c.args.cid c.args.cmd c.args.bytes.now refl in
+    let few : c.self.inside.len + c.from.result ≤ 130 = omega (arith, c.requires.room, c.self.invariant.counted, ap length c.self.view_is, count, c.from.ensures) in
+    rw (c.push.ensures.items, c.put.ensures)
+    (queued-push c.self.inside.entries.items c.self.inside.ring c.args.bytes.now (Part (record { cid = c.args.cid; due = Initialization c.args.cmd; left = length c.args.bytes.now }))
+    c.self.inside.len c.from.result c.self.invariant (c.requires.command, c.requires.short) refl (c.from.ensures ∙ sym count) few)
+
+pub returns : goal.returns
+returns c =
+    ap₂ waiting c.push.ensures.items c.put.ensures
+    ∙ waiting-push c.self.inside.entries.items c.self.inside.ring c.args.bytes.now (Part (record { cid = c.args.cid; due = Initialization c.args.cmd; left = length c.args.bytes.now })) c.self.invariant.held.sum refl
+    ∙ ap (λ (ps : List (List ℕ)). ps ++ written c.args.cid c.args.cmd c.args.bytes.now) c.self.view_is

@@ -1,16 +1,27 @@
-use Rattle.std.proofs.Common.{ℕ, List, [], ◌∷◌, ◌++◌, length, ap, ◌∙◌, arith, length-set}
-use Rattle.hid_packet.proofs.Ring.{length-waiting, waiting-push}
+use Rattle.std.proofs.Common.{◌+◌, ◌≤◌, ◌∷◌, ◌++◌, [], List, ℕ, length, ap, ap₂, sym, ◌∙◌, refl, rules, arith}
+use Rattle.hid_packet.specs.Queue.{waiting, IsQueued}
+use Rattle.hid_packet.specs.declared.entry.Entry.TheVariants.{Whole}
+use Rattle.hid_packet.proofs.Queueing.{queued-push, room, waiting-push}
 use Rattle.hid_packet.proofs.outbox.Outbox.put_packet.Goals as goal
+
+pub push-requires : goal.push-requires
+push-requires c =
+    let r = room c.self.inside.entries.items c.self.inside.ring c.self.inside.len 1 c.self.invariant (omega arith) (omega (arith, c.requires, c.self.invariant.counted, ap length c.self.view_is)) in
+    (search rules, r.entry)
+
+pub put-requires : goal.put-requires
+put-requires c =
+    let r = room c.self.inside.entries.items c.self.inside.ring c.self.inside.len 1 c.self.invariant (omega arith) (omega (arith, c.requires, c.self.invariant.counted, ap length c.self.view_is)) in
+    omega (arith, r.bytes_left)
 
 pub invariant_of-self : goal.invariant_of-self
 invariant_of-self c =
-    let count = length-waiting c.self.inside.first c.self.inside.len c.self.inside.slots c.self.invariant.0 c.self.invariant.1 c.self.invariant.2 in
-    let same = ap length c.self.view_is in
-    (c.self.invariant.0, omega arith, length-set _ _ _ ∙ c.self.invariant.2)
+    let few : c.self.inside.len + 1 ≤ 130 = omega (arith, c.requires, c.self.invariant.counted, ap length c.self.view_is) in
+    rw (c.push.ensures.items, c.put.ensures)
+    (queued-push c.self.inside.entries.items c.self.inside.ring c.args.packet.0 Whole c.self.inside.len 1 c.self.invariant tt (omega arith) refl few)
 
 pub returns : goal.returns
 returns c =
-    let count = length-waiting c.self.inside.first c.self.inside.len c.self.inside.slots c.self.invariant.0 c.self.invariant.1 c.self.invariant.2 in
-    let same = ap length c.self.view_is in
-    waiting-push _ _ _ c.self.invariant.0 c.self.invariant.1 c.self.invariant.2 c.args.packet (omega arith)
+    ap₂ waiting c.push.ensures.items c.put.ensures
+    ∙ waiting-push c.self.inside.entries.items c.self.inside.ring c.args.packet.0 Whole c.self.invariant.held.sum (omega arith)
     ∙ ap (λ (ps : List (List ℕ)). ps ++ c.args.packet.0 ∷ []) c.self.view_is

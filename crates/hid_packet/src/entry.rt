@@ -1,0 +1,101 @@
+//! What waits in an outbox: packets that were put whole, and messages, whose packets are made as they are taken.
+ghost use Rattle.std.specs.Prelude.{◌≡◌, ◌+◌, ◌<◌, ◌≤◌, ◌++◌, ◌∷◌, [], length, take, drop};
+ghost use Rattle.hid_packet.specs.Message.{continuation_packet, initialization_packet};
+ghost use Rattle.hid_packet.specs.Queue.{MayCome};
+ghost use Rattle.hid_packet.specs.Remaining.{packets_left, CanCarry};
+ghost use Rattle.hid_packet.specs.declared.limit.TheConstants.{CONTINUATION_DATA, INITIALIZATION_DATA};
+
+use crate::fragments::{Due, put_continuation, put_initialization};
+use crate::limit::{CONTINUATION_DATA, INITIALIZATION_DATA};
+use crate::packet::Packet;
+use crate::ring::Ring;
+
+/// What is left of a message: the packet that is due, and how many bytes of the ring are its.
+#[derive(Clone, Copy)]
+pub(crate) struct Message {
+    pub(crate) cid: u32,
+    pub(crate) due: Due,
+    pub(crate) left: u16,
+}
+
+/// What waits, in the order in which it was put.
+#[derive(Clone, Copy)]
+pub(crate) enum Entry {
+    /// A packet, whose 64 bytes are in the ring.
+    Whole,
+    /// A message, or the rest of one.
+    Part(Message),
+}
+
+impl Default for Entry {
+    fn default() -> Self {
+        Entry::Whole
+    }
+}
+
+/// Takes bytes of the ring into a packet, from a place on.
+fn take_into(packet: &mut [u8], place: usize, len: usize, ring: &mut Ring)
+    requires room { place + len ≤ length packet.old }
+    requires there { len ≤ length ring.old }
+    ensures packet { packet.new ≡ take place packet.old ++ (take len ring.old ++ drop (place + len) packet.old) }
+    ensures ring { ring.new ≡ drop len ring.old }
+{
+    ring.take(&mut packet[place..place + len]);
+}
+
+/// The initialization packet of a message of `len` bytes, of which it takes so many from the ring.
+fn first_packet(ring: &mut Ring, cid: u32, cmd: u8, len: u16, part: usize) -> Packet
+    requires command { cmd < 128 }
+    requires fits { part ≤ INITIALIZATION_DATA }
+    requires there { part ≤ length ring.old }
+    ensures packet { result.0 ≡ initialization_packet cid cmd len (take part ring.old) }
+    ensures ring { ring.new ≡ drop part ring.old }
+{
+    let mut packet = [0; 64];
+    put_initialization(&mut packet, cid, cmd, len, &[]);
+    take_into(&mut packet, 7, part, ring);
+    Packet(packet)
+}
+
+/// The continuation packet with this number, which takes so many bytes from the ring.
+fn next_packet(ring: &mut Ring, cid: u32, number: u8, part: usize) -> Packet
+    requires fits { part ≤ CONTINUATION_DATA }
+    requires there { part ≤ length ring.old }
+    ensures packet { result.0 ≡ continuation_packet cid number (take part ring.old) }
+    ensures ring { ring.new ≡ drop part ring.old }
+{
+    let mut packet = [0; 64];
+    put_continuation(&mut packet, cid, number, &[]);
+    take_into(&mut packet, 5, part, ring);
+    Packet(packet)
+}
+
+impl Message {
+    /// Makes the packet that is due.
+    pub(crate) fn make(&mut self, ring: &mut Ring) -> Packet
+        requires due { MayCome self.old.due self.old.left }
+        requires there { self.old.left ≤ length ring.old }
+        ensures packet { packets_left self.old.cid self.old.due (take self.old.left ring.old)
+            ≡ result.0 ∷ packets_left self.new.cid self.new.due (take self.new.left ring.new) }
+        ensures others { drop self.new.left ring.new ≡ drop self.old.left ring.old }
+        ensures there { length ring.new + self.old.left ≡ length ring.old + self.new.left }
+        ensures last { self.new.left ≡ 0 → packets_left self.new.cid self.new.due [] ≡ [] }
+        ensures due { 0 < self.new.left → MayCome self.new.due self.new.left }
+    {
+        let left = self.left;
+        match self.due {
+            Due::Initialization(cmd) => {
+                let part = INITIALIZATION_DATA.min(usize::from(left));
+                self.due = Due::Continuation(0);
+                self.left = left - part as u16;
+                first_packet(ring, self.cid, cmd, left, part)
+            }
+            Due::Continuation(number) => {
+                let part = CONTINUATION_DATA.min(usize::from(left));
+                self.due = Due::Continuation(number + 1);
+                self.left = left - part as u16;
+                next_packet(ring, self.cid, number, part)
+            }
+        }
+    }
+}

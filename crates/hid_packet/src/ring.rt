@@ -1,0 +1,107 @@
+//! A queue of bytes in a ring.
+ghost use Rattle.std.specs.Prelude.{◌≡◌, ◌+◌, ◌-◌, ◌≤◌, ◌++◌, [], length, min, take, drop};
+ghost use Rattle.hid_packet.specs.Queue.{overwritten};
+
+use crate::fragments::put_front;
+use crate::limit::OUTBOX_CAPACITY;
+use std::marker::Model;
+
+/// The most bytes that wait: 64 for each packet of a full outbox.
+const RING_SIZE: usize = 64 * OUTBOX_CAPACITY;
+
+/// Bytes that wait, first in, first out, at most 8320.
+#[derive(Drop)]
+pub(crate) struct Ring {
+    bytes: [u8; RING_SIZE],
+    first: usize,
+    len: usize,
+}
+
+// Clauses see the waiting bytes.
+impl Model for Ring {
+    ghost use Rattle.std.specs.Prelude.{◌≡◌, ℕ, ◌<◌, ◌≤◌, List, length};
+    ghost use Rattle.hid_packet.specs.Queue.{window};
+
+    ghost Value = { List ℕ };
+
+    ghost view = { λ r. window r.first r.len r.bytes };
+
+    ghost invariant = { λ r. (r.first < 8320) × (r.len ≤ 8320) × (length r.bytes ≡ 8320) };
+}
+
+/// Writes bytes from a place on.
+fn write_at(out: &mut [u8], place: usize, bytes: &[u8])
+    requires { place + length bytes.now ≤ length out.old }
+    ensures { out.new ≡ take place out.old ++ (bytes.now ++ drop (place + length bytes.now) out.old) }
+{
+    out[place..place + bytes.len()].copy_from_slice(bytes);
+}
+
+/// Writes bytes from a place on, and from the first on where the ring ends.
+fn write_round(ring: &mut [u8], place: usize, bytes: &[u8])
+    requires place { place ≤ length ring.old }
+    requires room { length bytes.now ≤ length ring.old }
+    ensures { ring.new ≡ overwritten place (take (min (length bytes.now) (length ring.old - place)) bytes.now)
+        (drop (min (length bytes.now) (length ring.old - place)) bytes.now) ring.old }
+{
+    let straight = ring.len() - place;
+    if bytes.len() <= straight {
+        write_at(ring, place, bytes);
+        return;
+    }
+    let (front, back) = bytes.split_at(straight);
+    write_at(ring, place, front);
+    put_front(ring, back);
+}
+
+/// Copies bytes from a place on, and from the first on where the ring ends.
+fn copy_round(out: &mut [u8], ring: &[u8], first: usize)
+    requires place { first ≤ length ring.now }
+    requires enough { length out.old ≤ length ring.now }
+    ensures { out.new ≡ take (min (length out.old) (length ring.now - first)) (drop first ring.now)
+        ++ take (length out.old - min (length out.old) (length ring.now - first)) ring.now }
+{
+    let straight = ring.len() - first;
+    if out.len() <= straight {
+        out.copy_from_slice(&ring[first..first + out.len()]);
+        return;
+    }
+    let (front, back) = out.split_at_mut(straight);
+    front.copy_from_slice(&ring[first..first + front.len()]);
+    back.copy_from_slice(&ring[..back.len()]);
+}
+
+impl Ring {
+    /// No byte waits.
+    pub(crate) fn new() -> Self
+        ensures { result ≡ [] }
+    {
+        Ring {
+            bytes: [0; RING_SIZE],
+            first: 0,
+            len: 0,
+        }
+    }
+
+    /// Puts bytes behind those that wait.
+    pub(crate) fn put(&mut self, bytes: &[u8])
+        requires { length self.old + length bytes.now ≤ 8320 }
+        ensures { self.new ≡ self.old ++ bytes.now }
+    {
+        let end = (self.first + self.len) % RING_SIZE;
+        write_round(&mut self.bytes, end, bytes);
+        self.len += bytes.len();
+    }
+
+    /// Takes the first bytes, as many as `out` has.
+    pub(crate) fn take(&mut self, out: &mut [u8])
+        requires { length out.old ≤ length self.old }
+        ensures taken { out.new ≡ take (length out.old) self.old }
+        ensures left { self.new ≡ drop (length out.old) self.old }
+    {
+        let len = out.len();
+        copy_round(out, &self.bytes, self.first);
+        self.first = (self.first + len) % RING_SIZE;
+        self.len -= len;
+    }
+}
