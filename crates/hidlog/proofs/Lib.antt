@@ -1,3 +1,3 @@
 pub mod CommandLine
-pub mod Alone
+pub mod Asked
 mod Rows
