@@ -1,6 +1,5 @@
 -- A log that is played again gives the same bytes.
 use Rattle.std.proofs.Common.{◌≡◌, ◌≢◌, ℕ, suc, ◌+◌, ◌≤◌, ◌<◌, ◌^◌, nat_lt, Bool, true, false, cond, List, [], ◌∷◌, ◌++◌, length, map, flat_map, codes, decimal, Option, Some, None, Ok, IsOk, refl, sym, ap, ◌∙◌, arith, append_assoc, append-nil, length-append}
-use Rattle.std.proofs.lemmas.Bool.{ltb-false}
 use Rattle.std.proofs.lemmas.Fmt.{length-decimal-le}
 use Rattle.std.proofs.lemmas.List.{length-map}
 use Rattle.std.proofs.lemmas.Grind.{flat_map-append}
@@ -18,7 +17,8 @@ use Rattle.session_log.specs.Text.{ended, sent_text, meters_line}
 use Rattle.session_log.specs.World.{Course, replaying}
 use Rattle.session_log.proofs.Feeds.{feedless, AreLines, feedless-append, AreLines-append, lines_joined, lines_are_lines, decimal_feedless, hex_feedless}
 use Rattle.session_log.proofs.Spelled.{count_rest, spelled_is_read}
-use Rattle.session_log.proofs.Through.{played_sound, played_faulty, behind_twice, said_fault, log_is}
+use Rattle.session_log.proofs.Sound.{IsSound, sound_line, sound_first}
+use Rattle.session_log.proofs.Through.{played_sound, behind_twice, said_fault, log_is}
 
 -- The lines that are written, without their line feeds.
 
@@ -58,33 +58,9 @@ text_lines course s line (Some (Input timed)) = ap (λ (t : List ℕ). ended lin
 
 -- Faultless lines.
 
-none_chosen : (a b : Bool) (x y : LogFault) (o : Option LogFault) → cond a (Some x) (cond b (Some y) o) ≡ None → (b ≡ false) × (o ≡ None)
-none_chosen true b x y o h = cc
-none_chosen false true x y o h = cc
-none_chosen false false x y o h = (refl, h)
-
-short_is : (n : ℕ) → nat_lt 255 n ≡ false → n < 256
-short_is n h = omega (arith, ltb-false 255 n h)
-
-pub record IsSound (line : List ℕ) : Type 0 where
-  pub short : length line < 256
-  pub says : said line ≢ None
-
-sound_line : {S : Type 0} (course : Course S) (n : ℕ) (s : S) (line : List ℕ) → fault_at (replaying course) n s line ≡ None → IsSound line
-sound_line course n s line h =
-    let tests = none_chosen _ (nat_lt 255 (length line)) _ _ (fault_by (replaying course) n s (said line)) h in
-    record { short = short_is (length line) tests.0; says = λ e. cc (sym (ap (fault_by (replaying course) n s) e) ∙ tests.1) }
-
 faultless : {S : Type 0} (course : Course S) (n : ℕ) (s : S) (l : Option Line) → l ≢ None → fault_by (replaying course) n s l ≡ None
 faultless course n s None h = absurd (h refl)
 faultless course n s (Some l) h = refl
-
-sound_first : {S : Type 0} (course : Course S) (n : ℕ) (s : S) (line : List ℕ) (more : List (List ℕ)) → (played (replaying course) n s (line ∷ more)).fault ≡ None → fault_at (replaying course) n s line ≡ None
-sound_first {S} course n s line more h = go (fault_at (replaying course) n s line) refl
-  where
-    go : (o : Option LogFault) → fault_at (replaying course) n s line ≡ o → fault_at (replaying course) n s line ≡ None
-    go None e = e
-    go (Some f) e = absurd (cc (sym (ap (λ (p : Played S). p.fault) (played_faulty (replaying course) n s line more f e)) ∙ h))
 
 -- A line that sends is read as one that was sent.
 
@@ -147,13 +123,13 @@ lines_again {S} course n m s (line ∷ more) rest h sends few =
     let first = lines_by course s line (said line) in
     let others = written course t more in
     let both = length-append first others in
-    let sound = sound_first course n s line more h in
+    let sound = sound_first (replaying course) n s line more h in
     let step = played_sound (replaying course) n s line more sound in
     let later : (played (replaying course) (n + 1) t more).fault ≡ None = sym (ap (λ (p : Played S). p.fault) step) ∙ h in
     let count : m + length first + length others ≡ m + length (first ++ others) = omega (arith, both) in
     let final = played (replaying course) (m + length first + length others) (played (replaying course) (n + 1) t more).state rest in
     ap (played (replaying course) m s) (append_assoc first others rest)
-    ∙ line_again course m s line (said line) (others ++ rest) (sound_line course n s line sound) refl sends.0 (omega (arith, few, both))
+    ∙ line_again course m s line (said line) (others ++ rest) (sound_line (replaying course) n s line sound) refl sends.0 (omega (arith, few, both))
     ∙ ap (behind (text_of (replaying course) s line)) (lines_again course (n + 1) (m + length first) t more rest later sends.1 (omega (arith, few, both)))
     ∙ behind_twice (text_of (replaying course) s line) (played (replaying course) (n + 1) t more).text final
     ∙ λ i. behind (sym step i).text (played (replaying course) (count i) (sym step i).state rest)
@@ -162,7 +138,7 @@ written_text : {S : Type 0} (course : Course S) (n : ℕ) (s : S) (ls : List (Li
 written_text course n s [] h = refl
 written_text {S} course n s (line ∷ more) h =
     let t = after (replaying course) s line in
-    let step = played_sound (replaying course) n s line more (sound_first course n s line more h) in
+    let step = played_sound (replaying course) n s line more (sound_first (replaying course) n s line more h) in
     let later : (played (replaying course) (n + 1) t more).fault ≡ None = sym (ap (λ (p : Played S). p.fault) step) ∙ h in
     ap (λ (p : Played S). p.text) step
     ∙ ap (λ (a : List ℕ). a ++ (played (replaying course) (n + 1) t more).text) (text_lines course s line (said line))

@@ -1,22 +1,22 @@
 -- Each way in which the playing of lines ends.
-use Rattle.std.proofs.Common.{◌≡◌, ℕ, suc, zero, ◌+◌, ◌≤◌, ◌<◌, ◌^◌, List, [], ◌∷◌, ◌++◌, length, Option, Some, None, Result, Ok, Err, refl, sym, ap, ◌∙◌, subst, take, drop, arith, append_assoc, take-append-drop, length-take-le}
+use Rattle.std.proofs.Common.{◌≡◌, ℕ, suc, zero, ◌+◌, ◌≤◌, ◌<◌, ◌^◌, cond, is_none, List, [], ◌∷◌, ◌++◌, length, Option, Some, None, Result, Ok, Err, refl, sym, ap, ◌∙◌, subst, take, drop, arith, append_assoc, append-nil, take-append-drop, length-take-le}
 use Rattle.std.specs.Io.KnownBytes.{Consumes, Appends, Keeps}
 use Rattle.std.proofs.KnownBytes.{Appends-trans, Appends-kept, Consumes-trans}
 use Rattle.token_session.specs.declared.input.Meters.{Meters}
 use Rattle.session_log.specs.declared.fault.LogFault.{LogFault}
-use Rattle.session_log.specs.declared.fault.LogFault.TheVariants.{BadLine, TooLong, Read, Write, TooManyLines}
-use Rattle.session_log.specs.Ending.{Ending, ended_by, ending_of}
+use Rattle.session_log.specs.declared.fault.LogFault.TheVariants.{BadLine, TooLong, Differs, Read, Write, TooManyLines, Memory}
+use Rattle.session_log.specs.Ending.{Ending, Done, Refused, Unread, Unwritten, ended_by, ending_of}
 use Rattle.session_log.specs.Said.{said}
 use Rattle.session_log.specs.World.{World}
 use Rattle.session_log.specs.Lines.{lines}
-use Rattle.session_log.specs.Log.{text_of, after, fault_by, fault_at}
+use Rattle.session_log.specs.Log.{text_of, last_text, after, fault_by, fault_at}
 use Rattle.session_log.specs.Sent.{SendsPackets}
 use Rattle.session_log.specs.Streams.{Moves, IsTaken, IsBroken, PutsLine}
 use Rattle.session_log.specs.Window.{HasLine, IsUnfinished, Stops}
-use Rattle.session_log.specs.Replay.{IsRefused, IsUnread, IsUnwritten, IsPlayed, IsDone, Means, Plays, Logs, PlaysLine}
+use Rattle.session_log.specs.Replay.{IsRefused, IsUnread, IsUnwritten, IsPlayed, IsDone, Means, Plays, Makes, Logs, PlaysLine, Closes}
 use Rattle.session_log.proofs.Cutting.{last_line, line_in_front, some_line}
 use Rattle.session_log.proofs.Gathering.{in_count}
-use Rattle.session_log.proofs.Through.{Through, through_line, refused, unread, unwritten, unwritten_end, played_last, whole_log, said_fault, too_long, too_many}
+use Rattle.session_log.proofs.Through.{Through, first_is_last, through_line, refused, unread, unwritten, unwritten_end, played_last, whole_log, said_fault, too_long, too_many}
 
 -- a fault that was passed on
 pub as_err : {A : Type 0} (r : Result A LogFault) (e : LogFault) (P : Ending → Type 0) → r ≡ Err e → P (ended_by e) → P (ending_of r)
@@ -26,7 +26,9 @@ as_err {A} r e P is h = subst (λ (q : Result A LogFault). P (ending_of q)) (sym
 pub passed_on : {S : Type 0} (world : World S) (s t : S) (bytes text : List ℕ) (P Q : Type 0) (e : LogFault) → Means world s t bytes text P (ended_by e) → Means world s t bytes text Q (ended_by e)
 passed_on world s t bytes text P Q (BadLine n) h = h
 passed_on world s t bytes text P Q (TooLong n) h = h
+passed_on world s t bytes text P Q (Differs l k) h = h
 passed_on world s t bytes text P Q TooManyLines h = h
+passed_on world s t bytes text P Q (Memory n) h = h
 passed_on world s t bytes text P Q (Read n) h = h
 passed_on world s t bytes text P Q Write h = h
 
@@ -47,6 +49,8 @@ stops_reading world left left' taken taken' s0 s read text w n (TooLong m) p q t
 stops_reading world left left' taken taken' s0 s read text w n (Read m) p q t h =
     (read ++ w, text, p, q, subst (λ (k : ℕ). IsUnread world s0 s (read ++ w) text k) (sym h.0) (unread world s0 read text s n w t h.1))
 stops_reading world left left' taken taken' s0 s read text w n (BadLine m) p q t h = absurd h
+stops_reading world left left' taken taken' s0 s read text w n (Differs l k) p q t h = absurd h
+stops_reading world left left' taken taken' s0 s read text w n (Memory m) p q t h = absurd h
 stops_reading world left left' taken taken' s0 s read text w n Write p q t h = absurd h
 
 -- a line was faulty, and nothing was written for it
@@ -71,6 +75,10 @@ stops_at_line world taken failed left left' start target s0 s t read text w line
     stops_faulty world taken left left' start target s0 s t read text w line more n (TooLong m) p q through first short few h.0 h.1 h.2
 stops_at_line world taken failed left left' start target s0 s t read text w line more n TooManyLines p q through first short few h =
     stops_faulty world taken left left' start target s0 s t read text w line more n TooManyLines p q through first short few h.0 h.1 h.2
+stops_at_line world taken failed left left' start target s0 s t read text w line more n (Differs l k) p q through first short few h =
+    stops_faulty world taken left left' start target s0 s t read text w line more n (Differs l k) p q through first short few h.0 h.1 h.2
+stops_at_line world taken failed left left' start target s0 s t read text w line more n (Memory m) p q through first short few h =
+    stops_faulty world taken left left' start target s0 s t read text w line more n (Memory m) p q through first short few h.0 h.1 h.2
 stops_at_line {S} {F} world taken failed left left' start target s0 s t read text w line more n Write p q through first short few h =
     let broken = h.2.0 in (
       read ++ w,
@@ -150,19 +158,58 @@ pub some_left : (n : ℕ) → (n ≡ 0 → ⊥) → 0 < n
 some_left zero h = absurd (h refl)
 some_left (suc n) h = omega arith
 
--- the text after the last line was written, or broke off
+-- the text after the last line was written, or broke off, or something was wrong there
 pub closes : {S F : Type 0} (world : World S) (taken : F → Option (List ℕ)) (failed : F → ℕ) (left left' start : Option (List ℕ)) (target : F × F) (s0 s : S) (bytes text : List ℕ)
-    → Consumes left left' bytes → Appends start (taken target.0) text → IsPlayed world s0 s bytes text → IsTaken taken failed target (world.ending s) → Moves left left' start (taken target.1) (λ b t. IsDone world s0 s b t)
-closes world taken failed left left' start target s0 s bytes text p q whole wrote = (
-  bytes,
-  text ++ world.ending s,
-  p,
-  Appends-trans start (taken target.0) (taken target.1) text (world.ending s) q wrote.0,
-  record { faultless = whole.faultless; written = sym (whole_log world s0 s bytes text whole); stands = whole.stands },
-)
+    → Consumes left left' bytes → Appends start (taken target.0) text → IsPlayed world s0 s bytes text → world.lacks s ≡ None → IsTaken taken failed target (world.ending s) → Moves left left' start (taken target.1) (λ b t. IsDone world s0 s b t)
+closes {S} world taken failed left left' start target s0 s bytes text p q whole none wrote =
+    let last : last_text world s ≡ world.ending s = ap (λ (o : Option LogFault). cond (is_none o) (world.ending s) []) none in (
+      bytes,
+      text ++ world.ending s,
+      p,
+      Appends-trans start (taken target.0) (taken target.1) text (world.ending s) q wrote.0,
+      record {
+        faultless = first_is_last world s0 s bytes text None whole none;
+        written = sym (whole_log world s0 s bytes text whole ∙ ap (λ (l : List ℕ). text ++ l) last);
+        stands = whole.stands;
+      },
+    )
 
 pub closes_not : {S F : Type 0} (world : World S) (taken : F → Option (List ℕ)) (failed : F → ℕ) (left left' start : Option (List ℕ)) (target : F × F) (s0 s : S) (bytes text : List ℕ)
-    → Consumes left left' bytes → Appends start (taken target.0) text → IsPlayed world s0 s bytes text → IsBroken taken failed target (world.ending s) → Moves left left' start (taken target.1) (λ b t. IsUnwritten world s0 s b t)
-closes_not world taken failed left left' start target s0 s bytes text p q whole broken =
+    → Consumes left left' bytes → Appends start (taken target.0) text → IsPlayed world s0 s bytes text → world.lacks s ≡ None → IsBroken taken failed target (world.ending s) → Moves left left' start (taken target.1) (λ b t. IsUnwritten world s0 s b t)
+closes_not world taken failed left left' start target s0 s bytes text p q whole none broken =
     let off = broken.0 in
-    (bytes, text ++ off.0, p, Appends-trans start (taken target.0) (taken target.1) text off.0 q off.4, unwritten_end world s0 s bytes text off.0 off.1 whole off.2 off.3)
+    let last : last_text world s ≡ world.ending s = ap (λ (o : Option LogFault). cond (is_none o) (world.ending s) []) none in
+    (bytes, text ++ off.0, p, Appends-trans start (taken target.0) (taken target.1) text off.0 q off.4, unwritten_end world s0 s bytes text off.0 off.1 whole (last ∙ off.2) off.3)
+
+-- nothing is written after the last line
+pub closes_silently : {S : Type 0} (world : World S) (left left' taken taken' : Option (List ℕ)) (s0 s : S) → world.lacks s ≡ None → world.ending s ≡ [] → (ending : Ending)
+    → Moves left left' taken taken' (λ bytes text. Plays world s0 s bytes text ending) → Moves left left' taken taken' (λ bytes text. Makes world s0 s bytes text ending)
+closes_silently world left left' taken taken' s0 s none silent Done m =
+    let last : last_text world s ≡ [] = ap (λ (o : Option LogFault). cond (is_none o) (world.ending s) []) none ∙ silent in (
+      m.0,
+      m.1,
+      m.2,
+      m.3,
+      record {
+        faultless = first_is_last world s0 s m.0 m.1 None m.4 none;
+        written = sym (whole_log world s0 s m.0 m.1 m.4 ∙ ap (λ (l : List ℕ). m.1 ++ l) last ∙ append-nil m.1);
+        stands = m.4.stands;
+      },
+    )
+closes_silently world left left' taken taken' s0 s none silent (Refused f) m = m
+closes_silently world left left' taken taken' s0 s none silent (Unread n) m = m
+closes_silently world left left' taken taken' s0 s none silent Unwritten m = m
+
+-- what the end of the lines means, all lines mean
+pub closes_with : {S F : Type 0} (world : World S) (taken : F → Option (List ℕ)) (failed : F → ℕ) (left left' start : Option (List ℕ)) (target : F × F) (s0 s : S) (ending : Ending)
+    → Moves left left' start (taken target.0) (λ bytes text. IsPlayed world s0 s bytes text) → Closes world taken failed s target ending → Moves left left' start (taken target.1) (λ bytes text. Makes world s0 s bytes text ending)
+closes_with world taken failed left left' start target s0 s Done m h = closes world taken failed left left' start target s0 s m.0 m.1 m.2 m.3 m.4 h.0 h.1
+closes_with world taken failed left left' start target s0 s (Refused f) m h = (
+  m.0,
+  m.1,
+  m.2,
+  Appends-kept start (taken target.0) (taken target.1) m.1 m.3 h.1,
+  record { faulty = first_is_last world s0 s m.0 m.1 (Some f) m.4 h.0; written = m.4.written; stands = m.4.stands },
+)
+closes_with world taken failed left left' start target s0 s (Unread n) m h = absurd h
+closes_with world taken failed left left' start target s0 s Unwritten m h = closes_not world taken failed left left' start target s0 s m.0 m.1 m.2 m.3 m.4 h.0 h.1

@@ -1,21 +1,24 @@
 -- A session behind a history sends and counts what the history names.
-use Rattle.std.proofs.Common.{◌≡◌, ℕ, List, [], ◌++◌, flat_map, Option, Result, refl, ap}
+use Rattle.std.proofs.Common.{◌≡◌, ℕ, Bool, cond, List, [], ◌++◌, flat_map, Option, Result, refl, sym, ap, ◌∙◌, subst}
 use Rattle.authn_core.specs.Turn.{Start}
 use Rattle.token_session.specs.declared.input.Timed.{Timed}
 use Rattle.token_session.specs.declared.input.Meters.{Meters}
 use Rattle.token_session.specs.History.{judged}
 use Rattle.token_session.specs.Meters.{SessionState, StandsBehind, session_of}
 use Rattle.token_session.proofs.Metering.{stands_longer, machine_behind}
+use Rattle.token_session.proofs.Noise.{noise_is_named}
 use Rattle.token_session.proofs.Runs.{step_sends}
 use Rattle.session_log.specs.declared.fault.LogFault.{LogFault}
 use Rattle.session_log.specs.declared.line.Line.{Line}
 use Rattle.session_log.specs.declared.line.Line.TheVariants.{Input, Sent, Remark, Count}
-use Rattle.session_log.specs.Replay.{Logs}
-use Rattle.session_log.specs.Session.{sessions, histories, machine, history}
+use Rattle.session_log.specs.Check.{Compared, begun, difference, missing, missing_of, differs_from, stops_compared, moves_compared, check_machine, check_history}
+use Rattle.session_log.specs.Ending.{Ending}
+use Rattle.session_log.specs.Replay.{Logs, Makes}
+use Rattle.session_log.specs.Session.{sessions, histories, machine, history, quiet_machine, quiet_history}
 use Rattle.session_log.specs.Streams.{Moves}
-use Rattle.session_log.specs.Text.{ended, sent_text, meters_line}
-use Rattle.session_log.specs.World.{moves_input, writes_again}
-use Rattle.session_log.proofs.Worlds.{Follows, logs_alike}
+use Rattle.session_log.specs.Text.{ended, sent_text, tick_text, meters_line}
+use Rattle.session_log.specs.World.{World, moves_input, writes_again, writes_quiet}
+use Rattle.session_log.proofs.Worlds.{Follows, makes_alike, logs_alike}
 
 counted : (s : SessionState) (start : Start) (h : List Timed) → StandsBehind s start h → s.meters ≡ (history start).counts h
 unfolding session_of
@@ -38,6 +41,7 @@ follows start = record {
   stops = λ s h l r. refl;
   moves = λ s h l r. moved start s h l r;
   writes = λ s h line l r. wrote start s h line l r;
+  lacks = λ s h r. refl;
   ending = λ s h r. ap meters_line (counted s start h r);
   counts = λ s h r. counted s start h r;
 }
@@ -48,6 +52,79 @@ pub replays_history : (left left' taken taken' : Option (List ℕ)) (s t : Sessi
 replays_history left left' taken taken' s t r m start h stands =
     let found = logs_alike machine (history start) (λ s h. StandsBehind s start h) (follows start) s t h stands m.0 m.1 r m.4 in
     (found.0, found.1, (m.0, m.1, m.2, m.3, found.2))
+
+-- Made quiet.
+
+noised : (start : Start) (s : SessionState) (h : List Timed) (line : List ℕ) (l : Line) → StandsBehind s start h → quiet_machine.writes s line l ≡ (quiet_history start).writes h line l
+noised start s h line (Input timed) r = ap (λ (b : Bool). ended (cond b (tick_text timed.at) line)) (noise_is_named s.machine start h timed (machine_behind s start h r))
+noised start s h line (Sent packet) r = refl
+noised start s h line Remark r = refl
+noised start s h line Count r = refl
+
+quiet_follows : (start : Start) → Follows quiet_machine (quiet_history start) (λ s h. StandsBehind s start h)
+quiet_follows start = record {
+  stops = λ s h l r. refl;
+  moves = λ s h l r. moved start s h l r;
+  writes = λ s h line l r. noised start s h line l r;
+  lacks = λ s h r. refl;
+  ending = λ s h r. refl;
+  counts = λ s h r. counted s start h r;
+}
+
+-- what an ending means in one world, it means in the other
+makes_there : {A B : Type 0} (v : World A) (w : World B) (R : A → B → Type 0) → Follows v w R → (left left' taken taken' : Option (List ℕ)) (s t : A) (b : B) → R s b → (ending : Ending)
+    → Moves left left' taken taken' (λ bytes text. Makes v s t bytes text ending) → (c : B) × R t c × Moves left left' taken taken' (λ bytes text. Makes w b c bytes text ending)
+makes_there v w R f left left' taken taken' s t b r ending m =
+    let found = makes_alike v w R f s t b r m.0 m.1 ending m.4 in (found.0, found.1, (m.0, m.1, m.2, m.3, found.2))
+
+pub quiets_history : (left left' taken taken' : Option (List ℕ)) (s t : SessionState) (ending : Ending) → Moves left left' taken taken' (λ bytes text. Makes quiet_machine s t bytes text ending)
+    → (start : Start) (h : List Timed) → StandsBehind s start h → (later : List Timed) × StandsBehind t start later × Moves left left' taken taken' (λ bytes text. Makes (quiet_history start) h later bytes text ending)
+quiets_history left left' taken taken' s t ending m start h stands =
+    makes_there quiet_machine (quiet_history start) (λ s h. StandsBehind s start h) (quiet_follows start) left left' taken taken' s t h stands ending m
+
+-- Compared.
+
+-- all but what the session holds is the same
+abbrev onto_history : List Timed → Compared SessionState → Compared (List Timed)
+onto_history h c = record { session = h; lines = c.lines; input = c.input; found = c.found; due = c.due; inputs = c.inputs; packets = c.packets }
+
+abbrev IsBeside : Start → Compared SessionState → Compared (List Timed) → Type 0
+IsBeside start c d = StandsBehind c.session start d.session × (d ≡ onto_history d.session c)
+
+same_stops : (start : Start) (c : Compared SessionState) (d : Compared (List Timed)) (l : Line) → IsBeside start c d → stops_compared c l ≡ stops_compared d l
+same_stops start c d (Input timed) r = sym (ap missing r.1)
+same_stops start c d (Sent packet) r = sym (ap (λ (z : Compared (List Timed)). differs_from z.due packet.0 (difference z)) r.1)
+same_stops start c d Remark r = refl
+same_stops start c d Count r = refl
+
+same_moves : (start : Start) (c : Compared SessionState) (d : Compared (List Timed)) (l : Line) → IsBeside start c d → IsBeside start (moves_compared sessions c l) (moves_compared (histories start) d l)
+same_moves start c d (Input timed) r =
+    let sends = step_sends c.session.machine start d.session timed (machine_behind c.session start d.session r.0) in (
+      stands_longer c.session start d.session timed r.0,
+      ap (λ (z : Compared (List Timed)). moves_compared (histories start) z (Input timed)) r.1
+          ∙ ap (λ (due : List (List ℕ)). record (moves_compared (histories start) (onto_history d.session c) (Input timed)) { due = due }) (sym sends),
+    )
+same_moves start c d (Sent packet) r = (r.0, ap (λ (z : Compared (List Timed)). moves_compared (histories start) z (Sent packet)) r.1)
+same_moves start c d Remark r = (r.0, ap (λ (z : Compared (List Timed)). moves_compared (histories start) z Remark) r.1)
+same_moves start c d Count r = (r.0, ap (λ (z : Compared (List Timed)). moves_compared (histories start) z Count) r.1)
+
+check_follows : (start : Start) → Follows check_machine (check_history start) (IsBeside start)
+check_follows start = record {
+  stops = λ c d l r. same_stops start c d l r;
+  moves = λ c d l r. same_moves start c d l r;
+  writes = λ c d line l r. refl;
+  lacks = λ c d r. sym (ap missing r.1);
+  ending = λ c d r. sym (ap (λ (z : Compared (List Timed)). (check_history start).ending z) r.1);
+  counts = λ c d r. counted c.session start d.session r.0;
+}
+
+pub checks_history : (left left' taken taken' : Option (List ℕ)) (s t : SessionState) (ending : Ending)
+    → ((later : Compared SessionState) × (later.session ≡ t) × Moves left left' taken taken' (λ bytes text. Makes check_machine (begun s) later bytes text ending))
+    → (start : Start) (h : List Timed) → StandsBehind s start h
+    → (later : Compared (List Timed)) × StandsBehind t start later.session × Moves left left' taken taken' (λ bytes text. Makes (check_history start) (begun h) later bytes text ending)
+checks_history left left' taken taken' s t ending m start h stands =
+    let found = makes_there check_machine (check_history start) (IsBeside start) (check_follows start) left left' taken taken' (begun s) m.0 (begun h) (stands, refl) ending m.2 in
+    (found.0, subst (λ (z : SessionState). StandsBehind z start found.0.session) m.1 found.1.0, found.2)
 
 -- a session at its start stands behind the empty history
 pub begins : (s : SessionState) (start : Start) → s ≡ session_of start [] → StandsBehind s start []

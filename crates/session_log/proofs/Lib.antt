@@ -11,5 +11,9 @@ pub mod Fields
 pub mod Spelled
 pub mod Rows
 pub mod Feeds
+pub mod Sound
 pub mod Again
+pub mod Quieted
+pub mod Groups
+pub mod Checks
 pub mod Repeating

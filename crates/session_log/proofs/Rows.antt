@@ -1,16 +1,18 @@
 -- The definitions on worked examples, by computation.
-use Rattle.std.proofs.Common.{◌≡◌, ℕ, ◌+◌, ◌-◌, ◌^◌, List, [], ◌∷◌, ◌++◌, codes, replicate, Some, None, refl}
+use Rattle.std.proofs.Common.{◌≡◌, ℕ, ◌+◌, ◌-◌, ◌^◌, List, [], ◌∷◌, ◌++◌, ◌==◌, codes, replicate, Option, Some, None, refl}
 use Rattle.std.specs.Fmt.{digits}
 use Rattle.hex.proofs.OnLiterals.{hex_on_literals}
 use Rattle.token_session.specs.declared.input.Input.{Input as AnyInput}
 use Rattle.authn_core.specs.declared.replies.Presence.TheVariants.{Granted, Denied, TimedOut}
 use Rattle.token_session.specs.declared.input.Input.TheVariants.{Packet, Tick, Presence, Key, Signature}
-use Rattle.session_log.specs.declared.fault.LogFault.TheVariants.{BadLine, TooLong, TooManyLines}
+use Rattle.session_log.specs.declared.fault.LogFault.{LogFault}
+use Rattle.session_log.specs.declared.fault.LogFault.TheVariants.{BadLine, TooLong, Differs, TooManyLines}
+use Rattle.session_log.specs.Check.{Compared, begun, checking}
 use Rattle.session_log.specs.declared.line.Line.TheVariants.{Input, Sent, Remark, Count}
 use Rattle.session_log.specs.Lines.{lines, whole_lines, last_piece}
-use Rattle.session_log.specs.Log.{fault_at, playing, log}
+use Rattle.session_log.specs.Log.{fault_at, fault_of, playing, log}
 use Rattle.session_log.specs.Said.{moment, said}
-use Rattle.session_log.specs.World.{World, replaying}
+use Rattle.session_log.specs.World.{Course, World, replaying, quieting}
 
 -- lines, with and without a last line feed
 row-lines : lines (codes "a\nb") ≡ codes "a" ∷ codes "b" ∷ []
@@ -164,8 +166,11 @@ came_back : AnyInput → List (List ℕ)
 came_back (Packet packet) = packet.0 ∷ []
 came_back _ = []
 
+abbrev echoes : Course ℕ
+echoes = record { turned = λ s x. s + 1; sends = λ s x. came_back x.input; counts = λ s. record { held = 0; rows = 0; pending = 0; requests = s; bytes = 0; steps = 0 } }
+
 abbrev echo : World ℕ
-echo = replaying (record { turned = λ s x. s + 1; sends = λ s x. came_back x.input; counts = λ s. record { held = 0; rows = 0; pending = 0; requests = s; bytes = 0; steps = 0 } })
+echo = replaying echoes
 
 -- faults: a line of 256 bytes is too long before it is read, and line 2^32 is one too many before that
 row-longest : fault_at echo 7 0 (35 ∷ replicate 254 120) ≡ None
@@ -196,3 +201,46 @@ row-echo = refl
 row-faulty : playing echo 0 (codes "t 5\nt 05\nt 6\n") ≡ record { text = codes "t 5\n"; fault = Some (BadLine 2); state = 1 }
 unfolding moment digits came_back
 row-faulty = refl
+
+-- made quiet, where just the first input is noise
+row-quiet : log (quieting echoes (λ s x. s == 0)) 0 (codes "> 3 AB" ++ replicate 126 48 ++ codes "\n< ab" ++ replicate 126 48 ++ codes "\n#\n= held 9\np 2 denied") ≡ codes "t 3\n#\np 2 denied\n"
+unfolding moment digits came_back hex_on_literals
+row-quiet = refl
+
+-- compared: the packets that are sent stand after their input
+abbrev check_echo : World (Compared ℕ)
+check_echo = checking echoes
+
+abbrev checked : List ℕ → Option LogFault
+checked bytes = fault_of check_echo (playing check_echo (begun 0) bytes)
+
+packet_line : (first : List ℕ) → List ℕ
+packet_line first = first ++ replicate 126 48
+
+row-same : log check_echo (begun 0) (packet_line (codes "> 0 AB") ++ codes "\n#\n" ++ packet_line (codes "< aB") ++ codes "\n= held 9\nt 5\n") ≡ codes "same 2 inputs 1 packets\n"
+unfolding moment digits came_back hex_on_literals packet_line
+row-same = refl
+
+row-missing_last : checked (codes "#\n" ++ packet_line (codes "> 0 ab")) ≡ Some (Differs 2 1)
+unfolding moment digits came_back hex_on_literals packet_line
+row-missing_last = refl
+
+row-missing : checked (codes "#\n" ++ packet_line (codes "> 0 ab") ++ codes "\n\nt 5\nt 05\n") ≡ Some (Differs 2 1)
+unfolding moment digits came_back hex_on_literals packet_line
+row-missing = refl
+
+row-bad_before_missing : checked (packet_line (codes "> 0 ab") ++ codes "\nt 05\n") ≡ Some (BadLine 2)
+unfolding moment digits came_back hex_on_literals packet_line
+row-bad_before_missing = refl
+
+row-other : checked (packet_line (codes "> 0 ab") ++ codes "\n" ++ packet_line (codes "< ac") ++ codes "\nt 05\n") ≡ Some (Differs 1 1)
+unfolding moment digits came_back hex_on_literals packet_line
+row-other = refl
+
+row-one_too_many : checked (packet_line (codes "> 0 ab") ++ codes "\n" ++ packet_line (codes "< ab") ++ codes "\n" ++ packet_line (codes "< ab")) ≡ Some (Differs 1 2)
+unfolding moment digits came_back hex_on_literals packet_line
+row-one_too_many = refl
+
+row-before_any : checked (codes "#\n" ++ packet_line (codes "< ab")) ≡ Some (Differs 0 1)
+unfolding moment digits came_back hex_on_literals packet_line
+row-before_any = refl

@@ -6,7 +6,7 @@ use Rattle.session_log.specs.declared.fault.LogFault.TheVariants.{TooLong, TooMa
 use Rattle.session_log.specs.Said.{said}
 use Rattle.session_log.specs.World.{World}
 use Rattle.session_log.specs.Lines.{is_feed, pieces, all_but_last, last_of, lines_of_pieces, lines, whole_lines, last_piece}
-use Rattle.session_log.specs.Log.{Played, behind, played, playing, log_of, log, fault_by, fault_at, text_of, after}
+use Rattle.session_log.specs.Log.{Played, behind, played, playing, log_of, log, first_fault, fault_of, fault_by, fault_at, text_of, last_text, after}
 use Rattle.session_log.specs.Sent.{SendsPackets, AllSend}
 use Rattle.session_log.specs.Window.{IsUnfinished}
 use Rattle.session_log.specs.Replay.{IsRefused, IsUnread, IsUnwritten, IsPlayed}
@@ -58,6 +58,19 @@ lines_are world s0 read text s n w t =
 pub playing_is : {S : Type 0} (world : World S) (s0 : S) (read text : List ℕ) (s : S) (n : ℕ) (w : List ℕ) → Through world s0 read text s n → playing world s0 (read ++ w) ≡ behind text (played world n s (lines w))
 playing_is world s0 read text s n w t = ap (played world 1 s0) (lines_are world s0 read text s n w t) ∙ t.plays (lines w)
 
+-- the fault of a line is the first, and what is wrong after the last line is where no line is faulty
+pub first_is_line : (last : Option LogFault) (f : LogFault) → first_fault last (Some f) ≡ Some f
+first_is_line None f = refl
+first_is_line (Some e) f = refl
+
+pub first_is_last : {S : Type 0} (world : World S) (s0 s : S) (bytes text : List ℕ) (o : Option LogFault) → IsPlayed world s0 s bytes text → world.lacks s ≡ o → fault_of world (playing world s0 bytes) ≡ o
+first_is_last {S} world s0 s bytes text o p is =
+    ap (λ (f : Option LogFault). first_fault (world.lacks (playing world s0 bytes).state) f) p.faultless ∙ ap (λ (l : Option LogFault). first_fault l None) (ap (λ (z : S). world.lacks z) (sym p.stands) ∙ is) ∙ whole o
+  where
+    whole : (o : Option LogFault) → first_fault o None ≡ o
+    whole None = refl
+    whole (Some f) = refl
+
 -- the first line of the window is faulty
 pub refused : {S : Type 0} (world : World S) (s0 : S) (read text : List ℕ) (s : S) (n : ℕ) (w : List ℕ) (line : List ℕ) (more : List (List ℕ)) (f : LogFault) → Through world s0 read text s n → lines w ≡ line ∷ more → fault_at world n s line ≡ Some f
     → IsRefused world s0 s (read ++ w) text f
@@ -65,7 +78,7 @@ refused {S} world s0 read text s n w line more f t e bad =
     let is : playing world s0 (read ++ w) ≡ behind text (record { text = []; fault = Some f; state = s }) =
     playing_is world s0 read text s n w t ∙ ap (λ (ls : List (List ℕ)). behind text (played world n s ls)) e ∙ ap (behind text) (played_faulty world n s line more f bad) in
     record {
-      faulty = ap (λ (p : Played S). p.fault) is;
+      faulty = ap (fault_of world) is ∙ first_is_line (world.lacks s) f;
       written = sym (ap (λ (p : Played S). p.text) is ∙ append-nil text);
       stands = sym (ap (λ (p : Played S). p.state) is);
     }
@@ -95,7 +108,7 @@ unwritten {S} world s0 read text s n w line more front rest t e sound broken mis
     let others = played world (n + 1) (after world s line) more in
     let all : playing world s0 (read ++ w) ≡ behind text (behind (text_of world s line) others) =
     playing_is world s0 read text s n w t ∙ ap (λ (ls : List (List ℕ)). behind text (played world n s ls)) e ∙ ap (behind text) (played_sound world n s line more sound) in
-    let tail = cond (is_none others.fault) (world.ending others.state) [] in
+    let tail = cond (is_none others.fault) (last_text world others.state) [] in
     record {
       first = t.done;
       others = line ∷ more;
@@ -113,17 +126,17 @@ unwritten {S} world s0 read text s n w line more front rest t e sound broken mis
     regroup : (a t x y b c : List ℕ) → t ≡ x ++ y → (a ++ (t ++ b)) ++ c ≡ (a ++ x) ++ ((y ++ b) ++ c)
     regroup a t x y b c e = rw e (simp append_assoc)
 
-pub log_is : {S : Type 0} (world : World S) (q : Played S) (s : S) (text : List ℕ) → q.fault ≡ None → text ≡ q.text → s ≡ q.state → log_of world q ≡ text ++ world.ending s
+pub log_is : {S : Type 0} (world : World S) (q : Played S) (s : S) (text : List ℕ) → q.fault ≡ None → text ≡ q.text → s ≡ q.state → log_of world q ≡ text ++ last_text world s
 log_is {S} world q s text faultless written stands =
-    ap (λ (o : Option LogFault). q.text ++ cond (is_none o) (world.ending q.state) []) faultless
-    ∙ ap (λ (l : List ℕ). l ++ world.ending q.state) (sym written) ∙ ap (λ (z : S). text ++ world.ending z) (sym stands)
+    ap (λ (o : Option LogFault). q.text ++ cond (is_none o) (last_text world q.state) []) faultless
+    ∙ ap (λ (l : List ℕ). l ++ last_text world q.state) (sym written) ∙ ap (λ (z : S). text ++ last_text world z) (sym stands)
 
 -- the log of what was played whole
-pub whole_log : {S : Type 0} (world : World S) (s0 s : S) (bytes text : List ℕ) → IsPlayed world s0 s bytes text → log world s0 bytes ≡ text ++ world.ending s
+pub whole_log : {S : Type 0} (world : World S) (s0 s : S) (bytes text : List ℕ) → IsPlayed world s0 s bytes text → log world s0 bytes ≡ text ++ last_text world s
 whole_log world s0 s bytes text p = log_is world (playing world s0 bytes) s text p.faultless p.written p.stands
 
 -- all was played, and the meters line broke off
-pub unwritten_end : {S : Type 0} (world : World S) (s0 s : S) (bytes text front rest : List ℕ) → IsPlayed world s0 s bytes text → world.ending s ≡ front ++ rest → 0 < length rest → IsUnwritten world s0 s bytes (text ++ front)
+pub unwritten_end : {S : Type 0} (world : World S) (s0 s : S) (bytes text front rest : List ℕ) → IsPlayed world s0 s bytes text → last_text world s ≡ front ++ rest → 0 < length rest → IsUnwritten world s0 s bytes (text ++ front)
 unwritten_end {S} world s0 s bytes text front rest p broken missing =
     record {
       first = lines bytes;
@@ -133,7 +146,7 @@ unwritten_end {S} world s0 s bytes text front rest p broken missing =
       cut = sym (append-nil (lines bytes));
       faultless = p.faultless;
       written = ap (λ (l : List ℕ). l ++ front) p.written;
-      broken = ap (λ (z : S). world.ending z) (sym p.stands) ∙ broken;
+      broken = ap (λ (z : S). last_text world z) (sym p.stands) ∙ broken;
       missing = missing;
       stands = p.stands;
       beginning = (rest, whole_log world s0 s bytes text p ∙ ap (λ (l : List ℕ). text ++ l) broken ∙ sym (append_assoc text front rest));

@@ -2,12 +2,13 @@
 use Rattle.std.proofs.Common.{◌≡◌, ℕ, ◌+◌, ◌^◌, nat_le, nat_lt, Bool, true, false, cond, List, [], ◌∷◌, ◌++◌, length, Option, Some, None, Result, Ok, Err, is_some, is_none, refl, sym, ap, ◌∙◌, subst}
 use Rattle.token_session.specs.declared.input.Meters.{Meters}
 use Rattle.session_log.specs.declared.fault.LogFault.{LogFault}
-use Rattle.session_log.specs.declared.fault.LogFault.TheVariants.{BadLine, TooLong, Read, Write, TooManyLines}
+use Rattle.session_log.specs.declared.fault.LogFault.TheVariants.{TooLong, TooManyLines}
 use Rattle.session_log.specs.declared.line.Line.{Line}
 use Rattle.session_log.specs.Lines.{lines, whole_lines}
-use Rattle.session_log.specs.Log.{Played, played, playing, text_by, after_by, fault_by, fault_at, log_of}
+use Rattle.session_log.specs.Log.{Played, played, playing, text_by, after_by, first_fault, fault_by, fault_at, fault_of, last_text, log_of}
 use Rattle.session_log.specs.Said.{said}
-use Rattle.session_log.specs.Replay.{IsDone, IsRefused, IsUnread, IsUnwritten, Logs, next_text, next_state}
+use Rattle.session_log.specs.Ending.{Ending, Done, Refused, Unread, Unwritten, ended_by, ending_of}
+use Rattle.session_log.specs.Replay.{IsDone, IsRefused, IsUnread, IsUnwritten, Makes, Logs, next_text, next_state}
 use Rattle.session_log.specs.World.{World}
 
 -- b stands behind what a names, and stays so
@@ -15,6 +16,7 @@ pub record Follows {A B : Type 0} (v : World A) (w : World B) (R : A → B → T
   pub stops : (a : A) (b : B) (l : Line) → R a b → v.stops a l ≡ w.stops b l
   pub moves : (a : A) (b : B) (l : Line) → R a b → R (v.moves a l) (w.moves b l)
   pub writes : (a : A) (b : B) (line : List ℕ) (l : Line) → R a b → v.writes a line l ≡ w.writes b line l
+  pub lacks : (a : A) (b : B) → R a b → v.lacks a ≡ w.lacks b
   pub ending : (a : A) (b : B) → R a b → v.ending a ≡ w.ending b
   pub counts : (a : A) (b : B) → R a b → v.counts a ≡ w.counts b
 
@@ -53,16 +55,22 @@ alike {A} {B} v w R f n a b r (line ∷ more) =
     (either R (is_some (fault_at v n a line)) _ _ _ _ (record { text = refl; fault = refl; state = r })
     (record { text = ap (λ (l : List ℕ). l ++ (played v (n + 1) (after_by v a (said line)) more).text) here.0 ∙ ap (λ (l : List ℕ). text_by w b line (said line) ++ l) rest.text; fault = rest.fault; state = rest.state }))
 
+last_alike : {A B : Type 0} (v : World A) (w : World B) (R : A → B → Type 0) → Follows v w R → (a : A) (b : B) → R a b → last_text v a ≡ last_text w b
+last_alike v w R f a b r = λ i. cond (is_none (f.lacks a b r i)) (f.ending a b r i) []
+
+faults_alike : {A B : Type 0} (v : World A) (w : World B) (R : A → B → Type 0) → Follows v w R → (p : Played A) (q : Played B) → Alike R p q → fault_of v p ≡ fault_of w q
+faults_alike v w R f p q h = λ i. first_fault (f.lacks p.state q.state h.state i) (h.fault i)
+
 log_alike : {A B : Type 0} (v : World A) (w : World B) (R : A → B → Type 0) → Follows v w R → (p : Played A) (q : Played B) → Alike R p q → log_of v p ≡ log_of w q
 log_alike v w R f p q h =
-    ap (λ (l : List ℕ). l ++ cond (is_none p.fault) (v.ending p.state) []) h.text
-    ∙ ap (λ (o : Option LogFault). q.text ++ cond (is_none o) (v.ending p.state) []) h.fault
-    ∙ ap (λ (l : List ℕ). q.text ++ cond (is_none q.fault) l []) (f.ending p.state q.state h.state)
+    ap (λ (l : List ℕ). l ++ cond (is_none p.fault) (last_text v p.state) []) h.text
+    ∙ ap (λ (o : Option LogFault). q.text ++ cond (is_none o) (last_text v p.state) []) h.fault
+    ∙ ap (λ (l : List ℕ). q.text ++ cond (is_none q.fault) l []) (last_alike v w R f p.state q.state h.state)
 
 -- what comes next is alike
 next_alike : {A B : Type 0} (v : World A) (w : World B) (R : A → B → Type 0) → Follows v w R → (a : A) (b : B) → R a b → (others : List (List ℕ))
     → (next_text v a others ≡ next_text w b others) × R (next_state v a others) (next_state w b others)
-next_alike v w R f a b r [] = (f.ending a b r, r)
+next_alike v w R f a b r [] = (last_alike v w R f a b r, r)
 next_alike v w R f a b r (line ∷ more) = by_line v w R f a b r line (said line)
 
 -- what an answer means in one world, it means in the other
@@ -74,7 +82,7 @@ done_alike {A} {B} v w R f s t b r bytes text h =
       c,
       subst (λ (z : A). R z c) (sym h.stands) same.state,
       record {
-        faultless = sym same.fault ∙ h.faultless;
+        faultless = sym (faults_alike v w R f (playing v s bytes) (playing w b bytes) same) ∙ h.faultless;
         written = h.written ∙ log_alike v w R f (playing v s bytes) (playing w b bytes) same;
         stands = refl;
       },
@@ -88,7 +96,7 @@ refused_alike {A} {B} v w R f s t b r bytes text e h =
       c,
       subst (λ (z : A). R z c) (sym h.stands) same.state,
       record {
-        faulty = sym same.fault ∙ h.faulty;
+        faulty = sym (faults_alike v w R f (playing v s bytes) (playing w b bytes) same) ∙ h.faulty;
         written = h.written ∙ same.text;
         stands = refl;
       },
@@ -135,11 +143,14 @@ unwritten_alike {A} {B} v w R f s t b r bytes text h =
       },
     )
 
+pub makes_alike : {A B : Type 0} (v : World A) (w : World B) (R : A → B → Type 0) → Follows v w R → (s t : A) (b : B) → R s b → (bytes text : List ℕ) (ending : Ending) → Makes v s t bytes text ending
+    → (c : B) × R t c × Makes w b c bytes text ending
+makes_alike v w R f s t b k bytes text Done h = done_alike v w R f s t b k bytes text h
+makes_alike v w R f s t b k bytes text (Refused e) h = refused_alike v w R f s t b k bytes text e h
+makes_alike v w R f s t b k bytes text (Unread n) h = unread_alike v w R f s t b k bytes text n h
+makes_alike v w R f s t b k bytes text Unwritten h = unwritten_alike v w R f s t b k bytes text h
+
 pub logs_alike : {A B : Type 0} (v : World A) (w : World B) (R : A → B → Type 0) → Follows v w R → (s t : A) (b : B) → R s b → (bytes text : List ℕ) (r : Result Meters LogFault) → Logs v s t bytes text r
     → (c : B) × R t c × Logs w b c bytes text r
-logs_alike v w R f s t b k bytes text (Ok m) h = let found = done_alike v w R f s t b k bytes text h.0 in (found.0, found.1, (found.2, h.1 ∙ f.counts t found.0 found.1))
-logs_alike v w R f s t b k bytes text (Err (BadLine n)) h = let found = refused_alike v w R f s t b k bytes text (BadLine n) h.0 in (found.0, found.1, (found.2, tt))
-logs_alike v w R f s t b k bytes text (Err (TooLong n)) h = let found = refused_alike v w R f s t b k bytes text (TooLong n) h.0 in (found.0, found.1, (found.2, tt))
-logs_alike v w R f s t b k bytes text (Err TooManyLines) h = let found = refused_alike v w R f s t b k bytes text TooManyLines h.0 in (found.0, found.1, (found.2, tt))
-logs_alike v w R f s t b k bytes text (Err (Read n)) h = let found = unread_alike v w R f s t b k bytes text n h.0 in (found.0, found.1, (found.2, tt))
-logs_alike v w R f s t b k bytes text (Err Write) h = let found = unwritten_alike v w R f s t b k bytes text h.0 in (found.0, found.1, (found.2, tt))
+logs_alike v w R f s t b k bytes text (Ok m) h = let found = makes_alike v w R f s t b k bytes text Done h.0 in (found.0, found.1, (found.2, h.1 ∙ f.counts t found.0 found.1))
+logs_alike v w R f s t b k bytes text (Err e) h = let found = makes_alike v w R f s t b k bytes text (ended_by e) h.0 in (found.0, found.1, (found.2, tt))

@@ -3,10 +3,12 @@ use Rattle.std.specs.Prelude.{◌≡◌, ℕ, Bool, List, [], Option, OnOk, Resu
 use Rattle.authn_core.specs.Turn.{Start}
 use Rattle.token_session.specs.declared.input.Meters.{Meters}
 use Rattle.token_session.specs.declared.input.Timed.{Timed}
+use Rattle.token_session.specs.Meters.{SessionState, StandsBehind}
 use Rattle.session_log.specs.declared.fault.LogFault.{LogFault}
+use Rattle.session_log.specs.Check.{Compared, begun, check_history}
 use Rattle.session_log.specs.Ending.{ending_of, read_fails, write_fails}
-use Rattle.session_log.specs.Replay.{Logs}
-use Rattle.session_log.specs.Session.{history}
+use Rattle.session_log.specs.Replay.{Logs, Makes}
+use Rattle.session_log.specs.Session.{history, quiet_history}
 use Rattle.session_log.specs.Streams.{Counts, IsAllRead, Moves}
 
 -- the start of the program's session: an AAGUID of sixteen zero bytes, the moment 0, and room for 64 credentials, none of
@@ -22,15 +24,38 @@ abbrev pub status_of : {A : Type 0} → Result A LogFault → Status
 status_of (Ok x) = Ok tt
 status_of (Err fault) = Err 1
 
--- A log was replayed on a session of this start that nothing had come to, with this exit status. A pair is a source or a
--- target before and after the call. The log is that of the empty history; a failure of the source or the target was counted
--- exactly where the fault is one; without a fault the log was all that the source held.
-abbrev pub IsReplayed : {I O : Type 0} → Start → (left : I → Option (List ℕ)) → (unread : I → ℕ) → (ended : I → Bool) → (taken : O → Option (List ℕ)) → (unwritten : O → ℕ)
-    → Status → (I × I) → (O × O) → Type 0
-IsReplayed start left unread ended taken unwritten status input output =
-    (answer : Result Meters LogFault) × (later : List Timed) × (status ≡ status_of answer)
-    × Moves (left input.0) (left input.1) (taken output.0) (taken output.1)
-    (λ bytes text. Logs (history start) [] later bytes text answer)
-    × Counts unread input (read_fails (ending_of answer))
+-- A failure of the source or the target was counted exactly where the fault is one, and without a fault the log was all that
+-- the source held. A pair is a source or a target before and after the call.
+abbrev pub IsCounted : {A I O : Type 0} → (left : I → Option (List ℕ)) → (unread : I → ℕ) → (ended : I → Bool) → (unwritten : O → ℕ) → Result A LogFault → (I × I) → (O × O) → Type 0
+IsCounted left unread ended unwritten answer input output =
+    Counts unread input (read_fails (ending_of answer))
     × Counts unwritten output (write_fails (ending_of answer))
     × OnOk answer (IsAllRead left ended input.1)
+
+-- A log was replayed on a session that stood after this history of this start, with this exit status; it is now at s. The
+-- log is that of the history.
+abbrev pub IsReplayed : {I O : Type 0} → Start → List Timed → (left : I → Option (List ℕ)) → (unread : I → ℕ) → (ended : I → Bool) → (taken : O → Option (List ℕ)) → (unwritten : O → ℕ)
+    → Status → SessionState → (I × I) → (O × O) → Type 0
+IsReplayed start h left unread ended taken unwritten status s input output =
+    (answer : Result Meters LogFault) × (later : List Timed) × (status ≡ status_of answer) × StandsBehind s start later
+    × Moves (left input.0) (left input.1) (taken output.0) (taken output.1)
+    (λ bytes text. Logs (history start) h later bytes text answer)
+    × IsCounted left unread ended unwritten answer input output
+
+-- A log was made quiet, likewise.
+abbrev pub IsQuieted : {I O : Type 0} → Start → List Timed → (left : I → Option (List ℕ)) → (unread : I → ℕ) → (ended : I → Bool) → (taken : O → Option (List ℕ)) → (unwritten : O → ℕ)
+    → Status → SessionState → (I × I) → (O × O) → Type 0
+IsQuieted start h left unread ended taken unwritten status s input output =
+    (answer : Result (Unit {0}) LogFault) × (later : List Timed) × (status ≡ status_of answer) × StandsBehind s start later
+    × Moves (left input.0) (left input.1) (taken output.0) (taken output.1)
+    (λ bytes text. Makes (quiet_history start) h later bytes text (ending_of answer))
+    × IsCounted left unread ended unwritten answer input output
+
+-- A log was compared with what is sent, likewise.
+abbrev pub IsChecked : {I O : Type 0} → Start → List Timed → (left : I → Option (List ℕ)) → (unread : I → ℕ) → (ended : I → Bool) → (taken : O → Option (List ℕ)) → (unwritten : O → ℕ)
+    → Status → SessionState → (I × I) → (O × O) → Type 0
+IsChecked start h left unread ended taken unwritten status s input output =
+    (answer : Result (Unit {0}) LogFault) × (later : Compared (List Timed)) × (status ≡ status_of answer) × StandsBehind s start later.session
+    × Moves (left input.0) (left input.1) (taken output.0) (taken output.1)
+    (λ bytes text. Makes (check_history start) (begun h) later bytes text (ending_of answer))
+    × IsCounted left unread ended unwritten answer input output

@@ -1,7 +1,7 @@
 -- How the playing of a log ends.
 use Rattle.std.specs.Prelude.{ℕ, Bool, true, false, Result, Ok, Err}
 use Rattle.session_log.specs.declared.fault.LogFault.{LogFault}
-use Rattle.session_log.specs.declared.fault.LogFault.TheVariants.{BadLine, TooLong, Read, Write, TooManyLines}
+use Rattle.session_log.specs.declared.fault.LogFault.TheVariants.{BadLine, TooLong, Differs, Read, Write, TooManyLines, Memory}
 
 -- at the log's end, at a faulty line, at a read that failed in this line, or at a write that failed
 pub data Ending : Type 0 where
@@ -13,7 +13,9 @@ pub data Ending : Type 0 where
 abbrev pub ended_by : LogFault → Ending
 ended_by (BadLine n) = Refused (BadLine n)
 ended_by (TooLong n) = Refused (TooLong n)
+ended_by (Differs line packet) = Refused (Differs line packet)
 ended_by TooManyLines = Refused TooManyLines
+ended_by (Memory n) = Refused (Memory n)
 ended_by (Read n) = Unread n
 ended_by Write = Unwritten
 

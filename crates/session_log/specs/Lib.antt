@@ -11,6 +11,9 @@ pub mod World
 pub mod Log
 pub mod Sent
 pub mod Session
+pub mod Inputs
+pub mod Check
+pub mod Groups
 pub mod Replay
 pub mod Window
 pub mod Command

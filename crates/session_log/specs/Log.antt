@@ -55,9 +55,22 @@ played world n s (line ∷ more) =
 abbrev pub playing : {S : Type 0} → World S → S → List ℕ → Played S
 playing world s bytes = played world 1 s (lines bytes)
 
+-- the text after the last line
+abbrev pub last_text : {S : Type 0} → World S → S → List ℕ
+last_text world s = if is_none (world.lacks s) then world.ending s else []
+
 -- the texts, and where no line is faulty the text after the last line
 abbrev pub log_of : {S : Type 0} → World S → Played S → List ℕ
-log_of world p = p.text ++ (if is_none p.fault then world.ending p.state else [])
+log_of world p = p.text ++ (if is_none p.fault then last_text world p.state else [])
+
+-- the first fault: where no line is faulty, what is wrong after the last line
+abbrev pub first_fault : (last line : Option LogFault) → Option LogFault
+first_fault None line = line
+first_fault (Some fault) None = Some fault
+first_fault (Some fault) (Some first) = Some first
+
+abbrev pub fault_of : {S : Type 0} → World S → Played S → Option LogFault
+fault_of world p = first_fault (world.lacks p.state) p.fault
 
 abbrev pub log : {S : Type 0} → World S → S → List ℕ → List ℕ
 log world s bytes = log_of world (playing world s bytes)

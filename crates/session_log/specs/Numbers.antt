@@ -1,11 +1,13 @@
 -- The numbers of the faults.
 use Rattle.std.specs.Prelude.{ℕ}
 use Rattle.session_log.specs.declared.fault.LogFault.{LogFault}
-use Rattle.session_log.specs.declared.fault.LogFault.TheVariants.{BadLine, TooLong, Read, Write, TooManyLines}
+use Rattle.session_log.specs.declared.fault.LogFault.TheVariants.{BadLine, TooLong, Differs, Read, Write, TooManyLines, Memory}
 
 abbrev pub fault_number : LogFault → ℕ
 fault_number (BadLine n) = 1
 fault_number (TooLong n) = 2
+fault_number (Differs line packet) = 3
 fault_number (Read n) = 4
 fault_number Write = 5
 fault_number TooManyLines = 6
+fault_number (Memory n) = 7

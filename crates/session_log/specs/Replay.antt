@@ -3,18 +3,18 @@ use Rattle.std.specs.Prelude.{◌≡◌, ℕ, ◌+◌, ◌<◌, ◌≤◌, ◌^�
 use Rattle.std.specs.Io.KnownBytes.{Consumes, Keeps}
 use Rattle.token_session.specs.declared.input.Meters.{Meters}
 use Rattle.session_log.specs.declared.fault.LogFault.{LogFault}
-use Rattle.session_log.specs.declared.fault.LogFault.TheVariants.{BadLine, TooLong, Read, Write, TooManyLines}
+use Rattle.session_log.specs.declared.fault.LogFault.TheVariants.{BadLine, TooLong, Differs, Read, Write, TooManyLines, Memory}
 use Rattle.session_log.specs.Ending.{Ending, Done, Refused, Unread, Unwritten, ending_of}
 use Rattle.session_log.specs.Lines.{lines, whole_lines, last_piece}
-use Rattle.session_log.specs.Log.{played, playing, log, text_of, after, fault_by}
+use Rattle.session_log.specs.Log.{played, playing, log, text_of, last_text, after, fault_by, fault_of}
 use Rattle.session_log.specs.Said.{said}
 use Rattle.session_log.specs.Sent.{SendsPackets, AllSend}
 use Rattle.session_log.specs.Streams.{IsTaken, IsBroken}
 use Rattle.session_log.specs.World.{World}
 
--- no line is faulty, and the whole log was written
+-- nothing is faulty, and the whole log was written
 pub record IsDone {S : Type 0} (world : World S) (s t : S) (bytes text : List ℕ) : Type 0 where
-  pub faultless : (playing world s bytes).fault ≡ None
+  pub faultless : fault_of world (playing world s bytes) ≡ None
   pub written : text ≡ log world s bytes
   pub stands : t ≡ (playing world s bytes).state
 
@@ -25,9 +25,9 @@ pub record IsPlayed {S : Type 0} (world : World S) (s t : S) (bytes text : List 
   pub written : text ≡ (playing world s bytes).text
   pub stands : t ≡ (playing world s bytes).state
 
--- this is the fault of the first faulty line, and the texts of the lines before it were written
+-- this is the first fault, and the texts of the lines before it were written
 pub record IsRefused {S : Type 0} (world : World S) (s t : S) (bytes text : List ℕ) (f : LogFault) : Type 0 where
-  pub faulty : (playing world s bytes).fault ≡ Some f
+  pub faulty : fault_of world (playing world s bytes) ≡ Some f
   pub written : text ≡ (playing world s bytes).text
   pub stands : t ≡ (playing world s bytes).state
 
@@ -42,7 +42,7 @@ pub record IsUnread {S : Type 0} (world : World S) (s t : S) (bytes text : List 
 
 -- the text that comes next, and the state when it is written
 abbrev pub next_text : {S : Type 0} → World S → S → List (List ℕ) → List ℕ
-next_text world s [] = world.ending s
+next_text world s [] = last_text world s
 next_text world s (line ∷ more) = text_of world s line
 
 abbrev pub next_state : {S : Type 0} → World S → S → List (List ℕ) → S
@@ -75,9 +75,13 @@ Means world s t bytes text AtEnd Unwritten = IsUnwritten world s t bytes text
 abbrev pub Plays : {S : Type 0} → World S → S → S → List ℕ → List ℕ → Ending → Type 0
 Plays world s t bytes text ending = Means world s t bytes text (IsPlayed world s t bytes text) ending
 
+-- of a whole log
+abbrev pub Makes : {S : Type 0} → World S → S → S → List ℕ → List ℕ → Ending → Type 0
+Makes world s t bytes text ending = Means world s t bytes text (IsDone world s t bytes text) ending
+
 -- of a whole log, where what was counted is answered at its end
 abbrev pub Logs : {S : Type 0} → World S → S → S → List ℕ → List ℕ → Result Meters LogFault → Type 0
-Logs world s t bytes text r = Means world s t bytes text (IsDone world s t bytes text) (ending_of r) × IfOk r (λ m. m ≡ world.counts t)
+Logs world s t bytes text r = Makes world s t bytes text (ending_of r) × IfOk r (λ m. m ≡ world.counts t)
 
 -- what the playing of one line means: its text was written; or it is faulty, and nothing was; or its text broke off
 abbrev pub PlaysLine : {S F : Type 0} → World S → (F → Option (List ℕ)) → (F → ℕ) → ℕ → S → S → List ℕ → (F × F) → Ending → Type 0
@@ -89,24 +93,46 @@ PlaysLine world taken failed n s t line target (Unread m) = ⊥
 PlaysLine world taken failed n s t line target Unwritten =
     (fault_by world n s (said line) ≡ None) × (t ≡ after world s line) × IsBroken taken failed target (text_of world s line)
 
--- n - 1 whole lines were read, and at most 256 bytes after them
-pub record IsNear (bytes : List ℕ) (n : ℕ) : Type 0 where
+-- what the end of the lines means: the text after them was written; or something is wrong there, and nothing was; or the text
+-- broke off
+abbrev pub Closes : {S F : Type 0} → World S → (F → Option (List ℕ)) → (F → ℕ) → S → (F × F) → Ending → Type 0
+Closes world taken failed s target Done = (world.lacks s ≡ None) × IsTaken taken failed target (world.ending s)
+Closes world taken failed s target (Refused fault) =
+    (world.lacks s ≡ Some fault) × Keeps (taken target.0) (taken target.1) × (failed target.1 ≡ failed target.0)
+Closes world taken failed s target (Unread n) = ⊥
+Closes world taken failed s target Unwritten = (world.lacks s ≡ None) × IsBroken taken failed target (world.ending s)
+
+-- the faults that a line n has by itself, but for its length and number, or that the writing of its text has
+abbrev pub IsOfLine : ℕ → LogFault → Type 0
+IsOfLine n (BadLine m) = m ≡ n
+IsOfLine n (TooLong m) = ⊥
+IsOfLine n (Differs line packet) = Unit {0}
+IsOfLine n (Read m) = ⊥
+IsOfLine n Write = Unit {0}
+IsOfLine n TooManyLines = ⊥
+IsOfLine n (Memory m) = ⊥
+
+-- n - 1 whole lines were read, of which none is faulty, and at most 256 bytes after them
+pub record IsNear {S : Type 0} (world : World S) (s : S) (bytes : List ℕ) (n : ℕ) : Type 0 where
   pub before : List ℕ
   pub front : List ℕ
   pub cut : bytes ≡ before ++ front
   pub whole : last_piece before ≡ []
+  pub faultless : (played world 1 s (whole_lines before)).fault ≡ None
   pub count : n ≡ length (whole_lines before) + 1
   pub near : length front ≤ 256
 
--- how far was read to find a faulty line: a bad line is one of the whole lines of what was read, or this was all that
--- there was; of a line that is too long just 256 bytes were read
-abbrev pub Reaches : List ℕ → Type 0 → LogFault → Type 0
-Reaches bytes all (BadLine n) = IsNear bytes n × ((n ≤ length (whole_lines bytes)) ⊎ all)
-Reaches bytes all (TooLong n) = IsNear bytes n × (n ≡ length (whole_lines bytes) + 1) × (length (last_piece bytes) ≡ 256)
-Reaches bytes all TooManyLines = IsNear bytes (2 ^ 32)
-Reaches bytes all (Read n) = ⊥
-Reaches bytes all Write = ⊥
+-- how far was read to find a fault: a bad line is one of the whole lines of what was read, or this was all that there was; of
+-- a line that is too long just 256 bytes were read; and a difference is found at a line, or at the end of all
+abbrev pub Reaches : {S : Type 0} → World S → S → List ℕ → Type 0 → LogFault → Type 0
+Reaches world s bytes all (BadLine n) = IsNear world s bytes n × ((n ≤ length (whole_lines bytes)) ⊎ all)
+Reaches world s bytes all (TooLong n) = IsNear world s bytes n × (n ≡ length (whole_lines bytes) + 1) × (length (last_piece bytes) ≡ 256)
+Reaches world s bytes all (Differs line packet) = ((n : ℕ) × IsNear world s bytes n × (n ≤ length (whole_lines bytes))) ⊎ all
+Reaches world s bytes all TooManyLines = IsNear world s bytes (2 ^ 32)
+Reaches world s bytes all (Read n) = ⊥
+Reaches world s bytes all Write = ⊥
+Reaches world s bytes all (Memory n) = ⊥
 
-abbrev pub ReadsTo : Option (List ℕ) → Option (List ℕ) → Type 0 → Ending → Type 0
-ReadsTo left left' all (Refused fault) = (bytes : List ℕ) × Consumes left left' bytes × Reaches bytes all fault
-ReadsTo left left' all _ = Unit {0}
+abbrev pub ReadsTo : {S : Type 0} → World S → S → Option (List ℕ) → Option (List ℕ) → Type 0 → Ending → Type 0
+ReadsTo world s left left' all (Refused fault) = (bytes : List ℕ) × Consumes left left' bytes × Reaches world s bytes all fault
+ReadsTo world s left left' all _ = Unit {0}

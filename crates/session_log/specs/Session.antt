@@ -3,12 +3,13 @@ use Rattle.std.specs.Prelude.{◌≡◌, ℕ, ◌<◌, ◌^◌, List, ◌∷◌,
 use Rattle.std.specs.Io.KnownBytes.{Appends}
 use Rattle.authn_core.specs.Turn.{Start}
 use Rattle.token_session.specs.declared.input.Timed.{Timed}
-use Rattle.token_session.specs.History.{judged}
+use Rattle.token_session.specs.History.{judge, judged}
 use Rattle.token_session.specs.Law.{sent_now}
 use Rattle.token_session.specs.Meters.{SessionState, stepped, sent_by, meters_of}
+use Rattle.token_session.specs.Noise.{is_noise_at, is_noise_behind}
 use Rattle.session_log.specs.Lines.{lines}
 use Rattle.session_log.specs.Log.{log}
-use Rattle.session_log.specs.World.{Course, World, replaying}
+use Rattle.session_log.specs.World.{Course, World, replaying, quieting}
 
 -- what a session holds, moved on by inputs
 abbrev pub sessions : Course SessionState
@@ -24,6 +25,13 @@ machine = replaying sessions
 
 abbrev pub history : Start → World (List Timed)
 history start = replaying (histories start)
+
+-- a log made quiet on them
+abbrev pub quiet_machine : World SessionState
+quiet_machine = quieting sessions (λ s x. is_noise_at s.machine x)
+
+abbrev pub quiet_history : Start → World (List Timed)
+quiet_history start = quieting (histories start) (λ h x. is_noise_behind start (judge start x (judged start h)) (judged start h))
 
 -- what was written is its own log, on a session that stands at s, unless it has too many lines
 abbrev pub Repeats : Option (List ℕ) → Option (List ℕ) → SessionState → Type 0

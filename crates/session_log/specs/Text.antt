@@ -7,6 +7,10 @@ use Rattle.token_session.specs.declared.input.Meters.{Meters}
 abbrev pub ended : List ℕ → List ℕ
 ended line = line ++ 10 ∷ []
 
+-- the line of a tick, without its line feed
+abbrev pub tick_text : ℕ → List ℕ
+tick_text at = codes "t " ++ decimal at
+
 -- the line of a packet that was sent
 abbrev pub sent_text : List ℕ → List ℕ
 sent_text packet = codes "< " ++ encode_lower packet ++ 10 ∷ []
@@ -16,3 +20,7 @@ abbrev pub meters_line : Meters → List ℕ
 meters_line m =
     codes "= held " ++ decimal m.held ++ codes " rows " ++ decimal m.rows ++ codes " pending " ++ decimal m.pending
     ++ codes " requests " ++ decimal m.requests ++ codes " bytes " ++ decimal m.bytes ++ codes " steps " ++ decimal m.steps ++ codes "\n"
+
+-- the line of what was the same
+abbrev pub same_line : (inputs packets : ℕ) → List ℕ
+same_line inputs packets = codes "same " ++ decimal inputs ++ codes " inputs " ++ decimal packets ++ codes " packets\n"

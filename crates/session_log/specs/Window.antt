@@ -1,7 +1,7 @@
 -- What stands in front in a window, as line n.
 use Rattle.std.specs.Prelude.{◌≡◌, ℕ, ◌<◌, ◌≤◌, ◌^◌, List, [], length, position, Some, None}
 use Rattle.session_log.specs.declared.fault.LogFault.{LogFault}
-use Rattle.session_log.specs.declared.fault.LogFault.TheVariants.{BadLine, TooLong, Read, Write, TooManyLines}
+use Rattle.session_log.specs.declared.fault.LogFault.TheVariants.{BadLine, TooLong, Differs, Read, Write, TooManyLines, Memory}
 use Rattle.session_log.specs.Lines.{is_feed}
 
 -- the front of a line that can still go on
@@ -23,4 +23,6 @@ Stops n window TooManyLines = (2 ^ 32 ≤ n) × (0 < length window) × (length w
 Stops n window (TooLong m) = (m ≡ n) × (n < 2 ^ 32) × (position is_feed window ≡ None) × (length window ≡ 256)
 Stops n window (Read m) = (m ≡ n) × IsUnfinished n window
 Stops n window (BadLine m) = ⊥
+Stops n window (Differs line packet) = ⊥
+Stops n window (Memory m) = ⊥
 Stops n window Write = ⊥

@@ -1,11 +1,11 @@
 -- What a log is played on, and what is made of its lines.
-use Rattle.std.specs.Prelude.{ℕ, List, [], ◌++◌, flat_map, Option, None}
+use Rattle.std.specs.Prelude.{ℕ, Bool, List, [], ◌++◌, flat_map, Option, None, if◌then◌else◌}
 use Rattle.token_session.specs.declared.input.Timed.{Timed}
 use Rattle.token_session.specs.declared.input.Meters.{Meters}
 use Rattle.session_log.specs.declared.fault.LogFault.{LogFault}
 use Rattle.session_log.specs.declared.line.Line.{Line}
 use Rattle.session_log.specs.declared.line.Line.TheVariants.{Input, Sent, Remark, Count}
-use Rattle.session_log.specs.Text.{ended, sent_text, meters_line}
+use Rattle.session_log.specs.Text.{ended, sent_text, tick_text, meters_line}
 
 -- how an input moves a state, the packets that are sent for it, and what is counted
 pub record Course (S : Type 0) : Type 0 where
@@ -14,12 +14,14 @@ pub record Course (S : Type 0) : Type 0 where
   pub counts : S → Meters
 
 -- of what a line says: the fault that it has on a state, if any, where it leads, the packets that are sent and the text
--- that is written for it; the text after the last line; and what is counted
+-- that is written for it; what is wrong after the last line, if anything, and else the text that is written there; and
+-- what is counted
 pub record World (S : Type 0) : Type 0 where
   pub stops : S → Line → Option LogFault
   pub moves : S → Line → S
   pub sends : S → Line → List (List ℕ)
   pub writes : S → List ℕ → Line → List ℕ
+  pub lacks : S → Option LogFault
   pub ending : S → List ℕ
   pub counts : S → Meters
 
@@ -50,6 +52,26 @@ replaying course = record {
   moves = moves_input course;
   sends = sends_input course;
   writes = writes_again course;
+  lacks = λ s. None;
   ending = λ s. meters_line (course.counts s);
+  counts = course.counts;
+}
+
+-- Made quiet, each input line and each remark comes again, but a tick's line in place of noise, and nothing else.
+
+abbrev pub writes_quiet : {S : Type 0} → (S → Timed → Bool) → S → List ℕ → Line → List ℕ
+writes_quiet noises s line (Input timed) = ended (if noises s timed then tick_text timed.at else line)
+writes_quiet noises s line (Sent packet) = []
+writes_quiet noises s line Remark = ended line
+writes_quiet noises s line Count = []
+
+abbrev pub quieting : {S : Type 0} → Course S → (S → Timed → Bool) → World S
+quieting course noises = record {
+  stops = λ s l. None;
+  moves = moves_input course;
+  sends = λ s l. [];
+  writes = writes_quiet noises;
+  lacks = λ s. None;
+  ending = λ s. [];
   counts = course.counts;
 }

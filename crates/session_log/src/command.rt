@@ -1,8 +1,13 @@
-//! The commands of the program `hidlog`, over any source and targets.
-ghost use Rattle.std.specs.Prelude.{◌≡◌, ◌<◌, ◌-◌, ◌^◌, OnOk};
-ghost use Rattle.session_log.specs.Command.{IsReplayed, program_start};
+//! The commands of the program `hidlog` that play a log on a session, over any source and targets.
+ghost use Rattle.std.specs.Prelude.{◌≡◌, ◌<◌, ◌-◌, ◌^◌, List, OnOk};
+ghost use Rattle.authn_core.specs.Turn.{Start};
+ghost use Rattle.token_session.specs.declared.input.Timed.{Timed as OneInput};
+ghost use Rattle.token_session.specs.Meters.{StandsBehind};
+ghost use Rattle.session_log.specs.Command.{IsChecked, IsQuieted, IsReplayed, status_of};
 
+use crate::checking::check;
 use crate::fault::LogFault;
+use crate::quieting::quiet;
 use crate::replaying::replay;
 use crate::source::Source;
 use crate::target::{Target, put_all};
@@ -23,9 +28,25 @@ fn tell_fault<E: Target>(faults: &mut E, fault: &LogFault)
     }
 }
 
-/// The command `replay`: replays the log on a new session, without rows, whose AAGUID is zero and whose start
-/// is 0. An error holds the exit status, 1: the fault's text was given to `faults`, if that could be.
-pub fn replay_command<S: Source, O: Target, E: Target>(
+/// The exit status of an answer: 1 for a fault, whose text is given to `faults`, if that can be.
+fn status<A: Drop, E: Target>(faults: &mut E, answer: Result<A, LogFault>) -> Result<(), u8>
+    requires { E.failed faults.old < 2 ^ 64 - 1 }
+    ensures status { result ≡ status_of answer }
+    ensures silent { OnOk result (faults.new ≡ faults.old) }
+{
+    match answer {
+        Ok(_) => Ok(()),
+        Err(fault) => {
+            tell_fault(faults, &fault);
+            Err(1)
+        }
+    }
+}
+
+/// The command `replay`: replays the log on the session. An error holds the exit status, 1: the fault's text was given
+/// to `faults`, if that could be.
+pub fn replay_command<S: Source, O: Target, E: Target, const C: usize>(
+    session: &mut Session<C>,
     input: &mut S,
     output: &mut O,
     faults: &mut E,
@@ -33,18 +54,57 @@ pub fn replay_command<S: Source, O: Target, E: Target>(
     requires reads { S.failed input.old < 2 ^ 64 - 1 }
     requires writes { O.failed output.old < 2 ^ 64 - 1 }
     requires tells { E.failed faults.old < 2 ^ 64 - 1 }
-    // It is the log of the empty history, of the program's start, that was written.
-    ensures replayed { IsReplayed program_start S.left S.failed S.ended O.taken O.failed result
+    // It is the log of each history that the session stands after that was written.
+    ensures replayed { (start : Start) (h : List OneInput) → StandsBehind session.old start h
+        → IsReplayed start h S.left S.failed S.ended O.taken O.failed result session.new
         (input.old, input.new) (output.old, output.new) }
     // Without a fault nothing is told.
     ensures silent { OnOk result (faults.new ≡ faults.old) }
 {
-    let mut session = Session::<CAPACITY>::bare([0; 16], 0);
-    match replay(input, output, &mut session) {
-        Ok(_) => Ok(()),
-        Err(fault) => {
-            tell_fault(faults, &fault);
-            Err(1)
-        }
-    }
+    let answer = replay(input, output, session);
+    status(faults, answer)
+}
+
+/// The command `check`: compares the log with what the session sends. An error holds the exit status, 1, as for
+/// [`replay_command`].
+pub fn check_command<S: Source, O: Target, E: Target, const C: usize>(
+    session: &mut Session<C>,
+    input: &mut S,
+    output: &mut O,
+    faults: &mut E,
+) -> Result<(), u8>
+    requires reads { S.failed input.old < 2 ^ 64 - 1 }
+    requires writes { O.failed output.old < 2 ^ 64 - 1 }
+    requires tells { E.failed faults.old < 2 ^ 64 - 1 }
+    // It was compared with what each history names that the session stands after.
+    ensures checked { (start : Start) (h : List OneInput) → StandsBehind session.old start h
+        → IsChecked start h S.left S.failed S.ended O.taken O.failed result session.new
+        (input.old, input.new) (output.old, output.new) }
+    // Without a fault nothing is told.
+    ensures silent { OnOk result (faults.new ≡ faults.old) }
+{
+    let answer = check(input, output, session);
+    status(faults, answer)
+}
+
+/// The command `quiet`: makes the log quiet on the session. An error holds the exit status, 1, as for
+/// [`replay_command`].
+pub fn quiet_command<S: Source, O: Target, E: Target, const C: usize>(
+    session: &mut Session<C>,
+    input: &mut S,
+    output: &mut O,
+    faults: &mut E,
+) -> Result<(), u8>
+    requires reads { S.failed input.old < 2 ^ 64 - 1 }
+    requires writes { O.failed output.old < 2 ^ 64 - 1 }
+    requires tells { E.failed faults.old < 2 ^ 64 - 1 }
+    // It is quiet after each history that the session stands after.
+    ensures quieted { (start : Start) (h : List OneInput) → StandsBehind session.old start h
+        → IsQuieted start h S.left S.failed S.ended O.taken O.failed result session.new
+        (input.old, input.new) (output.old, output.new) }
+    // Without a fault nothing is told.
+    ensures silent { OnOk result (faults.new ≡ faults.old) }
+{
+    let answer = quiet(input, output, session);
+    status(faults, answer)
 }

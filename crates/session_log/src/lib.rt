@@ -2,10 +2,18 @@
 //! is written again with the packets that the session sent for it (docs/LOG_FORMAT.md).
 #![tactic(auto)]
 
+#[cfg(test)]
+mod check_tests;
+mod checking;
 mod command;
 mod fault;
 pub mod laws;
 mod line;
+mod lines;
+mod playing;
+#[cfg(test)]
+mod quiet_tests;
+mod quieting;
 mod replaying;
 mod source;
 mod target;
@@ -14,9 +22,13 @@ mod tests;
 mod text;
 mod window;
 
-pub use command::{CAPACITY, replay_command};
+pub use checking::check;
+pub use command::{CAPACITY, check_command, quiet_command, replay_command};
 pub use fault::{Failed, LogFault};
 pub use line::{Line, read_line};
+pub use lines::next_line;
+pub use quieting::quiet;
 pub use replaying::replay;
 pub use source::{FromRead, SliceIn, Source};
 pub use target::{SliceOut, Target, ToWrite, put_all};
+pub use window::Window;

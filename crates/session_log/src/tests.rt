@@ -301,7 +301,9 @@ fn faults_are_told(rt: HostRuntime) {
         let (mut out, mut told) = ([0; 64], [0; 64]);
         let mut output = SliceOut::new(&mut out);
         let mut faults = SliceOut::new(&mut told);
-        let answer = replay_command(&mut SliceIn::new(log.as_bytes()), &mut output, &mut faults);
+        let mut session = Session::<4>::bare([0; 16], 0);
+        let mut input = SliceIn::new(log.as_bytes());
+        let answer = replay_command(&mut session, &mut input, &mut output, &mut faults);
         assert_eq!(rt; answer.err().unwrap_or(0), status);
         assert!(rt; faults.written() == want.as_bytes());
     }
@@ -312,9 +314,15 @@ fn faults_have_texts_and_numbers(rt: HostRuntime) -> Result<(), AllocError> {
     let cases = [
         (LogFault::BadLine(7), 1, "line 7: not a log line"),
         (LogFault::TooLong(7), 2, "line 7: longer than 255 bytes"),
+        (
+            LogFault::Differs { line: 7, packet: 3 },
+            3,
+            "line 7: differs at packet 3",
+        ),
         (LogFault::Read(7), 4, "line 7: reading failed"),
         (LogFault::Write, 5, "writing failed"),
         (LogFault::TooManyLines, 6, "too many lines"),
+        (LogFault::Memory(7), 7, "line 7: no memory"),
     ];
     for (fault, number, text) in cases {
         assert_eq!(rt; fault.number(), number);

@@ -2,7 +2,7 @@
 ghost use Rattle.std.specs.Prelude.{◌≡◌, ◌<◌, ◌≤◌, ◌+◌, ◌*◌, ◌-◌, ◌^◌, [], ◌∷◌, ◌++◌, length, flat_map, decimal, OnOk, OnErr, IfErr};
 ghost use Rattle.std.specs.Io.KnownBytes.{Appends};
 ghost use Rattle.session_log.specs.Sent.{ArePackets, FitsMeters, IsPacket};
-ghost use Rattle.session_log.specs.Text.{ended, sent_text, meters_line};
+ghost use Rattle.session_log.specs.Text.{ended, sent_text, tick_text, meters_line, same_line};
 ghost use Rattle.session_log.specs.Streams.{PutsLine};
 
 use crate::fault::LogFault;
@@ -99,6 +99,17 @@ pub fn put_line<T: Target>(writer: &mut T, text: &mut Text, line: &[u8]) -> Resu
     put_text(writer, text.as_slice())
 }
 
+/// Writes the line of a tick.
+pub fn put_tick<T: Target>(writer: &mut T, text: &mut Text, at: u64) -> Result<(), LogFault>
+    requires { T.failed writer.old < 2 ^ 64 - 1 }
+    ensures { PutsLine T.taken T.failed (writer.old, writer.new) (ended (tick_text at)) result }
+{
+    text.clear();
+    push_count(text, b"t ", at);
+    text.push(b'\n');
+    put_text(writer, text.as_slice())
+}
+
 /// Writes an input line and the packets that were sent for it, and empties the outbox.
 pub fn put_input<T: Target>(
     writer: &mut T,
@@ -131,5 +142,22 @@ pub fn put_meters<T: Target>(
     ensures fits { FitsMeters meters }
 {
     gather_meters(text, meters);
+    put_text(writer, text.as_slice())
+}
+
+/// Writes how many inputs and packets were the same.
+pub fn put_same<T: Target>(
+    writer: &mut T,
+    text: &mut Text,
+    inputs: u64,
+    packets: u64,
+) -> Result<(), LogFault>
+    requires { T.failed writer.old < 2 ^ 64 - 1 }
+    ensures { PutsLine T.taken T.failed (writer.old, writer.new) (same_line inputs packets) result }
+{
+    text.clear();
+    push_count(text, b"same ", inputs);
+    push_count(text, b" inputs ", packets);
+    let _ = text.try_extend_from_slice(b" packets\n");
     put_text(writer, text.as_slice())
 }

@@ -1,4 +1,4 @@
-use Rattle.std.proofs.Common.{Ok, Err, sym, ap, ◌∙◌, subst}
+use Rattle.std.proofs.Common.{Ok, Err, refl, sym, ap, ◌∙◌, subst}
 use Rattle.std.specs.Io.KnownBytes.{Appends}
 use Rattle.std.proofs.lemmas.Result.{err_from_is_err_and}
 use Rattle.token_session.specs.declared.input.Meters.{Meters}
@@ -47,7 +47,7 @@ returns-in_err-put_meters-clause-replayed g c =
     fails_with machine a b x (taken c.put_meters.new.writer) s0 s c.from_residual-in_err-put_meters.result c.in_err-put_meters.field-0.0
     (λ bytes text. IsDone machine s0 s bytes text) (from.1 ∙ ap (λ (f : LogFault). Err f) from.2)
     (subst (λ (f : LogFault). Moves a b x (taken c.put_meters.new.writer) (λ bytes text. Means machine s0 s bytes text (IsDone machine s0 s bytes text) (ended_by f))) (sym put.0)
-    (closes_not machine taken failed a b x (c.play_all.new.writer, c.put_meters.new.writer) s0 s played.0 played.1 played.2 played.3 played.4 broken))
+    (closes_not machine taken failed a b x (c.play_all.new.writer, c.put_meters.new.writer) s0 s played.0 played.1 played.2 played.3 played.4 refl broken))
 
 pub returns-in_err-put_meters-clause-history : goal.returns-in_err-put_meters-clause-history
 returns-in_err-put_meters-clause-history g c =
@@ -62,7 +62,7 @@ returns-clause-replayed g c =
     let failed = g.T.Target.failed in
     let played = c.in_ok-play_all.ensures.played in
     let put = subst (λ (m : Meters). IsTaken taken failed (c.play_all.new.writer, c.put_meters.new.writer) (meters_line m)) c.meters-meters.ensures.value c.in_ok-put_meters.ensures.puts in
-    let whole = closes machine taken failed (left c.args.reader.now) (left c.play_all.new.reader) (taken c.args.writer.now) (c.play_all.new.writer, c.put_meters.new.writer) c.args.session.now c.play_all.new.session played.0 played.1 played.2 played.3 played.4 put in
+    let whole = closes machine taken failed (left c.args.reader.now) (left c.play_all.new.reader) (taken c.args.writer.now) (c.play_all.new.writer, c.put_meters.new.writer) c.args.session.now c.play_all.new.session played.0 played.1 played.2 played.3 played.4 refl put in
     (whole.0, whole.1, whole.2, whole.3, (whole.4, c.meters-meters.ensures.value))
 
 pub returns-clause-again : goal.returns-clause-again

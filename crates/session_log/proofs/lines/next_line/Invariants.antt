@@ -1,6 +1,6 @@
 use Rattle.std.proofs.Common.{◌≡◌, ◌-◌, List, ℕ, ◌++◌, length}
 use Rattle.std.specs.Io.KnownBytes.{Consumes}
-use Rattle.session_log.proofs.replaying.next_line.Given as goal
+use Rattle.session_log.proofs.lines.next_line.Given as goal
 
 -- what was read stands in the window
 abbrev pub invariant-reading : goal.invariant-reading

@@ -1,6 +1,6 @@
 use Rattle.std.proofs.Common.{rules, ◌≡◌, ◌<◌, length, refl, arith, sym, ◌∙◌}
 use Rattle.session_log.proofs.Gathering.{gathers, in_count}
-use Rattle.session_log.proofs.replaying.next_line.Goals as goal
+use Rattle.session_log.proofs.lines.next_line.Goals as goal
 
 pub returns-in-Some-clause-found : goal.returns-in-Some-clause-found
 returns-in-Some-clause-found g c =

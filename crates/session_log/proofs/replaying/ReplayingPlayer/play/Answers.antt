@@ -8,7 +8,7 @@ use Rattle.session_log.specs.Text.{ended, sent_text}
 use Rattle.session_log.specs.declared.line.Line.{Line}
 use Rattle.session_log.specs.declared.line.Line.TheVariants.{Input, Remark}
 use Rattle.session_log.proofs.Exits.{hands_over}
-use Rattle.session_log.proofs.replaying.play_line.Goals as goal
+use Rattle.session_log.proofs.replaying.ReplayingPlayer.play.Goals as goal
 
 pub returns-in-Some-Input-clause-played : goal.returns-in-Some-Input-clause-played
 returns-in-Some-Input-clause-played g c =

@@ -1,0 +1,93 @@
+use Rattle.std.proofs.Common.{Err, refl, ap, ◌∙◌}
+use Rattle.std.proofs.lemmas.Result.{err_from_is_err_and}
+use Rattle.session_log.specs.Check.{begun, check_machine, compared, due_packets}
+use Rattle.session_log.specs.Ending.{ending_of}
+use Rattle.session_log.specs.Streams.{IsAllRead}
+use Rattle.session_log.specs.declared.fault.LogFault.{LogFault}
+use Rattle.session_log.proofs.Checks.{fails_so, ends_so, ends_reach, ends_read, ends_written}
+use Rattle.session_log.proofs.Histories.{checks_history}
+use Rattle.session_log.proofs.checking.check.Goals as goal
+
+pub returns-in_err-play_all-clause-checked : goal.returns-in_err-play_all-clause-checked
+returns-in_err-play_all-clause-checked g c =
+    let left = g.S.Source.left in
+    let taken = g.T.Target.taken in
+    let s0 = c.args.session.now in
+    let s = c.play_all.new.session in
+    let p0 = c.new-player.result in
+    let p = c.play_all.new.player in
+    let from = compared s0 p0.lines p0.input p0.found (due_packets p0.awaited p0.outbox) p0.inputs p0.packets in
+    let to = compared s p.lines p.input p.found (due_packets p.awaited p.outbox) p.inputs p.packets in
+    let is = err_from_is_err_and c.from_residual.result c.from_residual.ensures.1 in (
+      to,
+      refl,
+      fails_so check_machine (left c.args.reader.now) (left c.play_all.new.reader) (taken c.args.writer.now) (taken c.play_all.new.writer) from (begun s0) to c.from_residual.result c.in_err-play_all.field-0.0
+          (is.1 ∙ ap (λ (f : LogFault). Err f) is.2) (c.new-player.ensures.begun s0) c.in_err-play_all.ensures.played,
+    )
+
+pub returns-in_err-play_all-clause-history : goal.returns-in_err-play_all-clause-history
+returns-in_err-play_all-clause-history g c =
+    let left = g.S.Source.left in
+    let taken = g.T.Target.taken in
+    checks_history (left c.args.reader.now) (left c.play_all.new.reader) (taken c.args.writer.now) (taken c.play_all.new.writer) c.args.session.now c.play_all.new.session (ending_of c.from_residual.result)
+    (returns-in_err-play_all-clause-checked g c)
+
+pub returns-clause-checked : goal.returns-clause-checked
+returns-clause-checked g c =
+    let left = g.S.Source.left in
+    let taken = g.T.Target.taken in
+    let s0 = c.args.session.now in
+    let s = c.play_all.new.session in
+    let p0 = c.new-player.result in
+    let p = c.play_all.new.player in
+    let from = compared s0 p0.lines p0.input p0.found (due_packets p0.awaited p0.outbox) p0.inputs p0.packets in
+    let to = compared s p.lines p.input p.found (due_packets p.awaited p.outbox) p.inputs p.packets in (
+      to,
+      refl,
+      ends_so check_machine taken g.T.Target.failed (left c.args.reader.now) (left c.play_all.new.reader) (taken c.args.writer.now) (c.play_all.new.writer, c.finish.new.writer) from (begun s0) to (ending_of c.finish.result)
+          (c.new-player.ensures.begun s0) c.in_ok-play_all.ensures.played (c.finish.ensures s),
+    )
+
+pub returns-clause-history : goal.returns-clause-history
+returns-clause-history g c =
+    let left = g.S.Source.left in
+    let taken = g.T.Target.taken in
+    checks_history (left c.args.reader.now) (left c.play_all.new.reader) (taken c.args.writer.now) (taken c.finish.new.writer) c.args.session.now c.play_all.new.session (ending_of c.finish.result) (returns-clause-checked g c)
+
+pub returns-clause-reach : goal.returns-clause-reach
+returns-clause-reach g c =
+    let left = g.S.Source.left in
+    let taken = g.T.Target.taken in
+    let s0 = c.args.session.now in
+    let s = c.play_all.new.session in
+    let p0 = c.new-player.result in
+    let p = c.play_all.new.player in
+    let from = compared s0 p0.lines p0.input p0.found (due_packets p0.awaited p0.outbox) p0.inputs p0.packets in
+    let to = compared s p.lines p.input p.found (due_packets p.awaited p.outbox) p.inputs p.packets in
+    let played = c.in_ok-play_all.ensures.played in
+    ends_reach check_machine (begun s0) to taken g.T.Target.failed (left c.args.reader.now) (left c.play_all.new.reader) (c.play_all.new.writer, c.finish.new.writer) played.0
+    (IsAllRead left g.S.Source.ended c.play_all.new.reader) to (ending_of c.finish.result) refl (c.finish.ensures s) played.2 c.in_ok-play_all.ensures.end
+
+pub returns-clause-reads : goal.returns-clause-reads
+returns-clause-reads g c =
+    let left = g.S.Source.left in
+    let taken = g.T.Target.taken in
+    let s0 = c.args.session.now in
+    let s = c.play_all.new.session in
+    let p0 = c.new-player.result in
+    let p = c.play_all.new.player in
+    let from = compared s0 p0.lines p0.input p0.found (due_packets p0.awaited p0.outbox) p0.inputs p0.packets in
+    let to = compared s p.lines p.input p.found (due_packets p.awaited p.outbox) p.inputs p.packets in
+    ends_read check_machine to taken g.T.Target.failed (c.play_all.new.writer, c.finish.new.writer) g.S.Source.failed (c.args.reader.now, c.play_all.new.reader) (ending_of c.finish.result) (c.finish.ensures s) c.in_ok-play_all.ensures.reads
+
+pub returns-clause-writes : goal.returns-clause-writes
+returns-clause-writes g c =
+    let left = g.S.Source.left in
+    let taken = g.T.Target.taken in
+    let s0 = c.args.session.now in
+    let s = c.play_all.new.session in
+    let p0 = c.new-player.result in
+    let p = c.play_all.new.player in
+    let from = compared s0 p0.lines p0.input p0.found (due_packets p0.awaited p0.outbox) p0.inputs p0.packets in
+    let to = compared s p.lines p.input p.found (due_packets p.awaited p.outbox) p.inputs p.packets in
+    ends_written check_machine to taken g.T.Target.failed c.args.writer.now (c.play_all.new.writer, c.finish.new.writer) (ending_of c.finish.result) (c.finish.ensures s) c.in_ok-play_all.ensures.writes

@@ -1,0 +1,18 @@
+use Rattle.std.proofs.Common.{arith}
+use Rattle.session_log.specs.Check.{begun}
+use Rattle.session_log.specs.Lines.{lines}
+use Rattle.session_log.specs.Session.{histories}
+use Rattle.session_log.proofs.Groups.{check_is_silent, same_groups, counts_on}
+use Rattle.session_log.proofs.laws.a_checked_log_has_what_is_sent.Goals as goal
+
+pub returns-clause-same : goal.returns-clause-same
+returns-clause-same c = λ start h bytes sound. same_groups (histories start) 1 (begun h) (lines bytes) sound
+
+pub returns-clause-inputs : goal.returns-clause-inputs
+returns-clause-inputs c = λ start h bytes sound. let counted = counts_on (histories start) 1 (begun h) (lines bytes) sound in omega (arith, counted.0)
+
+pub returns-clause-packets : goal.returns-clause-packets
+returns-clause-packets c = λ start h bytes sound. let counted = counts_on (histories start) 1 (begun h) (lines bytes) sound in omega (arith, counted.1)
+
+pub returns-clause-silent : goal.returns-clause-silent
+returns-clause-silent c = λ start h bytes. check_is_silent (histories start) 1 (begun h) (lines bytes)

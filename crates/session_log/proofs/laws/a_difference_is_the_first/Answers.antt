@@ -1,0 +1,7 @@
+use Rattle.session_log.specs.Lines.{lines}
+use Rattle.session_log.specs.Session.{histories}
+use Rattle.session_log.proofs.Groups.{first_difference}
+use Rattle.session_log.proofs.laws.a_difference_is_the_first.Goals as goal
+
+pub returns : goal.returns
+returns c = λ start h bytes line packet differs. first_difference (histories start) h (lines bytes) line packet differs

@@ -1,0 +1,105 @@
+-- A log compared with what is sent: after each input line stand the packets that are sent for it.
+use Rattle.std.specs.Prelude.{ℕ, ◌+◌, ◌==◌, List, [], ◌∷◌, Option, Some, None, if◌then◌else◌}
+use Rattle.std.specs.Cmp.Lexicographic.{pointwise}
+use Rattle.authn_core.specs.Turn.{Start}
+use Rattle.hid_packet.specs.declared.packet.Packet.{Packet}
+use Rattle.token_session.specs.declared.input.Timed.{Timed}
+use Rattle.token_session.specs.Meters.{SessionState}
+use Rattle.session_log.specs.declared.fault.LogFault.{LogFault}
+use Rattle.session_log.specs.declared.fault.LogFault.TheVariants.{Differs}
+use Rattle.session_log.specs.declared.line.Line.{Line}
+use Rattle.session_log.specs.declared.line.Line.TheVariants.{Input, Sent, Remark, Count}
+use Rattle.session_log.specs.Session.{sessions, histories}
+use Rattle.session_log.specs.Text.{same_line}
+use Rattle.session_log.specs.World.{Course, World}
+
+-- what the lines so far came to: where the inputs led; how many lines there were; the line of the last input (0 before any),
+-- how many of its packets were found, and those that are due; and how many inputs and packets were the same
+pub record Compared (S : Type 0) : Type 0 where
+  pub session : S
+  pub lines : ℕ
+  pub input : ℕ
+  pub found : ℕ
+  pub due : List (List ℕ)
+  pub inputs : ℕ
+  pub packets : ℕ
+
+abbrev pub compared : {S : Type 0} → S → (lines input found : ℕ) → (due : List (List ℕ)) → (inputs packets : ℕ) → Compared S
+compared s lines input found due inputs packets =
+    record { session = s; lines = lines; input = input; found = found; due = due; inputs = inputs; packets = packets }
+
+abbrev pub begun : {S : Type 0} → S → Compared S
+begun s = compared s 0 0 0 [] 0 0
+
+-- the next packet differs, is missing, or is one too many
+abbrev pub difference : {S : Type 0} → Compared S → LogFault
+difference c = Differs c.input (c.found + 1)
+
+-- a packet is missing where one is due
+abbrev pub missing_of : List (List ℕ) → LogFault → Option LogFault
+missing_of [] fault = None
+missing_of (p ∷ due) fault = Some fault
+
+abbrev pub missing : {S : Type 0} → Compared S → Option LogFault
+missing c = missing_of c.due (difference c)
+
+-- a packet that stands in the log is to be the next that is due
+abbrev pub differs_from : List (List ℕ) → List ℕ → LogFault → Option LogFault
+differs_from [] packet fault = Some fault
+differs_from (p ∷ due) packet fault = if pointwise ◌==◌ p packet then None else Some fault
+
+-- a missing packet is found at the next input
+abbrev pub stops_compared : {S : Type 0} → Compared S → Line → Option LogFault
+stops_compared c (Input timed) = missing c
+stops_compared c (Sent packet) = differs_from c.due packet.0 (difference c)
+stops_compared c Remark = None
+stops_compared c Count = None
+
+abbrev pub after_first : List (List ℕ) → List (List ℕ)
+after_first [] = []
+after_first (p ∷ due) = due
+
+abbrev pub moves_compared : {S : Type 0} → Course S → Compared S → Line → Compared S
+moves_compared course c (Input timed) = record {
+  session = course.turned c.session timed;
+  lines = c.lines + 1;
+  input = c.lines + 1;
+  found = 0;
+  due = course.sends c.session timed;
+  inputs = c.inputs + 1;
+  packets = c.packets;
+}
+moves_compared course c (Sent packet) = record {
+  session = c.session;
+  lines = c.lines + 1;
+  input = c.input;
+  found = c.found + 1;
+  due = after_first c.due;
+  inputs = c.inputs;
+  packets = c.packets + 1;
+}
+moves_compared course c Remark = record c { lines = c.lines + 1 }
+moves_compared course c Count = record c { lines = c.lines + 1 }
+
+-- Nothing is written before the end.
+abbrev pub checking : {S : Type 0} → Course S → World (Compared S)
+checking course = record {
+  stops = stops_compared;
+  moves = moves_compared course;
+  sends = λ c l. [];
+  writes = λ c line l. [];
+  lacks = missing;
+  ending = λ c. same_line c.inputs c.packets;
+  counts = λ c. course.counts c.session;
+}
+
+abbrev pub check_machine : World (Compared SessionState)
+check_machine = checking sessions
+
+abbrev pub check_history : Start → World (Compared (List Timed))
+check_history start = checking (histories start)
+
+-- the packets that are due, the first of them taken off the others
+abbrev pub due_packets : Option Packet → List (List ℕ) → List (List ℕ)
+due_packets None rest = []
+due_packets (Some packet) rest = packet.0 ∷ rest

@@ -1,0 +1,204 @@
+//! A log compared with what a session sends.
+ghost use Rattle.std.specs.Prelude.{◌≡◌, ◌<◌, ◌≤◌, ◌+◌, ◌-◌, ◌^◌, ℕ, List, [], ◌∷◌, ◌++◌, None, Some, OnOk};
+ghost use Rattle.session_log.specs.Check.{Compared, begun, check_history, check_machine, compared, due_packets};
+ghost use Rattle.session_log.specs.Ending.{ending_of, read_fails, write_fails};
+ghost use Rattle.session_log.specs.Replay.{Closes, Makes, ReadsTo};
+ghost use Rattle.session_log.specs.Streams.{Counts, IsAllRead, Moves};
+ghost use Rattle.token_session.specs.declared.input.Timed.{Timed as OneInput};
+ghost use Rattle.authn_core.specs.Turn.{Start};
+ghost use Rattle.token_session.specs.Meters.{SessionState, StandsBehind};
+
+use crate::fault::LogFault;
+use crate::line::{Line, read_line};
+use crate::playing::{Player, play_all};
+use crate::source::Source;
+use crate::target::Target;
+use crate::text::{Text, put_same};
+use hid_packet::{Outbox, Packet};
+use token_session::{Session, Timed};
+
+/// The packets of the log are compared with those that are sent, and nothing is written.
+#[derive(Drop)]
+struct Checking {
+    /// The packet that the log has to have next, and in the outbox those that come after it.
+    awaited: Option<Packet>,
+    outbox: Outbox,
+    /// How many lines were read.
+    lines: u64,
+    /// The line of the last input, 0 before any.
+    input: u64,
+    /// How many of its packets were found.
+    found: u64,
+    inputs: u64,
+    packets: u64,
+}
+
+impl Checking {
+    fn new() -> Self
+        ensures begun { (s : SessionState) → compared s result.lines result.input result.found
+            (due_packets result.awaited result.outbox) result.inputs result.packets ≡ begun s }
+        ensures none { result.awaited ≡ None }
+        ensures empty { result.outbox ≡ [] }
+        ensures lines { result.lines ≡ 0 }
+        ensures input { result.input ≡ 0 }
+        ensures found { result.found ≡ 0 }
+        ensures inputs { result.inputs ≡ 0 }
+        ensures packets { result.packets ≡ 0 }
+    {
+        Checking {
+            awaited: None,
+            outbox: Outbox::new(),
+            lines: 0,
+            input: 0,
+            found: 0,
+            inputs: 0,
+            packets: 0,
+        }
+    }
+}
+
+impl Checking {
+    /// The packet that comes next differs, is missing or is one too many.
+    fn difference(&self) -> LogFault
+        requires { self.now.found < 2 ^ 64 - 1 }
+        ensures { result ≡ LogFault.Differs self.now.input (self.now.found + 1) }
+    {
+        LogFault::Differs {
+            line: self.input,
+            packet: self.found + 1,
+        }
+    }
+
+    /// Takes the packet that was found, in this line, off those that are due.
+    fn take_next(&mut self, number: u64)
+        requires found { self.old.found < 2 ^ 64 - 1 }
+        requires packets { self.old.packets < 2 ^ 64 - 1 }
+        ensures lines { self.new.lines ≡ number }
+        ensures input { self.new.input ≡ self.old.input }
+        ensures found { self.new.found ≡ self.old.found + 1 }
+        ensures due { due_packets self.new.awaited self.new.outbox ≡ self.old.outbox }
+        ensures inputs { self.new.inputs ≡ self.old.inputs }
+        ensures packets { self.new.packets ≡ self.old.packets + 1 }
+        ensures all { self.new.awaited ≡ None → self.new.outbox ≡ [] }
+    {
+        self.awaited = self.outbox.pop();
+        self.lines = number;
+        self.found += 1;
+        self.packets += 1;
+    }
+
+    /// The packets in the outbox are those of the input in this line.
+    fn begin_input(&mut self, number: u64)
+        requires { self.old.inputs < 2 ^ 64 - 1 }
+        ensures lines { self.new.lines ≡ number }
+        ensures input { self.new.input ≡ number }
+        ensures found { self.new.found ≡ 0 }
+        ensures due { due_packets self.new.awaited self.new.outbox ≡ self.old.outbox }
+        ensures inputs { self.new.inputs ≡ self.old.inputs + 1 }
+        ensures packets { self.new.packets ≡ self.old.packets }
+        ensures all { self.new.awaited ≡ None → self.new.outbox ≡ [] }
+    {
+        self.awaited = self.outbox.pop();
+        self.lines = number;
+        self.input = number;
+        self.found = 0;
+        self.inputs += 1;
+    }
+
+    /// Writes how much was the same, where nothing is missing.
+    fn finish<T: Target>(&self, writer: &mut T) -> Result<(), LogFault>
+        requires write { T.failed writer.old < 2 ^ 64 - 1 }
+        requires found { self.now.found < 2 ^ 64 - 1 }
+        ensures { (s : SessionState) → Closes check_machine T.taken T.failed
+            (compared s self.now.lines self.now.input self.now.found
+            (due_packets self.now.awaited self.now.outbox) self.now.inputs self.now.packets) (writer.old, writer.new) (ending_of result) }
+    {
+        match self.awaited {
+            Some(_) => Err(self.difference()),
+            None => put_same(writer, &mut Text::new(), self.inputs, self.packets),
+        }
+    }
+}
+
+impl<const C: usize> Player<C> for Checking {
+    ghost State = { Compared SessionState };
+
+    ghost world = { check_machine };
+
+    ghost state = { λ c s. compared s c.lines c.input c.found (due_packets c.awaited c.outbox) c.inputs c.packets };
+
+    ghost IsReady = { λ c n. (n ≡ c.lines + 1) × (c.found ≤ c.lines) × (c.inputs ≤ c.lines) × (c.packets ≤ c.lines)
+        × (c.awaited ≡ None → c.outbox ≡ []) };
+
+    fn play<T: Target>(
+        &mut self,
+        line: &[u8],
+        number: u64,
+        _writer: &mut T,
+        session: &mut Session<C>,
+    ) -> Result<(), LogFault> {
+        match read_line(line) {
+            None => Err(LogFault::BadLine(number)),
+            Some(Line::Remark | Line::Count) => {
+                self.lines = number;
+                Ok(())
+            }
+            Some(Line::Sent(packet)) => {
+                if self.awaited != Some(packet) {
+                    return Err(self.difference());
+                }
+                self.take_next(number);
+                Ok(())
+            }
+            Some(Line::Input(timed)) => {
+                if self.awaited.is_some() {
+                    return Err(self.difference());
+                }
+                session.step(timed.at, timed.input, &mut self.outbox);
+                self.begin_input(number);
+                Ok(())
+            }
+        }
+    }
+}
+
+/// Compares a log with what a session sends for its inputs (docs/LOG_FORMAT.md): after each input line have to stand
+/// the packets that are sent for it, all of them, in order, and no other ones; remarks and the lines of what was counted
+/// may stand between them. Hexadecimal digits are compared as what they say. Nothing is written before the reader's end,
+/// and there how many inputs and packets were the same. It allocates nothing.
+///
+/// Fails with [`LogFault::Differs`] at the first packet that differs, is missing or is one too many; a missing one is
+/// found when the next input line was read, or at the reader's end. [`LogFault::BadLine`], [`LogFault::TooLong`],
+/// [`LogFault::TooManyLines`] and [`LogFault::Read`] are as for [`crate::replay`]; of these and a difference the first
+/// that is found is answered. After [`LogFault::Write`], which comes at the reader's end alone, a beginning of the text
+/// was written. The session stands after the last input line that was stepped.
+pub fn check<S: Source, T: Target, const C: usize>(
+    reader: &mut S,
+    writer: &mut T,
+    session: &mut Session<C>,
+) -> Result<(), LogFault>
+    requires read { S.failed reader.old < 2 ^ 64 - 1 }
+    requires write { T.failed writer.old < 2 ^ 64 - 1 }
+    // At Ok no line is faulty, no packet differs, is missing or is too many, and it was written what was compared. A
+    // line fault or a difference is the first one. A read that failed names its line, and nothing before it differs.
+    ensures checked { (later : Compared SessionState) × (later.session ≡ session.new)
+        × Moves (S.left reader.old) (S.left reader.new) (T.taken writer.old) (T.taken writer.new)
+        (λ bytes text. Makes check_machine (begun session.old) later bytes text (ending_of result)) }
+    // At Ok it was all that the reader held.
+    ensures end { OnOk result (IsAllRead S.left S.ended reader.new) }
+    // At a line fault and a difference at most 256 bytes were read after lines without one.
+    ensures reach { ReadsTo check_machine (begun session.old) (S.left reader.old) (S.left reader.new)
+        (IsAllRead S.left S.ended reader.new) (ending_of result) }
+    // After any history, all this holds of what the history names in place of what the session holds.
+    ensures history { (start : Start) (h : List OneInput) → StandsBehind session.old start h
+        → (later : Compared (List OneInput)) × StandsBehind session.new start later.session
+        × Moves (S.left reader.old) (S.left reader.new) (T.taken writer.old) (T.taken writer.new)
+        (λ bytes text. Makes (check_history start) (begun h) later bytes text (ending_of result)) }
+    // A failure was counted exactly at Read, and exactly at Write.
+    ensures reads { Counts S.failed (reader.old, reader.new) (read_fails (ending_of result)) }
+    ensures writes { Counts T.failed (writer.old, writer.new) (write_fails (ending_of result)) }
+{
+    let mut player = Checking::new();
+    play_all(&mut player, reader, writer, session)?;
+    player.finish(writer)
+}
