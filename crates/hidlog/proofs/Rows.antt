@@ -2,7 +2,7 @@
 use Rattle.std.proofs.Common.{◌≡◌, ℕ, List, [], ◌∷◌, Option, Some, None, codes, refl}
 use Rattle.clap.proofs.OnLiterals.{clap_on_literals}
 use Rattle.clap.specs.Kinds.{Kinds}
-use Rattle.hidlog.specs.CommandLine.{Ask, replay, answers_to, asked_by}
+use Rattle.hidlog.specs.CommandLine.{Ask, replay, check, quiet, show, answers_to, asked_by}
 
 -- what clap answers to these words after the program's name
 answers : List (List ℕ) → Kinds
@@ -22,6 +22,14 @@ unfolding asked
 both_options = refl
 
 -- a value may stand after `=`
-attached : asked (codes "replay" ∷ codes "--load=old" ∷ []) ≡ Some (replay (Some (codes "old")) None)
+attached : asked (codes "check" ∷ codes "--load=old" ∷ []) ≡ Some (check (Some (codes "old")))
 unfolding asked
 attached = refl
+
+quiet_alone : asked (codes "quiet" ∷ []) ≡ Some (quiet None)
+unfolding asked
+quiet_alone = refl
+
+show_alone : asked (codes "show" ∷ []) ≡ Some show
+unfolding asked
+show_alone = refl

@@ -7,7 +7,7 @@ use Rattle.clap.specs.Kinds.{Kinds}
 use Rattle.clap.specs.Faults.{fault_of}
 use Rattle.clap.specs.Walk.{Row, Rule, first_of}
 use Rattle.hidlog.specs.declared.command_line.Task.{Task}
-use Rattle.hidlog.specs.declared.command_line.Task.TheVariants.{Replay}
+use Rattle.hidlog.specs.declared.command_line.Task.TheVariants.{Replay, Check, Quiet, Show}
 
 -- ---- the grammar
 
@@ -19,11 +19,15 @@ path_option name = record (new_rule name) { long = Some name; value_names = 1 }
 abbrev pub command : List ℕ → List Rule → Shape
 command name options = record (new_shape name) { rules = options }
 
--- a command is required; clap adds `help`
+-- the four commands, of which one is required; clap adds `help`
 abbrev pub grammar : App
 grammar = record {
   top = record (new_shape (codes "hidlog")) { subcommand_required = true; is_leaf = false };
-  subs = command (codes "replay") (path_option (codes "load") ∷ path_option (codes "save") ∷ []) ∷ [];
+  subs = command (codes "replay") (path_option (codes "load") ∷ path_option (codes "save") ∷ [])
+      ∷ command (codes "check") (path_option (codes "load") ∷ [])
+      ∷ command (codes "quiet") (path_option (codes "load") ∷ [])
+      ∷ command (codes "show") []
+      ∷ [];
 }
 
 -- the kinds that clap's answer to these words may have: what is wrong with them, or help; none where they are a command line
@@ -35,17 +39,26 @@ answers_to words = fault_of grammar words
 -- what words ask for, with the paths that they give
 pub data Ask : Type 0 where
   replay : (load save : Option (List ℕ)) → Ask
+  check : (load : Option (List ℕ)) → Ask
+  quiet : (load : Option (List ℕ)) → Ask
+  show : Ask
 
 abbrev pub path_of : Option (Bor (List ℕ)) → Option (List ℕ)
 path_of = option_map (λ path. path.now)
 
 abbrev pub asks : Task → Ask
 asks (Replay load save) = replay (path_of load) (path_of save)
+asks (Check load) = check (path_of load)
+asks (Quiet load) = quiet (path_of load)
+asks Show = show
 
 -- a command that was met, and what was found for its options
 abbrev pub ask_of : List ℕ × List Row → Option Ask
 ask_of (name, found) =
     if bytes_eq name (codes "replay") then Some (replay (first_of (codes "load") found) (first_of (codes "save") found))
+    else if bytes_eq name (codes "check") then Some (check (first_of (codes "load") found))
+    else if bytes_eq name (codes "quiet") then Some (quiet (first_of (codes "load") found))
+    else if bytes_eq name (codes "show") then Some show
     else None
 
 abbrev pub unless : Kinds → Option Ask → Option Ask

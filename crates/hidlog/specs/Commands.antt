@@ -5,36 +5,12 @@ use Rattle.clap.specs.declared.error.kind.ErrorKind.{ErrorKind}
 use Rattle.clap.specs.declared.error.kind.ErrorKind.TheVariants.{OutOfMemory}
 use Rattle.authn_core.specs.Turn.{Start}
 use Rattle.cred_table.specs.declared.row.Row.{Row}
-use Rattle.token_session.specs.declared.input.Meters.{Meters}
-use Rattle.token_session.specs.declared.input.Timed.{Timed}
-use Rattle.token_session.specs.Meters.{SessionState, StandsBehind}
+use Rattle.token_session.specs.Meters.{SessionState}
 use Rattle.session_log.specs.declared.fault.LogFault.{LogFault}
-use Rattle.session_log.specs.Command.{Status, status_of}
-use Rattle.session_log.specs.Ending.{ending_of, read_fails, write_fails}
-use Rattle.session_log.specs.Replay.{Logs}
-use Rattle.session_log.specs.Session.{history}
-use Rattle.session_log.specs.Streams.{Counts, IsAllRead, Moves}
-use Rattle.hidlog.specs.CommandLine.{Ask, answers_to, asked_by, replay}
+use Rattle.session_log.specs.Command.{IsChecked, IsCounted, IsQuieted, IsReplayed, Status, status_of}
+use Rattle.hidlog.specs.CommandLine.{Ask, answers_to, asked_by, replay, check, quiet, show}
 use Rattle.hidlog.specs.Program.{Explains, LacksMemory}
 use Rattle.hidlog.specs.Saved.{FailsToOpen, Opens, Saves, start_with}
-
--- A failure of the source or the target was counted exactly where the fault is one, and without a fault the log was all that
--- the source held. A pair is a source or a target before and after the call.
-abbrev pub IsCounted : {A I O : Type 0} → (left : I → Option (List ℕ)) → (unread : I → ℕ) → (ended : I → Bool) → (unwritten : O → ℕ) → Result A LogFault → (I × I) → (O × O) → Type 0
-IsCounted left unread ended unwritten answer input output =
-    Counts unread input (read_fails (ending_of answer))
-    × Counts unwritten output (write_fails (ending_of answer))
-    × OnOk answer (IsAllRead left ended input.1)
-
--- A log was replayed on a session that stood after this history of this start, with this exit status; it is now at s. The
--- log is that of the history.
-abbrev pub IsReplayed : {I O : Type 0} → Start → List Timed → (left : I → Option (List ℕ)) → (unread : I → ℕ) → (ended : I → Bool) → (taken : O → Option (List ℕ)) → (unwritten : O → ℕ)
-    → Status → SessionState → (I × I) → (O × O) → Type 0
-IsReplayed start h left unread ended taken unwritten status s input output =
-    (answer : Result Meters LogFault) × (later : List Timed) × (status ≡ status_of answer) × StandsBehind s start later
-    × Moves (left input.0) (left input.1) (taken output.0) (taken output.1)
-    (λ bytes text. Logs (history start) h later bytes text answer)
-    × IsCounted left unread ended unwritten answer input output
 
 -- what is said of the files, of the log's source, of the target of the result and of that of the faults
 module _ {D I O F : Type 0} (holds : D → List ℕ → List ℕ → Type 0) (unreadable : D → List ℕ → Type 0) (written unwritten : D → List ℕ → List ℕ → D → Type 0)
@@ -52,9 +28,27 @@ module _ {D I O F : Type 0} (holds : D → List ℕ → List ℕ → Type 0) (un
       (played : Status) × (s : SessionState) × IsReplayed start [] left unread ended taken unput played s input output
       × MatchResult played (λ _. Saves written unwritten path s told untold status files faults) (λ code. (status ≡ Err code) × (files.1 ≡ files.0))
 
+  -- The log was compared with what is sent from the start on, or made quiet.
+  abbrev pub Checks : Status → (D × D) → (I × I) → (O × O) → (F × F) → Start → Type 0
+  Checks status files input output faults start =
+      ((s : SessionState) × IsChecked start [] left unread ended taken unput status s input output) × (files.1 ≡ files.0) × OnOk status (faults.1 ≡ faults.0)
+
+  abbrev pub Quiets : Status → (D × D) → (I × I) → (O × O) → (F × F) → Start → Type 0
+  Quiets status files input output faults start =
+      ((s : SessionState) × IsQuieted start [] left unread ended taken unput status s input output) × (files.1 ≡ files.0) × OnOk status (faults.1 ≡ faults.0)
+
+  -- The log was shown.
+  abbrev pub Shows : Status → (D × D) → (I × I) → (O × O) → (F × F) → Type 0
+  Shows status files input output faults =
+      ((answer : Result (Unit {0}) LogFault) × (status ≡ status_of answer) × IsCounted left unread ended unput answer input output)
+      × (files.1 ≡ files.0) × OnOk status (faults.1 ≡ faults.0)
+
   -- What is asked for is done.
   abbrev pub Does : Ask → Status → (D × D) → (I × I) → (O × O) → (F × F) → Type 0
   Does (replay load save) status files input output faults = Begins load (Replays save status files input output faults) status files input output faults
+  Does (check load) status files input output faults = Begins load (Checks status files input output faults) status files input output faults
+  Does (quiet load) status files input output faults = Begins load (Quiets status files input output faults) status files input output faults
+  Does show status files input output faults = Shows status files input output faults
 
   -- What words ask for is done, or memory was wanting. Where they ask for nothing, clap's answer is given. But for what was
   -- asked for, the files and the log are left as they are.

@@ -16,6 +16,16 @@ pub enum Task<'a> {
         load: Option<&'a str>,
         save: Option<&'a str>,
     },
+    /// `hidlog check [--load F]`
+    Check {
+        load: Option<&'a str>,
+    },
+    /// `hidlog quiet [--load F]`
+    Quiet {
+        load: Option<&'a str>,
+    },
+    /// `hidlog show`
+    Show,
 }
 
 /// The option `--load F`.
@@ -51,6 +61,34 @@ fn replay<'a>(alloc: Global) -> Result<Command<'a>, AllocError>
         .arg(save(alloc))
 }
 
+/// The command `check`.
+fn check<'a>(alloc: Global) -> Result<Command<'a>, AllocError>
+    ensures shape { IfOk result (λ made. shape_of made ≡ command (codes "check") (path_option (codes "load") ∷ [])) }
+    ensures local { IfOk result (λ made. (fields_of made).has_globals ≡ false) }
+{
+    Command::new(alloc, "check")
+        .about("Compares the packets that the log names as sent with those that the key sends")
+        .arg(load(alloc))
+}
+
+/// The command `quiet`.
+fn quiet<'a>(alloc: Global) -> Result<Command<'a>, AllocError>
+    ensures shape { IfOk result (λ made. shape_of made ≡ command (codes "quiet") (path_option (codes "load") ∷ [])) }
+    ensures local { IfOk result (λ made. (fields_of made).has_globals ≡ false) }
+{
+    Command::new(alloc, "quiet")
+        .about("Writes the log's inputs, with a tick in place of each that is noise")
+        .arg(load(alloc))
+}
+
+/// The command `show`.
+fn show<'a>(alloc: Global) -> Command<'a>
+    ensures shape { shape_of result ≡ command (codes "show") [] }
+    ensures local { (fields_of result).has_globals ≡ false }
+{
+    Command::new(alloc, "show").about("Writes what the log's lines say, line by line")
+}
+
 /// The command line's grammar.
 fn program<'a>(alloc: Global) -> Result<Command<'a>, AllocError>
     ensures { IfOk result (λ program. app_of program ≡ grammar) }
@@ -59,7 +97,10 @@ fn program<'a>(alloc: Global) -> Result<Command<'a>, AllocError>
         Command::new(alloc, "hidlog")
             .about("Replays text logs of CTAPHID sessions on a FIDO2 security key")
             .subcommand_required(true)
-            .subcommand(replay(alloc)?)?,
+            .subcommand(replay(alloc)?)?
+            .subcommand(check(alloc)?)?
+            .subcommand(quiet(alloc)?)?
+            .subcommand(show(alloc))?,
     )
 }
 
@@ -72,6 +113,13 @@ fn task_in<'a>(matches: &ArgMatches<'a>) -> Option<Task<'a>>
             load: options.get_str("load"),
             save: options.get_str("save"),
         }),
+        ("check", options) => Some(Task::Check {
+            load: options.get_str("load"),
+        }),
+        ("quiet", options) => Some(Task::Quiet {
+            load: options.get_str("load"),
+        }),
+        ("show", _) => Some(Task::Show),
         _ => None,
     }
 }

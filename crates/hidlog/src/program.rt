@@ -1,12 +1,11 @@
 //! The program over any source and targets.
-ghost use Rattle.std.specs.Prelude.{◌≡◌, ◌<◌, ◌-◌, ◌^◌, ◌⊎◌, List, IfErr, OnOk};
+ghost use Rattle.std.specs.Prelude.{◌≡◌, ◌<◌, ◌-◌, ◌^◌, ◌⊎◌, Result, IfErr, OnOk};
 ghost use Rattle.clap.specs.Words.{kind_of};
-ghost use Rattle.authn_core.specs.Turn.{Start};
-ghost use Rattle.token_session.specs.declared.input.Timed.{Timed as OneInput};
-ghost use Rattle.token_session.specs.Meters.{StandsBehind};
-ghost use Rattle.hidlog.specs.CommandLine.{replay as asked, path_of, texts_of};
+ghost use Rattle.session_log.specs.declared.fault.LogFault.{LogFault as AnyFault};
+ghost use Rattle.session_log.specs.Command.{IsCounted, status_of};
+ghost use Rattle.hidlog.specs.CommandLine.{check, quiet, replay, path_of, texts_of};
 ghost use Rattle.hidlog.specs.Program.{Explains};
-ghost use Rattle.hidlog.specs.Commands.{Answers, Does, IsReplayed};
+ghost use Rattle.hidlog.specs.Commands.{Answers, Does};
 
 use crate::command_line::{Task, task_of};
 use crate::files::Files;
@@ -14,9 +13,9 @@ use crate::process::{log_fault, no_memory, tell};
 use crate::snapshots::{save_rows, started};
 use clap::Error;
 use clap::error::ErrorKind;
-use session_log::{CAPACITY, Source, Target, put_all, replay};
+use session_log::{Source, Target, check_command, put_all, quiet_command, replay_command};
+use session_show::show;
 use std::alloc::Global;
-use token_session::Session;
 
 /// Writes what clap answers: help to the output, what is wrong with the words to the faults. The status is
 /// 2 for all but help that was written.
@@ -41,30 +40,6 @@ fn explain<O: Target, E: Target>(
     put_all(output, text.as_bytes()).map_err(|_| 2)
 }
 
-/// The command `replay`: replays the log on the session. An error holds the exit status, 1: the fault's text was given
-/// to `faults`, if that could be.
-fn replay_command<S: Source, O: Target, E: Target>(
-    session: &mut Session<CAPACITY>,
-    input: &mut S,
-    output: &mut O,
-    faults: &mut E,
-) -> Result<(), u8>
-    requires reads { S.failed input.old < 2 ^ 64 - 1 }
-    requires writes { O.failed output.old < 2 ^ 64 - 1 }
-    requires tells { E.failed faults.old < 2 ^ 64 - 1 }
-    // It is the log of each history that the session stands after that was written.
-    ensures replayed { (start : Start) (h : List OneInput) → StandsBehind session.old start h
-        → IsReplayed start h S.left S.failed S.ended O.taken O.failed result session.new
-        (input.old, input.new) (output.old, output.new) }
-    // Without a fault nothing is told.
-    ensures silent { OnOk result (faults.new ≡ faults.old) }
-{
-    match replay(input, output, session) {
-        Ok(_) => Ok(()),
-        Err(fault) => Err(log_fault(faults, &fault)),
-    }
-}
-
 /// Replays the log, and saves the credentials that the session has after it.
 fn replay_log<D, S, O, E>(
     files: &mut D,
@@ -85,13 +60,80 @@ where
     requires tells { E.failed faults.old < 2 ^ 64 - 1 }
     ensures status { IfErr result (λ code. (code ≡ 1) ⊎ (code ≡ 2)) }
     ensures does { Does D.holds D.unreadable D.written D.unwritten S.left S.failed S.ended O.taken O.failed E.taken E.failed
-        (asked (path_of load.entry) (path_of save.entry)) result (files.old, files.new) (input.old, input.new) (output.old, output.new) (faults.old, faults.new) }
+        (replay (path_of load.entry) (path_of save.entry)) result (files.old, files.new) (input.old, input.new) (output.old, output.new) (faults.old, faults.new) }
 {
     let mut session = started(files, load, faults)?;
     replay_command(&mut session, input, output, faults)?;
     match save {
         Some(path) => save_rows(files, alloc, path, &session, faults),
         None => Ok(()),
+    }
+}
+
+/// Compares the log with what the session sends.
+fn check_log<D, S, O, E>(
+    files: &D,
+    load: Option<&str>,
+    input: &mut S,
+    output: &mut O,
+    faults: &mut E,
+) -> Result<(), u8>
+where
+    D: Files,
+    S: Source,
+    O: Target,
+    E: Target,
+    requires reads { S.failed input.old < 2 ^ 64 - 1 }
+    requires writes { O.failed output.old < 2 ^ 64 - 1 }
+    requires tells { E.failed faults.old < 2 ^ 64 - 1 }
+    ensures status { IfErr result (λ code. (code ≡ 1) ⊎ (code ≡ 2)) }
+    ensures does { Does D.holds D.unreadable D.written D.unwritten S.left S.failed S.ended O.taken O.failed E.taken E.failed
+        (check (path_of load.entry)) result (files.now, files.now) (input.old, input.new) (output.old, output.new) (faults.old, faults.new) }
+{
+    let mut session = started(files, load, faults)?;
+    check_command(&mut session, input, output, faults)
+}
+
+/// Makes the log quiet.
+fn quiet_log<D, S, O, E>(
+    files: &D,
+    load: Option<&str>,
+    input: &mut S,
+    output: &mut O,
+    faults: &mut E,
+) -> Result<(), u8>
+where
+    D: Files,
+    S: Source,
+    O: Target,
+    E: Target,
+    requires reads { S.failed input.old < 2 ^ 64 - 1 }
+    requires writes { O.failed output.old < 2 ^ 64 - 1 }
+    requires tells { E.failed faults.old < 2 ^ 64 - 1 }
+    ensures status { IfErr result (λ code. (code ≡ 1) ⊎ (code ≡ 2)) }
+    ensures does { Does D.holds D.unreadable D.written D.unwritten S.left S.failed S.ended O.taken O.failed E.taken E.failed
+        (quiet (path_of load.entry)) result (files.now, files.now) (input.old, input.new) (output.old, output.new) (faults.old, faults.new) }
+{
+    let mut session = started(files, load, faults)?;
+    quiet_command(&mut session, input, output, faults)
+}
+
+/// Shows the log.
+fn show_log<S, O, E>(alloc: Global, input: &mut S, output: &mut O, faults: &mut E) -> Result<(), u8>
+where
+    S: Source,
+    O: Target,
+    E: Target,
+    requires reads { S.failed input.old < 2 ^ 64 - 1 }
+    requires writes { O.failed output.old < 2 ^ 64 - 1 }
+    requires tells { E.failed faults.old < 2 ^ 64 - 1 }
+    ensures answer { (answer : Result (Unit {0}) AnyFault) × (result ≡ status_of answer)
+        × IsCounted S.left S.failed S.ended O.failed answer (input.old, input.new) (output.old, output.new) }
+    ensures silent { OnOk result (faults.new ≡ faults.old) }
+{
+    match show(alloc, input, output) {
+        Ok(()) => Ok(()),
+        Err(fault) => Err(log_fault(faults, &fault)),
     }
 }
 
@@ -123,6 +165,9 @@ where
         Ok(Task::Replay { load, save }) => {
             replay_log(files, alloc, load, save, input, output, faults)
         }
+        Ok(Task::Check { load }) => check_log(files, load, input, output, faults),
+        Ok(Task::Quiet { load }) => quiet_log(files, load, input, output, faults),
+        Ok(Task::Show) => show_log(alloc, input, output, faults),
         Err(error) => explain(alloc, &error, output, faults),
     }
 }

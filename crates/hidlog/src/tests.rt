@@ -133,6 +133,9 @@ Usage: hidlog <COMMAND>
 
 Commands:
   replay  Replays the log on standard input: writes it with the packets that the key sends, and what it counted
+  check   Compares the packets that the log names as sent with those that the key sends
+  quiet   Writes the log's inputs, with a tick in place of each that is noise
+  show    Writes what the log's lines say, line by line
   help    Print this message or the help of the given subcommand(s)
 
 Options:
