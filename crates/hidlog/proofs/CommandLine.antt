@@ -1,18 +1,23 @@
 -- What follows from the rules of `clap` for the words of the program.
-use Rattle.std.proofs.Common.{◌≡◌, ℕ, Bool, true, false, not, ◌&&◌, List, [], ◌∷◌, Option, Some, None, is_some, codes, option_map, refl, sym, ◌∙◌, ap, subst, cond, if◌then◌else◌, ◌||◌}
+use Rattle.std.proofs.Common.{◌≡◌, ℕ, Bool, true, false, not, ◌&&◌, List, [], ◌∷◌, Option, Some, None, is_some, codes, option_and_then, option_map, refl, sym, ◌∙◌, ap, subst, cond, if◌then◌else◌, ◌||◌}
 use Rattle.std.specs.List.{fold, slice_index_or}
 use Rattle.std.specs.Str.{bytes_eq}
 use Rattle.std.proofs.lemmas.Slice.Eq.{bytes_eq-Decides}
 use Rattle.clap.proofs.OnLiterals.{clap_on_literals}
-use Rattle.clap.specs.Walk.{Held, Names, Outcome, done, waits, plain, refused, Row, Rule, Step, next, trailing, subcommand, value, Text, Waiting, idle, option, positional, Walk, after_flag, after_step, arg_by_index, arg_by_long, bundle, finished, long_met, long_or_other, plain_word, settled, short_or_plain, subcommand_met, subcommand_or_other, to_positional, walk, walk_from, walked, word_met, nothing_held}
+use Rattle.clap.specs.Walk.{Held, Names, Outcome, done, waits, plain, refused, Row, Rule, Step, next, trailing, subcommand, value, Text, Waiting, idle, option, positional, Walk, after_flag, after_step, arg_by_index, arg_by_long, bundle, finished, long_met, long_or_other, plain_word, settled, short_or_plain, subcommand_met, subcommand_or_other, to_positional, walk, walk_from, walked, word_met, nothing_held, first_of, rows_of}
 use Rattle.clap.specs.Lexer.{long_of, short_of}
 use Rattle.clap.specs.Kinds.{Kinds, or_else, check_kinds}
 use Rattle.clap.specs.Faults.{fault_of, check_fault, defaults_fault, entered_fault, level_fault, other_fault, settle_fault, step_fault, turn_fault, walk_fault, word_fault, is_simple_and_free}
-use Rattle.clap.specs.Simple.{App, HasMatchesOf, Shape, is_simple, subcommand_of, argument_words, built, entered, help_shape, names_of, rows_at}
-use Rattle.clap.specs.Matches.{subcommand_name_of}
+use Rattle.clap.specs.Simple.{App, HasMatchesOf, Shape, is_simple, subcommand_of, argument_words, built, entered, help_shape, names_of, rows_at, shape_of, app_of, subcommand_rows_of, with_subcommand}
+use Rattle.clap.specs.Built.{AddsSubcommand}
+use Rattle.clap.specs.Matches.{first_value, subcommand_name_of}
+use Rattle.clap.proofs.WalkLemmas.{first_value-rows}
+use Rattle.clap.specs.declared.builder.command.Command.{Command}
+use Rattle.clap.specs.declared.builder.command.Command.TheViews.{out-Command as fields_of}
 use Rattle.clap.specs.declared.parser.matches.ArgMatches.{ArgMatches}
+use Rattle.clap.specs.declared.parser.matches.Found.{Found}
 use Rattle.clap.specs.declared.error.kind.ErrorKind.TheVariants as kind
-use Rattle.hidlog.specs.CommandLine.{grammar, answers_to, named_by}
+use Rattle.hidlog.specs.CommandLine.{ask_of, asked_by, grammar, answers_to}
 
 -- the rules of which clap's clauses speak
 is_simple_grammar : is_simple_and_free grammar ≡ true
@@ -123,37 +128,44 @@ level_parts s names h words has below faultless =
     let three = or_else_none settle (or_else defaults last) two.1 in
     (one.0, (or_else_none defaults last three.1).1)
 
--- A command is required, so one was met; and there is one alone.
+-- A command is required, so one was met.
 command_given : (has a b : Bool) → check_kinds (not has && a) (not has && true) b ≡ [] → has ≡ true
 command_given true a b faultless = refl
 command_given false true b faultless = cc
 command_given false false b faultless = cc
 
-one_command : (replay help : Shape) (words : List Text) (is_replay is_help : Bool) → replay.name ≡ codes "replay" → (is_help ≡ true → ⊥)
-    → is_some (option_map (λ (s : Shape). rows_at s words) (cond (is_replay || false) (Some replay) (cond (is_help || false) (Some help) None))) ≡ true
-    → option_map (λ (c : Text × List Row). c.0) (option_map (λ (s : Shape). rows_at s words) (cond (is_replay || false) (Some replay) (cond (is_help || false) (Some help) None))) ≡ Some (codes "replay")
-one_command replay help words true is_help name no_help some = ap Some name
-one_command replay help words false true name no_help some = absurd (no_help refl)
-one_command replay help words false false name no_help some = cc
+-- The command that a walk stopped at asks for something, unless it is `help`.
+asks_something : (a b c d help : Shape) (words : List Text) (is_a is_b is_c is_d is_help : Bool)
+    → a.name ≡ codes "replay" → b.name ≡ codes "check" → c.name ≡ codes "quiet" → d.name ≡ codes "show" → (is_help ≡ true → ⊥)
+    → let met = option_map (λ (s : Shape). rows_at s words) (cond (is_a || false) (Some a) (cond (is_b || false) (Some b)
+    (cond (is_c || false) (Some c) (cond (is_d || false) (Some d) (cond (is_help || false) (Some help) None))))) in
+    is_some met ≡ true → is_some (option_and_then ask_of met) ≡ true
+asks_something a b c d help words true is_b is_c is_d is_help a_name b_name c_name d_name no_help some = rw a_name refl
+asks_something a b c d help words false true is_c is_d is_help a_name b_name c_name d_name no_help some = rw b_name refl
+asks_something a b c d help words false false true is_d is_help a_name b_name c_name d_name no_help some = rw c_name refl
+asks_something a b c d help words false false false true is_help a_name b_name c_name d_name no_help some = rw d_name refl
+asks_something a b c d help words false false false false true a_name b_name c_name d_name no_help some = absurd (no_help refl)
+asks_something a b c d help words false false false false false a_name b_name c_name d_name no_help some = cc
 
-entered_replay : (stop : Option (Text × List Text)) → NoHelp stop → is_some (entered (built grammar) stop) ≡ true
-    → option_map (λ command. command.0) (entered (built grammar) stop) ≡ Some (codes "replay")
-entered_replay None no_help some = cc
-entered_replay (Some stop) no_help some =
-    let subs = (built grammar).subs in
-    one_command (slice_index_or subs 0 help_shape) (slice_index_or subs 1 help_shape) stop.1
-    (bytes_eq (codes "replay") stop.0) (bytes_eq (codes "help") stop.0) refl
+entered_asks : (stop : Option (Text × List Text)) → NoHelp stop → is_some (entered (built grammar) stop) ≡ true
+    → is_some (option_and_then ask_of (entered (built grammar) stop)) ≡ true
+entered_asks None no_help some = cc
+entered_asks (Some stop) no_help some =
+    let sub : ℕ → Shape = λ place. slice_index_or (built grammar).subs place help_shape in
+    asks_something (sub 0) (sub 1) (sub 2) (sub 3) (sub 4) stop.1
+    (bytes_eq (codes "replay") stop.0) (bytes_eq (codes "check") stop.0) (bytes_eq (codes "quiet") stop.0) (bytes_eq (codes "show") stop.0) (bytes_eq (codes "help") stop.0)
+    refl refl refl refl
     (λ same. no_help (sym ((bytes_eq-Decides (codes "help") stop.0).0 same))) some
 
--- Words without fault name `replay`.
-pub only_replay : (words : List Text) → answers_to words ≡ [] → named_by words ≡ Some (codes "replay")
-unfolding answers_to named_by
-only_replay words faultless =
+-- Words without fault ask for something.
+faultless_asks : (words : List Text) → answers_to words ≡ [] → is_some (option_and_then ask_of (subcommand_of grammar words)) ≡ true
+unfolding answers_to
+faultless_asks words faultless =
     let app = built grammar in
     let args = argument_words grammar words in
     let stop = (walk app.top.rules (names_of app) nothing_held args).stopped in
     let parts = level_parts app.top (names_of app) nothing_held args (is_some (entered app stop)) (entered_fault app stop) faultless in
-    entered_replay stop (walk_goes_on app.top (names_of app) args (walk_from nothing_held) refl tt parts.0)
+    entered_asks stop (walk_goes_on app.top (names_of app) args (walk_from nothing_held) refl tt parts.0)
     (command_given (is_some (entered app stop)) false false parts.1)
 
 -- What a parse of these words says, where its command has this grammar.
@@ -161,20 +173,43 @@ pub faults_are : (app : App) (words : List Text) (P : Kinds → Type 0) → app 
 unfolding answers_to
 faults_are app words P is says = subst (λ a. P (fault_of a words)) is (says (ap is_simple_and_free is ∙ is_simple_grammar))
 
--- The command that was met is the one that these words name.
+-- Words without fault ask for what the command asks for that was met.
+pub asked_is : (app : App) (words : List Text) (m : ArgMatches) → app ≡ grammar → HasMatchesOf app words m → answers_to words ≡ []
+    → asked_by words ≡ option_and_then ask_of (subcommand_rows_of m)
+unfolding asked_by
+asked_is app words m is has faultless =
+    rw faultless (ap (option_and_then ask_of) (sym ((has (ap is_simple is)).1 ∙ ap (λ a. subcommand_of a words) is)))
+
+-- They ask for something.
+pub asked_some : (app : App) (words : List Text) (m : ArgMatches) → app ≡ grammar → HasMatchesOf app words m → answers_to words ≡ []
+    → is_some (option_and_then ask_of (subcommand_rows_of m)) ≡ true
+asked_some app words m is has faultless =
+    ap (λ met. is_some (option_and_then ask_of met)) ((has (ap is_simple is)).1 ∙ ap (λ a. subcommand_of a words) is) ∙ faultless_asks words faultless
+
+-- ---- what the code meets
+
+-- a command with one more subcommand
+pub one_more : (old sub new : Command) (app : App) (shape : Shape) → AddsSubcommand old sub new → (fields_of sub).has_globals ≡ false
+    → app_of old ≡ app → shape_of sub ≡ shape → app_of new ≡ with_subcommand app shape
+one_more old sub new app shape added local is sub_is =
+    added.shape local ∙ ap (λ a. with_subcommand a (shape_of sub)) is ∙ ap (with_subcommand app) sub_is
+
 name_first : {X A B : Type 0} (f : X → A) (g : X → B) (o : Option X) → option_map (λ (p : A × B). p.0) (option_map (λ x. (f x, g x)) o) ≡ option_map f o
 name_first f g None = refl
 name_first f g (Some x) = refl
 
-pub met_is : (app : App) (words : List Text) (m : ArgMatches) → app ≡ grammar → HasMatchesOf app words m → subcommand_name_of m ≡ named_by words
-unfolding named_by
-met_is app words m is has =
-    let rows = (has (ap is_simple is)).1 in
-    sym (name_first _ _ _) ∙ ap (option_map (λ (c : Text × List Row). c.0)) (rows ∙ ap (λ a. subcommand_of a words) is)
+both_parts : {A B : Type 0} (o : Option (A × B)) (a : A) (b : B) → Some a ≡ option_map (λ p. p.0) o → Some b ≡ option_map (λ p. p.1) o → o ≡ Some (a, b)
+both_parts None a b first second = cc
+both_parts (Some (x, y)) a b first second = cc
 
--- what was met, where a name was
-pub none_named : {X A : Type 0} (f : X → A) (o : Option X) (name : A) → option_map f o ≡ Some name → o ≡ None → ⊥
-none_named f o name met none = let no : None ≡ Some name = sym (ap (option_map f) none) ∙ met in cc
+-- the command that was met, by its name and what was found for its options
+pub met_is : (m : ArgMatches) (name : Text) (found : Found) → Some name ≡ subcommand_name_of m
+    → Some (rows_of found) ≡ option_map (λ p. p.1) (subcommand_rows_of m) → subcommand_rows_of m ≡ Some (name, rows_of found)
+met_is m name found named rows = both_parts (subcommand_rows_of m) name (rows_of found) (named ∙ sym (name_first _ _ _)) rows
 
-pub one_named : {X A : Type 0} (f : X → A) (o : Option X) (name : A) (x : X) → option_map f o ≡ Some name → o ≡ Some x → f x ≡ name
-one_named f o name x met some = let one : Some (f x) ≡ Some name = sym (ap (option_map f) some) ∙ met in cc
+pub path_is : (found : Found) (id : Text) (path : Option Text) → path ≡ first_value found id → path ≡ first_of id (rows_of found)
+path_is found id path is = is ∙ first_value-rows found id
+
+pub asks_of : (m : ArgMatches) (name word : Text) (rows : List Row) → subcommand_rows_of m ≡ Some (name, rows) → name ≡ word
+    → option_and_then ask_of (subcommand_rows_of m) ≡ ask_of (word, rows)
+asks_of m name word rows is named = ap (option_and_then ask_of) (is ∙ ap (λ n. Some (n, rows)) named)

@@ -1,3 +1,4 @@
 pub mod CommandLine
-pub mod Alone
+pub mod Asked
+pub mod Statuses
 mod Rows

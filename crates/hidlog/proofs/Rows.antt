@@ -1,52 +1,35 @@
--- The definitions at worked words: a reader's check that they say which words are a command.
-use Rattle.std.proofs.Common.{◌≡◌, ℕ, List, [], ◌∷◌, Option, Some, codes, refl}
+-- The definitions at worked words: a reader's check that they say which words ask for what.
+use Rattle.std.proofs.Common.{◌≡◌, ℕ, List, [], ◌∷◌, Option, Some, None, codes, refl}
 use Rattle.clap.proofs.OnLiterals.{clap_on_literals}
 use Rattle.clap.specs.Kinds.{Kinds}
-use Rattle.clap.specs.declared.error.kind.ErrorKind.TheVariants.{DisplayHelp, InvalidSubcommand, MissingSubcommand, UnknownArgument}
-use Rattle.hidlog.specs.CommandLine.{answers_to, named_by}
+use Rattle.hidlog.specs.CommandLine.{Ask, replay, check, quiet, show, answers_to, asked_by}
 
--- what clap answers to these words behind the program's name
+-- what clap answers to these words after the program's name
 answers : List (List ℕ) → Kinds
 unfolding answers_to clap_on_literals
 answers words = answers_to (codes "hidlog" ∷ words)
 
-named : List (List ℕ) → Option (List ℕ)
-unfolding named_by clap_on_literals
-named words = named_by (codes "hidlog" ∷ words)
+asked : List (List ℕ) → Option Ask
+unfolding asked_by answers_to clap_on_literals
+asked words = asked_by (codes "hidlog" ∷ words)
 
-replay : answers (codes "replay" ∷ []) ≡ []
-unfolding answers
-replay = refl
+replay_alone : asked (codes "replay" ∷ []) ≡ Some (replay None None)
+unfolding asked
+replay_alone = refl
 
-replay_named : named (codes "replay" ∷ []) ≡ Some (codes "replay")
-unfolding named
-replay_named = refl
+both_options : asked (codes "replay" ∷ codes "--save" ∷ codes "new" ∷ codes "--load" ∷ codes "old" ∷ []) ≡ Some (replay (Some (codes "old")) (Some (codes "new")))
+unfolding asked
+both_options = refl
 
-no_word : answers [] ≡ MissingSubcommand ∷ []
-unfolding answers
-no_word = refl
+-- a value may stand after `=`
+attached : asked (codes "check" ∷ codes "--load=old" ∷ []) ≡ Some (check (Some (codes "old")))
+unfolding asked
+attached = refl
 
-help : answers (codes "--help" ∷ []) ≡ DisplayHelp ∷ []
-unfolding answers
-help = refl
+quiet_alone : asked (codes "quiet" ∷ []) ≡ Some (quiet None)
+unfolding asked
+quiet_alone = refl
 
-help_of_replay : answers (codes "replay" ∷ codes "-h" ∷ []) ≡ DisplayHelp ∷ []
-unfolding answers
-help_of_replay = refl
-
--- `help` shows help, or refuses the command that is named behind it
-help_command : answers (codes "help" ∷ []) ≡ DisplayHelp ∷ InvalidSubcommand ∷ []
-unfolding answers
-help_command = refl
-
-unknown_option : answers (codes "--what" ∷ []) ≡ UnknownArgument ∷ []
-unfolding answers
-unknown_option = refl
-
-unknown_command : answers (codes "show" ∷ []) ≡ UnknownArgument ∷ InvalidSubcommand ∷ []
-unfolding answers
-unknown_command = refl
-
-word_too_many : answers (codes "replay" ∷ codes "log" ∷ []) ≡ UnknownArgument ∷ []
-unfolding answers
-word_too_many = refl
+show_alone : asked (codes "show" ∷ []) ≡ Some show
+unfolding asked
+show_alone = refl

@@ -1,31 +1,74 @@
 -- Which words ask for what, by the rules of `clap`.
-use Rattle.std.specs.Prelude.{◌≡◌, ℕ, true, List, [], Option, Some, codes, option_map, map}
+use Rattle.std.specs.Prelude.{ℕ, true, false, List, [], ◌∷◌, Option, Some, None, codes, option_map, option_and_then, map, if◌then◌else◌}
 use Rattle.std.specs.Borrow.{Bor}
-use Rattle.clap.specs.Simple.{App, new_app, on_top, with_subcommand, subcommand_of}
+use Rattle.std.specs.Str.{bytes_eq}
+use Rattle.clap.specs.Simple.{App, Shape, new_rule, new_shape, subcommand_of}
 use Rattle.clap.specs.Kinds.{Kinds}
 use Rattle.clap.specs.Faults.{fault_of}
+use Rattle.clap.specs.Walk.{Row, Rule, first_of}
 use Rattle.hidlog.specs.declared.command_line.Task.{Task}
-use Rattle.hidlog.specs.declared.command_line.Task.TheVariants.{Replay}
+use Rattle.hidlog.specs.declared.command_line.Task.TheVariants.{Replay, Check, Quiet, Show}
 
--- `hidlog replay`: a command is required, and there is no other but the `help` that clap adds
+-- ---- the grammar
+
+-- an option with a value, the path of a snapshot
+abbrev pub path_option : List ℕ → Rule
+path_option name = record (new_rule name) { long = Some name; value_names = 1 }
+
+-- a command with these options
+abbrev pub command : List ℕ → List Rule → Shape
+command name options = record (new_shape name) { rules = options }
+
+-- the four commands, of which one is required; clap adds `help`
 abbrev pub grammar : App
-grammar = with_subcommand (on_top (λ top. record top { subcommand_required = true }) (new_app (codes "hidlog"))) (new_app (codes "replay")).top
+grammar = record {
+  top = record (new_shape (codes "hidlog")) { subcommand_required = true; is_leaf = false };
+  subs = command (codes "replay") (path_option (codes "load") ∷ path_option (codes "save") ∷ [])
+      ∷ command (codes "check") (path_option (codes "load") ∷ [])
+      ∷ command (codes "quiet") (path_option (codes "load") ∷ [])
+      ∷ command (codes "show") []
+      ∷ [];
+}
 
 -- the kinds that clap's answer to these words may have: what is wrong with them, or help; none where they are a command line
 unfoldable pub answers_to : List (List ℕ) → Kinds
 answers_to words = fault_of grammar words
 
--- the command that these words name
-unfoldable pub named_by : List (List ℕ) → Option (List ℕ)
-named_by words = option_map (λ command. command.0) (subcommand_of grammar words)
+-- ---- what is asked
+
+-- what words ask for, with the paths that they give
+pub data Ask : Type 0 where
+  replay : (load save : Option (List ℕ)) → Ask
+  check : (load : Option (List ℕ)) → Ask
+  quiet : (load : Option (List ℕ)) → Ask
+  show : Ask
+
+abbrev pub path_of : Option (Bor (List ℕ)) → Option (List ℕ)
+path_of = option_map (λ path. path.now)
+
+abbrev pub asks : Task → Ask
+asks (Replay load save) = replay (path_of load) (path_of save)
+asks (Check load) = check (path_of load)
+asks (Quiet load) = quiet (path_of load)
+asks Show = show
+
+-- a command that was met, and what was found for its options
+abbrev pub ask_of : List ℕ × List Row → Option Ask
+ask_of (name, found) =
+    if bytes_eq name (codes "replay") then Some (replay (first_of (codes "load") found) (first_of (codes "save") found))
+    else if bytes_eq name (codes "check") then Some (check (first_of (codes "load") found))
+    else if bytes_eq name (codes "quiet") then Some (quiet (first_of (codes "load") found))
+    else if bytes_eq name (codes "show") then Some show
+    else None
+
+abbrev pub unless : Kinds → Option Ask → Option Ask
+unless [] ask = ask
+unless (kind ∷ kinds) ask = None
+
+-- what the words ask for, of which the first is the program's name; nothing where they are no command line
+unfoldable pub asked_by : List (List ℕ) → Option Ask
+asked_by words = unless (answers_to words) (option_and_then ask_of (subcommand_of grammar words))
 
 -- the words' bytes
 abbrev pub texts_of : List (Bor (List ℕ)) → List (List ℕ)
 texts_of words = map (λ word. word.now) words
-
-abbrev pub name_of : Task → List ℕ
-name_of Replay = codes "replay"
-
--- the words, of which the first is the program's name, ask for the task
-abbrev pub AskFor : List (List ℕ) → Task → Type 0
-AskFor words task = (answers_to words ≡ []) × (named_by words ≡ Some (name_of task))

@@ -1,2 +1,4 @@
 pub mod CommandLine
 pub mod Program
+pub mod Saved
+pub mod Commands

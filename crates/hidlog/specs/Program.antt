@@ -1,9 +1,11 @@
 -- What the program answers, and what it writes. A pair is a source or a target before and after the call.
-use Rattle.std.specs.Prelude.{◌≡◌, ◌≢◌, ◌⊎◌, ℕ, Bool, true, false, List, [], ◌∷◌, ◌++◌, Option, Err, MatchResult, OnOk, codes}
+use Rattle.std.specs.Prelude.{◌≡◌, ◌≢◌, ◌⊎◌, ℕ, Bool, true, false, List, [], ◌∷◌, ◌++◌, Option, Err, MatchResult, codes}
 use Rattle.std.specs.Bool.{MatchBool}
 use Rattle.clap.specs.declared.error.kind.ErrorKind.{ErrorKind}
 use Rattle.clap.specs.declared.error.kind.ErrorKind.TheVariants.{DisplayHelp, DisplayVersion, OutOfMemory}
-use Rattle.session_log.specs.Command.{IsReplayed, Status, program_start}
+use Rattle.cred_table.specs.declared.fault.SnapshotFault.{SnapshotFault}
+use Rattle.cred_table.specs.declared.fault.SnapshotFault.TheVariants.{NotSnapshot, TooMany, RowBroken, Memory}
+use Rattle.session_log.specs.Command.{Status}
 use Rattle.session_log.specs.Streams.{IsTaken, IsBroken}
 
 -- a text was given to a target, whole or its front
@@ -18,17 +20,24 @@ no_memory = codes "hidlog: no memory" ++ 10 ∷ []
 abbrev pub not_text : List ℕ
 not_text = codes "hidlog: an argument is not UTF-8" ++ 10 ∷ []
 
+-- what is told of a snapshot that can't be read, is refused, or can't be written
+abbrev pub cannot_read : List ℕ
+cannot_read = codes "hidlog: cannot read snapshot" ++ 10 ∷ []
+
+abbrev pub refused : SnapshotFault → List ℕ
+refused NotSnapshot = codes "hidlog: snapshot refused: 1" ++ 10 ∷ []
+refused TooMany = codes "hidlog: snapshot refused: 2" ++ 10 ∷ []
+refused (RowBroken place) = codes "hidlog: snapshot refused: 3" ++ 10 ∷ []
+refused Memory = no_memory
+
+abbrev pub cannot_write : List ℕ
+cannot_write = codes "hidlog: cannot write snapshot" ++ 10 ∷ []
+
 -- answers that go to the output
 abbrev pub is_help : ErrorKind → Bool
 is_help DisplayHelp = true
 is_help DisplayVersion = true
 is_help _ = false
-
--- The log was replayed on a new session; where it has no fault, nothing was told.
-abbrev pub Replays : {I O F : Type 0} → (I → Option (List ℕ)) → (I → ℕ) → (I → Bool) → (O → Option (List ℕ)) → (O → ℕ)
-    → Status → (I × I) → (O × O) → (F × F) → Type 0
-Replays left unread ended taken unwritten status input output faults =
-    IsReplayed program_start left unread ended taken unwritten status input output × OnOk status (faults.1 ≡ faults.0)
 
 -- Memory was wanting, and that was told.
 abbrev pub LacksMemory : {O F : Type 0} → (F → Option (List ℕ)) → (F → ℕ) → Status → (O × O) → (F × F) → Type 0

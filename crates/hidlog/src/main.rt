@@ -4,11 +4,16 @@
 ghost use Rattle.std.specs.Prelude.{◌<◌, ◌-◌, ◌^◌};
 
 mod command_line;
+mod files;
 mod process;
 mod program;
 #[cfg(test)]
+mod snapshot_tests;
+mod snapshots;
+#[cfg(test)]
 mod tests;
 
+use files::HostFiles;
 use process::{no_memory, words_of};
 use program::run;
 use session_log::{FromRead, Target, ToWrite};
@@ -31,7 +36,14 @@ fn start<E: Target>(rt: &HostRuntime, faults: &mut E) -> Result<(), u8>
     };
     let mut input = FromRead::new(reader);
     let mut output = ToWrite::new(io::writer(rt));
-    run(rt, alloc, words.as_slice(), &mut input, &mut output, faults)
+    run(
+        &mut HostFiles(rt),
+        alloc,
+        words.as_slice(),
+        &mut input,
+        &mut output,
+        faults,
+    )
 }
 
 fn main(rt: HostRuntime) -> ExitCode {

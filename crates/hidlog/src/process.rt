@@ -2,10 +2,11 @@
 ghost use Rattle.std.specs.Prelude.{◌≡◌, ◌<◌, ◌-◌, ◌^◌, ◌⊎◌, IfErr, OnOk, OnErr};
 ghost use Rattle.hidlog.specs.Program.{IsGiven, no_memory as no_memory_text, not_text};
 
-use session_log::{Target, put_all};
+use arrayvec::ArrayVec;
+use session_log::{LogFault, Target, put_all};
 use std::alloc::AllocGlobal;
 use std::env;
-use std::io::{self, ErrorKind};
+use std::io::{self, ErrorKind, Write};
 use std::rt::Env;
 
 /// Gives a text to the faults. One that can't be written is let go.
@@ -24,6 +25,18 @@ pub fn no_memory<E: Target>(faults: &mut E) -> u8
 {
     tell(faults, b"hidlog: no memory\n");
     2
+}
+
+/// Tells a fault of the log. The exit status, 1.
+pub fn log_fault<E: Target>(faults: &mut E, fault: &LogFault) -> u8
+    requires { E.failed faults.old < 2 ^ 64 - 1 }
+    ensures { result ≡ 1 }
+{
+    let mut text = ArrayVec::<u8, 96>::new();
+    if writeln!(text, "hidlog: {fault}").is_ok() {
+        tell(faults, text.as_slice());
+    }
+    1
 }
 
 fn arguments<R: Env + AllocGlobal>(rt: &R) -> io::Result<Vec<String>> {

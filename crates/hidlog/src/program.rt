@@ -1,17 +1,21 @@
 //! The program over any source and targets.
-ghost use Rattle.std.specs.Prelude.{◌≡◌, ◌<◌, ◌-◌, ◌^◌, ◌⊎◌, ◌∷◌, [], IfErr, codes, drop};
-ghost use Rattle.clap.specs.Words.{IsAmong, kind_of};
-ghost use Rattle.clap.specs.declared.error.kind.ErrorKind.{ErrorKind as Kind};
-ghost use Rattle.hidlog.specs.CommandLine.{AskFor, answers_to, texts_of};
-ghost use Rattle.hidlog.specs.Program.{Explains, LacksMemory, Replays};
+ghost use Rattle.std.specs.Prelude.{◌≡◌, ◌<◌, ◌-◌, ◌^◌, ◌⊎◌, Result, IfErr, OnOk};
+ghost use Rattle.clap.specs.Words.{kind_of};
+ghost use Rattle.session_log.specs.declared.fault.LogFault.{LogFault as AnyFault};
+ghost use Rattle.session_log.specs.Command.{IsCounted, status_of};
+ghost use Rattle.hidlog.specs.CommandLine.{check, quiet, replay, path_of, texts_of};
+ghost use Rattle.hidlog.specs.Program.{Explains};
+ghost use Rattle.hidlog.specs.Commands.{Answers, Does};
 
 use crate::command_line::{Task, task_of};
-use crate::process::{no_memory, tell};
+use crate::files::Files;
+use crate::process::{log_fault, no_memory, tell};
+use crate::snapshots::{save_rows, started};
 use clap::Error;
 use clap::error::ErrorKind;
-use session_log::{Source, Target, put_all, replay_command};
+use session_log::{Source, Target, check_command, put_all, quiet_command, replay_command};
+use session_show::show;
 use std::alloc::Global;
-use std::rt::Files;
 
 /// Writes what clap answers: help to the output, what is wrong with the words to the faults. The status is
 /// 2 for all but help that was written.
@@ -36,19 +40,18 @@ fn explain<O: Target, E: Target>(
     put_all(output, text.as_bytes()).map_err(|_| 2)
 }
 
-/// Runs the program on these words, the first of them being its own name. An error holds the exit status: 1
-/// for a fault of the log, 2 for words that are no command and for want of memory outside the log. Its text
-/// was given to `faults`, if that could be.
-pub fn run<'a, R, S, O, E>(
-    _rt: &R,
+/// Replays the log, and saves the credentials that the session has after it.
+fn replay_log<D, S, O, E>(
+    files: &mut D,
     alloc: Global,
-    words: &'a [&'a str],
+    load: Option<&str>,
+    save: Option<&str>,
     input: &mut S,
     output: &mut O,
     faults: &mut E,
 ) -> Result<(), u8>
 where
-    R: Files,
+    D: Files,
     S: Source,
     O: Target,
     E: Target,
@@ -56,18 +59,115 @@ where
     requires writes { O.failed output.old < 2 ^ 64 - 1 }
     requires tells { E.failed faults.old < 2 ^ 64 - 1 }
     ensures status { IfErr result (λ code. (code ≡ 1) ⊎ (code ≡ 2)) }
-    // The log is replayed where the words are that command; else the input is left as it is.
-    ensures answered { (AskFor (texts_of words.now) Task.Replay
-        × Replays S.left S.failed S.ended O.taken O.failed result (input.old, input.new) (output.old, output.new) (faults.old, faults.new))
-        ⊎ ((input.new ≡ input.old) × ((kind : Kind) × IsAmong kind (ErrorKind.OutOfMemory ∷ answers_to (texts_of words.now))
-        × Explains kind O.taken O.failed E.taken E.failed result (output.old, output.new) (faults.old, faults.new))) }
-    // `replay` alone is that command.
-    ensures replayed { drop 1 (texts_of words.now) ≡ codes "replay" ∷ []
-        → Replays S.left S.failed S.ended O.taken O.failed result (input.old, input.new) (output.old, output.new) (faults.old, faults.new)
-        ⊎ ((input.new ≡ input.old) × LacksMemory E.taken E.failed result (output.old, output.new) (faults.old, faults.new)) }
+    ensures does { Does D.holds D.unreadable D.written D.unwritten S.left S.failed S.ended O.taken O.failed E.taken E.failed
+        (replay (path_of load.entry) (path_of save.entry)) result (files.old, files.new) (input.old, input.new) (output.old, output.new) (faults.old, faults.new) }
+{
+    let mut session = started(files, load, faults)?;
+    replay_command(&mut session, input, output, faults)?;
+    match save {
+        Some(path) => save_rows(files, alloc, path, &session, faults),
+        None => Ok(()),
+    }
+}
+
+/// Compares the log with what the session sends.
+fn check_log<D, S, O, E>(
+    files: &D,
+    load: Option<&str>,
+    input: &mut S,
+    output: &mut O,
+    faults: &mut E,
+) -> Result<(), u8>
+where
+    D: Files,
+    S: Source,
+    O: Target,
+    E: Target,
+    requires reads { S.failed input.old < 2 ^ 64 - 1 }
+    requires writes { O.failed output.old < 2 ^ 64 - 1 }
+    requires tells { E.failed faults.old < 2 ^ 64 - 1 }
+    ensures status { IfErr result (λ code. (code ≡ 1) ⊎ (code ≡ 2)) }
+    ensures does { Does D.holds D.unreadable D.written D.unwritten S.left S.failed S.ended O.taken O.failed E.taken E.failed
+        (check (path_of load.entry)) result (files.now, files.now) (input.old, input.new) (output.old, output.new) (faults.old, faults.new) }
+{
+    let mut session = started(files, load, faults)?;
+    check_command(&mut session, input, output, faults)
+}
+
+/// Makes the log quiet.
+fn quiet_log<D, S, O, E>(
+    files: &D,
+    load: Option<&str>,
+    input: &mut S,
+    output: &mut O,
+    faults: &mut E,
+) -> Result<(), u8>
+where
+    D: Files,
+    S: Source,
+    O: Target,
+    E: Target,
+    requires reads { S.failed input.old < 2 ^ 64 - 1 }
+    requires writes { O.failed output.old < 2 ^ 64 - 1 }
+    requires tells { E.failed faults.old < 2 ^ 64 - 1 }
+    ensures status { IfErr result (λ code. (code ≡ 1) ⊎ (code ≡ 2)) }
+    ensures does { Does D.holds D.unreadable D.written D.unwritten S.left S.failed S.ended O.taken O.failed E.taken E.failed
+        (quiet (path_of load.entry)) result (files.now, files.now) (input.old, input.new) (output.old, output.new) (faults.old, faults.new) }
+{
+    let mut session = started(files, load, faults)?;
+    quiet_command(&mut session, input, output, faults)
+}
+
+/// Shows the log.
+fn show_log<S, O, E>(alloc: Global, input: &mut S, output: &mut O, faults: &mut E) -> Result<(), u8>
+where
+    S: Source,
+    O: Target,
+    E: Target,
+    requires reads { S.failed input.old < 2 ^ 64 - 1 }
+    requires writes { O.failed output.old < 2 ^ 64 - 1 }
+    requires tells { E.failed faults.old < 2 ^ 64 - 1 }
+    ensures answer { (answer : Result (Unit {0}) AnyFault) × (result ≡ status_of answer)
+        × IsCounted S.left S.failed S.ended O.failed answer (input.old, input.new) (output.old, output.new) }
+    ensures silent { OnOk result (faults.new ≡ faults.old) }
+{
+    match show(alloc, input, output) {
+        Ok(()) => Ok(()),
+        Err(fault) => Err(log_fault(faults, &fault)),
+    }
+}
+
+/// Runs the program on these words, the first of them being its own name. An error holds the exit status: 1
+/// for a fault of the log, 2 for words that are no command, for a snapshot's file, and for want of memory
+/// outside the log. Its text was given to `faults`, if that could be.
+pub fn run<'a, D, S, O, E>(
+    files: &mut D,
+    alloc: Global,
+    words: &'a [&'a str],
+    input: &mut S,
+    output: &mut O,
+    faults: &mut E,
+) -> Result<(), u8>
+where
+    D: Files,
+    S: Source,
+    O: Target,
+    E: Target,
+    requires reads { S.failed input.old < 2 ^ 64 - 1 }
+    requires writes { O.failed output.old < 2 ^ 64 - 1 }
+    requires tells { E.failed faults.old < 2 ^ 64 - 1 }
+    ensures status { IfErr result (λ code. (code ≡ 1) ⊎ (code ≡ 2)) }
+    // What the words ask for is done.
+    ensures answered { Answers D.holds D.unreadable D.written D.unwritten S.left S.failed S.ended O.taken O.failed E.taken E.failed
+        (texts_of words.now) result (files.old, files.new) (input.old, input.new) (output.old, output.new) (faults.old, faults.new) }
 {
     match task_of(alloc, words) {
-        Ok(Task::Replay) => replay_command(input, output, faults),
+        Ok(Task::Replay { load, save }) => {
+            replay_log(files, alloc, load, save, input, output, faults)
+        }
+        Ok(Task::Check { load }) => check_log(files, load, input, output, faults),
+        Ok(Task::Quiet { load }) => quiet_log(files, load, input, output, faults),
+        Ok(Task::Show) => show_log(alloc, input, output, faults),
         Err(error) => explain(alloc, &error, output, faults),
     }
 }

@@ -1,4 +1,5 @@
 //! Exit statuses, and the texts that tell them.
+use crate::files::HostFiles;
 use crate::process::words_of;
 use crate::program::run;
 use session_log::{FromRead, SliceIn, SliceOut, Source, ToWrite};
@@ -56,7 +57,7 @@ fn status_of<'a>(
     let mut writer = SliceOut::new(&mut out[..room]);
     let mut teller = SliceOut::new(&mut told);
     let ended = run(
-        rt,
+        &mut HostFiles(rt),
         rt.alloc(),
         words,
         &mut SliceIn::new(log),
@@ -115,7 +116,7 @@ fn words_end_with_a_status(rt: HostRuntime) {
     // What is wrong with the words goes to the faults, and nothing to the output.
     for words in [
         ["hidlog", "--what"],
-        ["hidlog", "show"],
+        ["hidlog", "--load"],
         ["hidlog", "replay=1"],
     ] {
         let (status, empty, silent) = status_of(&rt, &words, b"", 0, b"", b"");
@@ -132,6 +133,9 @@ Usage: hidlog <COMMAND>
 
 Commands:
   replay  Replays the log on standard input: writes it with the packets that the key sends, and what it counted
+  check   Compares the packets that the log names as sent with those that the key sends
+  quiet   Writes the log's inputs, with a tick in place of each that is noise
+  show    Writes what the log's lines say, line by line
   help    Print this message or the help of the given subcommand(s)
 
 Options:
@@ -149,7 +153,7 @@ For more information, try '--help'.
         let mut writer = SliceOut::new(&mut out);
         let mut teller = SliceOut::new(&mut told);
         let _ = run(
-            &rt,
+            &mut HostFiles(&rt),
             rt.alloc(),
             &["hidlog", word],
             &mut SliceIn::new(b""),
@@ -182,7 +186,7 @@ fn texts_that_go_nowhere_change_no_status(rt: HostRuntime) {
     let mut faults = SliceOut::new(&mut []);
     let mut input = FromRead::new(Broken);
     let ended = run(
-        &rt,
+        &mut HostFiles(&rt),
         rt.alloc(),
         &words,
         &mut input,
@@ -195,7 +199,7 @@ fn texts_that_go_nowhere_change_no_status(rt: HostRuntime) {
     let mut output = ToWrite::new(io::sink());
     let mut input = FromRead::new(Broken);
     let ended = run(
-        &rt,
+        &mut HostFiles(&rt),
         rt.alloc(),
         &words,
         &mut input,

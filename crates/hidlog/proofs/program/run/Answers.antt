@@ -1,9 +1,10 @@
-use Rattle.std.proofs.Common.{inr, refl}
+use Rattle.std.proofs.Common.{refl}
 use Rattle.clap.specs.Words.{kind_of}
 use Rattle.hidlog.specs.CommandLine.{texts_of}
-use Rattle.hidlog.proofs.Alone.{lacks_memory}
+use Rattle.hidlog.proofs.Asked.{unasked}
 use Rattle.hidlog.proofs.program.run.Goals as goal
 
-pub returns-in-Err-clause-replayed : goal.returns-in-Err-clause-replayed
-returns-in-Err-clause-replayed g c =
-    λ alone. inr (refl, lacks_memory (texts_of c.args.words.now) (kind_of c.in-Err.error) alone c.in-Err.ensures.answer c.explain.ensures)
+pub returns-in-Err-clause-answered : goal.returns-in-Err-clause-answered
+returns-in-Err-clause-answered g c =
+    unasked _ (texts_of c.args.words.now) (kind_of c.in-Err.error) refl refl c.in-Err.ensures.answer c.explain.ensures
+    (refl, refl, (kind_of c.in-Err.error, c.in-Err.ensures.answer, c.explain.ensures))

@@ -1,0 +1,10 @@
+-- The exit status of a log's fault.
+use Rattle.std.proofs.Common.{◌≡◌, ◌⊎◌, inl, Result, Ok, Err, IfErr}
+use Rattle.session_log.specs.declared.fault.LogFault.{LogFault}
+use Rattle.session_log.specs.Command.{Status, status_of}
+
+pub is_status : {A : Type 0} (answer : Result A LogFault) (status : Status) → status ≡ status_of answer → IfErr status (λ code. (code ≡ 1) ⊎ (code ≡ 2))
+is_status (Ok x) (Ok y) is = tt
+is_status (Ok x) (Err code) is = cc
+is_status (Err fault) (Ok y) is = cc
+is_status (Err fault) (Err code) is = inl (cc)

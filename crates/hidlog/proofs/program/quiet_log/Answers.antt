@@ -1,0 +1,23 @@
+use Rattle.std.proofs.Common.{inr, refl, sym, []}
+use Rattle.hidlog.specs.Saved.{start_with}
+use Rattle.hidlog.proofs.Statuses.{is_status}
+use Rattle.hidlog.proofs.program.quiet_log.Goals as goal
+
+pub returns-clause-status : goal.returns-clause-status
+returns-clause-status g c =
+    let begun = c.in_ok-session.ensures.begins in
+    let played = c.quiet_command.ensures.quieted (start_with begun.0) [] begun.2 in
+    is_status played.0 c.quiet_command.result played.2
+
+pub returns-clause-does : goal.returns-clause-does
+returns-clause-does g c =
+    let begun = c.in_ok-session.ensures.begins in
+    inr (
+      begun.0,
+      begun.1,
+      (
+        (c.quiet_command.new.session, c.quiet_command.ensures.quieted (start_with begun.0) [] begun.2),
+        refl,
+        rw (sym c.in_ok-session.ensures.silent) c.quiet_command.ensures.silent,
+      ),
+    )
