@@ -43,7 +43,7 @@ fn log(alloc: Global, lines: &[&str]) -> Result<String, AllocError> {
 /// The fault of a log that is compared with what a new session sends, and what was written into so much room.
 fn checked(log: &[u8], room: usize) -> (Option<LogFault>, Text) {
     let mut buffer = [0; 64];
-    let mut writer = SliceOut::new(buffer.split_at_mut(room).0);
+    let mut writer = SliceOut::new(buffer.split_at_mut(room.min(64)).0);
     let mut session = Session::<4>::bare([0; 16], 0);
     let answer = check(&mut SliceIn::new(log), &mut writer, &mut session);
     let mut text = ArrayVec::new();
@@ -84,32 +84,58 @@ fn equal_logs(rt: HostRuntime) -> Result<(), AllocError> {
     Ok(())
 }
 
+/// The log differs first at this packet of the input in this line, and nothing is written.
+fn assert_differs<R: Abort>(
+    rt: &R,
+    alloc: Global,
+    lines: &[&str],
+    line: u64,
+    packet: u64,
+) -> Result<(), AllocError> {
+    let text = log(alloc, lines)?;
+    let (fault, written) = checked(text.as_bytes(), 64);
+    assert_eq!(rt; fault, Some(LogFault::Differs { line, packet }));
+    assert_eq!(rt; written.len(), 0);
+    Ok(())
+}
+
 #[test]
-fn first_differences(rt: HostRuntime) -> Result<(), AllocError> {
+fn missing_packets(rt: HostRuntime) -> Result<(), AllocError> {
+    let alloc = rt.alloc();
+    assert_differs(&rt, alloc, &[INIT, GREETING, PING, "= held 0"], 3, 1)?;
+    assert_differs(&rt, alloc, &[INIT, "# none", PING, PONG], 1, 1)?;
+    assert_differs(&rt, alloc, &[INIT, GREETING, INFO, ANSWER], 3, 2)?;
+    assert_differs(&rt, alloc, &[INIT, GREETING, INFO, ANSWER, "t 9"], 3, 2)
+}
+
+#[test]
+fn other_packets(rt: HostRuntime) -> Result<(), AllocError> {
+    let alloc = rt.alloc();
     let another = "< ffffffff860011000102030405060700000002020100000c";
     let another_rest = "< 00000001000a81a263616c672664747970656a7075626c69632d6b6578";
-    let cases: [(&[&str], u64, u64); 10] = [
-        // One that is missing, at the end, before the next input, and of two.
-        (&[INIT, GREETING, PING, "= held 0"], 3, 1),
-        (&[INIT, "# none", PING, PONG], 1, 1),
-        (&[INIT, GREETING, INFO, ANSWER], 3, 2),
-        (&[INIT, GREETING, INFO, ANSWER, "t 9"], 3, 2),
-        // One that differs.
-        (&[INIT, another, PING, PONG], 1, 1),
-        (&[INIT, GREETING, INFO, ANSWER, another_rest], 3, 2),
-        (&[INIT, GREETING, INFO, ANSWER_REST, ANSWER], 3, 1),
-        // One too many: before any input, after all, and for an input for which nothing is sent.
-        (&[PONG, INIT, GREETING], 0, 1),
-        (&[INIT, GREETING, PING, PONG, "", PONG], 3, 2),
-        (&["#", "t 5", PONG], 2, 1),
-    ];
-    for (lines, line, packet) in cases {
-        let text = log(rt.alloc(), lines)?;
-        let (fault, written) = checked(text.as_bytes(), 64);
-        assert_eq!(rt; fault, Some(LogFault::Differs { line, packet }));
-        assert_eq!(rt; written.len(), 0);
-    }
-    Ok(())
+    assert_differs(&rt, alloc, &[INIT, another, PING, PONG], 1, 1)?;
+    assert_differs(
+        &rt,
+        alloc,
+        &[INIT, GREETING, INFO, ANSWER, another_rest],
+        3,
+        2,
+    )?;
+    assert_differs(
+        &rt,
+        alloc,
+        &[INIT, GREETING, INFO, ANSWER_REST, ANSWER],
+        3,
+        1,
+    )
+}
+
+#[test]
+fn packets_too_many(rt: HostRuntime) -> Result<(), AllocError> {
+    let alloc = rt.alloc();
+    assert_differs(&rt, alloc, &[PONG, INIT, GREETING], 0, 1)?;
+    assert_differs(&rt, alloc, &[INIT, GREETING, PING, PONG, "", PONG], 3, 2)?;
+    assert_differs(&rt, alloc, &["#", "t 5", PONG], 2, 1)
 }
 
 #[test]
@@ -151,7 +177,8 @@ fn streams_fail(rt: HostRuntime) -> Result<(), AllocError> {
     let mut buffer = [0; 64];
     let mut writer = SliceOut::new(&mut buffer);
     let mut session = Session::<4>::bare([0; 16], 0);
-    let mut reader = FromRead::new(Failing(&text.as_bytes()[..200]));
+    let bytes = text.as_bytes();
+    let mut reader = FromRead::new(Failing(bytes.split_at(bytes.len().min(200)).0));
     let answer = check(&mut reader, &mut writer, &mut session);
     assert_eq!(rt; answer.err(), Some(LogFault::Read(2)));
     assert_eq!(rt; writer.written().len(), 0);

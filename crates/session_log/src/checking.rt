@@ -55,9 +55,7 @@ impl Checking {
             packets: 0,
         }
     }
-}
 
-impl Checking {
     /// The packet that comes next differs, is missing or is one too many.
     fn difference(&self) -> LogFault
         requires { self.now.found < 2 ^ 64 - 1 }
@@ -111,7 +109,8 @@ impl Checking {
         requires found { self.now.found < 2 ^ 64 - 1 }
         ensures { (s : SessionState) → Closes check_machine T.taken T.failed
             (compared s self.now.lines self.now.input self.now.found
-            (due_packets self.now.awaited self.now.outbox) self.now.inputs self.now.packets) (writer.old, writer.new) (ending_of result) }
+            (due_packets self.now.awaited self.now.outbox) self.now.inputs self.now.packets)
+            (writer.old, writer.new) (ending_of result) }
     {
         match self.awaited {
             Some(_) => Err(self.difference()),
@@ -162,10 +161,10 @@ impl<const C: usize> Player<C> for Checking {
     }
 }
 
-/// Compares a log with what a session sends for its inputs (docs/LOG_FORMAT.md): after each input line have to stand
-/// the packets that are sent for it, all of them, in order, and no other ones; remarks and the lines of what was counted
-/// may stand between them. Hexadecimal digits are compared as what they say. Nothing is written before the reader's end,
-/// and there how many inputs and packets were the same. It allocates nothing.
+/// Compares a log with what a session sends for its inputs (docs/LOG_FORMAT.md): after each input line have to
+/// stand the packets that are sent for it, all of them, in order, and no other ones; remarks and the lines of what
+/// was counted may stand between them. Hexadecimal digits are compared as what they say. Nothing is written before
+/// the reader's end, and there how many inputs and packets were the same. It allocates nothing.
 ///
 /// Fails with [`LogFault::Differs`] at the first packet that differs, is missing or is one too many; a missing one is
 /// found when the next input line was read, or at the reader's end. [`LogFault::BadLine`], [`LogFault::TooLong`],
@@ -179,8 +178,9 @@ pub fn check<S: Source, T: Target, const C: usize>(
 ) -> Result<(), LogFault>
     requires read { S.failed reader.old < 2 ^ 64 - 1 }
     requires write { T.failed writer.old < 2 ^ 64 - 1 }
-    // At Ok no line is faulty, no packet differs, is missing or is too many, and it was written what was compared. A
-    // line fault or a difference is the first one. A read that failed names its line, and nothing before it differs.
+    // At Ok no line is faulty, no packet differs, is missing or is too many, and what was compared was written. A
+    // line fault or a difference is the first one. A read that failed names its line, and nothing before it
+    // differs.
     ensures checked { (later : Compared SessionState) × (later.session ≡ session.new)
         × Moves (S.left reader.old) (S.left reader.new) (T.taken writer.old) (T.taken writer.new)
         (λ bytes text. Makes check_machine (begun session.old) later bytes text (ending_of result)) }

@@ -22,20 +22,25 @@ pub fn the_grammar_is_read()
     ensures refused { (line : List ℕ) → (said line ≡ None) ↔ ((l : AnyLine) → ¬ Spells line l) }
 {}
 
-/// What is written as a log is made quiet says the inputs of that log, but ticks in place of noise: after histories of
-/// which the second has ticks in place of noise, so have the longer ones.
+/// What is written as a log is made quiet says the inputs of that log, but ticks in place of noise: after histories
+/// of which the second has ticks in place of noise, so have the longer ones.
 pub fn a_log_made_quiet_is_quiet()
-    ensures { (start : Start) (h g : List OneInput) (bytes : List ℕ) → (playing (quiet_history start) h bytes).fault ≡ None → Quiet start h g
-        → Quiet start (onto (inputs (lines bytes)) h) (onto (inputs (lines (playing (quiet_history start) h bytes).text)) g) }
+    ensures { (start : Start) (h g : List OneInput) (bytes : List ℕ)
+        → (playing (quiet_history start) h bytes).fault ≡ None → Quiet start h g
+        → Quiet start (onto (inputs (lines bytes)) h)
+        (onto (inputs (lines (playing (quiet_history start) h bytes).text)) g) }
 {}
 
-/// Made quiet again, after the same history, what was written is written again: no line of it is faulty, and the text is
-/// the same.
+/// Made quiet again, after the same history, what was written is written again: no line of it is faulty, and the
+/// text is the same.
 pub fn a_quiet_log_stays_as_it_is()
-    ensures faultless { (start : Start) (h : List OneInput) (bytes : List ℕ) → (playing (quiet_history start) h bytes).fault ≡ None
+    ensures faultless { (start : Start) (h : List OneInput) (bytes : List ℕ)
+        → (playing (quiet_history start) h bytes).fault ≡ None
         → (playing (quiet_history start) h (playing (quiet_history start) h bytes).text).fault ≡ None }
-    ensures text { (start : Start) (h : List OneInput) (bytes : List ℕ) → (playing (quiet_history start) h bytes).fault ≡ None
-        → (playing (quiet_history start) h (playing (quiet_history start) h bytes).text).text ≡ (playing (quiet_history start) h bytes).text }
+    ensures text { (start : Start) (h : List OneInput) (bytes : List ℕ)
+        → (playing (quiet_history start) h bytes).fault ≡ None
+        → (playing (quiet_history start) h (playing (quiet_history start) h bytes).text).text
+        ≡ (playing (quiet_history start) h bytes).text }
 {}
 
 /// Where nothing is wrong with a log that is compared, the packets that stand in it before any input and after each
@@ -51,13 +56,15 @@ pub fn a_checked_log_has_what_is_sent()
         → (playing (check_history start) (begun h) bytes).fault ≡ None
         → (playing (check_history start) (begun h) bytes).state.packets ≡ sum_by length (found_groups (lines bytes)) }
     // Nothing is written for a line.
-    ensures silent { (start : Start) (h : List OneInput) (bytes : List ℕ) → (playing (check_history start) (begun h) bytes).text ≡ [] }
+    ensures silent { (start : Start) (h : List OneInput) (bytes : List ℕ)
+        → (playing (check_history start) (begun h) bytes).text ≡ [] }
 {}
 
-/// A difference names the first place where the packets that stand in a log aren't those that the history says are sent.
+/// A difference names the first place where the packets that stand in a log aren't those that the history says are
+/// sent.
 pub fn a_difference_is_the_first()
     ensures { (start : Start) (h : List OneInput) (bytes : List ℕ) (line packet : ℕ)
         → fault_of (check_history start) (playing (check_history start) (begun h) bytes) ≡ Some (Differs line packet)
-        → IsFirstDifference (found_groups (lines bytes)) ([] ∷ sent_groups (histories start) h (inputs (lines bytes)))
-        (0 ∷ input_lines 1 (lines bytes)) line packet }
+        → IsFirstDifference (found_groups (lines bytes))
+        ([] ∷ sent_groups (histories start) h (inputs (lines bytes))) (0 ∷ input_lines 1 (lines bytes)) line packet }
 {}
