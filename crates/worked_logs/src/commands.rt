@@ -1,0 +1,141 @@
+//! What the commands make of a worked log: a replay writes it again; compared with what is sent it is the same, and a packet
+//! that is changed, left out or put in is found; made quiet it sends no packet that it didn't send, and counts the same.
+
+ghost use Rattle.std.specs.Prelude.{◌≤◌};
+
+use crate::walk::{Place, Walk, is_packet};
+use session_log::{LogFault, SliceIn, ToWrite, check, quiet, replay};
+use std::alloc::{AllocError, Global};
+use token_session::Session;
+
+/// A session without credentials, of a key whose AAGUID is zero.
+fn session<const C: usize>() -> Session<C>
+    requires some { 1 ≤ C }
+    requires few { C ≤ 256 }
+{
+    Session::bare([0; 16], 0)
+}
+
+fn replayed<const C: usize>(alloc: Global, log: &[u8]) -> Option<Vec<u8>>
+    requires some { 1 ≤ C }
+    requires few { C ≤ 256 }
+{
+    let mut text = Vec::new(alloc);
+    let writer = &mut ToWrite::new(&mut text);
+    replay(&mut SliceIn::new(log), writer, &mut session::<C>()).ok()?;
+    Some(text)
+}
+
+fn quieted<const C: usize>(alloc: Global, log: &[u8]) -> Option<Vec<u8>>
+    requires some { 1 ≤ C }
+    requires few { C ≤ 256 }
+{
+    let mut text = Vec::new(alloc);
+    let writer = &mut ToWrite::new(&mut text);
+    quiet(&mut SliceIn::new(log), writer, &mut session::<C>()).ok()?;
+    Some(text)
+}
+
+/// The first place where the log differs from what is sent, or what is written where it doesn't.
+fn compared<const C: usize>(alloc: Global, log: &[u8]) -> Result<Vec<u8>, LogFault>
+    requires some { 1 ≤ C }
+    requires few { C ≤ 256 }
+{
+    let mut text = Vec::new(alloc);
+    let writer = &mut ToWrite::new(&mut text);
+    check(&mut SliceIn::new(log), writer, &mut session::<C>())?;
+    Ok(text)
+}
+
+/// Whether the log is the same as what is sent, with the right counts.
+fn is_same<const C: usize>(alloc: Global, log: &[u8]) -> Result<bool, AllocError>
+    requires some { 1 ≤ C }
+    requires few { C ≤ 256 }
+{
+    let mut walk = Walk::default();
+    for line in log.split_inclusive(|byte| *byte == b'\n') {
+        walk.pass(line);
+    }
+    let wanted = format!(in alloc; "same {} inputs {} packets\n", walk.inputs, walk.packets)?;
+    Ok(compared::<C>(alloc, log).is_ok_and(|text| text.as_slice() == wanted.as_bytes()))
+}
+
+fn differs_at<const C: usize>(alloc: Global, parts: &[&[u8]], place: Place) -> Result<bool, AllocError>
+    requires some { 1 ≤ C }
+    requires few { C ≤ 256 }
+{
+    let log = parts.concat(alloc)?;
+    let wanted = LogFault::Differs {
+        line: place.line,
+        packet: place.packet,
+    };
+    Ok(compared::<C>(alloc, log.as_slice()).is_err_and(|fault| fault == wanted))
+}
+
+/// A packet's line with another last digit.
+fn changed(alloc: Global, line: &[u8]) -> Result<Vec<u8>, AllocError> {
+    let mut copy = line.to_vec(alloc)?;
+    let last = line.len().saturating_sub(2);
+    if let Some(digit) = copy.as_mut_slice().get_mut(last) {
+        *digit = if *digit == b'0' { b'1' } else { b'0' };
+    }
+    Ok(copy)
+}
+
+/// Whether each packet's line that is changed, left out, or doubled is found at its place.
+fn changes_are_found<const C: usize>(alloc: Global, log: &[u8]) -> Result<bool, AllocError>
+    requires some { 1 ≤ C }
+    requires few { C ≤ 256 }
+{
+    let mut walk = Walk::default();
+    let mut end: usize = 0;
+    let mut found = true;
+    for line in log.split_inclusive(|byte| *byte == b'\n') {
+        let before = log.get(..end).unwrap_or_default();
+        end = end.saturating_add(line.len());
+        walk.pass(line);
+        if is_packet(line) {
+            let rest = log.get(end..).unwrap_or_default();
+            let other = changed(alloc, line)?;
+            found = found
+                && differs_at::<C>(alloc, &[before, other.as_slice(), rest], walk.place)?
+                && differs_at::<C>(alloc, &[before, rest], walk.place)?
+                && differs_at::<C>(alloc, &[before, line, line, rest], walk.place.next())?;
+        }
+    }
+    Ok(found)
+}
+
+/// The log's last line, which has what was counted.
+fn counts(log: &[u8]) -> Option<&[u8]> {
+    log.split_inclusive(|byte| *byte == b'\n').last()
+}
+
+/// Whether the log made quiet stays as it is when it is made quiet again, and its replay sends packets of the log alone, in
+/// their order, and counts what the log counts.
+fn is_quieted<const C: usize>(alloc: Global, log: &[u8]) -> Option<bool>
+    requires some { 1 ≤ C }
+    requires few { C ≤ 256 }
+{
+    let quiet = quieted::<C>(alloc, log)?;
+    let again = quieted::<C>(alloc, quiet.as_slice())?;
+    let sent = replayed::<C>(alloc, quiet.as_slice())?;
+    let mut lines = log.split_inclusive(|byte| *byte == b'\n');
+    for line in sent.as_slice().split_inclusive(|byte| *byte == b'\n') {
+        if is_packet(line) && !lines.any(|other| other == line) {
+            return Some(false);
+        }
+    }
+    Some(again == quiet && counts(sent.as_slice()) == counts(log))
+}
+
+/// Whether the commands make of the log what they should, on a session that has room for `C` credentials.
+pub fn is_worked<const C: usize>(alloc: Global, log: &[u8]) -> bool
+    requires some { 1 ≤ C }
+    requires few { C ≤ 256 }
+{
+    replayed::<C>(alloc, log).is_some_and(|text| text.as_slice() == log)
+        && is_same::<C>(alloc, log) == Ok(true)
+        && changes_are_found::<C>(alloc, log) == Ok(true)
+        && is_quieted::<C>(alloc, log) == Some(true)
+}
