@@ -1,16 +1,15 @@
 -- A log that is played again gives the same bytes.
-use Rattle.std.proofs.Common.{◌≡◌, ◌≢◌, ℕ, suc, ◌+◌, ◌≤◌, ◌<◌, ◌^◌, nat_lt, Bool, true, false, cond, List, [], ◌∷◌, ◌++◌, length, map, flat_map, codes, decimal, Option, Some, None, Ok, IsOk, refl, sym, ap, ◌∙◌, arith, append_assoc, append-nil, length-append}
+use Rattle.std.proofs.Common.{◌≡◌, ◌≢◌, ℕ, suc, ◌+◌, ◌≤◌, ◌<◌, ◌^◌, true, List, [], ◌∷◌, ◌++◌, length, map, flat_map, codes, decimal, Option, Some, None, Ok, IsOk, refl, sym, ap, ◌∙◌, arith, append_assoc, append-nil, length-append}
 use Rattle.std.proofs.lemmas.Fmt.{length-decimal-le}
 use Rattle.std.proofs.lemmas.List.{length-map}
 use Rattle.std.proofs.lemmas.Grind.{flat_map-append}
 use Rattle.hex.specs.Hex.{decode_sized, encode_lower, lower_digits}
 use Rattle.hex.proofs.HexLemmas.{decode_sized-encode_lower, length-encode_with, IsOk-decode_sized}
 use Rattle.token_session.specs.declared.input.Meters.{Meters}
-use Rattle.session_log.specs.declared.fault.LogFault.{LogFault}
 use Rattle.session_log.specs.declared.line.Line.{Line}
 use Rattle.session_log.specs.declared.line.Line.TheVariants.{Input, Sent, Remark, Count}
 use Rattle.session_log.specs.Lines.{lines}
-use Rattle.session_log.specs.Log.{Played, behind, played, playing, log_of, log, fault_by, fault_at, text_of, text_by, after, after_by}
+use Rattle.session_log.specs.Log.{Played, behind, played, playing, log_of, log, fault_by, text_of, text_by, after, after_by}
 use Rattle.session_log.specs.Said.{said}
 use Rattle.session_log.specs.Sent.{IsPacket, ArePackets, SendsPackets, AllSend, FitsMeters}
 use Rattle.session_log.specs.Text.{ended, sent_text, meters_line}

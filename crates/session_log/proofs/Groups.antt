@@ -7,10 +7,10 @@ use Rattle.session_log.specs.declared.fault.LogFault.{LogFault}
 use Rattle.session_log.specs.declared.fault.LogFault.TheVariants.{TooLong, Differs, TooManyLines}
 use Rattle.session_log.specs.declared.line.Line.{Line}
 use Rattle.session_log.specs.declared.line.Line.TheVariants.{Input, Sent, Remark, Count}
-use Rattle.session_log.specs.Check.{Compared, begun, difference, missing, missing_of, differs_from, after_first, stops_compared, moves_compared, checking}
+use Rattle.session_log.specs.Check.{Compared, begun, difference, missing_of, differs_from, after_first, checking}
 use Rattle.session_log.specs.Groups.{Groups, with_first, grouped, found_groups, sent_groups, number_by, input_lines, DifferFirst, IsFirstDifference}
 use Rattle.session_log.specs.Inputs.{inputs, inputs_by}
-use Rattle.session_log.specs.Log.{Played, behind, played, first_fault, fault_of, fault_by, fault_at, text_of, text_by, after, after_by}
+use Rattle.session_log.specs.Log.{Played, played, first_fault, fault_of, fault_by, fault_at, text_by, after, after_by}
 use Rattle.session_log.specs.Said.{said}
 use Rattle.session_log.specs.World.{Course, World}
 use Rattle.session_log.proofs.Through.{played_sound, played_faulty, first_is_line}

@@ -11,13 +11,13 @@ use Rattle.token_session.proofs.Runs.{step_sends}
 use Rattle.session_log.specs.declared.fault.LogFault.{LogFault}
 use Rattle.session_log.specs.declared.line.Line.{Line}
 use Rattle.session_log.specs.declared.line.Line.TheVariants.{Input, Sent, Remark, Count}
-use Rattle.session_log.specs.Check.{Compared, begun, difference, missing, missing_of, differs_from, stops_compared, moves_compared, check_machine, check_history}
+use Rattle.session_log.specs.Check.{Compared, begun, difference, missing, differs_from, stops_compared, moves_compared, check_machine, check_history}
 use Rattle.session_log.specs.Ending.{Ending}
 use Rattle.session_log.specs.Replay.{Logs, Makes}
 use Rattle.session_log.specs.Session.{sessions, histories, machine, history, quiet_machine, quiet_history}
 use Rattle.session_log.specs.Streams.{Moves}
 use Rattle.session_log.specs.Text.{ended, sent_text, tick_text, meters_line}
-use Rattle.session_log.specs.World.{World, moves_input, writes_again, writes_quiet}
+use Rattle.session_log.specs.World.{World, moves_input, writes_again}
 use Rattle.session_log.proofs.Worlds.{Follows, makes_alike, logs_alike}
 
 counted : (s : SessionState) (start : Start) (h : List Timed) → StandsBehind s start h → s.meters ≡ (history start).counts h

@@ -7,7 +7,7 @@ use Rattle.session_log.specs.declared.line.Line.{Line}
 use Rattle.session_log.specs.Lines.{lines, whole_lines}
 use Rattle.session_log.specs.Log.{Played, played, playing, text_by, after_by, first_fault, fault_by, fault_at, fault_of, last_text, log_of}
 use Rattle.session_log.specs.Said.{said}
-use Rattle.session_log.specs.Ending.{Ending, Done, Refused, Unread, Unwritten, ended_by, ending_of}
+use Rattle.session_log.specs.Ending.{Ending, Done, Refused, Unread, Unwritten, ended_by}
 use Rattle.session_log.specs.Replay.{IsDone, IsRefused, IsUnread, IsUnwritten, Makes, Logs, next_text, next_state}
 use Rattle.session_log.specs.World.{World}
 

@@ -1,4 +1,4 @@
-use Rattle.std.proofs.Common.{rules, ◌≡◌, ◌+◌, Option, Some, None, refl, sym, ap, ◌∙◌}
+use Rattle.std.proofs.Common.{rules, ◌≡◌, ◌+◌, Option, Some, None, sym, ap, ◌∙◌}
 use Rattle.hid_packet.specs.declared.packet.Packet.{Packet}
 use Rattle.session_log.specs.Check.{compared, due_packets, missing_of, stops_compared, moves_compared}
 use Rattle.session_log.specs.Said.{said}
