@@ -4,6 +4,8 @@
 ghost use Rattle.std.specs.Prelude.{◌<◌, ◌-◌, ◌^◌};
 
 mod command_line;
+#[cfg(test)]
+mod command_tests;
 mod files;
 mod process;
 mod program;

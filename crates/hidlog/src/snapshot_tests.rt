@@ -80,21 +80,23 @@ fn snapshot(
     Ok(out)
 }
 
+/// Appends a line: this front, and a packet that begins with these digits and goes on with zeros.
+pub fn push_packet(log: &mut Vec<u8>, front: &str, digits: &str) -> Result<(), AllocError> {
+    log.extend_from_slice(front.as_bytes())?;
+    log.extend_from_slice(digits.as_bytes())?;
+    for _ in digits.len()..128 {
+        log.push(b'0')?;
+    }
+    Ok(log.push(b'\n')?)
+}
+
 /// A log in which a host of channel 1 signs in to `example.com`, and then these replies of the caller.
 fn sign_in(alloc: Global, replies: &str) -> Result<Vec<u8>, AllocError> {
     let mut log = Vec::new(alloc);
-    for packet in [
-        "ffffffff8600080001020304050607",
-        "0000000190003202a2016b6578616d706c652e636f6d025820\
-         2222222222222222222222222222222222222222222222222222222222222222",
-    ] {
-        log.extend_from_slice(b"> 0 ")?;
-        log.extend_from_slice(packet.as_bytes())?;
-        for _ in packet.len()..128 {
-            log.push(b'0')?;
-        }
-        log.push(b'\n')?;
-    }
+    push_packet(&mut log, "> 0 ", "ffffffff8600080001020304050607")?;
+    let request = "0000000190003202a2016b6578616d706c652e636f6d025820\
+                   2222222222222222222222222222222222222222222222222222222222222222";
+    push_packet(&mut log, "> 0 ", request)?;
     log.extend_from_slice(replies.as_bytes())?;
     Ok(log)
 }

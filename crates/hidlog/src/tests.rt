@@ -148,20 +148,34 @@ Usage: hidlog <COMMAND>
 
 For more information, try '--help'.
 ";
-    for (word, output, faults) in [("--help", help, ""), ("--what", "", refusal)] {
+    let options = "\
+Replays the log on standard input: writes it with the packets that the key sends, and what it counted
+
+Usage: hidlog replay [OPTIONS]
+
+Options:
+      --load <F>  Starts with the credentials of the snapshot F, and not with none
+      --save <F>  Writes a snapshot of the credentials to F, unless the log has a fault
+  -h, --help      Print help
+";
+    for (words, output, faults) in [
+        (["hidlog", "--help"].as_slice(), help, ""),
+        (["hidlog", "replay", "--help"].as_slice(), options, ""),
+        (["hidlog", "--what"].as_slice(), "", refusal),
+    ] {
         let (mut out, mut told) = ([0; 1024], [0; 1024]);
         let mut writer = SliceOut::new(&mut out);
         let mut teller = SliceOut::new(&mut told);
         let _ = run(
             &mut HostFiles(&rt),
             rt.alloc(),
-            &["hidlog", word],
+            words,
             &mut SliceIn::new(b""),
             &mut writer,
             &mut teller,
         );
-        assert!(rt; writer.written() == output.as_bytes(), "{word}");
-        assert!(rt; teller.written() == faults.as_bytes(), "{word}");
+        assert!(rt; writer.written() == output.as_bytes(), "{output}");
+        assert!(rt; teller.written() == faults.as_bytes(), "{output}");
     }
 }
 
