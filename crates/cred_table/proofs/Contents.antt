@@ -3,7 +3,7 @@ use Rattle.std.proofs.Common.{◌≡◌, ℕ, ◌+◌, ◌<◌, ◌≤◌, ◌^�
 use Rattle.std.specs.Prelude.{pos}
 use Rattle.std.proofs.lemmas.List.{append-nil}
 use Rattle.std.specs.List.{AllByRecursion}
-use Rattle.ctap_cbor.specs.Tree.{Int, Tree, Plain, Array, Map, Trees, no_trees, tree, Pairs, no_pairs, pair, depth, count, count_pairs}
+use Rattle.ctap_cbor.specs.Tree.{Int, Tree, Plain, Array, Map, Trees, no_trees, tree, Pairs, no_pairs, pair, count, count_pairs}
 use Rattle.ctap_cbor.specs.Head.{head}
 use Rattle.ctap_cbor.specs.Grammar.{text, texts, pair_texts, scalar_text, IsLawful, AreLawful, AreLawfulPairs, IsCanonical}
 use Rattle.ctap_cbor.specs.Parts.{One, OpensArray, OpensMap}

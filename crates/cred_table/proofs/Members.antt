@@ -1,5 +1,5 @@
 -- Reading by heads, and members of maps by them.
-use Rattle.std.proofs.Common.{◌≡◌, ℕ, List, [], ◌++◌, Option, Some, None, Result, Ok, Err, refl, sym, ap, ◌∙◌, append_assoc}
+use Rattle.std.proofs.Common.{◌≡◌, ℕ, List, ◌++◌, Option, Some, None, refl, sym, ap, ◌∙◌, append_assoc}
 use Rattle.std.specs.Prelude.{pos, is_some, ⊤}
 use Rattle.ctap_cbor.specs.Tree.{Int}
 use Rattle.ctap_cbor.specs.Grammar.{scalar_text}

@@ -1,5 +1,5 @@
 -- What the fields of an `Assembler` stand for.
-use Rattle.std.specs.Prelude.{◌≡◌, ℕ, ◌+◌, ◌*◌, ◌≤◌, List, [], take, length, Option, Some, None}
+use Rattle.std.specs.Prelude.{◌≡◌, ℕ, ◌≤◌, List, [], take, length, Option, Some, None}
 use Rattle.hid_assemble.specs.Table.{Open, LAST_CHANNEL}
 use Rattle.hid_assemble.specs.Assembly.{Assembly, IsOpenMessage}
 use Rattle.hid_assemble.specs.declared.assembler.OpenMessage.{OpenMessage}

@@ -11,7 +11,9 @@ ghost use Rattle.hid_packet.specs.declared.limit.TheConstants.{CONTINUATION_DATA
 use crate::code::ErrorCode;
 use crate::table::{Continuation, LAST_CHANNEL, Row, continuation_row, initialization_row};
 use crate::verdict::Verdict;
-use hid_packet::{BROADCAST, CONTINUATION_DATA, INITIALIZATION_DATA, LONGEST_MESSAGE, Packet, View};
+use hid_packet::{
+    BROADCAST, CONTINUATION_DATA, INITIALIZATION_DATA, LONGEST_MESSAGE, Packet, View,
+};
 use std::marker::Model;
 
 /// How long after its last packet an open message is given up, in milliseconds.

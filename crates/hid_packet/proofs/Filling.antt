@@ -1,5 +1,5 @@
 -- What is written behind the bytes that wait in a ring, and what is read at their front.
-use Rattle.std.proofs.Common.{◌≡◌, ℕ, ◌+◌, ◌-◌, ◌%◌, ◌<◌, ◌≤◌, ◌⊎◌, List, [], ◌∷◌, ◌++◌, length, get_or, take, drop, min, refl, sym, ap, ◌∙◌, inl, inr, arith, length-append, length-drop, length-take-le, get_or-drop, get_or-take}
+use Rattle.std.proofs.Common.{◌≡◌, ℕ, ◌+◌, ◌-◌, ◌%◌, ◌<◌, ◌≤◌, ◌⊎◌, List, ◌++◌, length, get_or, take, drop, min, refl, sym, ap, ◌∙◌, inl, inr, arith, length-append, length-drop, length-take-le, get_or-drop, get_or-take}
 use native.Mathlib.Nat.{mod-add-mod}
 use Rattle.std.proofs.lemmas.List.{same_lists, get_or_append_left, get_or-append_right}
 use Rattle.std.proofs.lemmas.Bool.{cases_lt}

@@ -1,15 +1,13 @@
 -- The packets that wait in an outbox, as entries come and go.
-use Rattle.std.proofs.Common.{◌≡◌, ℕ, ◌+◌, ◌-◌, ◌*◌, ◌<◌, ◌≤◌, ◌⊎◌, suc, zero, inl, inr, List, [], ◌∷◌, ◌++◌, length, take, drop, set, sum_by, refl, sym, subst, ◌∙◌, ap, ap₂, arith, length-append, length-drop, append_assoc, append-nil, length-take-le}
+use Rattle.std.proofs.Common.{◌≡◌, ℕ, ◌+◌, ◌-◌, ◌*◌, ◌<◌, ◌≤◌, suc, zero, inl, inr, List, [], ◌∷◌, ◌++◌, length, take, drop, set, sum_by, refl, sym, subst, ◌∙◌, ap, ap₂, arith, length-append, length-drop, append_assoc, append-nil, length-take-le}
 use Rattle.std.specs.List.{AllByRecursion, refill, remove}
 use Rattle.std.proofs.Math.Seq.{drop-length, take-length}
 use Rattle.std.proofs.lemmas.List.{take-append-le, drop-append-le}
 use Rattle.std.proofs.lemmas.List.Sums.{sum_by-append, sum_by-cons}
-use Rattle.hid_packet.specs.Carries.{IsLeast}
 use Rattle.hid_packet.specs.Message.{continuation_packets, written}
 use Rattle.hid_packet.specs.Queue.{held_by, packets_by, waiting, MayCome, IsDue, IsHeld, IsQueued}
 use Rattle.hid_packet.specs.declared.entry.Entry.{Entry}
 use Rattle.hid_packet.specs.declared.entry.Entry.TheVariants.{Whole, Part}
-use Rattle.hid_packet.specs.declared.entry.Message.{Message}
 use Rattle.hid_packet.specs.declared.fragments.Due.{Due}
 use Rattle.hid_packet.specs.declared.fragments.Due.TheVariants.{Initialization, Continuation}
 use Rattle.hid_packet.proofs.Carrying.{fewest_written}

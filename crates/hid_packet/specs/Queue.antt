@@ -4,7 +4,6 @@ use Rattle.std.specs.List.{AllByRecursion}
 use Rattle.hid_packet.specs.Remaining.{packets_left}
 use Rattle.hid_packet.specs.declared.entry.Entry.{Entry}
 use Rattle.hid_packet.specs.declared.entry.Entry.TheVariants.{Whole, Part}
-use Rattle.hid_packet.specs.declared.entry.Message.{Message}
 use Rattle.hid_packet.specs.declared.fragments.Due.{Due}
 use Rattle.hid_packet.specs.declared.fragments.Due.TheVariants.{Initialization, Continuation}
 use Rattle.hid_packet.specs.declared.limit.TheConstants.{CONTINUATION_DATA, LONGEST_MESSAGE, OUTBOX_CAPACITY}

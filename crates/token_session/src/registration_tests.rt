@@ -87,7 +87,13 @@ pub(crate) fn ask(
 }
 
 /// Steps the session by an input, and asserts that it sends just these packets.
-pub(crate) fn step(rt: &impl Abort, session: &mut Session<4>, at: u64, input: Input, expected: &[Packet]) {
+pub(crate) fn step(
+    rt: &impl Abort,
+    session: &mut Session<4>,
+    at: u64,
+    input: Input,
+    expected: &[Packet],
+) {
     let mut outbox = Outbox::new();
     session.step(at, input, &mut outbox);
     for packet in expected {

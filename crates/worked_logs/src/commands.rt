@@ -60,7 +60,11 @@ fn is_same<const C: usize>(alloc: Global, log: &[u8]) -> Result<bool, AllocError
     Ok(compared::<C>(alloc, log).is_ok_and(|text| text.as_slice() == wanted.as_bytes()))
 }
 
-fn differs_at<const C: usize>(alloc: Global, parts: &[&[u8]], place: Place) -> Result<bool, AllocError>
+fn differs_at<const C: usize>(
+    alloc: Global,
+    parts: &[&[u8]],
+    place: Place,
+) -> Result<bool, AllocError>
     requires some { 1 ≤ C }
     requires few { C ≤ 256 }
 {

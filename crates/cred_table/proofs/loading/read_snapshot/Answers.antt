@@ -1,6 +1,6 @@
 use Rattle.std.proofs.Common.{sym, ap, ◌∙◌}
 use Rattle.ctap_cbor.specs.Reading.{rest_of}
-use Rattle.cred_table.proofs.Contents.{Apart, no_heads, too_many, rows_load}
+use Rattle.cred_table.proofs.Contents.{no_heads, too_many, rows_load}
 use Rattle.cred_table.proofs.loading.read_snapshot.Goals as goal
 
 pub returns-in-None : goal.returns-in-None

@@ -1,4 +1,4 @@
-use Rattle.std.proofs.Common.{◌∙◌, ◌+◌, ◌-◌, [], ap, arith, min, refl}
+use Rattle.std.proofs.Common.{◌∙◌, ◌+◌, ◌-◌, [], ap, min, refl}
 use Rattle.hid_packet.proofs.Making.{first_made, next_made}
 use Rattle.hid_packet.proofs.Writing.{no_continuation}
 use Rattle.hid_packet.proofs.entry.Message.make.Goals as goal

@@ -1,6 +1,6 @@
-use Rattle.std.proofs.Common.{◌+◌, ◌≤◌, ◌∷◌, ◌++◌, [], List, ℕ, length, ap, ap₂, sym, ◌∙◌, refl, rules, arith}
+use Rattle.std.proofs.Common.{◌+◌, ◌≤◌, ◌++◌, List, ℕ, length, ap, ap₂, sym, ◌∙◌, refl, rules, arith}
 use Rattle.hid_packet.specs.Message.{written}
-use Rattle.hid_packet.specs.Queue.{waiting, IsQueued}
+use Rattle.hid_packet.specs.Queue.{waiting}
 use Rattle.hid_packet.specs.declared.entry.Entry.TheVariants.{Part}
 use Rattle.hid_packet.specs.declared.fragments.Due.TheVariants.{Initialization}
 use Rattle.hid_packet.proofs.Queueing.{first_written, queued-push, room, waiting-push, entry_fills}

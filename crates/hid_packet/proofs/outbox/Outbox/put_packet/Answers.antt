@@ -1,5 +1,5 @@
-use Rattle.std.proofs.Common.{◌+◌, ◌≤◌, ◌∷◌, ◌++◌, [], List, ℕ, length, ap, ap₂, sym, ◌∙◌, refl, rules, arith}
-use Rattle.hid_packet.specs.Queue.{waiting, IsQueued}
+use Rattle.std.proofs.Common.{◌+◌, ◌≤◌, ◌∷◌, ◌++◌, [], List, ℕ, length, ap, ap₂, ◌∙◌, refl, rules, arith}
+use Rattle.hid_packet.specs.Queue.{waiting}
 use Rattle.hid_packet.specs.declared.entry.Entry.TheVariants.{Whole}
 use Rattle.hid_packet.proofs.Queueing.{queued-push, room, waiting-push}
 use Rattle.hid_packet.proofs.outbox.Outbox.put_packet.Goals as goal

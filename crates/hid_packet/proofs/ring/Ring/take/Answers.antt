@@ -1,4 +1,4 @@
-use Rattle.std.proofs.Common.{length, take, drop, ap, sym, ◌∙◌, arith}
+use Rattle.std.proofs.Common.{length, take, drop, ap, ◌∙◌, arith}
 use Rattle.hid_packet.proofs.Windows.{length-window}
 use Rattle.hid_packet.proofs.Filling.{window-front, window-rest}
 use Rattle.hid_packet.proofs.ring.Ring.take.Goals as goal
