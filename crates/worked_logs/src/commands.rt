@@ -60,20 +60,32 @@ fn is_same<const C: usize>(alloc: Global, log: &[u8]) -> Result<bool, AllocError
     Ok(compared::<C>(alloc, log).is_ok_and(|text| text.as_slice() == wanted.as_bytes()))
 }
 
+/// Whether the log of these three parts differs at this place first.
 fn differs_at<const C: usize>(
     alloc: Global,
-    parts: &[&[u8]],
+    before: &[u8],
+    line: &[u8],
+    rest: &[u8],
     place: Place,
 ) -> Result<bool, AllocError>
     requires some { 1 ≤ C }
     requires few { C ≤ 256 }
 {
-    let log = parts.concat(alloc)?;
+    let mut log = before.to_vec(alloc)?;
+    log.extend_from_slice(line)?;
+    log.extend_from_slice(rest)?;
     let wanted = LogFault::Differs {
         line: place.line,
         packet: place.packet,
     };
     Ok(compared::<C>(alloc, log.as_slice()).is_err_and(|fault| fault == wanted))
+}
+
+/// A line twice.
+fn doubled(alloc: Global, line: &[u8]) -> Result<Vec<u8>, AllocError> {
+    let mut copy = line.to_vec(alloc)?;
+    copy.extend_from_slice(line)?;
+    Ok(copy)
 }
 
 /// A packet's line with another last digit.
@@ -101,10 +113,12 @@ fn changes_are_found<const C: usize>(alloc: Global, log: &[u8]) -> Result<bool, 
         if is_packet(line) {
             let rest = log.get(end..).unwrap_or_default();
             let other = changed(alloc, line)?;
+            let twice = doubled(alloc, line)?;
+            let next = walk.place.next();
             found = found
-                && differs_at::<C>(alloc, &[before, other.as_slice(), rest], walk.place)?
-                && differs_at::<C>(alloc, &[before, rest], walk.place)?
-                && differs_at::<C>(alloc, &[before, line, line, rest], walk.place.next())?;
+                && differs_at::<C>(alloc, before, other.as_slice(), rest, walk.place)?
+                && differs_at::<C>(alloc, before, b"", rest, walk.place)?
+                && differs_at::<C>(alloc, before, twice.as_slice(), rest, next)?;
         }
     }
     Ok(found)
