@@ -1,9 +1,9 @@
 -- Rows less the unused room of their names answer as the rows do.
-use Rattle.std.proofs.Common.{◌≡◌, ℕ, suc, ◌+◌, ◌<◌, ◌⊎◌, inl, inr, arith, List, [], ◌∷◌, ◌++◌, length, map, reverse, Bool, true, false, cond, not, Option, Some, None, option_map, is_some, IsSome, refl, sym, ◌∙◌, ap, filter}
+use Rattle.std.proofs.Common.{◌≡◌, ℕ, suc, ◌+◌, ◌<◌, ◌⊎◌, inl, inr, arith, List, [], ◌∷◌, ◌++◌, length, reverse, Bool, true, false, cond, not, Option, Some, None, option_map, is_some, IsSome, refl, sym, ◌∙◌, ap, filter}
 use Rattle.std.proofs.lemmas.List.{reverse-append, map-append}
 use Rattle.std.specs.List.{find}
 use Rattle.cred_table.specs.declared.row.Row.{Row}
-use Rattle.cred_table.specs.Rows.{has_id, is_named, is_user, is_listed, replaces, stored, raised, raised_row, listed, ids, counter_in, counter_of}
+use Rattle.cred_table.specs.Rows.{has_id, is_named, is_user, is_listed, replaces, stored, raised, listed, ids, counter_in, counter_of}
 use Rattle.authn_core.specs.Bare.{bare, bare_rows}
 use Rattle.authn_core.specs.GetAssertion.{user_in}
 

@@ -1,16 +1,14 @@
 -- Turns by computation.
-use Rattle.std.proofs.Common.{◌≡◌, ℕ, ◌+◌, List, [], ◌∷◌, ◌++◌, Bool, true, false, Option, Some, None, replicate, refl}
+use Rattle.std.proofs.Common.{◌≡◌, ℕ, List, [], ◌∷◌, Bool, true, false, Option, Some, None, replicate, refl}
 use Rattle.cred_table.specs.declared.row.Row.{Row}
 use Rattle.cred_table.specs.Waiting.{Waiting}
 use Rattle.ctap_message.specs.Requests.{read_of}
 use Rattle.authn_core.specs.declared.replies.Presence.TheVariants.{Granted, Denied, TimedOut}
-use Rattle.authn_core.specs.declared.replies.NewKey.{NewKey}
 use Rattle.authn_core.specs.declared.task.Making.{Making}
 use Rattle.authn_core.specs.declared.task.Task.TheVariants.{Resets, Selects, AsksMake, WantsKey}
-use Rattle.authn_core.specs.declared.task.Job.{Job}
 use Rattle.authn_core.specs.Bare.{text_of}
-use Rattle.authn_core.specs.State.{Setup, State, Event, Request, PresenceIs, KeyIs, SignatureIs, Cancel, Drop, Answered, Waits, Ignored, Nothing}
-use Rattle.authn_core.specs.Turn.{turn, CoreState, first_state, core_after, core_answer}
+use Rattle.authn_core.specs.State.{Setup, State, Request, PresenceIs, KeyIs, SignatureIs, Cancel, Answered, Waits, Ignored}
+use Rattle.authn_core.specs.Turn.{turn}
 
 abbrev setup : Setup
 setup = record { aaguid = replicate 16 0; began = 0; room = 2 }

@@ -15,7 +15,7 @@ use Rattle.authn_core.specs.declared.task.Task.{Task}
 use Rattle.authn_core.specs.declared.task.Task.TheVariants.{Resets, Selects, AsksMake, WantsKey, SignsMake, AsksAssert, SignsAssert}
 use Rattle.authn_core.specs.declared.task.Job.{Job}
 use Rattle.authn_core.specs.Hash.{rp_hash}
-use Rattle.authn_core.specs.State.{Setup, State, Event, Request, PresenceIs, KeyIs, SignatureIs, Cancel, Drop, Answer, Answered, Ignored, Nothing, Turned}
+use Rattle.authn_core.specs.State.{Setup, State, Event, Request, PresenceIs, KeyIs, SignatureIs, Cancel, Drop, Answered, Ignored, Nothing, Turned}
 use Rattle.authn_core.specs.Asking.{RESET_LIMIT}
 use Rattle.authn_core.specs.MakeCredential.{fits}
 use Rattle.authn_core.specs.GetAssertion.{applicable, MOST, begins, is_due, row_signs, next_signs, next_begins}

@@ -1,10 +1,9 @@
 -- Marks applied one after another leave what the filters name.
-use Rattle.std.proofs.Common.{◌≡◌, ℕ, ◌+◌, List, [], ◌∷◌, ◌++◌, append-nil, append_assoc, length, flat_map, Bool, true, false, cond, ◌&&◌, ◌||◌, not, Option, Some, None, option_to_list, refl, sym, ◌∙◌, ap, arith, filter, add-zero}
+use Rattle.std.proofs.Common.{◌≡◌, ℕ, ◌+◌, List, [], ◌∷◌, append-nil, length, flat_map, Bool, true, false, cond, ◌&&◌, ◌||◌, not, Option, Some, None, option_to_list, refl, sym, ◌∙◌, ap, arith, filter, add-zero}
 use Rattle.std.specs.List.{list_any}
 use Rattle.cred_table.specs.declared.row.Row.{Row}
-use Rattle.cred_table.specs.Rows.{replaces}
-use Rattle.std.proofs.lemmas.Grind.{flat_map-append, common_steps}
-use Rattle.authn_core.specs.Marks.{Mark, made_replaces, is_raised, stays, counted, left, rows_among, rows_of, marked, folded}
+use Rattle.std.proofs.lemmas.Grind.{flat_map-append}
+use Rattle.authn_core.specs.Marks.{Mark, made_replaces, is_raised, stays, left, rows_among, rows_of, folded}
 
 nothing_left : (b : Bool) (rows : List Row) → cond (b && false) rows [] ≡ []
 nothing_left true rows = refl

@@ -1,9 +1,9 @@
 -- Every turn keeps the rows lawful.
-use Rattle.std.proofs.Common.{◌≡◌, ℕ, ◌+◌, ◌<◌, ◌⊎◌, inl, inr, nat_lt, List, [], ◌∷◌, length, Bool, true, false, cond, ◌&&◌, ◌||◌, not, Option, Some, None, is_some, Result, Ok, Err, refl, arith}
+use Rattle.std.proofs.Common.{◌≡◌, ℕ, ◌+◌, ◌<◌, ◌⊎◌, inl, inr, nat_lt, List, [], ◌∷◌, length, Bool, true, false, ◌&&◌, ◌||◌, Option, Some, None, is_some, Result, Ok, Err, refl, arith}
 use Rattle.std.proofs.lemmas.Bool.Decides.{nat_tests}
 use Rattle.std.specs.List.{find}
 use Rattle.cred_table.specs.declared.row.Row.{Row}
-use Rattle.cred_table.specs.Rows.{Lawful, has_id, is_user, replaces, counter_of, ids, raised, stored}
+use Rattle.cred_table.specs.Rows.{Lawful, has_id, is_user, replaces, counter_of, ids}
 use Rattle.cred_table.specs.Waiting.{Waiting, first_of, rest_of, hash_of, presence_of}
 use Rattle.cred_table.proofs.Raised.{Lawful-raised}
 use Rattle.cred_table.proofs.Stored.{Lawful-stored}

@@ -1,5 +1,5 @@
 -- Each turn changes the rows as its mark says.
-use Rattle.std.proofs.Common.{◌≡◌, ℕ, ◌+◌, ◌==◌, nat_lt, nat_le, List, [], ◌∷◌, ◌++◌, append-nil, length, map, flat_map, Bool, true, false, cond, ◌&&◌, ◌||◌, not, Option, Some, None, option_to_list, option_map, is_some, Result, Ok, Err, refl, sym, ◌∙◌, ap, subst, arith, filter, add-zero}
+use Rattle.std.proofs.Common.{◌≡◌, ℕ, ◌+◌, nat_lt, List, [], ◌∷◌, ◌++◌, append-nil, length, flat_map, Bool, true, false, cond, ◌||◌, not, Option, Some, None, is_some, Result, Ok, Err, refl, sym, ◌∙◌, ap, subst, filter, add-zero}
 use Rattle.std.specs.List.{find}
 use Rattle.std.specs.Str.{bytes_eq}
 use Rattle.std.proofs.lemmas.Slice.Eq.{bytes_eq-Decides}
@@ -16,15 +16,14 @@ use Rattle.authn_core.specs.declared.replies.NewKey.{NewKey}
 use Rattle.authn_core.specs.declared.task.Task.{Task}
 use Rattle.authn_core.specs.declared.task.Task.TheVariants.{Resets, Selects, AsksMake, WantsKey, SignsMake, AsksAssert, SignsAssert}
 use Rattle.authn_core.specs.declared.task.Asserting.{Asserting}
-use Rattle.authn_core.specs.declared.task.Making.{Making}
 use Rattle.authn_core.specs.declared.task.Job.{Job}
 use Rattle.authn_core.specs.Hash.{rp_hash}
-use Rattle.authn_core.specs.State.{Setup, State, Event, Request, PresenceIs, KeyIs, SignatureIs, Cancel, Drop, Turned, ignores, answers}
+use Rattle.authn_core.specs.State.{Setup, State, Event, Request, PresenceIs, KeyIs, SignatureIs, Cancel, Drop, Turned, ignores}
 use Rattle.authn_core.specs.Asking.{RESET_LIMIT}
 use Rattle.authn_core.specs.MakeCredential.{fits, new_row}
 use Rattle.authn_core.specs.GetAssertion.{MOST, applicable, begins, begun, is_due, next_begins, next_signs, row_signs}
 use Rattle.authn_core.specs.Turn.{CoreState, core_after, turn, requested, presence_turn, key_turn, signature_turn, presence_at, key_at, signature_at}
-use Rattle.authn_core.specs.Marks.{Mark, mark, marked, left, Comes, Step, core_behind, marks, Orderly, folded, rows_of, signs_by, raised_by, made_by, is_reset, task_resets}
+use Rattle.authn_core.specs.Marks.{Mark, mark, marked, left, Comes, Step, core_behind, marks, Orderly, folded, rows_of, raised_by, made_by, is_reset, task_resets}
 use Rattle.authn_core.proofs.Filtered.{filtered}
 use Rattle.authn_core.proofs.Readiness.{cond_case}
 

@@ -1,9 +1,9 @@
 -- At most as many assertions are pending as there is room for rows.
-use Rattle.std.proofs.Common.{◌≡◌, ℕ, ◌+◌, ◌≤◌, nat_lt, List, [], ◌∷◌, length, drop, reverse, filter, Bool, true, false, cond, Option, Some, None, option_to_list, is_some, Result, Ok, Err, refl, sym, ◌∙◌, ap, subst, arith}
+use Rattle.std.proofs.Common.{◌≡◌, ℕ, ◌+◌, ◌≤◌, nat_lt, List, [], ◌∷◌, length, drop, reverse, filter, Bool, true, false, Option, Some, None, option_to_list, is_some, Result, Ok, Err, refl, arith}
 use Rattle.std.proofs.lemmas.List.{length-map, length-reverse, length-drop}
 use Rattle.std.specs.List.{find}
 use Rattle.cred_table.specs.declared.row.Row.{Row}
-use Rattle.cred_table.specs.Rows.{Lawful, has_id, is_listed, counter_of, ids}
+use Rattle.cred_table.specs.Rows.{has_id, is_listed, counter_of, ids}
 use Rattle.cred_table.specs.Waiting.{Waiting, pending_of, pending_count, stamped, first_of, rest_of, hash_of, presence_of}
 use Rattle.cred_table.proofs.Stored.{length-filter}
 use Rattle.ctap_message.specs.Asked.{Asked, MakeCredential, GetAssertion, GetInfo, Reset, GetNextAssertion, Selection}

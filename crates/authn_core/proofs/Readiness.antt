@@ -1,5 +1,5 @@
 -- Turns lead from ready states to ready states.
-use Rattle.std.proofs.Common.{◌≡◌, ℕ, ◌+◌, ◌-◌, ◌^◌, ◌==◌, nat_lt, nat_le, ◌≤◌, ◌<◌, List, [], ◌∷◌, ◌++◌, length, map, reverse, Bool, true, false, cond, ◌&&◌, Option, Some, None, option_to_list, is_some, Result, Ok, Err, refl, sym, ◌∙◌, ap, subst, arith, filter}
+use Rattle.std.proofs.Common.{◌≡◌, ℕ, ◌+◌, ◌-◌, ◌^◌, nat_lt, ◌<◌, List, [], ◌∷◌, ◌++◌, reverse, Bool, true, false, cond, ◌&&◌, Option, Some, None, option_to_list, is_some, Result, Ok, Err, refl, sym, ◌∙◌, ap, subst, arith, filter}
 use Rattle.std.proofs.lemmas.Bool.Decides.{nat_tests}
 use Rattle.std.proofs.lemmas.List.{reverse-append, map-append}
 use Rattle.std.specs.Option.{option_or}
@@ -7,7 +7,7 @@ use Rattle.std.specs.List.{find}
 use Rattle.std.specs.Str.{bytes_eq}
 use Rattle.std.proofs.lemmas.Slice.Eq.{bytes_eq-Decides}
 use Rattle.cred_table.specs.declared.row.Row.{Row}
-use Rattle.cred_table.specs.Rows.{has_id, is_named, is_listed, raised, raised_row, listed, ids, counter_of}
+use Rattle.cred_table.specs.Rows.{has_id, is_named, is_listed, raised, listed, ids, counter_of}
 use Rattle.cred_table.specs.Waiting.{Waiting, pending_of, stamped, first_of, rest_of, hash_of, presence_of}
 use Rattle.ctap_message.specs.Asked.{Asked, MakeCredential, GetAssertion, GetInfo, Reset, GetNextAssertion, Selection}
 use Rattle.ctap_message.specs.Members.{has_entries}
@@ -22,9 +22,9 @@ use Rattle.authn_core.specs.declared.task.Task.TheVariants.{Resets, Selects, Ask
 use Rattle.authn_core.specs.declared.task.Job.{Job}
 use Rattle.authn_core.specs.Hash.{rp_hash}
 use Rattle.authn_core.specs.State.{Setup, State, Event, Request, PresenceIs, KeyIs, SignatureIs, Cancel, Drop, Turned, signs}
-use Rattle.authn_core.specs.Asking.{RESET_LIMIT, reset_begins, reset_asked, selection_asked}
-use Rattle.authn_core.specs.MakeCredential.{fits, make_asked, key_wanted, make_signed}
-use Rattle.authn_core.specs.GetAssertion.{find_named, applicable, MOST, begins, begun, assert_asked, assert_signed, is_due, row_signs, next_signs, next_begins}
+use Rattle.authn_core.specs.Asking.{RESET_LIMIT}
+use Rattle.authn_core.specs.MakeCredential.{fits}
+use Rattle.authn_core.specs.GetAssertion.{find_named, applicable, MOST, begins, is_due, row_signs, next_signs, next_begins}
 use Rattle.authn_core.specs.Turn.{requested, presence_at, key_at, signature_at, presence_turn, key_turn, signature_turn, turn}
 use Rattle.authn_core.specs.Ready.{all_there, AllThere, Ready, PendingReady, WorkReady, TaskReady}
 

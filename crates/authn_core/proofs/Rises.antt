@@ -1,5 +1,5 @@
 -- Where a turn begins an assertion's signature, it raises the row by one and signs the raised counter.
-use Rattle.std.proofs.Common.{◌≡◌, ℕ, ◌≤◌, ◌+◌, ◌==◌, ◌&&◌, nat_lt, nat_le, List, [], ◌∷◌, length, Bool, true, false, cond, Option, Some, None, option_map, is_some, Result, Ok, Err, refl, sym, subst}
+use Rattle.std.proofs.Common.{◌≡◌, ℕ, ◌+◌, nat_lt, List, [], ◌∷◌, length, Bool, true, false, cond, Option, Some, None, is_some, Result, Ok, Err, refl, sym, subst}
 use Rattle.std.specs.List.{find}
 use Rattle.cred_table.specs.declared.row.Row.{Row}
 use Rattle.cred_table.specs.Rows.{has_id, counter_of, ids, raised}
@@ -19,9 +19,9 @@ use Rattle.authn_core.specs.Hash.{rp_hash}
 use Rattle.authn_core.specs.State.{Setup, State, Event, Request, PresenceIs, KeyIs, SignatureIs, Cancel, Drop, Turned, signing, signs}
 use Rattle.authn_core.specs.Asking.{RESET_LIMIT}
 use Rattle.authn_core.specs.MakeCredential.{fits}
-use Rattle.authn_core.specs.GetAssertion.{MOST, told, applicable, begins, begun, is_due, next_begins, next_signs, row_signs}
+use Rattle.authn_core.specs.GetAssertion.{MOST, told, applicable, begins, is_due, next_begins, next_signs, row_signs}
 use Rattle.authn_core.specs.Turn.{turn, requested, presence_at, key_at, signature_at, presence_turn, key_turn, signature_turn}
-use Rattle.authn_core.specs.Marks.{Comes, signs_by, task_raises, raised_by, task_counter}
+use Rattle.authn_core.specs.Marks.{Comes, signs_by, task_raises, task_counter}
 use Rattle.authn_core.specs.Ready.{all_there, AllThere, Ready, PendingReady, WorkReady, TaskReady}
 use Rattle.authn_core.proofs.Marked.{raises_none}
 use Rattle.authn_core.proofs.Readiness.{cond_case, and_both, applicable_there, first_there}

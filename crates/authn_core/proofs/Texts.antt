@@ -1,17 +1,17 @@
 -- No two texts to sign of assertions by one row hold the same counter.
-use Rattle.std.proofs.Common.{◌≡◌, ℕ, ◌+◌, ◌≤◌, ◌<◌, ◌==◌, List, [], ◌∷◌, ◌++◌, length, flat_map, suc, Bool, true, false, cond, ◌&&◌, ◌||◌, not, Option, Some, None, option_to_list, is_some, refl, sym, ◌∙◌, ap, subst, arith, filter}
+use Rattle.std.proofs.Common.{◌≡◌, ℕ, ◌+◌, ◌≤◌, ◌<◌, ◌==◌, List, [], ◌∷◌, ◌++◌, length, flat_map, Bool, true, false, cond, ◌&&◌, ◌||◌, not, Option, Some, None, option_to_list, is_some, refl, sym, ◌∙◌, ap, subst, arith, filter}
 use Rattle.std.specs.List.{find, list_any}
 use Rattle.std.specs.Str.{bytes_eq}
 use Rattle.cred_table.specs.declared.row.Row.{Row}
-use Rattle.cred_table.specs.Rows.{Lawful, has_id, same_id, no_two, raised, raised_row, counter_of, counter_in}
+use Rattle.cred_table.specs.Rows.{Lawful, has_id, same_id, no_two, raised, counter_of, counter_in}
 use Rattle.authn_core.specs.declared.task.Job.{Job}
 use Rattle.authn_core.specs.Turn.{CoreState, core_after}
 use Rattle.authn_core.specs.Ready.{Ready}
 use Rattle.authn_core.specs.State.{Setup}
 use Rattle.cred_table.specs.Waiting.{pending_count}
 use Rattle.authn_core.proofs.PendingFew.{turn_few}
-use Rattle.authn_core.specs.Marks.{Step, Orderly, core_behind, marks, mark, texts, text_of, same_text, all_differ, raised_by, task_raises, Mark, marked, left, stays, counted, is_raised, makes_id, row_has_id, makings, Text}
-use Rattle.authn_core.proofs.Rises.{IsRise, RisesTo, turn_rises}
+use Rattle.authn_core.specs.Marks.{Step, Orderly, core_behind, marks, mark, texts, text_of, same_text, all_differ, raised_by, task_raises, Mark, marked, left, stays, counted, makes_id, row_has_id, makings, Text}
+use Rattle.authn_core.proofs.Rises.{RisesTo, turn_rises}
 use Rattle.authn_core.proofs.Readiness.{and_both, and_is, turn_ready}
 use Rattle.authn_core.proofs.Lawfulness.{turn_lawful}
 use Rattle.authn_core.proofs.Marked.{turn_marked}

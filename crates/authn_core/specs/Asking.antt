@@ -1,5 +1,5 @@
 -- Presence alone: authenticatorReset (CTAP 2.1, section 6.6) and authenticatorSelection (section 6.9).
-use Rattle.std.specs.Prelude.{ℕ, ◌+◌, nat_lt, List, [], ◌∷◌, Option, None, if◌then◌else◌}
+use Rattle.std.specs.Prelude.{ℕ, ◌+◌, nat_lt, List, [], Option, None, if◌then◌else◌}
 use Rattle.cred_table.specs.declared.row.Row.{Row}
 use Rattle.cred_table.specs.Waiting.{Waiting}
 use Rattle.ctap_message.specs.Statuses.{OK}

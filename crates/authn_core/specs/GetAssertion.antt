@@ -1,5 +1,5 @@
 -- The turns of authenticatorGetAssertion and authenticatorGetNextAssertion (CTAP 2.1, sections 6.2.2 and 6.3).
-use Rattle.std.specs.Prelude.{ℕ, ◌+◌, ◌==◌, nat_lt, nat_le, List, [], ◌∷◌, length, Bool, true, false, ◌&&◌, Option, Some, None, option_to_list, if◌then◌else◌}
+use Rattle.std.specs.Prelude.{ℕ, ◌+◌, ◌==◌, nat_lt, nat_le, List, [], ◌∷◌, length, Bool, false, ◌&&◌, Option, Some, None, option_to_list, if◌then◌else◌}
 use Rattle.std.specs.List.{find}
 use Rattle.std.specs.Option.{option_or}
 use Rattle.cred_table.specs.declared.row.Row.{Row}

@@ -1,11 +1,11 @@
 -- What work can count on between turns.
-use Rattle.std.specs.Prelude.{ℕ, ◌≡◌, ◌<◌, ◌-◌, ◌^◌, List, [], ◌∷◌, ◌&&◌, Bool, true, false, Option, Some, None, is_some, IsSome}
+use Rattle.std.specs.Prelude.{ℕ, ◌≡◌, ◌<◌, ◌-◌, ◌^◌, List, [], ◌∷◌, ◌&&◌, Bool, true, false, Option, Some, None, is_some}
 use Rattle.std.specs.List.{find}
 use Rattle.cred_table.specs.declared.row.Row.{Row}
 use Rattle.cred_table.specs.Rows.{has_id, counter_of}
 use Rattle.cred_table.specs.Waiting.{Waiting}
 use Rattle.authn_core.specs.declared.task.Task.{Task}
-use Rattle.authn_core.specs.declared.task.Task.TheVariants.{Resets, Selects, AsksMake, WantsKey, SignsMake, AsksAssert, SignsAssert}
+use Rattle.authn_core.specs.declared.task.Task.TheVariants.{WantsKey, SignsMake, AsksAssert, SignsAssert}
 use Rattle.authn_core.specs.declared.task.Job.{Job}
 use Rattle.authn_core.specs.State.{State}
 use Rattle.authn_core.specs.MakeCredential.{fits}

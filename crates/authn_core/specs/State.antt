@@ -1,5 +1,5 @@
 -- The authenticator's state between its turns, what can happen to it, and what it answers (CTAP 2.1, section 6).
-use Rattle.std.specs.Prelude.{ℕ, ◌+◌, List, [], ◌∷◌, ◌++◌, Option, Some, None}
+use Rattle.std.specs.Prelude.{ℕ, ◌+◌, List, ◌++◌, Option, Some, None}
 use Rattle.cred_table.specs.declared.row.Row.{Row}
 use Rattle.cred_table.specs.Rows.{raised, counter_of}
 use Rattle.cred_table.specs.Waiting.{Waiting}

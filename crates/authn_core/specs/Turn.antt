@@ -1,5 +1,5 @@
 -- The authenticator's turns: what each event makes of its state, and what it answers (CTAP 2.1, section 6).
-use Rattle.std.specs.Prelude.{ℕ, max, List, Option, Some, None, option_map, Result, Ok, Err}
+use Rattle.std.specs.Prelude.{ℕ, List, Option, Some, None, option_map, Result, Ok, Err}
 use Rattle.cred_table.specs.declared.row.Row.{Row}
 use Rattle.cred_table.specs.Waiting.{Waiting}
 use Rattle.ctap_message.specs.Asked.{Asked, MakeCredential, GetAssertion, GetInfo, Reset, GetNextAssertion, Selection}

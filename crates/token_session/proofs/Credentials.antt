@@ -1,29 +1,29 @@
 -- The authenticator after a history is that of its events, so that the laws of its credentials hold of the history.
-use Rattle.std.proofs.Common.{◌≡◌, ℕ, ◌≤◌, max, nat_le, Bool, true, false, cond, ◌&&◌, ◌==◌, List, [], ◌∷◌, ◌++◌, Option, Some, None, option_map, refl, sym, ◌∙◌, ap, subst, arith}
+use Rattle.std.proofs.Common.{◌≡◌, ℕ, ◌≤◌, max, nat_le, true, ◌&&◌, ◌==◌, List, [], ◌∷◌, ◌++◌, Option, Some, None, option_map, refl, sym, ◌∙◌, ap, subst, arith}
 use Rattle.hid_assemble.specs.Assembly.{Message}
 use Rattle.hid_assemble.specs.Table.{is_on}
 use Rattle.hid_packet.specs.declared.packet.Packet.{Packet as Packet64}
-use Rattle.hid_packet.specs.Commands.{CANCEL, CBOR, INIT}
+use Rattle.hid_packet.specs.Commands.{CANCEL, INIT}
 use Rattle.hid_packet.specs.Packet.{channel, is_command, message_length}
 use Rattle.cred_table.specs.Rows.{Lawful}
 use Rattle.cred_table.specs.Waiting.{pending_count}
 use Rattle.authn_core.specs.declared.task.Job.{Job}
-use Rattle.authn_core.specs.State.{Event, Request, Cancel, Drop}
-use Rattle.authn_core.specs.Turn.{Start, CoreState, Work, as_work, working, waiting, first_state, core_after}
+use Rattle.authn_core.specs.State.{Event, Request}
+use Rattle.authn_core.specs.Turn.{Start, CoreState, Work, as_work, working, first_state}
 use Rattle.authn_core.specs.Ready.{Ready}
-use Rattle.authn_core.specs.Marks.{Step, Comes, Orderly, core_behind, marks, rows_of, texts, all_differ}
+use Rattle.authn_core.specs.Marks.{Step, Orderly, core_behind, marks, rows_of, texts, all_differ}
 use Rattle.token_session.specs.declared.input.Input.{Input}
 use Rattle.token_session.specs.declared.input.Input.TheVariants.{Packet}
 use Rattle.token_session.specs.declared.input.Timed.{Timed}
 use Rattle.token_session.specs.Inputs.{Judged, end, given}
 use Rattle.token_session.specs.Messages.{Begun, finished, finished_long, is_last, open_at}
-use Rattle.token_session.specs.History.{admits, core, event, event_to, judge, judged, packet_event}
-use Rattle.token_session.specs.Events.{event_core, reply_in}
+use Rattle.token_session.specs.History.{admits, core, event, judge, judged, packet_event}
+use Rattle.token_session.specs.Events.{event_core}
 use Rattle.token_session.specs.Replies.{request_event}
 use Rattle.token_session.specs.Law.{event_at}
 use Rattle.token_session.specs.Credentials.{step_of, steps}
 use Rattle.token_session.proofs.Opens.{and_true}
-use Rattle.token_session.proofs.Serve.{Safe, OpenGiven, cond_case, says_admitted}
+use Rattle.token_session.proofs.Serve.{OpenGiven, cond_case, says_admitted}
 use Rattle.token_session.proofs.Follows.{Good, good_judged, judged_at, safe_at}
 
 one_step : (start : CoreState) (at : ℕ) (e : Option Event) (past : List Step) → core_behind start (step_of at e ++ past) ≡ event_core (core_behind start past) at e

@@ -1,14 +1,13 @@
 -- The promises of every history, together.
-use Rattle.std.proofs.Common.{◌≡◌, ℕ, ◌+◌, ◌-◌, ◌*◌, ◌≤◌, List, [], ◌∷◌, ◌++◌, length, Option, Some, None, refl, ◌∙◌, ap, arith}
+use Rattle.std.proofs.Common.{◌≡◌, ℕ, ◌+◌, ◌-◌, ◌*◌, ◌≤◌, List, [], ◌∷◌, ◌++◌, length, Option, Some, None, refl, ◌∙◌, ap}
 use Rattle.std.specs.List.{AllByRecursion}
 use Rattle.ctap_message.specs.Requests.{steps_of}
-use Rattle.authn_core.specs.State.{Event, Request}
 use Rattle.authn_core.specs.Turn.{Start}
 use Rattle.token_session.specs.declared.input.Timed.{Timed}
 use Rattle.token_session.specs.Carried.{ArriveWhole}
 use Rattle.token_session.specs.Effects.{request_in}
 use Rattle.token_session.specs.Inputs.{Judged}
-use Rattle.token_session.specs.History.{judge, judged, sent}
+use Rattle.token_session.specs.History.{judged, sent}
 use Rattle.token_session.specs.Law.{event_at, sent_now}
 use Rattle.token_session.specs.Machine.{machine}
 use Rattle.token_session.specs.Meters.{as_list, requests}

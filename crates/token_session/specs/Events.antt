@@ -1,6 +1,6 @@
 -- What an event makes of the authenticator and sends, and when a KEEPALIVE is due: a moment, the authenticator and an event
 -- are all that is looked at.
-use Rattle.std.specs.Prelude.{ℕ, ◌+◌, Bool, false, nat_le, List, [], Option, Some, None, if◌then◌else◌}
+use Rattle.std.specs.Prelude.{ℕ, ◌+◌, Bool, false, nat_le, List, [], Option, Some, None}
 use Rattle.authn_core.specs.State.{Event, PresenceIs, KeyIs, SignatureIs}
 use Rattle.authn_core.specs.Turn.{Work, CoreState, waiting, core_after, core_answer}
 use Rattle.token_session.specs.declared.input.Input.{Input}

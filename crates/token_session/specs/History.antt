@@ -10,7 +10,7 @@ use Rattle.authn_core.specs.Turn.{Start, CoreState, working, first_state, waitin
 use Rattle.token_session.specs.declared.input.Input.{Input}
 use Rattle.token_session.specs.declared.input.Input.TheVariants.{Packet}
 use Rattle.token_session.specs.declared.input.Timed.{Timed}
-use Rattle.token_session.specs.Inputs.{Judged, end, packet, is_packet, given}
+use Rattle.token_session.specs.Inputs.{Judged, end, is_packet, given}
 use Rattle.token_session.specs.Messages.{Begun, open_at, as_open, finished, finished_at, held_of}
 use Rattle.token_session.specs.Replies.{error, row_packets, ping_packets, request_event}
 use Rattle.token_session.specs.Events.{reply_in, event_core, event_packets, event_keeps_alive, keepalive_packets, keepalive_due}

@@ -8,7 +8,7 @@ use Rattle.hid_assemble.specs.Table.{Begins, Continues, Ruling}
 use Rattle.hid_assemble.specs.Assembly.{Message}
 use Rattle.hid_assemble.specs.declared.table.Row.TheVariants.{NoSuchChannel, InitLength, InitFull, InitNew, InitAgain, BusyElsewhere, BusyHere, BrokenOff, NoSuchCommand, BadLength}
 use Rattle.hid_assemble.specs.declared.table.Continuation.TheVariants.{WrongNumber}
-use Rattle.authn_core.specs.State.{Event, Request, Cancel, Drop, Answer, Answered, Waits, Ignored, Nothing}
+use Rattle.authn_core.specs.State.{Event, Request, Answer, Answered, Waits, Ignored, Nothing}
 use Rattle.authn_core.specs.Turn.{Work}
 
 -- The INIT answer on a channel, which names the channel that the host is to use: its nonce, that channel, version 2 of the

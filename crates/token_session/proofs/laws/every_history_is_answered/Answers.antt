@@ -1,5 +1,5 @@
-use Rattle.std.proofs.Common.{◌≤◌, arith}
-use Rattle.token_session.specs.History.{held, judged}
+use Rattle.std.proofs.Common.{arith}
+use Rattle.token_session.specs.History.{judged}
 use Rattle.token_session.proofs.Bounds.{held_few}
 use Rattle.token_session.proofs.Credentials.{rows_lawful, pending_few}
 use Rattle.token_session.proofs.Headline.{turns_send_sent, all_carried, all_few}
