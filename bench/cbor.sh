@@ -11,7 +11,7 @@ mkdir -p "$work/crates/cbor_bench/src"
 cp "$here/../HANDLES" "$work/"
 rm -rf "$work/crates/ctap_cbor"
 cp -r "$here/../crates/ctap_cbor" "$work/crates/"
-printf 'ctap_cbor: thiserror\ncbor_bench: ctap_cbor\n' > "$work/crates.txt"
+printf 'ctap_cbor: byteorder thiserror\ncbor_bench: ctap_cbor\n' > "$work/crates.txt"
 cat > "$work/crates/cbor_bench/src/main.rt" <<'PROGRAM'
 //! Checks the messages of standard input, so many rounds as its first byte says, and tells how many are canonical.
 #![tactic(auto)]

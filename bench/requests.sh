@@ -14,7 +14,7 @@ for crate in ctap_cbor ctap_message; do
     rm -rf "$work/crates/$crate"
     cp -r "$here/../crates/$crate" "$work/crates/"
 done
-printf 'ctap_cbor: thiserror\nctap_message: ctap_cbor arrayvec\nrequests_bench: ctap_cbor ctap_message\n' > "$work/crates.txt"
+printf 'ctap_cbor: byteorder thiserror\nctap_message: ctap_cbor arrayvec\nrequests_bench: ctap_cbor ctap_message\n' > "$work/crates.txt"
 cat > "$work/crates/requests_bench/src/main.rt" <<'PROGRAM'
 //! Reads the message of standard input behind two bytes, so many rounds as the first says: by `read_request` where the second
 //! is 0, else by `check`. Tells the steps of all rounds.

@@ -14,7 +14,7 @@ for crate in ctap_cbor cred_table; do
     rm -rf "$work/crates/$crate"
     cp -r "$here/../crates/$crate" "$work/crates/"
 done
-printf 'ctap_cbor: thiserror\ncred_table: ctap_cbor arrayvec thiserror\ntable_bench: cred_table\n' > "$work/crates.txt"
+printf 'ctap_cbor: byteorder thiserror\ncred_table: ctap_cbor arrayvec thiserror\ntable_bench: cred_table\n' > "$work/crates.txt"
 cat > "$work/crates/table_bench/src/main.rt" <<'PROGRAM'
 //! Makes calls on a table, as four bytes of standard input say: the table, the call, its rows less one, and the rounds
 //! over four.
