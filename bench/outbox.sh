@@ -21,8 +21,8 @@ use hid_packet::{Outbox, Packet};
 use std::io;
 use std::io::Read;
 
-/// Puts a message and takes its packets. It gives a byte of the last one.
-fn round(outbox: &mut Outbox, bytes: &[u8]) -> u8 {
+/// Puts a message and takes its packets. It gives a byte of the last one: which is not known here, so each packet is made whole.
+fn round(outbox: &mut Outbox, bytes: &[u8], place: usize) -> u8 {
     written_packets_are_the_fewest();
     if !outbox.is_empty() || bytes.len() > 7609 {
         return 1;
@@ -35,7 +35,7 @@ fn round(outbox: &mut Outbox, bytes: &[u8]) -> u8 {
         };
         last = packet;
     }
-    last.0[5]
+    last.0[place % 64]
 }
 
 fn main(rt: HostRuntime) -> io::Result<()> {
@@ -45,8 +45,9 @@ fn main(rt: HostRuntime) -> io::Result<()> {
     let len = if words[1] == 0 { 7609 } else { 1 };
     let mut outbox = Outbox::new();
     let mut sum: u8 = 0;
+    let place = usize::from(words[1]);
     for _ in 0..words[0] {
-        sum = sum.wrapping_add(round(&mut outbox, &bytes[..len]));
+        sum = sum.wrapping_add(round(&mut outbox, &bytes[..len], place));
     }
     if sum == 255 {
         return Err(io::Error::from(io::ErrorKind::Other));

@@ -2,15 +2,21 @@
 use Rattle.std.proofs.Common.{◌≡◌, ℕ, ◌+◌, ◌-◌, ◌*◌, ◌<◌, ◌≤◌, suc, zero, inl, inr, List, [], ◌∷◌, ◌++◌, length, take, drop, set, sum_by, refl, sym, subst, ◌∙◌, ap, ap₂, arith, length-append, length-drop, append_assoc, append-nil, length-take-le}
 use Rattle.std.specs.List.{AllByRecursion, refill, remove}
 use Rattle.std.proofs.Math.Seq.{drop-length, take-length}
-use Rattle.std.proofs.lemmas.List.{take-append-le, drop-append-le}
+use Rattle.std.proofs.lemmas.List.{take-append-le, drop-append-le, take_all, drop_all}
 use Rattle.std.proofs.lemmas.List.Sums.{sum_by-append, sum_by-cons}
-use Rattle.hid_packet.specs.Message.{continuation_packets, written}
+use Rattle.hid_packet.specs.Message.{continuation_packets, initialization_packet, written}
 use Rattle.hid_packet.specs.Queue.{held_by, packets_by, waiting, MayCome, IsDue, IsHeld, IsQueued}
 use Rattle.hid_packet.specs.declared.entry.Entry.{Entry}
 use Rattle.hid_packet.specs.declared.entry.Entry.TheVariants.{Whole, Part}
 use Rattle.hid_packet.specs.declared.fragments.Due.{Due}
 use Rattle.hid_packet.specs.declared.fragments.Due.TheVariants.{Initialization, Continuation}
 use Rattle.hid_packet.proofs.Carrying.{fewest_written}
+
+-- a short message has its initialization packet alone
+pub short_written : (cid cmd : ℕ) (bytes : List ℕ) → length bytes ≤ 57 → written cid cmd bytes ≡ initialization_packet cid cmd (length bytes) bytes ∷ []
+unfolding written continuation_packets
+short_written cid cmd bytes short =
+    ap₂ (λ part rest. initialization_packet cid cmd (length bytes) part ∷ continuation_packets 128 cid 0 rest) (take_all 57 bytes short) (drop_all 57 bytes short)
 
 -- continuation packets hold their bytes, 59 each
 continuations_hold : (most cid number : ℕ) (bytes : List ℕ) → length bytes ≤ 59 * most → length bytes ≤ 59 * length (continuation_packets most cid number bytes)
@@ -66,14 +72,7 @@ bounds (e ∷ es) bytes held =
 pub waiting-push : (es : List Entry) (bytes more : List ℕ) (e : Entry) → sum_by held_by es ≡ length bytes → length more ≡ held_by e
     → waiting (es ++ e ∷ []) (bytes ++ more) ≡ waiting es bytes ++ packets_by e more
 unfolding waiting
-waiting-push [] [] more e sum len = append-nil _ ∙ ap (packets_by e) (ap (λ n. take n more) (sym len) ∙ take-all more)
-  where
-    take-all : (xs : List ℕ) → take (length xs) xs ≡ xs
-    take-all xs = ap (take (length xs)) (sym (append-nil xs)) ∙ take-append-le (length xs) xs [] (omega arith) ∙ whole xs
-      where
-        whole : (xs : List ℕ) → take (length xs) xs ≡ xs
-        whole [] = refl
-        whole (x ∷ xs) = ap (λ ys. x ∷ ys) (whole xs)
+waiting-push [] [] more e sum len = append-nil _ ∙ ap (packets_by e) (ap (λ n. take n more) (sym len) ∙ take-length more)
 waiting-push [] (b ∷ bytes) more e sum len = absurd (let none : sum_by held_by [] ≡ 0 = refl in omega arith)
 waiting-push (x ∷ es) bytes more e sum len =
     let cons = sum_by-cons held_by x es in

@@ -6,8 +6,8 @@ ghost use Rattle.hid_packet.specs.Queue.{waiting, IsHeld};
 ghost use Rattle.hid_packet.specs.declared.limit.TheConstants.{LONGEST_MESSAGE, OUTBOX_CAPACITY};
 
 use crate::entry::{Entry, Message};
-use crate::fragments::{Due, packets_for};
-use crate::limit::OUTBOX_CAPACITY;
+use crate::fragments::{Due, initialization, packets_for};
+use crate::limit::{INITIALIZATION_DATA, OUTBOX_CAPACITY};
 use crate::packet::Packet;
 use crate::ring::Ring;
 use arrayvec::ArrayVec;
@@ -138,6 +138,11 @@ impl Outbox {
         ensures { self.new ≡ self.old ++ written cid cmd bytes.now }
     {
         let left = bytes.len() as u16;
+        if bytes.len() <= INITIALIZATION_DATA {
+            // Its packet is made now, since to keep few bytes and make it later takes longer.
+            self.put_packet(initialization(cid, cmd, left, bytes));
+            return;
+        }
         let due = Due::Initialization(cmd);
         self.entries.push(Entry::Part(Message { cid, due, left }));
         self.ring.put(bytes);

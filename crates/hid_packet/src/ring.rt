@@ -1,5 +1,6 @@
 //! A queue of bytes in a ring.
-ghost use Rattle.std.specs.Prelude.{◌≡◌, ◌+◌, ◌-◌, ◌≤◌, ◌++◌, [], length, min, take, drop};
+ghost use Rattle.std.specs.Prelude.{◌≡◌, ◌+◌, ◌-◌, ◌*◌, ◌%◌, ◌<◌, ◌≤◌, ◌++◌, [], length, min, take, drop};
+ghost use Rattle.hid_packet.specs.declared.ring.TheConstants.{RING_SIZE};
 ghost use Rattle.hid_packet.specs.Queue.{overwritten};
 
 use crate::fragments::put_front;
@@ -27,6 +28,18 @@ impl Model for Ring {
     ghost view = { λ r. window r.first r.len r.bytes };
 
     ghost invariant = { λ r. (r.first < 8320) × (r.len ≤ 8320) × (length r.bytes ≡ 8320) };
+}
+
+/// The place in the ring, counted from its front again behind its end.
+fn wrapped(place: usize) -> usize
+    requires { place < 2 * RING_SIZE }
+    ensures { result ≡ place % RING_SIZE }
+{
+    if place < RING_SIZE {
+        place
+    } else {
+        place - RING_SIZE
+    }
 }
 
 /// Writes bytes from a place on.
@@ -88,7 +101,7 @@ impl Ring {
         requires { length self.old + length bytes.now ≤ 8320 }
         ensures { self.new ≡ self.old ++ bytes.now }
     {
-        let end = (self.first + self.len) % RING_SIZE;
+        let end = wrapped(self.first + self.len);
         write_round(&mut self.bytes, end, bytes);
         self.len += bytes.len();
     }
@@ -101,7 +114,7 @@ impl Ring {
     {
         let len = out.len();
         copy_round(out, &self.bytes, self.first);
-        self.first = (self.first + len) % RING_SIZE;
+        self.first = wrapped(self.first + len);
         self.len -= len;
     }
 }

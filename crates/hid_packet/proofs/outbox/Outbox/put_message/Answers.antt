@@ -1,10 +1,19 @@
-use Rattle.std.proofs.Common.{◌+◌, ◌≤◌, ◌++◌, List, ℕ, length, ap, ap₂, sym, ◌∙◌, refl, rules, arith}
+use Rattle.std.proofs.Common.{◌+◌, ◌≤◌, ◌++◌, ◌∷◌, [], List, ℕ, length, ap, ap₂, sym, ◌∙◌, refl, rules, arith}
 use Rattle.hid_packet.specs.Message.{written}
 use Rattle.hid_packet.specs.Queue.{waiting}
 use Rattle.hid_packet.specs.declared.entry.Entry.TheVariants.{Part}
 use Rattle.hid_packet.specs.declared.fragments.Due.TheVariants.{Initialization}
-use Rattle.hid_packet.proofs.Queueing.{first_written, queued-push, room, waiting-push, entry_fills}
+use Rattle.hid_packet.proofs.Queueing.{first_written, short_written, queued-push, room, waiting-push, entry_fills}
 use Rattle.hid_packet.proofs.outbox.Outbox.put_message.Goals as goal
+
+pub put_packet-requires : goal.put_packet-requires
+put_packet-requires c = omega (arith, c.requires.room, first_written c.args.cid c.args.cmd c.args.bytes.now)
+
+pub returns-then-bytes-le-INITIALIZATION_DATA : goal.returns-then-bytes-le-INITIALIZATION_DATA
+returns-then-bytes-le-INITIALIZATION_DATA c =
+    c.put_packet.ensures
+    ∙ ap (λ packet. c.args.self.now ++ packet ∷ []) c.initialization.ensures
+    ∙ ap (λ (packets : List (List ℕ)). c.args.self.now ++ packets) (sym (short_written c.args.cid c.args.cmd c.args.bytes.now c.if-bytes-le-INITIALIZATION_DATA.true))
 
 pub push-requires : goal.push-requires
 push-requires c =

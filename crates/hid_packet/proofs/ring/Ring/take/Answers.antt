@@ -1,4 +1,5 @@
-use Rattle.std.proofs.Common.{length, take, drop, ap, ◌∙◌, arith}
+use Rattle.std.proofs.Common.{◌-◌, length, take, drop, ap, ◌∙◌, arith}
+use Rattle.hid_packet.specs.Queue.{window}
 use Rattle.hid_packet.proofs.Windows.{length-window}
 use Rattle.hid_packet.proofs.Filling.{window-front, window-rest}
 use Rattle.hid_packet.proofs.ring.Ring.take.Goals as goal
@@ -17,5 +18,6 @@ returns-clause-left c =
     let ring = c.self.inside in
     let waiting = length-window 8320 ring.first ring.len ring.bytes c.self.invariant.0 c.self.invariant.1 c.self.invariant.2 in
     let same = ap length c.self.view_is in
-    window-rest 8320 ring.first ring.len (length c.args.out.now) ring.bytes c.self.invariant.0 c.self.invariant.1 (omega (arith, c.requires)) c.self.invariant.2
+    ap (λ first. window first (ring.len - length c.args.out.now) ring.bytes) c.wrapped-self-inside.ensures
+    ∙ window-rest 8320 ring.first ring.len (length c.args.out.now) ring.bytes c.self.invariant.0 c.self.invariant.1 (omega (arith, c.requires)) c.self.invariant.2
     ∙ ap (drop (length c.args.out.now)) c.self.view_is
