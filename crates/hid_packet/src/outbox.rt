@@ -1,4 +1,5 @@
 ghost use Rattle.std.specs.Prelude.{◌≡◌, ℕ, ◌+◌, ◌<◌, ◌≤◌, ◌↔◌, ◌++◌, ◌∷◌, [], List, length, IsTrue, MatchOption};
+ghost use Rattle.std.specs.Iterator.{YieldsFirstBy, item_count};
 ghost use Rattle.std.specs.List.{remove};
 ghost use Rattle.arrayvec.specs.ArrayVec.{array_vec_len};
 ghost use Rattle.hid_packet.specs.Message.{written};
@@ -147,5 +148,18 @@ impl Outbox {
         self.entries.push(Entry::Part(Message { cid, due, left }));
         self.ring.put(bytes);
         self.len += usize::from(packets_for(left));
+    }
+}
+
+/// Takes the packets, the first one first.
+impl Iterator for Outbox {
+    type Item = Packet;
+
+    ghost next_gives = { YieldsFirstBy (λ packet. packet.0) (λ waits. waits) };
+
+    ghost remaining = { item_count (λ waits. waits) };
+
+    fn next(&mut self) -> Option<Packet> {
+        self.pop()
     }
 }

@@ -8,7 +8,7 @@ use cred_table::{Row, Store, Table};
 use std::process::Abort;
 
 /// A session with one discoverable credential, which has this counter, and with channel 1 given out.
-fn with_counter(rt: &impl Abort, counter: u32) -> Session<4> {
+pub(crate) fn with_counter(rt: &impl Abort, counter: u32) -> Session<4> {
     let row = Row {
         rp: RP_HASH,
         id: [0xaa; 32],

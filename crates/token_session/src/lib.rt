@@ -19,6 +19,8 @@ mod counter_tests;
 #[cfg(test)]
 mod driving_tests;
 #[cfg(test)]
+mod hostile_tests;
+#[cfg(test)]
 mod registration_tests;
 #[cfg(test)]
 mod tests;

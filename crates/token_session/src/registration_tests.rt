@@ -15,7 +15,7 @@ pub(crate) const RP_HASH: [u8; 32] = [
 ];
 
 /// The bytes of several slices, one after the other.
-fn join(parts: &[&[u8]]) -> ArrayVec<u8, 300> {
+pub(crate) fn join(parts: &[&[u8]]) -> ArrayVec<u8, 300> {
     let mut bytes = ArrayVec::new();
     for part in parts {
         let _ = bytes.try_extend_from_slice(part);
@@ -24,7 +24,7 @@ fn join(parts: &[&[u8]]) -> ArrayVec<u8, 300> {
 }
 
 /// authenticatorMakeCredential for user 01 of `example.com`, discoverable.
-fn make_credential() -> ArrayVec<u8, 300> {
+pub(crate) fn make_credential() -> ArrayVec<u8, 300> {
     join(&[
         b"\x01\xa5\x01\x58\x20",
         &[0x11; 32],

@@ -1,0 +1,46 @@
+//! A host greets a security key, pings it and registers with it; what the key sends is printed.
+#![tactic(auto)]
+
+use authn_core::{NewKey, Presence, Signature};
+use hid_packet::command::{CBOR, INIT, PING};
+use hid_packet::{Fragments, Outbox};
+use std::io;
+use token_session::{Input, Session};
+
+/// authenticatorMakeCredential for user 01 of `example.com`; its client data hash is 32 times `h`.
+const REGISTRATION: &[u8] =
+    b"\x01\xa4\x01\x58\x20hhhhhhhhhhhhhhhhhhhhhhhhhhhhhhhh\x02\xa1\x62id\x6bexample.com\
+      \x03\xa1\x62id\x41\x01\x04\x81\xa2\x63alg\x26\x64type\x6apublic-key";
+
+/// Hands the key an input, and prints the packets that it sends for it.
+fn step(rt: &HostRuntime, key: &mut Session<8>, input: Input) -> io::Result<()> {
+    let mut outbox = Outbox::new();
+    key.step(0, input, &mut outbox);
+    for packet in outbox {
+        println!(rt; "{:?}", packet.view())?;
+    }
+    Ok(())
+}
+
+/// Hands the key the packets of a message.
+fn send(rt: &HostRuntime, key: &mut Session<8>, message: Fragments) -> io::Result<()> {
+    for packet in message {
+        step(rt, key, Input::Packet(packet))?;
+    }
+    Ok(())
+}
+
+fn main(rt: HostRuntime) -> io::Result<()> {
+    let mut key = Session::bare([0; 16], 0);
+    send(&rt, &mut key, Fragments::new(0xffff_ffff, INIT, b"nonce..."))?;
+    send(&rt, &mut key, Fragments::new(1, PING, b"hello"))?;
+    send(&rt, &mut key, Fragments::new(1, CBOR, REGISTRATION))?;
+    step(&rt, &mut key, Input::Presence(Presence::Granted))?;
+    let pair = NewKey {
+        id: [b'i'; 32],
+        x: [b'x'; 32],
+        y: [b'y'; 32],
+    };
+    step(&rt, &mut key, Input::Key(Some(pair)))?;
+    step(&rt, &mut key, Input::Signature(Signature::new(&[b's'; 70])))
+}

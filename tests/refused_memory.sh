@@ -1,0 +1,48 @@
+#!/usr/bin/env bash
+# Has each of the first allocations of every test fail in turn, so many as the first argument says (12), in each crate that
+# allocates: ctap_cbor (decode_value, encode_value), cred_table (save) and session_show (show). Then it gives one verdict.
+# Needs rt and Python 3. Status 0: a refusal changes nothing but the answer. 1: it does.
+#
+# A test that is refused memory may end with that as its error, and with nothing else. Tests of `.._after_refused_memory`
+# make the same call again and have to pass. In cred_table a test takes either answer, and checks what it left, unless its
+# name ends with `_at_once`.
+set -u
+cd "$(dirname "$0")/.."
+work=$(mktemp -d)
+trap 'rm -r "$work"' EXIT
+for crate in ctap_cbor cred_table session_show; do
+    for n in $(seq 1 "${1:-12}"); do
+        (cd "crates/$crate" && rt try --test --fail-alloc "$n") > "$work/$crate.$n" 2>&1
+    done
+done
+python3 - "$work" <<'JUDGE'
+import os
+import re
+import sys
+
+REFUSED = re.compile(r"AllocError|AllocFailed|Memory")
+wrong = []
+refusals = 0
+runs = sorted(os.listdir(sys.argv[1]))
+for name in runs:
+    crate, number = name.split(".")
+    with open(os.path.join(sys.argv[1], name)) as file:
+        output = file.read()
+    tests = re.findall(r"^test (\S+) \.\.\. (ok|FAILED)\n((?:    .*\n)*)", output, re.M)
+    if not tests:
+        wrong.append(f"{crate}, allocation {number}: nothing ran")
+    for test, result, text in tests:
+        if result == "ok":
+            continue
+        refusals += 1
+        if crate == "cred_table":
+            expected = test.endswith("_at_once")
+        else:
+            expected = not test.endswith("_after_refused_memory") and REFUSED.search(text)
+        if not expected:
+            wrong.append(f"{crate}, allocation {number}: {test}")
+for line in wrong:
+    print(line)
+print(f"{len(runs)} runs, {refusals} tests ended since memory was refused: {'wrong' if wrong else 'well'}")
+sys.exit(1 if wrong else 0)
+JUDGE
