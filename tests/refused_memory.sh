@@ -12,7 +12,7 @@ work=$(mktemp -d)
 trap 'rm -r "$work"' EXIT
 for crate in ctap_cbor cred_table session_show; do
     for n in $(seq 1 "${1:-12}"); do
-        (cd "crates/$crate" && rt try --test --fail-alloc "$n") > "$work/$crate.$n" 2>&1
+        (cd "crates/$crate" && rt try --test --seconds 600 --fail-alloc "$n") > "$work/$crate.$n" 2>&1
     done
 done
 python3 - "$work" <<'JUDGE'
