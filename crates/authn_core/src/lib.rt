@@ -1,5 +1,18 @@
 //! The authenticator of CTAP 2.1, section 6, as a machine that takes requests and replies, one turn each. Nothing here takes
 //! memory.
+//!
+//! An example, which the gate runs (`src/page.rt`):
+//!
+//! ```text
+//! let mut core = Core::<Store<4>, 4>::new(Config { aaguid: [0; 16] }, Store::new(), 0);
+//! // authenticatorSelection on channel 1 waits for the user's presence, and is then answered.
+//! core.request(10, 1, b"\x0b");
+//! let waits = core.need().is_presence();
+//! assert!(rt; waits);
+//! let turn = core.presence(20, Presence::Granted);
+//! let answered = matches!(turn, Turn::Answer(answer) if answer.as_slice() == [0].as_slice());
+//! assert!(rt; answered);
+//! ```
 #![tactic(auto)]
 
 mod authenticator;
@@ -14,3 +27,6 @@ mod work;
 pub use authenticator::{Config, Core, Need, Turn};
 pub use replies::{NewKey, Presence, Signature};
 pub use work::{KeepaliveStatus, Work};
+
+#[cfg(test)]
+mod page;

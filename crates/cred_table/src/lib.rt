@@ -1,4 +1,23 @@
 //! The credential table of an authenticator: rows in order of making, whatever keeps them.
+//!
+//! An example, which the gate runs (`src/page.rt`):
+//!
+//! ```text
+//! let mut table = Store::<4>::new();
+//! table.put(Row {
+//!     rp: [0xa3; 32],
+//!     id: [0xaa; 32],
+//!     discoverable: true,
+//!     ..Row::default()
+//! });
+//! let mut snapshot = Vec::new(rt.alloc());
+//! save(&table, &mut snapshot)?;
+//!
+//! let mut copy = Store::<4>::new();
+//! let loaded = load(snapshot.as_slice(), &mut copy);
+//! assert!(rt; loaded.is_ok());
+//! assert_eq!(rt; copy.len(), 1);
+//! ```
 #![tactic(auto)]
 
 mod chained;
@@ -30,6 +49,8 @@ pub use table::Table;
 /// The table that the authenticator uses.
 pub type Store<const C: usize> = Chained<C>;
 
+#[cfg(test)]
+mod page;
 #[cfg(test)]
 mod snapshot_tests;
 #[cfg(test)]

@@ -1,7 +1,23 @@
 //! The requests that a host sends to an authenticator, and the answers that it gets (CTAP 2.1, section 6 and
 //! section 8, "Message Encoding").
 //!
-//! - [`read_request`] tells what a message asks, or the status of the first check that it fails, and how many
+//! An example, which the gate runs (`src/page.rt`):
+//!
+//! ```text
+//! let (request, steps) = read_request(b"\x04");
+//! let info = matches!(request, Ok(Request::Info));
+//! assert!(rt; info);
+//! assert_eq!(rt; steps, 0);
+//! let answer = write_info(&[0; 16]);
+//! assert_eq!(rt; answer.len(), 81);
+//!
+//! // authenticatorGetInfo takes no parameters.
+//! let (request, _) = read_request(b"\x04\xa0");
+//! let refused = matches!(request, Err(Status::INVALID_LENGTH));
+//! assert!(rt; refused);
+//! ```
+//!
+//! - [`read_request`] gives what a message asks, or the status of the first check that it fails, and how many
 //!   steps reading took.
 //! - [`Descriptors`] walks a request's list of credentials, in place.
 //! - [`write_status`], [`write_info`], [`write_created`] and [`write_assertion`] write answers: a status alone, or status
@@ -28,6 +44,8 @@ mod judge;
 pub mod laws;
 mod make;
 mod options;
+#[cfg(test)]
+mod page;
 mod parameters;
 mod request;
 mod rp;

@@ -2,6 +2,16 @@
 //! (WebAuthn Level 2, sections 6.1, 6.5.1 and 8.2; RFC 8152, section 13.1.1).
 //!
 //! Nothing is hashed or signed here: the SHA-256 hash of the RP id comes in as 32 bytes. Nothing takes memory.
+//!
+//! An example, which the gate runs (`src/page.rt`):
+//!
+//! ```text
+//! let data = AuthData::assertion(&[0xa3; 32], true, 1);
+//! let bytes = data.bytes();
+//! assert_eq!(rt; bytes.len(), 37);
+//! let signed = to_sign(&data, &[0x22; 32]);
+//! assert_eq!(rt; signed.len(), 69);
+//! ```
 #![tactic(auto)]
 
 mod auth_data;
@@ -9,3 +19,6 @@ mod cose;
 
 pub use auth_data::{ASSERTION_LEN, AuthData, CREATED_LEN, TO_SIGN_MAX, to_sign};
 pub use cose::{COSE_KEY_LEN, cose_key};
+
+#[cfg(test)]
+mod page;

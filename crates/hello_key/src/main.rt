@@ -32,7 +32,11 @@ fn send(rt: &HostRuntime, key: &mut Session<8>, message: Fragments) -> io::Resul
 
 fn main(rt: HostRuntime) -> io::Result<()> {
     let mut key = Session::bare([0; 16], 0);
-    send(&rt, &mut key, Fragments::new(0xffff_ffff, INIT, b"nonce..."))?;
+    send(
+        &rt,
+        &mut key,
+        Fragments::new(0xffff_ffff, INIT, b"nonce..."),
+    )?;
     send(&rt, &mut key, Fragments::new(1, PING, b"hello"))?;
     send(&rt, &mut key, Fragments::new(1, CBOR, REGISTRATION))?;
     step(&rt, &mut key, Input::Presence(Presence::Granted))?;

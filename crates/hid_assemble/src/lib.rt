@@ -1,6 +1,21 @@
 //! The channels of CTAPHID and the reassembly of messages: the reply table, which says what becomes of
 //! each packet, and the time-out of a message that isn't finished (CTAP 2.1, sections 11.2.4 and 11.2.5).
 //! Nothing here takes memory.
+//!
+//! An example, which the gate runs (`src/page.rt`):
+//!
+//! ```text
+//! let mut assembler = Assembler::with_given(1);
+//! let mut outbox = Outbox::new();
+//! written_packets_are_the_fewest();
+//! outbox.put_message(1, PING, &[7; 100]);
+//! let mut verdict = Verdict::Ignored;
+//! for packet in outbox {
+//!     verdict = assembler.accept(0, &packet, None);
+//! }
+//! assert_eq!(rt; verdict, Verdict::Finished { cid: 1, cmd: PING });
+//! assert_eq!(rt; assembler.message(), [7; 100].as_slice());
+//! ```
 #![tactic(auto)]
 
 mod assembler;
@@ -14,5 +29,7 @@ pub use code::ErrorCode;
 pub use table::{Continuation, LAST_CHANNEL, Row};
 pub use verdict::Verdict;
 
+#[cfg(test)]
+mod page;
 #[cfg(test)]
 mod tests;

@@ -1,5 +1,21 @@
 //! CTAPHID packets of 64 bytes, the packets that carry a message, and a queue of packets to send
 //! (CTAP 2.1, section 11.2.4, "Message and packet structure"). Nothing here takes memory.
+//!
+//! An example, which the gate runs (`src/page.rt`):
+//!
+//! ```text
+//! let mut outbox = Outbox::new();
+//! outbox.put_message(1, command::PING, b"hello");
+//! for packet in outbox {
+//!     match packet.view() {
+//!         View::Start { cid, cmd, len, part } => {
+//!             assert_eq!(rt; (cid, cmd, len), (1, command::PING, 5));
+//!             assert!(rt; part.starts_with(b"hello"));
+//!         }
+//!         View::More { .. } => panic!(rt; "it fits one packet"),
+//!     }
+//! }
+//! ```
 #![tactic(auto)]
 
 pub mod command;
@@ -18,5 +34,7 @@ pub use packet::{BROADCAST, PACKET_SIZE, Packet, View};
 
 #[cfg(test)]
 mod outbox_tests;
+#[cfg(test)]
+mod page;
 #[cfg(test)]
 mod tests;

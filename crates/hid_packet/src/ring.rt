@@ -30,7 +30,7 @@ impl Model for Ring {
     ghost invariant = { λ r. (r.first < 8320) × (r.len ≤ 8320) × (length r.bytes ≡ 8320) };
 }
 
-/// The place in the ring, counted from its front again behind its end.
+/// The place in the ring, counted from its front again after its end.
 fn wrapped(place: usize) -> usize
     requires { place < 2 * RING_SIZE }
     ensures { result ≡ place % RING_SIZE }
@@ -96,7 +96,7 @@ impl Ring {
         }
     }
 
-    /// Puts bytes behind those that wait.
+    /// Puts bytes after those that wait.
     pub(crate) fn put(&mut self, bytes: &[u8])
         requires { length self.old + length bytes.now ≤ 8320 }
         ensures { self.new ≡ self.old ++ bytes.now }

@@ -5,7 +5,7 @@ use crate::snapshot_tests::push_packet;
 use session_log::{SliceIn, SliceOut};
 use std::test::Fail;
 
-/// The status of the program on these words and this log, and whether its output and what it told are these.
+/// The status of the program on these words and this log, and whether its output and its faults are these.
 fn answer<'a>(
     rt: &HostRuntime,
     words: &'a [&'a str],

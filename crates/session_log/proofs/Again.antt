@@ -7,7 +7,7 @@ use Rattle.hex.specs.Hex.{decode_sized, encode_lower, lower_digits}
 use Rattle.hex.proofs.HexLemmas.{decode_sized-encode_lower, length-encode_with, IsOk-decode_sized}
 use Rattle.token_session.specs.declared.input.Meters.{Meters}
 use Rattle.session_log.specs.declared.line.Line.{Line}
-use Rattle.session_log.specs.declared.line.Line.TheVariants.{Input, Sent, Remark, Count}
+use Rattle.session_log.specs.declared.line.Line.TheVariants.{Input, Sent, Comment, Count}
 use Rattle.session_log.specs.Lines.{lines}
 use Rattle.session_log.specs.Log.{Played, behind, played, playing, log_of, log, fault_by, text_of, text_by, after, after_by}
 use Rattle.session_log.specs.Said.{said}
@@ -28,7 +28,7 @@ abbrev lines_by : {S : Type 0} → Course S → S → List ℕ → Option Line �
 lines_by course s line None = []
 lines_by course s line (Some Count) = []
 lines_by course s line (Some (Sent packet)) = []
-lines_by course s line (Some Remark) = line ∷ []
+lines_by course s line (Some Comment) = line ∷ []
 lines_by course s line (Some (Input timed)) = line ∷ map sent_line (course.sends s timed)
 
 abbrev written : {S : Type 0} → Course S → S → List (List ℕ) → List (List ℕ)
@@ -52,7 +52,7 @@ text_lines : {S : Type 0} (course : Course S) (s : S) (line : List ℕ) (l : Opt
 text_lines course s line None = refl
 text_lines course s line (Some Count) = refl
 text_lines course s line (Some (Sent packet)) = refl
-text_lines course s line (Some Remark) = sym (append-nil (ended line))
+text_lines course s line (Some Comment) = sym (append-nil (ended line))
 text_lines course s line (Some (Input timed)) = ap (λ (t : List ℕ). ended line ++ t) (sents_text (course.sends s timed))
 
 -- Faultless lines.
@@ -106,7 +106,7 @@ line_again : {S : Type 0} (course : Course S) (m : ℕ) (s : S) (line : List ℕ
 line_again course m s line None rest sound e h few = absurd (sound.says e)
 line_again course m s line (Some Count) rest sound e h few = ap (λ (k : ℕ). played (replaying course) k s rest) (add_zero m)
 line_again course m s line (Some (Sent packet)) rest sound e h few = ap (λ (k : ℕ). played (replaying course) k s rest) (add_zero m)
-line_again course m s line (Some Remark) rest sound e h few = sound_step course m s line rest (Some Remark) (omega (arith, few)) sound e
+line_again course m s line (Some Comment) rest sound e h few = sound_step course m s line rest (Some Comment) (omega (arith, few)) sound e
 line_again course m s line (Some (Input timed)) rest sound e h few =
     let packets = course.sends s timed in
     let same : length (map sent_line packets) ≡ length packets = simp length-map refl in
@@ -154,7 +154,7 @@ line_are : {S : Type 0} (course : Course S) (s : S) (line : List ℕ) (l : Optio
 line_are course s line None h sends = tt
 line_are course s line (Some Count) h sends = tt
 line_are course s line (Some (Sent packet)) h sends = tt
-line_are course s line (Some Remark) h sends = (h, tt)
+line_are course s line (Some Comment) h sends = (h, tt)
 line_are course s line (Some (Input timed)) h sends = (h, sents_are (course.sends s timed) sends)
 
 written_are : {S : Type 0} (course : Course S) (s : S) (ls : List (List ℕ)) → AreLines ls → AllSend (replaying course) s ls → AreLines (written course s ls)

@@ -4,7 +4,7 @@ use Rattle.token_session.specs.declared.input.Timed.{Timed}
 use Rattle.token_session.specs.declared.input.Meters.{Meters}
 use Rattle.session_log.specs.declared.fault.LogFault.{LogFault}
 use Rattle.session_log.specs.declared.line.Line.{Line}
-use Rattle.session_log.specs.declared.line.Line.TheVariants.{Input, Sent, Remark, Count}
+use Rattle.session_log.specs.declared.line.Line.TheVariants.{Input, Sent, Comment, Count}
 use Rattle.session_log.specs.Text.{ended, sent_text, tick_text, meters_line}
 
 -- how an input moves a state, the packets that are sent for it, and what is counted
@@ -25,25 +25,25 @@ pub record World (S : Type 0) : Type 0 where
   pub ending : S → List ℕ
   pub counts : S → Meters
 
--- Replayed, each input line and each remark comes again, after an input line the packets that are sent for it, and at the
+-- Replayed, each input line and each comment comes again, after an input line the packets that are sent for it, and at the
 -- end the meters. No line is faulty but for its text.
 
 abbrev pub moves_input : {S : Type 0} → Course S → S → Line → S
 moves_input course s (Input timed) = course.turned s timed
 moves_input course s (Sent packet) = s
-moves_input course s Remark = s
+moves_input course s Comment = s
 moves_input course s Count = s
 
 abbrev pub sends_input : {S : Type 0} → Course S → S → Line → List (List ℕ)
 sends_input course s (Input timed) = course.sends s timed
 sends_input course s (Sent packet) = []
-sends_input course s Remark = []
+sends_input course s Comment = []
 sends_input course s Count = []
 
 abbrev pub writes_again : {S : Type 0} → Course S → S → List ℕ → Line → List ℕ
 writes_again course s line (Input timed) = ended line ++ flat_map sent_text (course.sends s timed)
 writes_again course s line (Sent packet) = []
-writes_again course s line Remark = ended line
+writes_again course s line Comment = ended line
 writes_again course s line Count = []
 
 abbrev pub replaying : {S : Type 0} → Course S → World S
@@ -57,12 +57,12 @@ replaying course = record {
   counts = course.counts;
 }
 
--- Made quiet, each input line and each remark comes again, but a tick's line in place of noise, and nothing else.
+-- Made quiet, each input line and each comment comes again, but a tick's line in place of noise, and nothing else.
 
 abbrev pub writes_quiet : {S : Type 0} → (S → Timed → Bool) → S → List ℕ → Line → List ℕ
 writes_quiet noises s line (Input timed) = ended (if noises s timed then tick_text timed.at else line)
 writes_quiet noises s line (Sent packet) = []
-writes_quiet noises s line Remark = ended line
+writes_quiet noises s line Comment = ended line
 writes_quiet noises s line Count = []
 
 abbrev pub quieting : {S : Type 0} → Course S → (S → Timed → Bool) → World S

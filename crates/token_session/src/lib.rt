@@ -1,5 +1,22 @@
 //! The transport and the authenticator together: a session takes inputs, one at a time, and gives the
 //! packets to send.
+//!
+//! An example, which the gate runs (`src/page.rt`):
+//!
+//! ```text
+//! let mut key = Session::<8>::bare([0; 16], 0);
+//! for packet in Fragments::new(0xffff_ffff, command::INIT, b"nonce...") {
+//!     let mut outbox = Outbox::new();
+//!     key.step(0, Input::Packet(packet), &mut outbox);
+//!     for answer in outbox {
+//!         match answer.view() {
+//!             View::Start { cmd, len, .. } => assert_eq!(rt; (cmd, len), (command::INIT, 17)),
+//!             View::More { .. } => panic!(rt; "the answer fits one packet"),
+//!         }
+//!     }
+//! }
+//! assert_eq!(rt; key.credentials(), 0);
+//! ```
 #![tactic(auto)]
 
 mod authenticator;
@@ -20,6 +37,8 @@ mod counter_tests;
 mod driving_tests;
 #[cfg(test)]
 mod hostile_tests;
+#[cfg(test)]
+mod page;
 #[cfg(test)]
 mod registration_tests;
 #[cfg(test)]

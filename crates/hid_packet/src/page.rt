@@ -1,0 +1,23 @@
+//! The example of the crate's page.
+
+use crate::{Outbox, View, command};
+
+#[test]
+fn the_page(rt: HostRuntime) {
+    let mut outbox = Outbox::new();
+    outbox.put_message(1, command::PING, b"hello");
+    for packet in outbox {
+        match packet.view() {
+            View::Start {
+                cid,
+                cmd,
+                len,
+                part,
+            } => {
+                assert_eq!(rt; (cid, cmd, len), (1, command::PING, 5));
+                assert!(rt; part.starts_with(b"hello"));
+            }
+            View::More { .. } => panic!(rt; "it fits one packet"),
+        }
+    }
+}

@@ -1,0 +1,20 @@
+//! The example of the crate's page.
+
+use crate::{Input, Session};
+use hid_packet::{Fragments, Outbox, View, command};
+
+#[test]
+fn the_page(rt: HostRuntime) {
+    let mut key = Session::<8>::bare([0; 16], 0);
+    for packet in Fragments::new(0xffff_ffff, command::INIT, b"nonce...") {
+        let mut outbox = Outbox::new();
+        key.step(0, Input::Packet(packet), &mut outbox);
+        for answer in outbox {
+            match answer.view() {
+                View::Start { cmd, len, .. } => assert_eq!(rt; (cmd, len), (command::INIT, 17)),
+                View::More { .. } => panic!(rt; "the answer fits one packet"),
+            }
+        }
+    }
+    assert_eq!(rt; key.credentials(), 0);
+}
