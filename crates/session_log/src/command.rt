@@ -7,6 +7,7 @@ ghost use Rattle.session_log.specs.Command.{IsChecked, IsQuieted, IsReplayed, st
 
 use crate::checking::check;
 use crate::fault::LogFault;
+use crate::living::live;
 use crate::quieting::quiet;
 use crate::replaying::replay;
 use crate::source::Source;
@@ -62,6 +63,18 @@ pub fn replay_command<S: Source, O: Target, E: Target, const C: usize>(
     ensures silent { OnOk result (faults.new ≡ faults.old) }
 {
     let answer = replay(input, output, session);
+    status(faults, answer)
+}
+
+/// The command `live`: replays the log on the session, and tells what the session needs. An error holds the exit
+/// status, 1, as for [`replay_command`].
+pub fn live_command<S: Source, O: Target, E: Target, const C: usize>(
+    session: &mut Session<C>,
+    input: &mut S,
+    output: &mut O,
+    faults: &mut E,
+) -> Result<(), u8> {
+    let answer = live(input, output, session);
     status(faults, answer)
 }
 

@@ -8,12 +8,17 @@ ghost use Rattle.session_log.specs.Streams.{PutsLine};
 use crate::fault::LogFault;
 use crate::target::{Target, put_all};
 use arrayvec::ArrayVec;
+use authn_core::Need;
 use hid_packet::{Outbox, Packet};
 use itoa::Buffer;
 use token_session::Meters;
 
-/// The most bytes that are written for one line: the line with its line feed, and 130 packets' lines.
-const LONGEST: usize = 255 + 1 + 130 * 131;
+/// The most bytes that are written for one line: the line with its line feed, 130 packets' lines, and 504 bytes
+/// of what is needed, which is a signature of 196 bytes.
+const LONGEST: usize = 255 + 1 + 130 * 131 + 504;
+
+/// The most bytes to sign in one line.
+const PIECE: usize = 96;
 
 /// The text that is written for a line.
 pub type Text = ArrayVec<u8, LONGEST>;
@@ -51,6 +56,47 @@ fn push_packets(text: &mut Text, outbox: &mut Outbox)
     while let Some(packet) = outbox.pop() {
         push_packet(text, packet);
     }
+}
+
+/// Appends the digits of some bytes, at most a piece.
+fn push_digits(text: &mut Text, bytes: &[u8]) {
+    let mut digits = [0; 2 * PIECE];
+    let used = digits.split_at_mut(2 * bytes.len()).0;
+    let _ = hex::encode_to_slice(bytes, used);
+    let _ = text.try_extend_from_slice(used);
+}
+
+/// Appends the line of a piece of what is to sign.
+fn push_piece(text: &mut Text, piece: &[u8]) {
+    let _ = text.try_extend_from_slice(b"# signed ");
+    push_digits(text, piece);
+    text.push(b'\n');
+}
+
+/// Appends the lines of what is to sign.
+fn push_signed(text: &mut Text, signed: &[u8]) {
+    let mut rest = signed;
+    while !rest.is_empty() {
+        let len = rest.len().min(PIECE);
+        push_piece(text, rest.split_at(len).0);
+        rest = rest.split_at(len).1;
+    }
+}
+
+/// Appends the lines of what is needed.
+fn push_need(text: &mut Text, need: Need<'_>) {
+    let word = match need {
+        Need::None => b"# need nothing\n".as_slice(),
+        Need::Presence => b"# need presence\n".as_slice(),
+        Need::Key => b"# need key\n".as_slice(),
+        Need::Sign { id, signed } => {
+            push_signed(text, signed);
+            let _ = text.try_extend_from_slice(b"# need signature ");
+            push_digits(text, id);
+            b"\n".as_slice()
+        }
+    };
+    let _ = text.try_extend_from_slice(word);
 }
 
 /// Appends a word and a number.
@@ -128,6 +174,21 @@ pub fn put_input<T: Target>(
     text.clear();
     push_line(text, line);
     push_packets(text, outbox);
+    put_text(writer, text.as_slice())
+}
+
+/// Writes an input line, the packets that were sent for it and what is needed after it, and empties the outbox.
+pub fn put_served<T: Target>(
+    writer: &mut T,
+    text: &mut Text,
+    line: &[u8],
+    outbox: &mut Outbox,
+    need: Need<'_>,
+) -> Result<(), LogFault> {
+    text.clear();
+    push_line(text, line);
+    push_packets(text, outbox);
+    push_need(text, need);
     put_text(writer, text.as_slice())
 }
 

@@ -1,0 +1,1 @@
+//! What a session needs, told after each input line.
