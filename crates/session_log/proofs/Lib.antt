@@ -13,6 +13,9 @@ pub mod Rows
 pub mod Feeds
 pub mod Sound
 pub mod Again
+pub mod Replayed
+pub mod Tells
+pub mod Lived
 pub mod Quieted
 pub mod Groups
 pub mod Checks

@@ -1,5 +1,5 @@
 -- The lines that tell what is needed (docs/LOG_FORMAT.md).
-use Rattle.std.specs.Prelude.{◌≡◌, ℕ, ◌+◌, ◌/◌, ◌==◌, ◌||◌, Bool, List, [], ◌∷◌, ◌++◌, length, map, codes}
+use Rattle.std.specs.Prelude.{ℕ, ◌+◌, ◌/◌, ◌==◌, ◌||◌, Bool, List, [], ◌∷◌, ◌++◌, length, map, codes}
 use Rattle.std.specs.List.{starts_with}
 use Rattle.std.specs.Simd.{first_chunks}
 use Rattle.hex.specs.Hex.{encode_lower}
@@ -26,10 +26,3 @@ need_lines (sign id signed) = map signed_line (pieces_of signed) ++ signature_li
 -- whether a remark is one of these lines
 abbrev pub tells_need : List ℕ → Bool
 tells_need line = starts_with ◌==◌ line (codes "# need ") || starts_with ◌==◌ line (codes "# signed ")
-
--- what a session can need: the id of a credential is 32 bytes
-abbrev pub IsNeed : Needed → Type 0
-IsNeed nothing = Unit {0}
-IsNeed presence = Unit {0}
-IsNeed key = Unit {0}
-IsNeed (sign id signed) = length id ≡ 32

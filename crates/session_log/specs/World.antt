@@ -6,7 +6,8 @@ use Rattle.session_log.specs.declared.fault.LogFault.{LogFault}
 use Rattle.session_log.specs.declared.line.Line.{Line}
 use Rattle.session_log.specs.declared.line.Line.TheVariants.{Input, Sent, Remark, Count}
 use Rattle.authn_core.specs.Views.{Needed}
-use Rattle.session_log.specs.Needs.{IsNeed, need_lines, tells_need}
+use Rattle.authn_core.specs.Needs.{IsNeed}
+use Rattle.session_log.specs.Needs.{need_lines, tells_need}
 use Rattle.session_log.specs.Text.{ArePackets, ended, sent_text, tick_text, meters_line}
 
 -- how an input moves a state, the packets that are sent for it, and what is counted
