@@ -87,7 +87,7 @@ pub sents_again : {S : Type 0} (w : World S) (counts : S → Meters) → IsLoggi
 sents_again w counts is m s [] rest h few = ap (λ (k : ℕ). played w k s rest) (add_zero m)
 sents_again w counts is m s (packet ∷ more) rest h few =
     let next : m + 1 + length more ≡ m + suc (length more) = omega arith in
-    let sent = record { 0 = packet } in
+    let sent : Packet = record { 0 = packet } in
     sound_step w counts is m s (sent_line packet) (map sent_line more ++ rest) (Some (Sent sent)) (omega (arith, few)) (sent_sound packet h.0) (sent_said packet h.0)
     ∙ (λ i. behind (is.drops_sent s (sent_line packet) sent i) (played w (m + 1) (is.stays_at_sent s sent i) (map sent_line more ++ rest)))
     ∙ sents_again w counts is (m + 1) s more rest h.1 (omega (arith, few, next))

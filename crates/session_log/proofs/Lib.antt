@@ -15,6 +15,7 @@ pub mod Sound
 pub mod Again
 pub mod Replayed
 pub mod Tells
+pub mod Pieces
 pub mod Lived
 pub mod Quieted
 pub mod Groups

@@ -48,7 +48,8 @@ text_lines course needs s line (Some Remark) = remark_lines line (tells_need lin
 text_lines course needs s line (Some (Input timed)) =
     let packets = course.sends s timed in
     let told = need_lines (needs (course.turned s timed)) in
-    ap (λ (t : List ℕ). ended line ++ t)
+    append_assoc (ended line) (flat_map sent_text packets) (flat_map ended told)
+    ∙ ap (λ (t : List ℕ). ended line ++ t)
     (ap (λ (t : List ℕ). t ++ flat_map ended told) (sents_text packets) ∙ sym (flat_map-append ended (map sent_line packets) told))
 
 remark_are : (line : List ℕ) (b : Bool) → feedless line ≡ true → AreLines (cond b [] (line ∷ []))
@@ -149,7 +150,6 @@ replayed_again course needs m s line (Some (Input timed)) rest sound e h few =
     ∙ sents_again w course.counts (replay_logs course) (m + 1) t packets (told ++ rest) h.0 (omega (arith, few, count))
     ∙ told_copied course (m + 1 + length packets) t told rest (needs_told (needs t) h.1) (omega (arith, few, count)))
     ∙ behind_twice first (flat_map ended told) later
-    ∙ ap (λ (a : List ℕ). behind a later) (append_assoc (ended line) (flat_map sent_text packets) (flat_map ended told))
     ∙ ap (λ (k : ℕ). behind (writes_needs course needs s line (Input timed)) (played w k t rest)) count
 
 pub live_again : {S : Type 0} (course : Course S) (needs : S → Needed) → GivesAgain (living course needs) (living course needs) (needs_of course needs)

@@ -10,22 +10,18 @@ use Rattle.session_log.specs.declared.line.Line.TheVariants.{Remark}
 use Rattle.session_log.specs.Lines.{is_feed}
 use Rattle.session_log.specs.Needs.{need_lines, pieces_of, signature_line, signed_line, tells_need}
 use Rattle.session_log.specs.Said.{said}
-use Rattle.session_log.proofs.Feeds.{feedless, AreLines, feedless-append, AreLines-append}
+use Rattle.session_log.proofs.Feeds.{feedless, AreLines, both, joined, feedless-append}
 use Rattle.session_log.proofs.Sound.{IsSound}
 
 -- no digit is a line feed, whatever the byte
 
 from_digits : (ds : List ℕ) → feedless ds ≡ true → (n : ℕ) → is_feed (slice_index ds n) ≡ false
 from_digits [] h n = refl
-from_digits (d ∷ ds) h n = go (is_feed d) refl n h
-  where
-    go : (b : Bool) → is_feed d ≡ b → (n : ℕ) → feedless (d ∷ ds) ≡ true → is_feed (slice_index (d ∷ ds) n) ≡ false
-    go true e n h = cc
-    go false e zero h = e
-    go false e (suc n) h = from_digits ds (rw e h) n
+from_digits (d ∷ ds) h zero = (both (is_feed d) (feedless ds) h).0
+from_digits (d ∷ ds) h (suc n) = from_digits ds (both (is_feed d) (feedless ds) h).1 n
 
 two_more : (a b : ℕ) (xs : List ℕ) → is_feed a ≡ false → is_feed b ≡ false → feedless xs ≡ true → feedless (a ∷ b ∷ xs) ≡ true
-two_more a b xs h k l = rw (h, k) l
+two_more a b xs h k l = joined (is_feed a) (feedless (b ∷ xs)) h (joined (is_feed b) (feedless xs) k l)
 
 pub encoded_feedless : (bytes : List ℕ) → feedless (encode_lower bytes) ≡ true
 unfolding encode_with

@@ -98,7 +98,7 @@ fn push_signed(text: &mut Text, signed: &[u8])
 {
     let mut rest = signed;
     while !rest.is_empty() {
-        let len = rest.len().min(PIECE);
+        let len = PIECE.min(rest.len());
         push_piece(text, rest.split_at(len).0);
         rest = rest.split_at(len).1;
     }
@@ -118,7 +118,7 @@ fn push_signature(text: &mut Text, id: &[u8; 32])
 fn push_need(text: &mut Text, need: Need<'_>)
     requires sized { IsNeed (needed need) }
     requires room { length text.old.items + 504 ≤ LONGEST }
-    ensures { text.new.items ≡ text.old.items ++ flat_map ended (need_lines (needed need)) }
+    ensures { text.new.items ≡ text.old.items ++ flat_map ended (need_lines (needed need.entry)) }
 {
     match need {
         Need::None => push_line(text, b"# need nothing"),
@@ -222,7 +222,7 @@ pub fn put_served<T: Target>(
     requires few { length outbox.old ≤ 130 }
     requires sized { IsNeed (needed need) }
     ensures puts { PutsLine T.taken T.failed (writer.old, writer.new)
-        (ended line.now ++ flat_map sent_text outbox.old ++ flat_map ended (need_lines (needed need))) result }
+        (ended line.now ++ flat_map sent_text outbox.old ++ flat_map ended (need_lines (needed need.entry))) result }
     ensures empty { outbox.new ≡ [] }
     ensures packets { ArePackets outbox.old }
 {
