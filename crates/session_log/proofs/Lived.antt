@@ -1,8 +1,7 @@
 -- What is written with what is needed is its own log: replayed, and with what is needed again.
-use Rattle.std.proofs.Common.{◌≡◌, ℕ, suc, ◌+◌, ◌≤◌, ◌<◌, ◌^◌, Bool, true, false, cond, List, [], ◌∷◌, ◌++◌, length, map, flat_map, Option, Some, None, refl, sym, ap, ◌∙◌, subst, arith, append_assoc, append-nil, length-append}
+use Rattle.std.proofs.Common.{◌≡◌, ℕ, suc, ◌+◌, ◌≤◌, ◌<◌, ◌^◌, Bool, true, false, cond, List, [], ◌∷◌, ◌++◌, length, map, flat_map, Option, Some, None, refl, sym, ap, ◌∙◌, arith, append_assoc, append-nil, length-append}
 use Rattle.std.proofs.lemmas.Grind.{flat_map-append}
 use Rattle.std.proofs.lemmas.List.{length-map}
-use Rattle.authn_core.specs.Needs.{IsNeed}
 use Rattle.authn_core.specs.Views.{Needed}
 use Rattle.session_log.specs.declared.line.Line.{Line}
 use Rattle.session_log.specs.declared.line.Line.TheVariants.{Input, Sent, Remark, Count}
@@ -16,7 +15,7 @@ use Rattle.session_log.proofs.Again.{IsLogging, GivesAgain, sent_line, sents_tex
 use Rattle.session_log.proofs.Feeds.{feedless, AreLines, AreLines-append}
 use Rattle.session_log.proofs.Replayed.{replay_logs}
 use Rattle.session_log.proofs.Sound.{IsSound}
-use Rattle.session_log.proofs.Tells.{IsTold, AreTold, needs_told, told_are}
+use Rattle.session_log.proofs.Tells.{AreTold, needs_told, told_are}
 use Rattle.session_log.proofs.Through.{behind_twice}
 
 pub live_logs : {S : Type 0} (course : Course S) (needs : S → Needed) → IsLogging (living course needs) course.counts

@@ -2,8 +2,6 @@
 use Rattle.std.proofs.Common.{◌≡◌, ℕ, ◌<◌, ◌^◌, List, ◌++◌, length, Option, sym, ap, ◌∙◌, subst}
 use Rattle.std.specs.Io.KnownBytes.{Appends}
 use Rattle.std.proofs.KnownBytes.{Appends-trans}
-use Rattle.authn_core.specs.Views.{Needed}
-use Rattle.token_session.specs.declared.input.Meters.{Meters}
 use Rattle.token_session.specs.Meters.{SessionState}
 use Rattle.session_log.specs.declared.line.Line.{Line}
 use Rattle.session_log.specs.Lines.{lines}

@@ -3,7 +3,7 @@ ghost use Rattle.std.specs.Prelude.{◌≡◌, ◌<◌, ◌-◌, ◌^◌, List, 
 ghost use Rattle.authn_core.specs.Turn.{Start};
 ghost use Rattle.token_session.specs.declared.input.Timed.{Timed as OneInput};
 ghost use Rattle.token_session.specs.Meters.{StandsBehind};
-ghost use Rattle.session_log.specs.Command.{IsChecked, IsQuieted, IsReplayed, status_of};
+ghost use Rattle.session_log.specs.Command.{IsChecked, IsLived, IsQuieted, IsReplayed, status_of};
 
 use crate::checking::check;
 use crate::fault::LogFault;
@@ -73,7 +73,17 @@ pub fn live_command<S: Source, O: Target, E: Target, const C: usize>(
     input: &mut S,
     output: &mut O,
     faults: &mut E,
-) -> Result<(), u8> {
+) -> Result<(), u8>
+    requires reads { S.failed input.old < 2 ^ 64 - 1 }
+    requires writes { O.failed output.old < 2 ^ 64 - 1 }
+    requires tells { E.failed faults.old < 2 ^ 64 - 1 }
+    // It is the log of each history that the session stands after, with what is needed, that was written.
+    ensures lived { (start : Start) (h : List OneInput) → StandsBehind session.old start h
+        → IsLived start h S.left S.failed S.ended O.taken O.failed result session.new
+        (input.old, input.new) (output.old, output.new) }
+    // Without a fault nothing is told.
+    ensures silent { OnOk result (faults.new ≡ faults.old) }
+{
     let answer = live(input, output, session);
     status(faults, answer)
 }

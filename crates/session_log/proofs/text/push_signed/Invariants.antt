@@ -1,4 +1,4 @@
-use Rattle.std.proofs.Common.{◌≡◌, ◌≤◌, ◌+◌, ◌*◌, ◌/◌, ℕ, ◌++◌, length, flat_map, map}
+use Rattle.std.proofs.Common.{◌≡◌, ◌≤◌, ◌+◌, ◌*◌, ◌/◌, ◌++◌, length, flat_map, map}
 use Rattle.session_log.specs.Needs.{pieces_of, signed_line}
 use Rattle.session_log.specs.Text.{ended}
 use Rattle.session_log.proofs.text.push_signed.Given as goal
