@@ -20,7 +20,7 @@ use token_session::Session;
 pub const CAPACITY: usize = 64;
 
 /// Writes the text of a fault and a line feed. A text that can't be written is let go.
-fn tell_fault<E: Target>(faults: &mut E, fault: &LogFault)
+pub fn tell_fault<E: Target>(faults: &mut E, fault: &LogFault)
     requires { E.failed faults.old < 2 ^ 64 - 1 }
 {
     let mut text = ArrayVec::<u8, 96>::new();

@@ -209,26 +209,26 @@ pub fn put_input<T: Target>(
     put_text(writer, text.as_slice())
 }
 
-/// Writes an input line, the packets that were sent for it and what is needed after it, and empties the outbox.
+/// Writes an input line, the packets that were sent for it, which it takes from the outbox, and what is needed then.
 pub fn put_served<T: Target>(
     writer: &mut T,
     text: &mut Text,
     line: &[u8],
-    outbox: &mut Outbox,
+    sent: &mut Outbox,
     need: Need<'_>,
 ) -> Result<(), LogFault>
     requires write { T.failed writer.old < 2 ^ 64 - 1 }
     requires short { length line.now < 256 }
-    requires few { length outbox.old ≤ 130 }
+    requires few { length sent.old ≤ 130 }
     requires sized { IsNeed (needed need) }
     ensures puts { PutsLine T.taken T.failed (writer.old, writer.new)
-        (ended line.now ++ flat_map sent_text outbox.old ++ flat_map ended (need_lines (needed need.entry))) result }
-    ensures empty { outbox.new ≡ [] }
-    ensures packets { ArePackets outbox.old }
+        (ended line.now ++ flat_map sent_text sent.old ++ flat_map ended (need_lines (needed need.entry))) result }
+    ensures empty { sent.new ≡ [] }
+    ensures packets { ArePackets sent.old }
 {
     text.clear();
     push_line(text, line);
-    push_packets(text, outbox);
+    push_packets(text, sent);
     push_need(text, need);
     put_text(writer, text.as_slice())
 }
