@@ -53,7 +53,7 @@ long_selection : (turn setup idle 160 (Request 1 (0x0b ∷ 0x00 ∷ []))).answer
 unfolding turn read_of
 long_selection = refl
 
--- a reset within ten seconds of the start, and behind them
+-- a reset within ten seconds of the start, and after them
 resets : (turn setup idle 10000 (Request 1 (0x07 ∷ []))).answer ≡ Waits 2
 unfolding turn read_of
 resets = refl

@@ -85,12 +85,12 @@ signature_on aaguid s t cid (SignsAssert a n d) None h = none_on cid
 signature_on aaguid s t cid (SignsAssert a n d) (Some sig) h = none_on cid
 signature_on aaguid s t cid k sig h = λ job e. some_on cid k job (let f = h in cc)
 
--- work behind a request is on the request's channel
+-- work after a request is on the request's channel
 pub request_on : (u : Setup) (s : State) (t cid : ℕ) (bytes : List ℕ) (job : Job) → (turn u s t (Request cid bytes)).state.work ≡ Some job → job.cid ≡ cid
 unfolding turn
 request_on u s t cid bytes = requested_on u s.rows s.pending t cid (read_of bytes)
 
--- work behind a reply is on the channel that it was on: with none before, there is none
+-- work after a reply is on the channel that it was on: with none before, there is none
 pub presence_keeps : (u : Setup) (s : State) (t : ℕ) (p : Presence) (job : Job) → (turn u s t (PresenceIs p)).state.work ≡ Some job → option_map (λ (j : Job). j.cid) s.work ≡ Some job.cid
 unfolding turn
 presence_keeps u s t p job e = go s.work refl e

@@ -23,7 +23,7 @@ use Rattle.authn_core.specs.Asking.{RESET_LIMIT}
 use Rattle.authn_core.specs.MakeCredential.{fits, new_row}
 use Rattle.authn_core.specs.GetAssertion.{MOST, applicable, begins, begun, is_due, next_begins, next_signs, row_signs}
 use Rattle.authn_core.specs.Turn.{CoreState, core_after, turn, requested, presence_turn, key_turn, signature_turn, presence_at, key_at, signature_at}
-use Rattle.authn_core.specs.Marks.{Mark, mark, marked, left, Comes, Step, core_behind, marks, Orderly, folded, rows_of, raised_by, made_by, is_reset, task_resets}
+use Rattle.authn_core.specs.Marks.{Mark, mark, marked, left, Comes, Step, core_at, marks, Orderly, folded, rows_of, raised_by, made_by, is_reset, task_resets}
 use Rattle.authn_core.proofs.Filtered.{filtered}
 use Rattle.authn_core.proofs.Readiness.{cond_case}
 
@@ -202,14 +202,14 @@ turn_marked u s t Drop c = go s.work refl
     go None w = sym (mark_keeps s.rows)
     go (Some v) w = sym (mark_keeps s.rows)
 
-rows_folded : (start : CoreState) (h : List Step) → Orderly start h → (core_behind start h).state.rows ≡ folded start.state.rows (marks start h)
-unfolding core_behind marks Orderly folded
+rows_folded : (start : CoreState) (h : List Step) → Orderly start h → (core_at start h).state.rows ≡ folded start.state.rows (marks start h)
+unfolding core_at marks Orderly folded
 rows_folded start [] o = refl
 rows_folded start (x ∷ past) o =
-    let k = core_behind start past in
+    let k = core_at start past in
     turn_marked k.setup k.state x.at x.event o.0
     ∙ ap (λ (rs : List Row). marked (mark k.state.work x.event (core_after k x.at x.event).state.work) rs) (rows_folded start past o.1)
 
 -- the rows after a history are those that the filters name
-pub rows_filtered : (start : CoreState) (h : List Step) → Orderly start h → (core_behind start h).state.rows ≡ rows_of start.state.rows (marks start h)
+pub rows_filtered : (start : CoreState) (h : List Step) → Orderly start h → (core_at start h).state.rows ≡ rows_of start.state.rows (marks start h)
 rows_filtered start h o = rows_folded start h o ∙ filtered start.state.rows (marks start h)

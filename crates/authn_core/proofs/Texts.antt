@@ -10,7 +10,7 @@ use Rattle.authn_core.specs.Ready.{Ready}
 use Rattle.authn_core.specs.State.{Setup}
 use Rattle.cred_table.specs.Waiting.{pending_count}
 use Rattle.authn_core.proofs.PendingFew.{turn_few}
-use Rattle.authn_core.specs.Marks.{Step, Orderly, core_behind, marks, mark, texts, text_of, same_text, all_differ, raised_by, task_raises, Mark, marked, left, stays, counted, makes_id, row_has_id, makings, Text}
+use Rattle.authn_core.specs.Marks.{Step, Orderly, core_at, marks, mark, texts, text_of, same_text, all_differ, raised_by, task_raises, Mark, marked, left, stays, counted, makes_id, row_has_id, makings, Text}
 use Rattle.authn_core.proofs.Rises.{RisesTo, turn_rises}
 use Rattle.authn_core.proofs.Readiness.{and_both, and_is, turn_ready}
 use Rattle.authn_core.proofs.Lawfulness.{turn_lawful}
@@ -179,40 +179,40 @@ record Sound (k : CoreState) : Type 0 where
   ready : Ready (k.setup).room k.state
   lawful : Lawful (k.setup).room (k.state).rows
 
-core_sound : (start : CoreState) (h : List Step) → Ready (start.setup).room start.state → Lawful (start.setup).room (start.state).rows → Sound (core_behind start h)
-unfolding core_behind
+core_sound : (start : CoreState) (h : List Step) → Ready (start.setup).room start.state → Lawful (start.setup).room (start.state).rows → Sound (core_at start h)
+unfolding core_at
 core_sound start [] r l = record { ready = r; lawful = l }
 core_sound start (x ∷ past) r l =
-    let k = core_behind start past in
+    let k = core_at start past in
     let s = core_sound start past r l in
     record { ready = turn_ready k.setup k.state x.at x.event s.ready; lawful = turn_lawful k.setup k.state x.at x.event s.ready s.lawful }
 
-setup_stays : (start : CoreState) (h : List Step) → (core_behind start h).setup ≡ start.setup
-unfolding core_behind
+setup_stays : (start : CoreState) (h : List Step) → (core_at start h).setup ≡ start.setup
+unfolding core_at
 setup_stays start [] = refl
 setup_stays start (x ∷ past) = setup_stays start past
 
 pub rows_lawful : (start : CoreState) (h : List Step) → Ready (start.setup).room start.state → Lawful (start.setup).room (start.state).rows
-    → Lawful (start.setup).room ((core_behind start h).state).rows
-rows_lawful start h r l = subst (λ (u : Setup). Lawful u.room ((core_behind start h).state).rows) (setup_stays start h) (core_sound start h r l).lawful
+    → Lawful (start.setup).room ((core_at start h).state).rows
+rows_lawful start h r l = subst (λ (u : Setup). Lawful u.room ((core_at start h).state).rows) (setup_stays start h) (core_sound start h r l).lawful
 
 pub pending_few : (start : CoreState) (h : List Step) → Ready (start.setup).room start.state → Lawful (start.setup).room (start.state).rows → pending_count (start.state).pending ≤ (start.setup).room
-    → pending_count ((core_behind start h).state).pending ≤ (start.setup).room
-unfolding core_behind
+    → pending_count ((core_at start h).state).pending ≤ (start.setup).room
+unfolding core_at
 pending_few start [] r l f = f
 pending_few start (x ∷ past) r l f =
-    let k = core_behind start past in
+    let k = core_at start past in
     let e : k.setup ≡ start.setup = setup_stays start past in
     let P : Setup → Type 0 = λ u. pending_count ((core_after k x.at x.event).state).pending ≤ u.room in
     let few : pending_count (k.state).pending ≤ (k.setup).room = subst (λ (u : Setup). pending_count (k.state).pending ≤ u.room) (sym e) (pending_few start past r l f) in
     subst P e (turn_few k.setup k.state x.at x.event ((core_sound start past r l).lawful).few few)
 
 texts_bounded : (start : CoreState) (h : List Step) → Ready (start.setup).room start.state → Lawful (start.setup).room (start.state).rows → Orderly start h →
-    AllBounded (marks start h) (core_behind start h).state.rows (texts start h) × (all_differ (texts start h) ≡ true)
-unfolding core_behind marks texts Orderly
+    AllBounded (marks start h) (core_at start h).state.rows (texts start h) × (all_differ (texts start h) ≡ true)
+unfolding core_at marks texts Orderly
 texts_bounded start [] r l o = (tt, refl)
 texts_bounded start (x ∷ past) r l o =
-    let k = core_behind start past in
+    let k = core_at start past in
     let ih = texts_bounded start past r l o.1 in
     let sound = core_sound start past r l in
     let after = core_after k x.at x.event in

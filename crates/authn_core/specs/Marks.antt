@@ -27,7 +27,7 @@ abbrev pub is_raised : Option (List ℕ) → Row → Bool
 is_raised None r = false
 is_raised (Some id) r = bytes_eq r.id id
 
--- a row stays where no granted reset and no row that replaces it was made behind it
+-- a row stays where no granted reset and no row that replaces it was made after it
 abbrev pub stays : List Mark → Row → Bool
 stays later r = not (list_any (λ m. m.resets) later) && not (list_any (λ m. made_replaces m.made r) later)
 
@@ -38,7 +38,7 @@ counted later r = record r { counter = r.counter + length (filter (λ m. is_rais
 abbrev pub left : List Mark → Row → List Row
 left later r = if stays later r then counted later r ∷ [] else []
 
--- The rows of the start and the made ones in order, each with the marks behind it, of which the later ones are handed along
+-- The rows of the start and the made ones in order, each with the marks after it, of which the later ones are handed along
 -- in order of time. The history is newest first.
 unfoldable pub rows_among : List Row → List Mark → List Mark → List Row
 rows_among start later [] = flat_map (left later) start
@@ -77,7 +77,7 @@ abbrev pub task_raises : Option Job → Task → Option (List ℕ)
 task_raises before (SignsAssert a counter signed) = if signs_by a.id before then None else Some a.id
 task_raises before task = None
 
--- What an input does to the rows, read of the work before it and behind it.
+-- What an input does to the rows, read of the work before it and after it.
 abbrev pub made_by : Option Job → Event → Option Row
 made_by (Some w) (SignatureIs (Some sig)) = row_made w.task
 made_by work e = None
@@ -86,7 +86,7 @@ abbrev pub is_reset : Option Job → Event → Bool
 is_reset (Some w) (PresenceIs Granted) = task_resets w.task
 is_reset work e = false
 
--- an id is raised where its assertion's signature is waited for behind the input, and not before it
+-- an id is raised where its assertion's signature is waited for after the input, and not before it
 abbrev pub raised_by : Option Job → Option Job → Option (List ℕ)
 raised_by before None = None
 raised_by before (Some w) = task_raises before w.task
@@ -99,14 +99,14 @@ pub record Step : Type 0 where
   pub at : ℕ
   pub event : Event
 
-unfoldable pub core_behind : CoreState → List Step → CoreState
-core_behind start [] = start
-core_behind start (x ∷ past) = core_after (core_behind start past) x.at x.event
+unfoldable pub core_at : CoreState → List Step → CoreState
+core_at start [] = start
+core_at start (x ∷ past) = core_after (core_at start past) x.at x.event
 
 unfoldable pub marks : CoreState → List Step → List Mark
 marks start [] = []
 marks start (x ∷ past) =
-    mark (core_behind start past).state.work x.event (core_behind start (x ∷ past)).state.work ∷ marks start past
+    mark (core_at start past).state.work x.event (core_at start (x ∷ past)).state.work ∷ marks start past
 
 -- a request comes only where no work waits
 abbrev pub Comes : Option Job → Event → Type 0
@@ -115,7 +115,7 @@ Comes work e = Unit {0}
 
 unfoldable pub Orderly : CoreState → List Step → Type 0
 Orderly start [] = Unit {0}
-Orderly start (x ∷ past) = Comes (core_behind start past).state.work x.event × Orderly start past
+Orderly start (x ∷ past) = Comes (core_at start past).state.work x.event × Orderly start past
 
 abbrev pub row_has_id : List ℕ → Option Row → Bool
 row_has_id id None = false
@@ -145,7 +145,7 @@ text_of past r w = None
 unfoldable pub texts : CoreState → List Step → List Text
 texts start [] = []
 texts start (x ∷ past) =
-    option_to_list (text_of (marks start past) (raised_by (core_behind start past).state.work (core_behind start (x ∷ past)).state.work) (core_behind start (x ∷ past)).state.work)
+    option_to_list (text_of (marks start past) (raised_by (core_at start past).state.work (core_at start (x ∷ past)).state.work) (core_at start (x ∷ past)).state.work)
     ++ texts start past
 
 -- no two are equal

@@ -1,4 +1,4 @@
--- The bytes of a signature: up to 72, kept with zeros behind them.
+-- The bytes of a signature: up to 72, kept with zeros after them.
 use Rattle.std.specs.Prelude.{◌≡◌, ℕ, ◌-◌, ◌≤◌, List, ◌++◌, length, take, drop, replicate}
 use Rattle.std.proofs.Common.{ap, ◌∙◌, sym, arith}
 use Rattle.std.proofs.lemmas.List.{take-append-drop, length-take-le}

@@ -17,7 +17,7 @@ use cred_table::{Pending, Table};
 use ctap_message::{Answer, read_request};
 use std::marker::Model;
 
-/// What an event comes to.
+/// What the turn for an event gives.
 #[derive(Drop)]
 pub enum Turn {
     /// The answer is due.

@@ -370,7 +370,7 @@ impl<T: Table<C>, const C: usize> Parts<T, C> {
         found
     }
 
-    /// The number of applicable rows, where it is told.
+    /// The number of applicable rows, where the answer has it.
     fn told_number(&self, given: bool, n: usize) -> Option<u16>
         requires { n ≤ C }
         ensures { result ≡ get.told given n }

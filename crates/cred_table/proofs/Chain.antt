@@ -39,7 +39,7 @@ has-split k (j ∷ ks) h = go (λ i. has-split k ks i) (nat_eq k j) refl h
     go ih true e i = ([], ks, ap (λ (x : ℕ). x ∷ ks) (sym (eq_test k j e)))
     go ih false e i = let r = ih i in (j ∷ r.0, r.1, ap (λ (l : List ℕ). j ∷ l) r.2)
 
--- what stands before and behind a slot
+-- what stands before and after a slot
 pub distinct-split : (fs : List ℕ) (k : ℕ) (rs : List ℕ) → distinct (fs ++ k ∷ rs) ≡ true → (has k fs ≡ false) × (has k rs ≡ false)
 distinct-split [] k rs h = let e = and_parts (not (has k rs)) (distinct rs) h in (refl, not-true (has k rs) e.0)
 distinct-split (j ∷ fs) k rs h =

@@ -20,7 +20,7 @@ any_same : (p q : Row → Bool) → ((r : Row) → p r ≡ q r) → (rows : List
 any_same p q h [] = refl
 any_same p q h (r ∷ rows) = rw (h r, any_same p q h rows) refl
 
--- so each may be put behind those before it
+-- so each may be put after those before it
 pub free_before : (room : ℕ) (rows before : List Row) (row : Row) (rest after : List Row) → Lawful room rows → before ++ rest ≡ rows → rest ≡ row ∷ after → clashes row before ≡ false
 free_before room rows before row rest after lawful e f =
     let h = subst (λ x. Lawful room x) (sym e ∙ ap (λ x. before ++ x) f) lawful in

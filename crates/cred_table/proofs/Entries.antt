@@ -39,7 +39,7 @@ flag_part b = One (Flag b)
 abbrev pub number_part : ℕ → Part
 number_part n = One (Int (pos n))
 
--- what stands behind each member
+-- what stands after each member
 abbrev pub behind_counter : Bool → Row → List ℕ → List ℕ
 behind_counter named row rest = name_text named row.name.bytes ++ rest
 

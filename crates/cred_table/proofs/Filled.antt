@@ -22,7 +22,7 @@ within_newest slots k slot held (Some p) e i =
     let long = length-set slots k slot in
     lt_is p (length (set slots k slot)) (omega arith)
 
--- The table behind it.
+-- The table after it.
 abbrev pub filled : {C : ℕ} → Chains C → ℕ → Row → Chains C
 filled chains k row = record {
   slots = led_slots Newer chains.newest (Some k) (set chains.slots k (record { row = row; next = head (bucket row.id) chains; newer = None; older = chains.newest }));
@@ -32,7 +32,7 @@ filled chains k row = record {
   newest = Some k;
 }
 
--- The chains of the ids behind it.
+-- The chains of the ids after it.
 abbrev joined : (k b : ℕ) → (ℕ → List ℕ) → ℕ → List ℕ
 joined k b ids c = cond (nat_eq c b) (k ∷ ids c) (ids c)
 

@@ -68,13 +68,13 @@ without_is id new (r ∷ rows) d o h =
         rw has (all_stay (has_id id) rows (no_other id r rows has n) ∙ sym (all_stay (replaces new) rows (no_second new r rows e m)))
     go false e n m ih h = other (has_id id r) refl n (ih h) (id_found (replaces new) id rows h)
 
--- the rows behind a `put`
+-- the rows after a `put`
 pub Lawful-put : (room : ℕ) (new : Row) (rows : List Row) → Lawful room rows → length rows < room → find (has_id new.id) rows ≡ None → find (replaces new) rows ≡ None → Lawful room (rows ++ new ∷ [])
 Lawful-put room new rows lawful space fresh alone =
     let P : List Row → Type 0 = λ after. Lawful room after in
     subst P (stored_last new rows alone) (Lawful-stored room new rows lawful fresh (inl space))
 
--- where it is taken out and the new one is discoverable, these are the rows behind the new one's making
+-- where it is taken out and the new one is discoverable, these are the rows after the new one's making
 pub replaced_is : (room : ℕ) (id : List ℕ) (new : Row) (rows : List Row) → Lawful room rows → IsTrue new.discoverable → option_map (λ (r : Row). r.id) (find (is_user new.rp new.user.items) rows) ≡ Some id → without id rows ++ new ∷ [] ≡ stored new rows
 replaced_is room id new rows lawful discoverable there =
     let found = ap (option_map (λ (r : Row). r.id)) (one_replaced new rows discoverable) ∙ there in
@@ -94,7 +94,7 @@ none_clashes room id new rows lawful there = go new.discoverable refl
         ap (list_any (λ r. replaces r new)) (without_is id new rows lawful.distinct lawful.one_each found) ∙ others_stay new rows
     go false h = hidden h (without id rows)
 
--- the rows behind a `replace`
+-- the rows after a `replace`
 pub Lawful-replace : (room : ℕ) (id : List ℕ) (new : Row) (rows : List Row) → Lawful room rows → find (has_id new.id) rows ≡ None → option_map (λ (r : Row). r.id) (find (is_user new.rp new.user.items) rows) ≡ Some id → Lawful room (without id rows ++ new ∷ [])
 Lawful-replace room id new rows lawful fresh there = record {
   distinct = no_two-append same_id new (without id rows) (no_two-filter same_id (λ row. not (has_id id row)) rows lawful.distinct) (fresh_stays new.id new (λ row. not (has_id id row)) rows refl (none_passes (has_id new.id) rows fresh));

@@ -1,4 +1,4 @@
--- Rows that are written one behind another, and their snapshot.
+-- Rows that are written one after another, and their snapshot.
 use Rattle.std.proofs.Common.{◌≡◌, ℕ, ◌+◌, ◌<◌, ◌≤◌, ◌^◌, Bool, true, false, List, [], ◌∷◌, ◌++◌, length, refl, arith, sym, ap, subst, ◌∙◌, append_assoc, length-append, cond, Result, Ok, Err}
 use Rattle.std.specs.Prelude.{nat_lt, OnErr}
 use Rattle.std.proofs.lemmas.List.{append-nil}
@@ -58,7 +58,7 @@ snapshot_is named room rows small typed lawful = record {
 
 -- ---- as they are written
 
--- Some of the rows were written behind what stood there, and these are left.
+-- Some of the rows were written after what stood there, and these are left.
 pub record Written (rows left : List Row) (old new : List ℕ) : Type 0 where
   pub done : List Row
   pub all : done ++ left ≡ rows

@@ -1,4 +1,4 @@
--- Rows behind the making of a new one.
+-- Rows after the making of a new one.
 use Rattle.std.proofs.Common.{◌≡◌, ℕ, ◌+◌, ◌<◌, ◌≤◌, suc, List, [], ◌∷◌, ◌++◌, length, Bool, true, false, cond, ◌&&◌, not, ◌⊎◌, inl, inr, Some, None, is_some, IsTrue, refl, ◌∙◌, ap, arith, filter}
 use Rattle.std.proofs.lemmas.List.{length-append}
 use Rattle.std.specs.List.{find, list_any}

@@ -1,4 +1,4 @@
--- Rows that are read one behind another.
+-- Rows that are read one after another.
 use Rattle.std.proofs.Common.{◌≡◌, ℕ, ◌+◌, ◌<◌, Bool, List, [], ◌∷◌, ◌++◌, refl, arith, sym, ap, ◌∙◌, append_assoc, length-append}
 use Rattle.std.proofs.lemmas.List.{append-nil}
 use Rattle.std.specs.List.{AllByRecursion}
@@ -8,7 +8,7 @@ use Rattle.cred_table.specs.Rows.{Lawful}
 use Rattle.cred_table.specs.Snapshots.{IsRow}
 use Rattle.cred_table.specs.Parsing.{row_text, rows_text, TakesRow, TakesRows, NoneFits, BreaksOff}
 
--- one more row behind the others
+-- one more row after the others
 pub rows_text_more : (named : Bool) (rows : List Row) (row : Row) → rows_text named (rows ++ row ∷ []) ≡ rows_text named rows ++ row_text named row
 rows_text_more named [] row = append-nil (row_text named row)
 rows_text_more named (r ∷ rows) row = ap (λ x. row_text named r ++ x) (rows_text_more named rows row) ∙ sym (append_assoc (row_text named r) (rows_text named rows) (row_text named row))

@@ -16,7 +16,7 @@ use Rattle.cred_table.proofs.Before.{before_ends, before_has}
 use Rattle.cred_table.proofs.Holding.{Holds, opened, closed, age_is, ends_newest, has-reverse}
 use Rattle.cred_table.proofs.Without.{and_swap, eq_turned, has-but, has-front, has-rear, within_ends, within_long, starts, Leads-led}
 
--- The table behind it.
+-- The table after it.
 abbrev pub unlinked : {C : ℕ} → Chains C → ℕ → Slot → Option ℕ → Chains C
 unlinked chains k slot prior = record {
   slots = led_slots Older slot.newer slot.older (led_slots Newer slot.older slot.newer (led_slots Next prior slot.next chains.slots));
@@ -26,7 +26,7 @@ unlinked chains k slot prior = record {
   newest = begun slot.newer slot.older chains.newest;
 }
 
--- The chains of the ids behind it.
+-- The chains of the ids after it.
 abbrev left : (k b : ℕ) → (ℕ → List ℕ) → ℕ → List ℕ
 left k b ids c = cond (nat_eq c b) (but k (ids c)) (ids c)
 
@@ -151,7 +151,7 @@ holds {C = C} chains k prior held spare ids h is_held bound is_prior = (
         go None e = refl
         go (Some p) e = lt_is p (length slots) (h.inside p (prior_held p e).0)
 
-    -- the links behind it
+    -- the links after it
     slots1 : List Slot
     slots1 = led_slots Next prior slot.next slots
 

@@ -93,15 +93,15 @@ row_text named row = text (row_tree named row)
 abbrev pub heads_text : Bool × ℕ → List ℕ
 heads_text h = head 5 2 ++ (member_text 1 (One (Int (pos (version h.0)))) ++ member_text 2 (OpensArray h.1))
 
--- the texts of rows one behind another
+-- the texts of rows one after another
 abbrev pub rows_text : (named : Bool) → List Row → List ℕ
 rows_text named rows = texts (rows_then named rows no_trees)
 
--- where no row stands that may come behind these
+-- where no row stands that may come after these
 abbrev pub NoneFits : (named : Bool) → List Row → List ℕ → Type 0
 NoneFits named rows here = (row : Row) (rest : List ℕ) → IsRow named row → here ≡ row_text named row ++ rest → IsTrue (clashes row rows)
 
--- a row was taken and put behind these
+-- a row was taken and put after these
 pub record TakesRow (named : Bool) (old new : Reading) (rows more : List Row) : Type 0 where
   pub row : Row
   pub typed : IsRow named row
@@ -119,7 +119,7 @@ pub record TakesRows (named : Bool) (n : ℕ) (old new : Reading) (rows : List R
   pub number : length rows ≡ n
   pub spelled : rest_of old ≡ rows_text named rows ++ rest_of new
 
--- so many were, fewer than the entries, and behind them none fits
+-- so many were, fewer than the entries, and after them none fits
 pub record BreaksOff (named : Bool) (room n place : ℕ) (old : Reading) : Type 0 where
   pub rows : List Row
   pub between : Reading

@@ -45,7 +45,7 @@ pub record Lawful (room : ℕ) (rows : List Row) : Type 0 where
 abbrev pub without : (id : List ℕ) → List Row → List Row
 without id rows = filter (λ row. not (has_id id row)) rows
 
--- The rows behind the making of a new one: it stands last, and what it replaces is gone.
+-- The rows after the making of a new one: it stands last, and what it replaces is gone.
 abbrev pub stored : (new : Row) → List Row → List Row
 stored new rows = filter (λ old. not (replaces new old)) rows ++ new ∷ []
 

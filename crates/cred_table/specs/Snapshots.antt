@@ -67,7 +67,7 @@ version named = if named then 2 else 1
 abbrev pub snapshot_of : (named : Bool) → Trees → Tree
 snapshot_of named entries = Map (pair (number 1) (number (version named)) (pair (number 2) (Array entries) no_pairs))
 
--- the rows' maps, and more entries behind them
+-- the rows' maps, and more entries after them
 abbrev pub rows_then : (named : Bool) → List Row → Trees → Trees
 rows_then named [] entries = entries
 rows_then named (row ∷ rows) entries = tree (row_tree named row) (rows_then named rows entries)
@@ -97,11 +97,11 @@ saved_len rows = length (text (snapshot true rows))
 abbrev pub Holds : (named : Bool) → Trees → List ℕ → Type 0
 Holds named entries text = IsCanonical (snapshot_of named entries) text
 
--- The row can't stand behind these: it has the id of one, or is discoverable as one of its RP and user handle is.
+-- The row can't stand after these: it has the id of one, or is discoverable as one of its RP and user handle is.
 abbrev pub clashes : Row → List Row → Bool
 clashes row rows = list_any (has_id row.id) rows || list_any (replaces row) rows
 
--- The entry at a place is broken, and those before it aren't: no row has its map and can stand behind them.
+-- The entry at a place is broken, and those before it aren't: no row has its map and can stand after them.
 pub record FirstBroken (named : Bool) (room : ℕ) (entries : Trees) (place : ℕ) : Type 0 where
   pub before : List Row
   pub entry : Tree

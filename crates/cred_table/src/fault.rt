@@ -13,7 +13,7 @@ pub enum SnapshotFault {
     /// 2: there are more rows than the table has room for.
     #[error("too many rows")]
     TooMany,
-    /// 3: the row at this place, counted from 0, is the first that isn't one or can't stand behind those before it.
+    /// 3: the row at this place, counted from 0, is the first that isn't one or can't stand after those before it.
     #[error("row {0} is broken")]
     RowBroken(usize),
     /// 4: no memory to save into.

@@ -13,7 +13,7 @@ use crate::table::Table;
 use ctap_cbor::laws::{no_item_begins_another, none_begins_another};
 use ctap_cbor::{Cursor, check};
 
-/// Whether a row can't stand behind those of a table: it has the id of one, or is discoverable as one of its RP and user
+/// Whether a row can't stand after those of a table: it has the id of one, or is discoverable as one of its RP and user
 /// is.
 fn clashes<T: Table<C>, const C: usize>(table: &T, row: &Row) -> bool
     ensures { result ≡ clashes row.now (T.rows table.now) }
@@ -40,7 +40,7 @@ fn put_row<T: Table<C>, const C: usize>(table: &mut T, row: Row) -> bool
     true
 }
 
-/// Reads an entry and puts it behind the rows. Tells whether it was a row that may stand there.
+/// Reads an entry and puts it after the rows. Tells whether it was a row that may stand there.
 fn read_entry<const C: usize>(cursor: &mut Cursor, named: bool, rows: &mut Listed<C>) -> bool
     requires room { length rows.old.list.items < C }
     ensures { ReadsEntry named cursor.old cursor.new rows.old.list.items rows.new.list.items result }

@@ -89,7 +89,7 @@ impl Slot {
     }
 }
 
-/// Makes a chain that begins at `start` lead to `next` behind the slot `before`, or begin there, and gives where it
+/// Makes a chain that begins at `start` lead to `next` after the slot `before`, or begin there, and gives where it
 /// begins.
 pub(crate) fn lead(slots: &mut [Slot], along: Along, before: Link, next: Link, start: Link) -> Link
     requires { within before slots.old ≡ true }

@@ -29,7 +29,7 @@ fn push_hash(rt: &impl Abort, out: &mut Bytes, key: u8, hash: &[u8; 32]) {
     push(rt, out, hash);
 }
 
-/// A row of `example.com` and user 01, behind its head and up to its user handle.
+/// A row of `example.com` and user 01, after its head and up to its user handle.
 fn push_row(rt: &impl Abort, out: &mut Bytes) {
     push_hash(rt, out, 1, &RP);
     push_hash(rt, out, 2, &[0xAA; 32]);
@@ -38,7 +38,7 @@ fn push_row(rt: &impl Abort, out: &mut Bytes) {
     push(rt, out, b"\x05\x41\x01");
 }
 
-/// What stands before a row's members, the row, and what stands behind its user handle.
+/// What stands before a row's members, the row, and what stands after its user handle.
 fn one_row(rt: &impl Abort, heads: &[u8], rest: &[u8]) -> Bytes {
     let mut out = ArrayVec::new();
     push(rt, &mut out, heads);
@@ -60,7 +60,7 @@ fn loaded<T: Table<N>, const N: usize>(
     (result, table.len())
 }
 
-/// Saves behind one byte, once more where memory was refused.
+/// Saves after one byte, once more where memory was refused.
 fn saved<T: Table<N>, const N: usize>(
     rt: &impl Abort,
     alloc: Global,

@@ -1,4 +1,4 @@
--- Bytes that are written behind what a sink holds.
+-- Bytes that are written after what a sink holds.
 use Rattle.std.proofs.Common.{◌≡◌, ℕ, ◌+◌, ◌-◌, ◌≤◌, List, ◌++◌, length, take, drop, arith, sym, ap, ◌∙◌, length-drop}
 use Rattle.std.proofs.lemmas.List.{drop-drop, length-take-le}
 use Rattle.std.proofs.lemmas.Slice.{take-put_mid, drop-put_mid}

@@ -15,7 +15,7 @@ pub all_bytes : (bs : List ℕ) → ((i : ℕ) → get_or bs i 0 < 256) → AreB
 all_bytes [] h = tt
 all_bytes (b ∷ bs) h = (h 0, all_bytes bs (λ i. h (suc i)))
 
--- the rest behind what was passed
+-- the rest after what was passed
 pub rest_behind : (old new : Reading) (n s : ℕ) → new ≡ advance old n s → rest_of new ≡ drop n (rest_of old)
 rest_behind old new n s e = ap rest_of e ∙ sym (drop-drop n old.place old.bytes)
 

@@ -15,7 +15,7 @@ use Rattle.ctap_cbor.specs.Grammar.{text, texts, pair_texts, Rises, AreLawful, A
 use Rattle.ctap_cbor.specs.Faults.{AKey, is_above}
 use Rattle.ctap_cbor.specs.Refusals.{or_else, own_refusal, order_refusal, refusal, refusal_all, refusal_pairs}
 use Rattle.ctap_cbor.specs.Values.{tree_of, trees_of, pairs_of}
-use Rattle.ctap_cbor.specs.Writes.{Extends, Writes, WritesAll, WritesPairs, WritesKey, GivesUp, IsShort, text_at, last_text}
+use Rattle.ctap_cbor.specs.Writes.{Extends, Writes, WritesAll, WritesPairs, WritesKey, FailsWith, IsShort, text_at, last_text}
 use Rattle.ctap_cbor.proofs.Items.{above_from}
 
 nonzero : (n : ℕ) → (n ≡ 0 → ⊥) → 0 < n
@@ -53,12 +53,12 @@ items_next room all rest t start a b h w = record {
 pub items_end : (room : ℕ) (all : Trees) (start now : List ℕ) → ItemsLeft room all no_trees start now → WritesAll room all start now
 items_end room all start now h = record { accepted = sym h.refused; lawful = h.lawful tt; flat = h.flat (omega arith); appended = sym (append-nil now) ∙ h.spelled }
 
-pub item_gives_up : (room : ℕ) (all rest : Trees) (t : Tree) (start a b : List ℕ) (kind : Kind) → ItemsLeft room all (tree t rest) start a → GivesUp kind (refusal room t) a b → GivesUp kind (refusal_all room all) start b
+pub item_gives_up : (room : ℕ) (all rest : Trees) (t : Tree) (start a b : List ℕ) (kind : Kind) → ItemsLeft room all (tree t rest) start a → FailsWith kind (refusal room t) a b → FailsWith kind (refusal_all room all) start b
 item_gives_up room all rest t start a b kind h g = (λ no. sym h.refused ∙ ap (λ x. or_else x (refusal_all room rest)) (g.0 no), goes_on start a b h.extends g.1)
 
 -- ---- maps
 
--- these pairs are left of all, behind the last key
+-- these pairs are left of all, after the last key
 pub record PairsLeft (room : ℕ) (all rest : Pairs) (last : Option (List ℕ)) (start now : List ℕ) : Type 0 where
   pub spelled : now ++ pair_texts rest ≡ start ++ pair_texts all
   pub refused : refusal_pairs room last rest ≡ refusal_pairs room None all
@@ -93,16 +93,16 @@ pairs_next room all rest k v last start a b c h w above u = record {
 pub pairs_end : (room : ℕ) (all : Pairs) (last : Option (List ℕ)) (start now : List ℕ) → PairsLeft room all no_pairs last start now → WritesPairs room all start now
 pairs_end room all last start now h = record { accepted = sym h.refused; rises = h.rises tt; lawful = h.lawful tt; flat = h.flat (omega arith); appended = sym (append-nil now) ∙ h.spelled }
 
-pub key_gives_up : (room : ℕ) (all rest : Pairs) (k v : Tree) (last : Option (List ℕ)) (start a b : List ℕ) (kind : Kind) → PairsLeft room all (pair k v rest) last start a → GivesUp kind (own_refusal k) a b → GivesUp kind (refusal_pairs room None all) start b
+pub key_gives_up : (room : ℕ) (all rest : Pairs) (k v : Tree) (last : Option (List ℕ)) (start a b : List ℕ) (kind : Kind) → PairsLeft room all (pair k v rest) last start a → FailsWith kind (own_refusal k) a b → FailsWith kind (refusal_pairs room None all) start b
 key_gives_up room all rest k v last start a b kind h g = (λ no. sym h.refused ∙ ap (λ x. or_else x (after_key room last k v rest)) (g.0 no), goes_on start a b h.extends g.1)
 
-pub order_gives_up : (room : ℕ) (all rest : Pairs) (k v : Tree) (last : Option (List ℕ)) (start a b : List ℕ) → PairsLeft room all (pair k v rest) last start a → WritesKey k a b → is_above (AKey last) (text k) ≡ false → GivesUp KeyOrder (refusal_pairs room None all) start b
+pub order_gives_up : (room : ℕ) (all rest : Pairs) (k v : Tree) (last : Option (List ℕ)) (start a b : List ℕ) → PairsLeft room all (pair k v rest) last start a → WritesKey k a b → is_above (AKey last) (text k) ≡ false → FailsWith KeyOrder (refusal_pairs room None all) start b
 order_gives_up room all rest k v last start a b h w below = (
   λ no. sym h.refused ∙ ap (λ x. or_else x (after_key room last k v rest)) w.accepted ∙ ap (λ x. or_else (if x then None else Some KeyOrder) (after_order room k v rest)) below,
   goes_on start a b h.extends (text k, w.appended),
 )
 
-pub value_gives_up : (room : ℕ) (all rest : Pairs) (k v : Tree) (last : Option (List ℕ)) (start a b c : List ℕ) (kind : Kind) → PairsLeft room all (pair k v rest) last start a → WritesKey k a b → is_above (AKey last) (text k) ≡ true → GivesUp kind (refusal room v) b c → GivesUp kind (refusal_pairs room None all) start c
+pub value_gives_up : (room : ℕ) (all rest : Pairs) (k v : Tree) (last : Option (List ℕ)) (start a b c : List ℕ) (kind : Kind) → PairsLeft room all (pair k v rest) last start a → WritesKey k a b → is_above (AKey last) (text k) ≡ true → FailsWith kind (refusal room v) b c → FailsWith kind (refusal_pairs room None all) start c
 value_gives_up room all rest k v last start a b c kind h w above g = (
   λ no.
       sym h.refused
@@ -120,7 +120,7 @@ drop_item xs i x lt is = at_drop_more (λ l. l) xs i x lt ∙ ap (λ y. y ∷ dr
 items_here : (room : ℕ) (vs : List Value) (i : ℕ) (v : Value) (start a : List ℕ) → i < length vs → v ≡ get_or vs i v → ItemsLeft room (trees_of vs) (trees_of (drop i vs)) start a → ItemsLeft room (trees_of vs) (tree (tree_of v) (trees_of (drop (i + 1) vs))) start a
 items_here room vs i v start a lt is h = subst (λ xs. ItemsLeft room (trees_of vs) (trees_of xs) start a) (drop_item vs i v lt is) h
 
-pub item_stops_here : (room : ℕ) (vs : List Value) (i : ℕ) (v : Value) (start a b : List ℕ) (kind : Kind) → i < length vs → v ≡ get_or vs i v → ItemsLeft room (trees_of vs) (trees_of (drop i vs)) start a → GivesUp kind (refusal room (tree_of v)) a b → GivesUp kind (refusal_all room (trees_of vs)) start b
+pub item_stops_here : (room : ℕ) (vs : List Value) (i : ℕ) (v : Value) (start a b : List ℕ) (kind : Kind) → i < length vs → v ≡ get_or vs i v → ItemsLeft room (trees_of vs) (trees_of (drop i vs)) start a → FailsWith kind (refusal room (tree_of v)) a b → FailsWith kind (refusal_all room (trees_of vs)) start b
 item_stops_here room vs i v start a b kind lt is h g = item_gives_up room (trees_of vs) (trees_of (drop (i + 1) vs)) (tree_of v) start a b kind (items_here room vs i v start a lt is h) g
 
 -- what a span of a list shows stays as the list goes on
@@ -161,13 +161,13 @@ span_within a b c key more s e f first last =
 pairs_here : (room : ℕ) (vs : List (Value × Value)) (i : ℕ) (v : Value × Value) (last : Option (List ℕ)) (start a : List ℕ) → i < length vs → v ≡ get_or vs i v → PairsLeft room (pairs_of vs) (pairs_of (drop i vs)) last start a → PairsLeft room (pairs_of vs) (pair (tree_of v.0) (tree_of v.1) (pairs_of (drop (i + 1) vs))) last start a
 pairs_here room vs i v last start a lt is h = subst (λ xs. PairsLeft room (pairs_of vs) (pairs_of xs) last start a) (drop_item vs i v lt is) h
 
-pub key_stops_here : (room : ℕ) (vs : List (Value × Value)) (i : ℕ) (v : Value × Value) (last : Option (List ℕ)) (start a b : List ℕ) (kind : Kind) → i < length vs → v ≡ get_or vs i v → PairsLeft room (pairs_of vs) (pairs_of (drop i vs)) last start a → GivesUp kind (own_refusal (tree_of v.0)) a b → GivesUp kind (refusal_pairs room None (pairs_of vs)) start b
+pub key_stops_here : (room : ℕ) (vs : List (Value × Value)) (i : ℕ) (v : Value × Value) (last : Option (List ℕ)) (start a b : List ℕ) (kind : Kind) → i < length vs → v ≡ get_or vs i v → PairsLeft room (pairs_of vs) (pairs_of (drop i vs)) last start a → FailsWith kind (own_refusal (tree_of v.0)) a b → FailsWith kind (refusal_pairs room None (pairs_of vs)) start b
 key_stops_here room vs i v last start a b kind lt is h g = key_gives_up room (pairs_of vs) (pairs_of (drop (i + 1) vs)) (tree_of v.0) (tree_of v.1) last start a b kind (pairs_here room vs i v last start a lt is h) g
 
-pub order_stops_here : (room : ℕ) (vs : List (Value × Value)) (i : ℕ) (v : Value × Value) (last : Option (List ℕ)) (start a b : List ℕ) → i < length vs → v ≡ get_or vs i v → PairsLeft room (pairs_of vs) (pairs_of (drop i vs)) last start a → WritesKey (tree_of v.0) a b → is_above (AKey last) (text (tree_of v.0)) ≡ false → GivesUp KeyOrder (refusal_pairs room None (pairs_of vs)) start b
+pub order_stops_here : (room : ℕ) (vs : List (Value × Value)) (i : ℕ) (v : Value × Value) (last : Option (List ℕ)) (start a b : List ℕ) → i < length vs → v ≡ get_or vs i v → PairsLeft room (pairs_of vs) (pairs_of (drop i vs)) last start a → WritesKey (tree_of v.0) a b → is_above (AKey last) (text (tree_of v.0)) ≡ false → FailsWith KeyOrder (refusal_pairs room None (pairs_of vs)) start b
 order_stops_here room vs i v last start a b lt is h w below = order_gives_up room (pairs_of vs) (pairs_of (drop (i + 1) vs)) (tree_of v.0) (tree_of v.1) last start a b (pairs_here room vs i v last start a lt is h) w below
 
-pub value_stops_here : (room : ℕ) (vs : List (Value × Value)) (i : ℕ) (v : Value × Value) (last : Option (List ℕ)) (start a b c : List ℕ) (kind : Kind) → i < length vs → v ≡ get_or vs i v → PairsLeft room (pairs_of vs) (pairs_of (drop i vs)) last start a → WritesKey (tree_of v.0) a b → is_above (AKey last) (text (tree_of v.0)) ≡ true → GivesUp kind (refusal room (tree_of v.1)) b c → GivesUp kind (refusal_pairs room None (pairs_of vs)) start c
+pub value_stops_here : (room : ℕ) (vs : List (Value × Value)) (i : ℕ) (v : Value × Value) (last : Option (List ℕ)) (start a b c : List ℕ) (kind : Kind) → i < length vs → v ≡ get_or vs i v → PairsLeft room (pairs_of vs) (pairs_of (drop i vs)) last start a → WritesKey (tree_of v.0) a b → is_above (AKey last) (text (tree_of v.0)) ≡ true → FailsWith kind (refusal room (tree_of v.1)) b c → FailsWith kind (refusal_pairs room None (pairs_of vs)) start c
 value_stops_here room vs i v last start a b c kind lt is h w above g = value_gives_up room (pairs_of vs) (pairs_of (drop (i + 1) vs)) (tree_of v.0) (tree_of v.1) last start a b c kind (pairs_here room vs i v last start a lt is h) w above g
 
 pub pair_here : (room : ℕ) (vs : List (Value × Value)) (i : ℕ) (v : Value × Value) (last : Option (List ℕ)) (start a b c : List ℕ) (s : Span) → i < length vs → v ≡ get_or vs i v → PairsLeft room (pairs_of vs) (pairs_of (drop i vs)) last start a → WritesKey (tree_of v.0) a b → is_above (AKey last) (text (tree_of v.0)) ≡ true → Writes room (tree_of v.1) b c → s.start ≡ length a → s.end ≡ length b → PairsLeft room (pairs_of vs) (pairs_of (drop (i + 1) vs)) (last_text c (Some s)) start c
@@ -176,7 +176,7 @@ pair_here room vs i v last start a b c s lt is h w above u first end =
     (ap Some (sym (key_span a b c (text (tree_of v.0)) (text (tree_of v.1)) s w.appended u.appended first end)))
     (pairs_next room (pairs_of vs) (pairs_of (drop (i + 1) vs)) (tree_of v.0) (tree_of v.1) last start a b c (pairs_here room vs i v last start a lt is h) w above u)
 
--- ---- behind the head of an array or a map
+-- ---- after the head of an array or a map
 
 pub count_trees : (vs : List Value) → count (trees_of vs) ≡ length vs
 count_trees [] = refl
@@ -198,7 +198,7 @@ array_written room n vs old middle new some len fits e w =
       appended = w.appended ∙ ap (λ x. x ++ texts ts) (e ∙ ap (λ m. old ++ head 4 m) number) ∙ append_assoc old (head 4 (count ts)) (texts ts);
     }
 
-pub array_gives_up : (room n : ℕ) (vs : List Value) (old middle new : List ℕ) (kind : Kind) → (room ≡ 0 → ⊥) → middle ≡ old ++ head 4 n → GivesUp kind (refusal_all (room - 1) (trees_of vs)) middle new → GivesUp kind (refusal room (Array (trees_of vs))) old new
+pub array_gives_up : (room n : ℕ) (vs : List Value) (old middle new : List ℕ) (kind : Kind) → (room ≡ 0 → ⊥) → middle ≡ old ++ head 4 n → FailsWith kind (refusal_all (room - 1) (trees_of vs)) middle new → FailsWith kind (refusal room (Array (trees_of vs))) old new
 array_gives_up room n vs old middle new kind some e g = (
   λ differs. ap (λ b. if b then Some TooDeep else refusal_all (room - 1) (trees_of vs)) (ne_eqb room 0 some) ∙ g.0 differs,
   goes_on old middle new (head 4 n, e) g.1,
@@ -215,7 +215,7 @@ map_written room n vs old middle new some len fits e w =
       appended = w.appended ∙ ap (λ x. x ++ pair_texts ps) (e ∙ ap (λ m. old ++ head 5 m) number) ∙ append_assoc old (head 5 (count_pairs ps)) (pair_texts ps);
     }
 
-pub map_gives_up : (room n : ℕ) (vs : List (Value × Value)) (old middle new : List ℕ) (kind : Kind) → (room ≡ 0 → ⊥) → middle ≡ old ++ head 5 n → GivesUp kind (refusal_pairs (room - 1) None (pairs_of vs)) middle new → GivesUp kind (refusal room (Map (pairs_of vs))) old new
+pub map_gives_up : (room n : ℕ) (vs : List (Value × Value)) (old middle new : List ℕ) (kind : Kind) → (room ≡ 0 → ⊥) → middle ≡ old ++ head 5 n → FailsWith kind (refusal_pairs (room - 1) None (pairs_of vs)) middle new → FailsWith kind (refusal room (Map (pairs_of vs))) old new
 map_gives_up room n vs old middle new kind some e g = (
   λ differs. ap (λ b. if b then Some TooDeep else refusal_pairs (room - 1) None (pairs_of vs)) (ne_eqb room 0 some) ∙ g.0 differs,
   goes_on old middle new (head 5 n, e) g.1,
@@ -245,7 +245,7 @@ value_short room all rest k v last start a b c d h e le short =
 pub value_short_here : (room : ℕ) (vs : List (Value × Value)) (i : ℕ) (v : Value × Value) (last : Option (List ℕ)) (start a b : List ℕ) (c d : ℕ) → i < length vs → v ≡ get_or vs i v → PairsLeft room (pairs_of vs) (pairs_of (drop i vs)) last start a → b ≡ a ++ text (tree_of v.0) → c ≤ d → IsShort d b (text (tree_of v.1)) → IsShort c start (pair_texts (pairs_of vs))
 value_short_here room vs i v last start a b c d lt is h e le short = value_short room (pairs_of vs) (pairs_of (drop (i + 1) vs)) (tree_of v.0) (tree_of v.1) last start a b c d (pairs_here room vs i v last start a lt is h) e le short
 
--- of a head, and behind it
+-- of a head, and after it
 pub front_short : (c : ℕ) (old head rest : List ℕ) → IsShort c old head → IsShort c old (head ++ rest)
 front_short c old head rest short = omega (arith, length-append head rest)
 

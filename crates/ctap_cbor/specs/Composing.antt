@@ -4,7 +4,7 @@ use Rattle.std.proofs.lemmas.List.{drop-drop}
 use Rattle.ctap_cbor.specs.declared.sink.Sink.{Sink}
 use Rattle.ctap_cbor.specs.Writing.{contents, Appends}
 
--- one piece behind another
+-- one piece after another
 pub then : {a b c : Sink} {x y : List ℕ} {m n : ℕ} → Appends a b x m → Appends b c y n → Appends a c (x ++ y) (m + n)
 then {a = a} {x = x} {y = y} {m = m} {n = n} p q = record {
   grows = q.grows ∙ ap (λ w. w ++ y) p.grows ∙ append_assoc (contents a) x y;

@@ -53,7 +53,7 @@ abbrev pub IsAbove : Option (List ℕ) → List ℕ → Type 0
 IsAbove None key = Unit {0}
 IsAbove (Some before) key = slice_cmp nat_cmp before key ≡ Less
 
--- all keys of a map, behind the key before, are of a key's type and rise
+-- all keys of a map, after the key before, are of a key's type and rise
 abbrev pub Rises : Option (List ℕ) → Pairs → Type 0
 Rises before no_pairs = Unit {0}
 Rises before (pair k v ps) = IsKey k × IsAbove before (text k) × Rises (Some (text k)) ps

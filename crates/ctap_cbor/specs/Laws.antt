@@ -11,7 +11,7 @@ use Rattle.ctap_cbor.specs.Parts.{Part, item_text, Suits}
 use Rattle.ctap_cbor.specs.Telling.{outcome_of, canonical_tree, check_steps, items_at}
 use Rattle.ctap_cbor.specs.Reading.{Reading, at_front, rest_of, counted, Passes, Halts, Ends, GoesOn}
 
--- each text is the text of one tree, or has one first fault, behind one list of open arrays and maps
+-- each text is the text of one tree, or has one first fault, after one list of open arrays and maps
 abbrev pub EachTextIsOne : Type 0
 EachTextIsOne = (b : List ℕ) → AreBytes b → (o : Outcome) × IsOutcome b o × ((p : Outcome) → IsOutcome b p → p ≡ o)
 
@@ -52,12 +52,12 @@ pub record BytesTell : Type 0 where
   pub told : (b : List ℕ) → AreBytes b → IsOutcome b (outcome_of b)
   pub only : (b : List ℕ) (o : Outcome) → AreBytes b → IsOutcome b o → outcome_of b ≡ o
 
--- A cursor with so many steps behind it passed a tree from the first of these bytes up to their end: it is theirs.
+-- A cursor with so many steps after it passed a tree from the first of these bytes up to their end: it is theirs.
 pub record TellsTree (b : List ℕ) (s : ℕ) (t : Tree) (new : Reading) : Type 0 where
   pub tree_is : canonical_tree b ≡ Some t
   pub moved : new ≡ record { bytes = b; place = length b; steps = counted s (check_steps b) }
 
--- It found a fault, or bytes behind a tree: no tree is theirs.
+-- It found a fault, or bytes after a tree: no tree is theirs.
 pub record TellsNone (b : List ℕ) (s : ℕ) (new : Reading) : Type 0 where
   pub none : canonical_tree b ≡ None
   pub bytes_stay : new.bytes ≡ b
@@ -73,6 +73,6 @@ pub record WholeReadings (b : List ℕ) : Type 0 where
 abbrev pub CheckStepsAreBounded : Type 0
 CheckStepsAreBounded = (b : List ℕ) → check_steps b ≤ 2 * length b + 1
 
--- items that stand one behind another are found there
+-- items that stand one after another are found there
 abbrev pub ItemsAreFound : Type 0
 ItemsAreFound = (room : ℕ) (ts : Trees) → AreLawful ts → depth_all ts ≤ room → items_at room (count ts) (texts ts) ≡ ts

@@ -8,7 +8,7 @@ use Rattle.ctap_cbor.specs.Head.{head}
 use Rattle.ctap_cbor.specs.Grammar.{text, texts, pair_texts, IsKey, IsAbove, Rises, IsLawful, AreLawful, AreLawfulPairs, IsCanonical}
 use Rattle.ctap_cbor.specs.Faults.{Due, AnItem, AKey, fault, fault_steps}
 
--- An array or a map that is open: what its head counts, and the whole items behind the head.
+-- An array or a map that is open: what its head counts, and the whole items after the head.
 pub data Open : Type 0 where
   InArray : (total : ℕ) (done : Trees) → Open
   AtKey : (total : ℕ) (done : Pairs) → Open
@@ -40,13 +40,13 @@ abbrev pub CanHold : Open → List Open → Type 0
 CanHold (AtKey total done) (o ∷ os) = ⊥
 CanHold _ _ = Unit {0}
 
--- what is due behind what is inside of it
+-- what is due after what is inside of it
 abbrev pub due_in : Open → Due
 due_in (InArray total done) = AnItem
 due_in (AtKey total done) = AKey (last_key None done)
 due_in (AtValue total done key) = AnItem
 
--- the arrays and maps that are open, where so many may be, and the fault of the item behind them
+-- the arrays and maps that are open, where so many may be, and the fault of the item after them
 abbrev pub HaltsIn : ℕ → Due → List Open → Kind → List ℕ → Type 0
 HaltsIn room due [] kind rest = fault room due rest ≡ Some kind
 HaltsIn zero due (o ∷ os) kind rest = ⊥
@@ -56,9 +56,9 @@ HaltsIn (suc room) due (o ∷ os) kind rest = IsOpen room o × CanHold o os × H
 pub data Outcome : Type 0 where
   -- the text of a tree
   Whole : Tree → Outcome
-  -- such a text, and bytes behind it
+  -- such a text, and bytes after it
   Longer : Tree → Outcome
-  -- an item behind these open arrays and maps has a fault
+  -- an item after these open arrays and maps has a fault
   Stopped : List Open → Kind → Outcome
 
 abbrev pub IsOutcome : List ℕ → Outcome → Type 0

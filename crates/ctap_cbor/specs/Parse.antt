@@ -8,7 +8,7 @@ use Rattle.ctap_cbor.specs.Faults.{AnItem, AKey}
 use Rattle.ctap_cbor.specs.Outcome.{Open, InArray, AtKey, AtValue, Outcome, Whole, Longer, Stopped}
 use Rattle.ctap_cbor.specs.Parts.{Part, One, OpensArray, OpensMap, read}
 
--- a tree and what follows, or the open arrays and maps with the fault behind them
+-- a tree and what follows, or the open arrays and maps with the fault after them
 pub data Parse : Type 0 where
   Done : Tree → List ℕ → Parse
   Halt : List Open → Kind → List ℕ → Parse

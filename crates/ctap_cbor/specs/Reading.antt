@@ -15,7 +15,7 @@ pub record Reading : Type 0 where
   pub place : ℕ
   pub steps : ℕ
 
--- at the first byte, with so many steps behind it
+-- at the first byte, with so many steps after it
 abbrev pub at_front : List ℕ → ℕ → Reading
 at_front b s = record { bytes = b; place = 0; steps = s }
 
@@ -73,7 +73,7 @@ pub record Passes (room : ℕ) (tree : Tree) (old new : Reading) : Type 0 where
   pub spelled : rest_of old ≡ text tree ++ rest_of new
   pub moved : new ≡ advance old (length (text tree)) (length (text tree) + later_keys tree)
 
--- behind these open arrays and maps an item has a fault
+-- after these open arrays and maps an item has a fault
 pub record Halts (room : ℕ) (old new : Reading) (at : ℕ) (kind : Kind) : Type 0 where
   pub os : List Open
   pub tail : List ℕ
@@ -90,7 +90,7 @@ pub record PassesAll (room n : ℕ) (done : Trees) (old new : Reading) : Type 0 
   pub spelled : rest_of old ≡ texts done ++ rest_of new
   pub moved : new ≡ advance old (length (texts done)) (length (texts done) + later_in_all done)
 
--- fewer were, and behind them an item halts
+-- fewer were, and after them an item halts
 pub record HaltsInAll (room n : ℕ) (old new : Reading) (at : ℕ) (kind : Kind) : Type 0 where
   pub before : ℕ
   pub fewer : before < n
@@ -109,7 +109,7 @@ pub record PassesPairs (room n : ℕ) (done : Pairs) (last : Option (List ℕ)) 
   pub spelled : rest_of old ≡ pair_texts done ++ rest_of new
   pub moved : new ≡ advance old (length (pair_texts done)) (length (pair_texts done) + later_in_map done)
 
--- fewer were, and behind them a key has a fault
+-- fewer were, and after them a key has a fault
 pub record HaltsAtKey (room n : ℕ) (old new : Reading) (at : ℕ) (kind : Kind) : Type 0 where
   pub before : ℕ
   pub last : Option (List ℕ)
@@ -119,7 +119,7 @@ pub record HaltsAtKey (room n : ℕ) (old new : Reading) (at : ℕ) (kind : Kind
   pub passes : PassesPairs room before done last old between
   pub refuses : Refuses 0 (AKey last) between new at kind
 
--- fewer were, and behind them and a key the value halts
+-- fewer were, and after them and a key the value halts
 pub record HaltsAtValue (room n : ℕ) (old new : Reading) (at : ℕ) (kind : Kind) : Type 0 where
   pub before : ℕ
   pub last : Option (List ℕ)

@@ -32,7 +32,7 @@ abbrev pub or_else : Option Kind → Option Kind → Option Kind
 or_else None other = other
 or_else (Some kind) other = Some kind
 
--- and its order behind the key before
+-- and its order after the key before
 abbrev pub order_refusal : Option (List ℕ) → List ℕ → Option Kind
 order_refusal last key = if is_above (AKey last) key then None else Some KeyOrder
 

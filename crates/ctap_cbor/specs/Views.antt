@@ -44,7 +44,7 @@ headed (suc (suc (suc (suc zero)))) i n = OpensArray n
 headed (suc (suc (suc (suc (suc zero))))) i n = OpensMap n
 headed m i n = One (if nat_eq i 20 then tree.Flag false else if nat_eq i 21 then tree.Flag true else tree.Null)
 
--- the tests behind those of a head's first byte, and the item
+-- the tests after those of a head's first byte, and the item
 abbrev pub FindsRest : ℕ → List ℕ → Result (Item × ℕ) (Kind × ℕ) → Type 0
 FindsRest first rest (Ok (i, len)) = (first_of (later_faults AnItem first rest) ≡ None) × (part_of i ≡ item_of (major first) first rest) × (len ≡ item_len first rest) × (len ≤ suc (length rest))
 FindsRest first rest (Err (kind, n)) = (first_of (later_faults AnItem first rest) ≡ Some kind) × (n ≡ passed kind (first ∷ rest)) × (n ≤ suc (length rest))

@@ -50,9 +50,9 @@ pub record WritesKey (t : Tree) (old new : List ℕ) : Type 0 where
   pub flat : depth t ≤ 0
   pub appended : new ≡ old ++ text t
 
--- nothing was written whole: for want of memory, or for this refusal
-abbrev pub GivesUp : Kind → Option Kind → List ℕ → List ℕ → Type 0
-GivesUp kind refusal old new = (kind ≢ Memory → refusal ≡ Some kind) × Extends old new
+-- nothing was written whole: since memory was refused, or with this refusal
+abbrev pub FailsWith : Kind → Option Kind → List ℕ → List ℕ → Type 0
+FailsWith kind refusal old new = (kind ≢ Memory → refusal ≡ Some kind) × Extends old new
 
 -- the text of the key before, which was written there
 abbrev pub text_at : List ℕ → Span → List ℕ

@@ -38,7 +38,7 @@ pub fn check(bytes: &[u8]) -> Checked
 
 /// Passes one item at the first level, and ends.
 ///
-/// A fault of the item leaves the cursor as [`Cursor::skip`] does, and bytes behind the item leave it at the first
+/// A fault of the item leaves the cursor as [`Cursor::skip`] does, and bytes after the item leave it at the first
 /// of them.
 pub fn read_whole(cursor: &mut Cursor) -> Result<(), Fault>
     ensures { MatchResult result

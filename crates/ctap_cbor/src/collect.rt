@@ -13,10 +13,10 @@ use crate::item::Item;
 pub trait Members<'a> {
     ghost use Rattle.ctap_cbor.specs.Tree.{Pairs as AllPairs};
 
-    /// It tells of these pairs.
+    /// It was collected of these pairs.
     ghost Holds: { Self → AllPairs → Type 0 };
 
-    /// Takes the value behind a key, one whole item at this level.
+    /// Takes the value after a key, one whole item at this level.
     fn member(&mut self, cursor: &mut Cursor<'a>, key: Item<'a>, level: u8) -> Result<(), Fault>
         requires low { 1 ≤ level }
         requires high { level ≤ 5 }
@@ -29,7 +29,7 @@ pub trait Members<'a> {
 pub trait Entries<'a> {
     ghost use Rattle.ctap_cbor.specs.Tree.{Trees as AllTrees};
 
-    /// It tells of these entries.
+    /// It was collected of these entries.
     ghost HoldsAll: { Self → AllTrees → Type 0 };
 
     /// Takes an entry, one whole item at this level.

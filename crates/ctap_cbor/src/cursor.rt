@@ -23,7 +23,7 @@ use std::marker::Model;
 /// Levels count from 1, at which a message's one item stands; what stands within an array or a map of level n is at
 /// level n + 1. At level 5 no array or map may stand.
 ///
-/// After a fault the cursor stands behind the bytes that count as passed: all of them where the text is truncated,
+/// After a fault the cursor stands after the bytes that count as passed: all of them where the text is truncated,
 /// the faulty first byte, the head that isn't the shortest, or the item whose text isn't UTF-8 or whose order is
 /// wrong.
 #[derive(Drop)]

@@ -8,7 +8,7 @@ ghost use Rattle.ctap_cbor.specs.Grammar.{scalar_text, text, texts, pair_texts, 
 ghost use Rattle.ctap_cbor.specs.Faults.{AKey, is_above};
 ghost use Rattle.ctap_cbor.specs.Values.{tree_of, trees_of, pairs_of};
 ghost use Rattle.ctap_cbor.specs.Refusals.{refusal, refusal_all, refusal_pairs, own_refusal, range_refusal};
-ghost use Rattle.ctap_cbor.specs.Writes.{Writes, WritesAll, WritesPairs, WritesKey, WritesScalar, GivesUp, Extends, IsShort, last_text};
+ghost use Rattle.ctap_cbor.specs.Writes.{Writes, WritesAll, WritesPairs, WritesKey, WritesScalar, FailsWith, Extends, IsShort, last_text};
 
 use crate::fault::Kind;
 use crate::laws::known_bytes;
@@ -71,7 +71,7 @@ pub fn encode_value(value: &Value, out: &mut Vec<u8>) -> Result<(), Kind>
 fn write_value(value: &Value, out: &mut Vec<u8>, room: u8) -> Result<(), Kind>
     ensures writes { MatchResult result
         (λ _. Writes room (tree_of value.now) out.old.items out.new.items)
-        (λ k. GivesUp k (refusal room (tree_of value.now)) out.old.items out.new.items) }
+        (λ k. FailsWith k (refusal room (tree_of value.now)) out.old.items out.new.items) }
     ensures grows { vec_capacity out.old ≤ vec_capacity out.new }
     ensures short { IfErr result (λ k. k ≡ Kind.Memory → IsShort (vec_capacity out.old) out.old.items (text (tree_of value.now))) }
 {
@@ -91,7 +91,7 @@ fn write_value(value: &Value, out: &mut Vec<u8>, room: u8) -> Result<(), Kind>
 fn write_array(items: &[Value], out: &mut Vec<u8>, room: u8) -> Result<(), Kind>
     ensures writes { MatchResult result
         (λ _. Writes room (tree.Array (trees_of items.now)) out.old.items out.new.items)
-        (λ k. GivesUp k (refusal room (tree.Array (trees_of items.now))) out.old.items out.new.items) }
+        (λ k. FailsWith k (refusal room (tree.Array (trees_of items.now))) out.old.items out.new.items) }
     ensures grows { vec_capacity out.old ≤ vec_capacity out.new }
     ensures short { IfErr result (λ k. k ≡ Kind.Memory → IsShort (vec_capacity out.old) out.old.items (text (tree.Array (trees_of items.now)))) }
 {
@@ -107,7 +107,7 @@ fn write_array(items: &[Value], out: &mut Vec<u8>, room: u8) -> Result<(), Kind>
 fn write_map(pairs: &[(Value, Value)], out: &mut Vec<u8>, room: u8) -> Result<(), Kind>
     ensures writes { MatchResult result
         (λ _. Writes room (tree.Map (pairs_of pairs.now)) out.old.items out.new.items)
-        (λ k. GivesUp k (refusal room (tree.Map (pairs_of pairs.now))) out.old.items out.new.items) }
+        (λ k. FailsWith k (refusal room (tree.Map (pairs_of pairs.now))) out.old.items out.new.items) }
     ensures grows { vec_capacity out.old ≤ vec_capacity out.new }
     ensures short { IfErr result (λ k. k ≡ Kind.Memory → IsShort (vec_capacity out.old) out.old.items (text (tree.Map (pairs_of pairs.now)))) }
 {
@@ -123,7 +123,7 @@ fn write_map(pairs: &[(Value, Value)], out: &mut Vec<u8>, room: u8) -> Result<()
 fn write_items(items: &[Value], out: &mut Vec<u8>, room: u8) -> Result<(), Kind>
     ensures writes { MatchResult result
         (λ _. WritesAll room (trees_of items.now) out.old.items out.new.items)
-        (λ k. GivesUp k (refusal_all room (trees_of items.now)) out.old.items out.new.items) }
+        (λ k. FailsWith k (refusal_all room (trees_of items.now)) out.old.items out.new.items) }
     ensures grows { vec_capacity out.old ≤ vec_capacity out.new }
     ensures short { IfErr result (λ k. k ≡ Kind.Memory → IsShort (vec_capacity out.old) out.old.items (texts (trees_of items.now))) }
 {
@@ -138,7 +138,7 @@ fn write_items(items: &[Value], out: &mut Vec<u8>, room: u8) -> Result<(), Kind>
 fn write_pairs(pairs: &[(Value, Value)], out: &mut Vec<u8>, room: u8) -> Result<(), Kind>
     ensures writes { MatchResult result
         (λ _. WritesPairs room (pairs_of pairs.now) out.old.items out.new.items)
-        (λ k. GivesUp k (refusal_pairs room None (pairs_of pairs.now)) out.old.items out.new.items) }
+        (λ k. FailsWith k (refusal_pairs room None (pairs_of pairs.now)) out.old.items out.new.items) }
     ensures grows { vec_capacity out.old ≤ vec_capacity out.new }
     ensures short { IfErr result (λ k. k ≡ Kind.Memory → IsShort (vec_capacity out.old) out.old.items (pair_texts (pairs_of pairs.now))) }
 {
@@ -162,7 +162,7 @@ fn write_pairs(pairs: &[(Value, Value)], out: &mut Vec<u8>, room: u8) -> Result<
 fn write_key(key: &Value, out: &mut Vec<u8>) -> Result<(), Kind>
     ensures writes { MatchResult result
         (λ _. WritesKey (tree_of key.now) out.old.items out.new.items)
-        (λ k. GivesUp k (own_refusal (tree_of key.now)) out.old.items out.new.items) }
+        (λ k. FailsWith k (own_refusal (tree_of key.now)) out.old.items out.new.items) }
     ensures grows { vec_capacity out.old ≤ vec_capacity out.new }
     ensures short { IfErr result (λ k. k ≡ Kind.Memory → IsShort (vec_capacity out.old) out.old.items (text (tree_of key.now))) }
 {
@@ -190,7 +190,7 @@ fn is_above_last(previous: Option<Span>, out: &[u8], start: usize) -> bool
 fn write_int(value: i128, out: &mut Vec<u8>) -> Result<(), Kind>
     ensures writes { MatchResult result
         (λ _. WritesScalar (tree.Int value) out.old.items out.new.items)
-        (λ k. GivesUp k (range_refusal (tree.Int value)) out.old.items out.new.items) }
+        (λ k. FailsWith k (range_refusal (tree.Int value)) out.old.items out.new.items) }
     ensures grows { vec_capacity out.old ≤ vec_capacity out.new }
     ensures short { IfErr result (λ k. k ≡ Kind.Memory → IsShort (vec_capacity out.old) out.old.items (scalar_text (tree.Int value))) }
 {

@@ -33,7 +33,7 @@ pub enum Kind {
     /// A tag, a float, or a simple value other than false, true and null.
     #[error("not a type of this profile")]
     Unsupported = 8,
-    /// Bytes behind the item.
+    /// Bytes after the item.
     #[error("bytes behind the item")]
     Trailing = 9,
     /// No memory. Neither [`check`](crate::check) nor a [`Cursor`](crate::Cursor) gives it.
@@ -54,7 +54,7 @@ impl Kind {
 #[derive(Clone, Copy, Debug, PartialEq, Eq, Error)]
 #[error("{kind} at byte {at}")]
 pub struct Fault {
-    /// The first byte of the faulty item, or the first behind the whole item, counted from 0.
+    /// The first byte of the faulty item, or the first after the whole item, counted from 0.
     pub at: usize,
     pub kind: Kind,
 }

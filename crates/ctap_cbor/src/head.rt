@@ -51,7 +51,7 @@ fn first_fault(first: u8, room: u8, is_key: bool) -> Option<Kind>
     }
 }
 
-/// The item behind a head's first byte that shows no fault, with its length, or its fault.
+/// The item after a head's first byte that shows no fault, with its length, or its fault.
 #[tactic(auto, unfolding(crate::specs::Faults::body_faults, crate::specs::Faults::string_len, crate::specs::Faults::item_len, crate::specs::Faults::passed))]
 #[inline(always)]
 fn find_rest<'a>(first: u8, rest: &'a [u8]) -> Result<(Item<'a>, usize), (Kind, usize)>

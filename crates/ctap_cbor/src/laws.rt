@@ -4,7 +4,7 @@
 ghost use Rattle.ctap_cbor.specs.Head.{AreBytes};
 ghost use Rattle.ctap_cbor.specs.Laws.{EachTextIsOne, NoneBeginsAnother, NoItemBeginsAnother, StepsAreBounded, WrittenIsReadAgain, OneTreePasses, NothingHalts, EncodedIsDecoded, RefusedHasNoText, BytesTell, WholeReadings, CheckStepsAreBounded, ItemsAreFound};
 
-/// Each text is the encoding of one tree, or that and bytes behind it, or has one first fault, with one way to
+/// Each text is the encoding of one tree, or that and bytes after it, or has one first fault, with one way to
 /// stand there.
 pub fn each_text_is_one()
     ensures { EachTextIsOne }
@@ -36,7 +36,7 @@ pub fn bytes_tell()
     ensures { BytesTell }
 {}
 
-/// Reading these bytes whole, by calls of a cursor, tells what they are and takes the steps of checking them.
+/// Reading these bytes whole, by calls of a cursor, gives what they are and takes the steps of checking them.
 pub fn whole_readings(bytes: &[u8])
     ensures { WholeReadings bytes.now }
 {}
@@ -46,7 +46,7 @@ pub fn check_steps_are_bounded()
     ensures { CheckStepsAreBounded }
 {}
 
-/// Items that stand one behind another are found by `items_at`.
+/// Items that stand one after another are found by `items_at`.
 pub fn items_are_found()
     ensures { ItemsAreFound }
 {}
@@ -62,12 +62,12 @@ pub fn nothing_halts()
 {}
 
 /// What [`encode_value`](crate::encode_value) writes, [`decode_value`](crate::decode_value) reads as the same tree, and
-/// refuses for want of memory alone.
+/// refuses only where memory is refused.
 pub fn encoded_is_decoded()
     ensures { EncodedIsDecoded }
 {}
 
-/// What `encode_value` refuses, but for want of memory, has no canonical encoding.
+/// What `encode_value` refuses, unless memory was refused, has no canonical encoding.
 pub fn refused_has_no_text()
     ensures { RefusedHasNoText }
 {}

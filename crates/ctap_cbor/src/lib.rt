@@ -1,7 +1,7 @@
 //! CTAP2 canonical CBOR, read in place and written into a lent buffer.
 //!
-//! - [`check`] tells whether bytes are the canonical encoding of one data item, and if not, where the first
-//!   faulty item begins and which [`Kind`] of fault it has. It also tells how many steps reading took.
+//! - [`check`] says whether bytes are the canonical encoding of one data item, and if not, where the first
+//!   faulty item begins and which [`Kind`] of fault it has. It also counts the steps that reading took.
 //! - [`Cursor`] reads item by item: heads with the bytes of strings, map keys with their order, whole items. It
 //!   lends strings from the message, and keeps the count of steps. [`read_map`] and [`read_array`] hand the members
 //!   of a map and the entries of an array to what collects them.

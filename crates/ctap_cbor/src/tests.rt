@@ -232,7 +232,7 @@ fn collects_members_and_entries(rt: HostRuntime) -> Result<(), Fail> {
     Ok(())
 }
 
-/// Behind a fault the cursor stands behind what counts as passed.
+/// After a fault the cursor stands after what counts as passed.
 #[test]
 fn stands_behind_faults(rt: HostRuntime) {
     let rows: [(&[u8], usize); 5] = [

@@ -75,7 +75,7 @@ fn decoded(rt: &impl Abort, alloc: Global, bytes: &[u8]) -> Result<Value, Fault>
     }
 }
 
-/// Encodes behind what the vector holds, once more where memory was refused.
+/// Encodes after what the vector holds, once more where memory was refused.
 fn encoded(rt: &impl Abort, value: &Value, out: &mut Vec<u8>) -> Result<(), Kind> {
     let len = out.len();
     let first = encode_value(value, out);

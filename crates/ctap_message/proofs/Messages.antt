@@ -10,7 +10,7 @@ public_key = codes "public-key"
 
 -- ---- authenticatorMakeCredential
 
--- clientDataHash, rp, user, pubKeyCredParams and options, each behind its key
+-- clientDataHash, rp, user, pubKeyCredParams and options, each after its key
 abbrev hash_member : List ℕ
 hash_member = 0x01 ∷ 0x58 ∷ 0x20 ∷ replicate 32 0x11
 

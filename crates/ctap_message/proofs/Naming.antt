@@ -172,7 +172,7 @@ list_costs : (ts : Trees) → has_entries ts ≡ true → list_steps ts ≡ leng
 list_costs no_trees e = absurd cc
 list_costs (tree t ts) e = omega (arith, length-append (head 4 (count (tree t ts))) (texts (tree t ts)))
 
--- behind its head a list's walk begins
+-- after its head a list's walk begins
 pub begins : BytesTell → ItemsAreFound → (l : List ℕ) (ts : Trees) (r s : Reading) (n : ℕ) → AreBytes l → IsList l ts → r ≡ at_front l 0 → TakesOnly 4 r s (Ok (item.Array n)) → Takes 4 r s (OpensArray n)
     → IsWalk (walk_at s n) true × IsWhole (walk_at s n) ts
 begins tell found_law l ts r s n fits h e only t =

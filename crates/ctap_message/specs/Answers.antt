@@ -1,4 +1,4 @@
--- Answers: a status byte, and behind status 0x00 a map in canonical CBOR (CTAP 2.1, section 8, "Message Encoding").
+-- Answers: a status byte, and after status 0x00 a map in canonical CBOR (CTAP 2.1, section 8, "Message Encoding").
 use Rattle.std.specs.Prelude.{ℕ, ◌+◌, pos, negsuc, Bool, true, false, List, [], ◌∷◌, ◌++◌, length, Option, Some, None, codes}
 use Rattle.ctap_cbor.specs.Tree.{Int, Bytes, Text, Flag, Tree, Plain, Array, Map, no_trees, tree, no_pairs, pair, Pairs, count_pairs}
 use Rattle.ctap_cbor.specs.Head.{head_len}

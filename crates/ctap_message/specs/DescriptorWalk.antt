@@ -41,7 +41,7 @@ entry_steps ts = length (texts ts) + later_in_all ts
 abbrev pub walked : DescriptorWalk → ℕ
 walked w = min (list_steps (list_of w) - entry_steps (left_of w)) 18446744073709551615
 
--- the entries behind the first one that names an id
+-- the entries after the first one that names an id
 abbrev pub behind_first : Trees → Trees
 behind_first no_trees = no_trees
 behind_first (tree t ts) = if is_some (named_id (descriptor_in (Some t))) then ts else behind_first ts
@@ -53,7 +53,7 @@ pub record NextId (old : DescriptorWalk) (id : Option (Bor (List ℕ))) (new : D
   pub left : left_of new ≡ behind_first (left_of old)
   pub ended : id ≡ None → left_of new ≡ no_trees
 
--- ---- the cursor behind a walk
+-- ---- the cursor after a walk
 
 -- these entries are left, so many
 pub record Left (r : Reading) (n : ℕ) (ts : Trees) : Type 0 where

@@ -25,7 +25,7 @@ named_command byte =
 abbrev pub alone : List ℕ → Asked → Result Asked ℕ
 alone behind asked = if_all_hold (check (length behind == 0) INVALID_LENGTH ∷ []) asked
 
--- what a command asks with these bytes behind it
+-- what a command asks with these bytes after it
 abbrev pub request_of : Command → List ℕ → Result Asked ℕ
 request_of served.MakeCredential behind = make_request (canonical_tree behind)
 request_of served.GetAssertion behind = assertion_request (canonical_tree behind)
@@ -39,7 +39,7 @@ served_request None behind = Err INVALID_COMMAND
 served_request (Some c) behind = request_of c behind
 
 -- What a message asks (CTAP 2.1, section 8, "Message Encoding"): its first byte names the command, and the command's
--- parameters stand behind it. A message without a command byte has a wrong length.
+-- parameters stand after it. A message without a command byte has a wrong length.
 unfoldable pub read_of : List ℕ → Result Asked ℕ
 read_of [] = Err INVALID_LENGTH
 read_of (byte ∷ behind) = served_request (named_command byte) behind
@@ -49,7 +49,7 @@ read_of (byte ∷ behind) = served_request (named_command byte) behind
 abbrev pub reading_steps : List ℕ → ℕ
 reading_steps behind = if is_some (canonical_tree behind) then 2 * check_steps behind else check_steps behind
 
--- The steps of reading what stands behind a command byte: none where nothing may stand there.
+-- The steps of reading what stands after a command byte: none where nothing may stand there.
 abbrev pub command_steps : Command → List ℕ → ℕ
 command_steps served.MakeCredential behind = reading_steps behind
 command_steps served.GetAssertion behind = reading_steps behind

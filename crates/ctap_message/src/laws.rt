@@ -12,26 +12,26 @@ ghost use Rattle.ctap_message.specs.Answers.{info_tree, info_answer, created_tre
 
 use ctap_cbor::laws as encoding;
 
-/// Behind its status, the answer of authenticatorGetInfo is the canonical CBOR encoding of its map; it has 81 bytes.
+/// After its status, the answer of authenticatorGetInfo is the canonical CBOR encoding of its map; it has 81 bytes.
 pub fn info_is_canonical()
     ensures canonical { (aaguid : List ℕ) → length aaguid ≡ 16 → AreBytes aaguid
         → IsCanonical (info_tree aaguid) (drop 1 (info_answer aaguid)) }
     ensures len { (aaguid : List ℕ) → length aaguid ≡ 16 → length (info_answer aaguid) ≡ 81 }
 {}
 
-/// Reading a message takes at most 4 * n + 2 steps for n bytes behind its command byte.
+/// Reading a message takes at most 4 * n + 2 steps for n bytes after its command byte.
 pub fn steps_are_bounded()
     ensures { (message : List ℕ) → steps_of message ≤ 4 * (length message - 1) + 2 }
 {
     encoding::check_steps_are_bounded();
 }
 
-/// Behind its status, the answer of authenticatorMakeCredential is the canonical CBOR encoding of its map.
+/// After its status, the answer of authenticatorMakeCredential is the canonical CBOR encoding of its map.
 pub fn created_is_canonical()
     ensures { (auth sig : List ℕ) → AreShort auth → AreShort sig → IsCanonical (created_tree auth sig) (drop 1 (created_answer auth sig)) }
 {}
 
-/// Behind its status, the answer of an assertion is the canonical CBOR encoding of its map.
+/// After its status, the answer of an assertion is the canonical CBOR encoding of its map.
 pub fn assertion_is_canonical()
     ensures { (id auth sig : List ℕ) (user : Option (List ℕ)) (credentials : Option ℕ) → AreShort id → AreShort auth → AreShort sig → UserIsShort user → NumberIsShort credentials
         → IsCanonical (assertion_tree id auth sig user credentials) (drop 1 (assertion_answer id auth sig user credentials)) }

@@ -1,7 +1,7 @@
 //! The requests that a host sends to an authenticator, and the answers that it gets (CTAP 2.1, section 6 and
 //! section 8, "Message Encoding").
 //!
-//! - [`read_request`] tells what a message asks, or the status of the first check that it fails, and how many
+//! - [`read_request`] gives what a message asks, or the status of the first check that it fails, and how many
 //!   steps reading took.
 //! - [`Descriptors`] walks a request's list of credentials, in place.
 //! - [`write_status`], [`write_info`], [`write_created`] and [`write_assertion`] write answers: a status alone, or status

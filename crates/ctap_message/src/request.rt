@@ -64,7 +64,7 @@ pub enum Request<'a> {
 /// | empty | 0x03 | 0 |
 /// | a command that isn't served | 0x01 | 0 |
 /// | 0x04, 0x07, 0x08 or 0x0b alone | `Info`, `Reset`, `Next` or `Select` | 0 |
-/// | one of these and bytes behind it | 0x03 | 0 |
+/// | one of these and bytes after it | 0x03 | 0 |
 /// | 0x01 or 0x02 and canonical parameters | `Make` or `Assert`, or the first failing check's status | twice those of checking them |
 /// | 0x01 or 0x02 and others | 0x12 | those of checking them |
 #[tactic(auto, unfolding(crate::specs::Requests::read_of, crate::specs::Requests::steps_of))]
@@ -78,41 +78,41 @@ pub fn read_request<'a>(message: &'a [u8]) -> (Result<Request<'a>, Status>, u64)
     ensures lens { HasLengths result.0 }
 {
     steps_are_bounded();
-    let Some((byte, behind)) = message.split_first() else {
+    let Some((byte, parameters)) = message.split_first() else {
         return (Err(Status::INVALID_LENGTH), 0);
     };
     match Command::named(*byte) {
-        Some(command) => read_command(command, behind),
+        Some(command) => read_command(command, parameters),
         None => (Err(Status::INVALID_COMMAND), 0),
     }
 }
 
-/// What a command asks with these bytes behind it.
-fn read_command<'a>(command: Command, behind: &'a [u8]) -> (Result<Request<'a>, Status>, u64)
-    ensures request { shown result.0 ≡ request_of command behind.now }
-    ensures steps { result.1 ≡ min (command_steps command behind.now) LARGEST }
+/// What a command asks with these bytes after it.
+fn read_command<'a>(command: Command, parameters: &'a [u8]) -> (Result<Request<'a>, Status>, u64)
+    ensures request { shown result.0 ≡ request_of command parameters.now }
+    ensures steps { result.1 ≡ min (command_steps command parameters.now) LARGEST }
     ensures fresh { IsFresh result.0 }
     ensures lens { HasLengths result.0 }
 {
     match command {
-        Command::MakeCredential => read_make_credential(behind),
-        Command::GetAssertion => read_get_assertion(behind),
-        Command::GetInfo => (alone(behind, Request::Info), 0),
-        Command::Reset => (alone(behind, Request::Reset), 0),
-        Command::GetNextAssertion => (alone(behind, Request::Next), 0),
-        Command::Selection => (alone(behind, Request::Select), 0),
+        Command::MakeCredential => read_make_credential(parameters),
+        Command::GetAssertion => read_get_assertion(parameters),
+        Command::GetInfo => (alone(parameters, Request::Info), 0),
+        Command::Reset => (alone(parameters, Request::Reset), 0),
+        Command::GetNextAssertion => (alone(parameters, Request::Next), 0),
+        Command::Selection => (alone(parameters, Request::Select), 0),
     }
 }
 
-/// What takes no parameters has nothing behind its command byte.
-fn alone<'a>(behind: &[u8], request: Request<'a>) -> Result<Request<'a>, Status>
+/// What takes no parameters has nothing after its command byte.
+fn alone<'a>(parameters: &[u8], request: Request<'a>) -> Result<Request<'a>, Status>
     requires fresh { IsFresh (Ok request) }
     requires lens { HasLengths (Ok request) }
-    ensures request { shown result ≡ alone_of behind.now (asked request.entry) }
+    ensures request { shown result ≡ alone_of parameters.now (asked request.entry) }
     ensures fresh { IsFresh result }
     ensures lens { HasLengths result }
 {
-    if behind.is_empty() {
+    if parameters.is_empty() {
         Ok(request)
     } else {
         Err(Status::INVALID_LENGTH)
@@ -120,14 +120,14 @@ fn alone<'a>(behind: &[u8], request: Request<'a>) -> Result<Request<'a>, Status>
 }
 
 /// authenticatorMakeCredential: the parameters are checked whole, and then read by the same cursor.
-fn read_make_credential<'a>(behind: &'a [u8]) -> (Result<Request<'a>, Status>, u64)
-    ensures request { shown result.0 ≡ make_request (canonical_tree behind.now) }
-    ensures steps { result.1 ≡ min (reading_steps behind.now) LARGEST }
+fn read_make_credential<'a>(parameters: &'a [u8]) -> (Result<Request<'a>, Status>, u64)
+    ensures request { shown result.0 ≡ make_request (canonical_tree parameters.now) }
+    ensures steps { result.1 ≡ min (reading_steps parameters.now) LARGEST }
     ensures fresh { IsFresh result.0 }
     ensures lens { HasLengths result.0 }
 {
-    whole_readings(behind);
-    let mut cursor = Cursor::new(behind);
+    whole_readings(parameters);
+    let mut cursor = Cursor::new(parameters);
     if read_whole(&mut cursor).is_err() {
         return (Err(Status::INVALID_CBOR), cursor.steps());
     }
@@ -150,14 +150,14 @@ fn read_make_again<'a>(cursor: &mut Cursor<'a>) -> Result<Make<'a>, Fault>
 }
 
 /// authenticatorGetAssertion: the parameters are checked whole, and then read by the same cursor.
-fn read_get_assertion<'a>(behind: &'a [u8]) -> (Result<Request<'a>, Status>, u64)
-    ensures request { shown result.0 ≡ assertion_request (canonical_tree behind.now) }
-    ensures steps { result.1 ≡ min (reading_steps behind.now) LARGEST }
+fn read_get_assertion<'a>(parameters: &'a [u8]) -> (Result<Request<'a>, Status>, u64)
+    ensures request { shown result.0 ≡ assertion_request (canonical_tree parameters.now) }
+    ensures steps { result.1 ≡ min (reading_steps parameters.now) LARGEST }
     ensures fresh { IsFresh result.0 }
     ensures lens { HasLengths result.0 }
 {
-    whole_readings(behind);
-    let mut cursor = Cursor::new(behind);
+    whole_readings(parameters);
+    let mut cursor = Cursor::new(parameters);
     if read_whole(&mut cursor).is_err() {
         return (Err(Status::INVALID_CBOR), cursor.steps());
     }

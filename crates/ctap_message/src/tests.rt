@@ -92,7 +92,7 @@ const PARAMETERS: &[u8] = b"\x04\x81\xa2\x63alg\x26\x64type\x6apublic-key";
 
 const OPTIONS: &[u8] = b"\x07\xa1\x62rk\xf5";
 
-/// What a makeCredential of these members comes to.
+/// The status and the steps of a makeCredential of these members.
 fn told_of(rt: &impl Abort, head: u8, parts: &[&[u8]]) -> (u8, u64) {
     let mut message = ArrayVec::<u8, 400>::new();
     message.push(0x01);
@@ -192,7 +192,7 @@ fn checks_stand_in_their_order(rt: HostRuntime) {
     assert_eq!(rt; told(b"\x01\x00"), (0x11, 4));
 }
 
-/// The status that a makeCredential of these members comes to.
+/// The status of a makeCredential of these members.
 fn make_told(rt: &impl Abort, parts: &[&[u8]]) -> u8 {
     told_of(rt, 0xa0 + (parts.len() % 16) as u8, parts).0
 }
@@ -326,7 +326,7 @@ const RP_ID: &[u8] = b"\x01\x6bexample.com";
 const CLIENT_HASH: &[u8] =
     b"\x02\x58\x20\x22\x22\x22\x22\x22\x22\x22\x22\x22\x22\x22\x22\x22\x22\x22\x22\x22\x22\x22\x22\x22\x22\x22\x22\x22\x22\x22\x22\x22\x22\x22\x22";
 
-/// The status that a getAssertion of these members comes to.
+/// The status of a getAssertion of these members.
 fn assertion_told(rt: &impl Abort, parts: &[&[u8]]) -> u8 {
     let mut message = ArrayVec::<u8, 400>::new();
     message.push(0x02);

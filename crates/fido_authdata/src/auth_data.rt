@@ -141,7 +141,7 @@ impl AuthData {
     }
 }
 
-/// What an authenticator signs: authenticator data and behind it the SHA-256 hash of the client data, for an assertion
+/// What an authenticator signs: authenticator data and after it the SHA-256 hash of the client data, for an assertion
 /// (WebAuthn Level 2, section 6.3.3) as for packed self attestation (section 8.2). It has 69 bytes for an assertion,
 /// 196 for a new credential.
 pub fn to_sign(auth_data: &AuthData, hash: &[u8; 32]) -> ArrayVec<u8, TO_SIGN_MAX>

@@ -81,7 +81,7 @@ abbrev pub kept_by : Assembly → ℕ → Fields → Ruling → Assembly
 kept_by a at f ruling =
     record { given = given_after a.given ruling; current = open_after a.current at f ruling; finished = bytes_of (message_after a.current f ruling) }
 
--- What is kept behind a packet with these fields.
+-- What is kept after a packet with these fields.
 unfoldable pub accepted : Assembly → ℕ → Option ℕ → Fields → Assembly
 accepted a at work f = kept_by a at f (ruling_of a.given a.current work f)
 

@@ -16,7 +16,7 @@ use hid_packet::{
 };
 use std::marker::Model;
 
-/// How long after its last packet an open message is given up, in milliseconds.
+/// How long after its last packet an open message is dropped, in milliseconds.
 pub const MESSAGE_TIMEOUT: u64 = 500;
 
 /// An open message: what its initialization packet said, how many continuation packets were kept, and
@@ -62,7 +62,7 @@ impl OpenMessage {
     }
 }
 
-/// Writes the data bytes behind those that are held already.
+/// Writes the data bytes after those that are held already.
 fn put_data(message: &mut [u8], held: usize, part: &[u8])
     requires { held + length part.now ≤ length message.old }
     ensures { message.new ≡ take held message.old ++ (part.now ++ drop (held + length part.now) message.old) }

@@ -1,7 +1,7 @@
 ghost use Rattle.std.specs.Prelude.{◌≡◌};
 ghost use Rattle.hid_assemble.specs.Codes.{code_number};
 
-/// Why a packet is refused or a message given up, the byte that an ERROR packet carries
+/// Why a packet is refused or a message dropped, the byte that an ERROR packet carries
 /// (CTAP 2.1, section 11.2.9.1.6).
 #[derive(Clone, Copy, Debug, PartialEq, Eq)]
 pub enum ErrorCode {

@@ -3,7 +3,7 @@
 use crate::{Assembler, ErrorCode, LAST_CHANNEL, Verdict};
 use hid_packet::{BROADCAST, Packet};
 
-/// The bytes, and zeros behind them.
+/// The bytes, and zeros after them.
 fn pad(bytes: &[u8]) -> Packet {
     let mut packet = [0; 64];
     for (slot, byte) in packet.iter_mut().zip(bytes) {

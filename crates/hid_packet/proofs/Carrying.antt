@@ -11,7 +11,7 @@ use Rattle.hid_packet.specs.Packet.{channel, is_initialization, command, message
 use Rattle.hid_packet.specs.Message.{padded, initialization_packet, continuation_packet, continuation_packets, written}
 use Rattle.hid_packet.specs.Carries.{Continue, IsLeast, joined, Carries, CarriesMessage}
 
--- data bytes and the zeros behind them fill a packet
+-- data bytes and the zeros after them fill a packet
 all_data : (k : ℕ) (part : List ℕ) → length part ≤ k → take k (part ++ replicate (k - length part) 0) ≡ part ++ replicate (k - length part) 0
 all_data k part short = take_all k _ (omega (arith, length-append part (replicate (k - length part) 0), length-replicate {A = ℕ} (k - length part) 0))
 
@@ -85,7 +85,7 @@ fill_up k n bytes = elim (cases_lt (length bytes) k) [
       rw (full, append-nil, ← append_assoc, take-append-drop, zero-add) refl
 ]
 
--- The data of continuation packets are the bytes, and zeros behind them.
+-- The data of continuation packets are the bytes, and zeros after them.
 data_continuations : (most cid number : ℕ) (bytes : List ℕ) → length bytes ≤ 59 * most
     → (further : ℕ) × (flat_map continuation_data (continuation_packets most cid number bytes) ≡ bytes ++ replicate further 0)
 unfolding continuation_packets
@@ -123,7 +123,7 @@ length-continuation_packets (suc most) cid number (b ∷ bytes) fits =
     let rest = length-continuation_packets most cid (number + 1) (drop 59 all) (omega (arith, dropped)) in
     (omega (arith, dropped, rest.0), omega (arith, dropped, rest.1))
 
--- The data of the written packets, joined, are the message, and zeros behind it.
+-- The data of the written packets, joined, are the message, and zeros after it.
 pub data_written : (cid cmd : ℕ) (bytes : List ℕ) → length bytes ≤ 7609
     → (further : ℕ) × (joined (initialization_packet cid cmd (length bytes) (take 57 bytes)) (continuation_packets 128 cid 0 (drop 57 bytes)) ≡ bytes ++ replicate further 0)
 data_written cid cmd bytes short =
@@ -187,7 +187,7 @@ length-written cid cmd count bytes short some least =
     let same = one_least _ _ _ (least_continuations cid bytes short) least in
     omega arith
 
--- one continuation packet for each 59 bytes behind the first 57, rounded up
+-- one continuation packet for each 59 bytes after the first 57, rounded up
 pub least-rounded_up : (len : ℕ) → IsLeast (1 + (len + 1) / 59 - 1) len
 least-rounded_up len = elim (cases_lt len 58) [ inl one ↦ inl (omega arith, omega arith) | inr more ↦ inr (omega arith, omega arith) ]
 

@@ -1,4 +1,4 @@
--- What is written behind the bytes that wait in a ring, and what is read at their front.
+-- What is written after the bytes that wait in a ring, and what is read at their front.
 use Rattle.std.proofs.Common.{◌≡◌, ℕ, ◌+◌, ◌-◌, ◌%◌, ◌<◌, ◌≤◌, ◌⊎◌, List, ◌++◌, length, get_or, take, drop, min, refl, sym, ap, ◌∙◌, inl, inr, arith, length-append, length-drop, length-take-le, get_or-drop, get_or-take}
 use native.Mathlib.Nat.{mod-add-mod}
 use Rattle.std.proofs.lemmas.List.{same_lists, get_or_append_left, get_or-append_right}
@@ -99,7 +99,7 @@ module _ (size first n m e : ℕ) (xs ys : List ℕ) (in_range : first < size) (
         ]
       ])
 
-  -- bytes that are written behind those that wait, around the end, wait behind them
+  -- bytes that are written after those that wait, around the end, wait after them
   pub window-put : window first (n + length ys) filled ≡ window first n xs ++ ys
   window-put =
       let e_below : e < size = elim end_at [ inl low ↦ omega (arith, low.0, low.1) | inr high ↦ omega (arith, high.0, high.1) ] in

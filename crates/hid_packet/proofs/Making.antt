@@ -10,7 +10,7 @@ use Rattle.hid_packet.specs.declared.fragments.Due.{Due}
 use Rattle.hid_packet.specs.declared.fragments.Due.TheVariants.{Initialization, Continuation}
 use Rattle.hid_packet.proofs.Writing.{filled, first_taken, next_taken}
 
--- bytes that are written behind a header in what is left of 64 zeros
+-- bytes that are written after a header in what is left of 64 zeros
 pub placed : (header out bytes packet : List ℕ) (h n : ℕ) → length header ≡ h → length bytes ≡ n → out ≡ header ++ drop h (replicate 64 0)
     → packet ≡ take h out ++ (bytes ++ drop (h + n) out) → packet ≡ padded (header ++ bytes)
 placed header out bytes packet h n hs ns o p =

@@ -1,4 +1,4 @@
--- No packets but the written ones carry their message with zeros behind it.
+-- No packets but the written ones carry their message with zeros after it.
 use Rattle.std.proofs.Common.{◌≡◌, ℕ, ◌+◌, ◌-◌, ◌*◌, ◌<◌, ◌≤◌, true, List, [], ◌∷◌, ◌++◌, length, take, drop, replicate, flat_map, get_or, sym, ◌∙◌, ap, ap₂, arith, inl, inr, length-append, length-drop}
 use Rattle.std.proofs.lemmas.Bool.Decides.{nat_tests}
 use Rattle.std.proofs.lemmas.List.{take-append-drop, take_all, length-take, length-replicate, drop_more, drop-drop, take_at, drop_at}
@@ -11,7 +11,7 @@ use Rattle.hid_packet.proofs.Bytes.{bytes_of_number, bytes-drop}
 use Rattle.hid_packet.proofs.Writing.{one_continuation, no_continuation}
 use Rattle.hid_packet.proofs.Carrying.{fill_up}
 
--- A packet is its fields, one behind the other.
+-- A packet is its fields, one after the other.
 module _ (packet : List ℕ) (whole : IsPacket packet) where
   split_header : packet ≡ big_bytes 4 (channel packet) ++ get_or packet 4 0 ∷ drop 5 packet
   unfolding channel
@@ -45,7 +45,7 @@ module _ (packet : List ℕ) (whole : IsPacket packet) where
   unfolding continuation_data
   length-continuation_data = omega (arith, length-take 59 (drop 5 packet), length-drop 5 packet)
 
-  -- With zeros behind its part of a message, it is the packet that is written for the part.
+  -- With zeros after its part of a message, it is the packet that is written for the part.
   only_initialization : (part : List ℕ) → is_initialization packet ≡ true → initialization_data packet ≡ part ++ replicate (57 - length part) 0
       → packet ≡ initialization_packet (channel packet) (command packet) (message_length packet) part
   unfolding initialization_packet padded
@@ -62,7 +62,7 @@ module _ (packet : List ℕ) (whole : IsPacket packet) where
       let zeros : 59 - length part ≡ 64 - length (front ++ part) = omega arith in
       split_continuation ∙ ap (λ d. front ++ d) (is ∙ ap (λ k. part ++ replicate k 0) zeros)
 
--- The data of one packet, in front of other data: together they are bytes, and zeros behind them.
+-- The data of one packet, in front of other data: together they are bytes, and zeros after them.
 module _ (k n : ℕ) (front back bytes : List ℕ) (full : length front ≡ k) (e : front ++ back ≡ bytes ++ replicate n 0) where
   zeros_left : ℕ
   zeros_left = n - (k - length (take k bytes))

@@ -3,7 +3,7 @@ use Rattle.std.proofs.Common.{◌≡◌, ℕ, ◌-◌, List, [], ◌∷◌, ◌+
 use Rattle.hid_packet.specs.Packet.{Fields, initialization, continuation, fields, channel, is_initialization, command, message_length, initialization_data, sequence, continuation_data}
 use Rattle.hid_packet.specs.Message.{written, initialization_packet, continuation_packet, continuation_packets, padded}
 
--- x, and zeros behind it
+-- x, and zeros after it
 abbrev pad : List ℕ → List ℕ
 pad x = x ++ replicate (64 - length x) 0
 

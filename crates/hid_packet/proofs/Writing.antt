@@ -27,7 +27,7 @@ no_continuation zero cid number bytes none = refl
 no_continuation (suc most) cid number [] none = refl
 no_continuation (suc most) cid number (b ∷ bytes) none = absurd (omega arith)
 
--- What is left of a message behind its initialization packet.
+-- What is left of a message after its initialization packet.
 pub first_taken : (cid cmd n : ℕ) (due : Due) (rest front back packet : List ℕ) (now : List (List ℕ))
     → packets_left cid due rest ≡ now → due ≡ Initialization cmd → n ≡ min 57 (length rest) → front ≡ take n rest → back ≡ drop n rest
     → packet ≡ initialization_packet cid cmd (length rest) front → now ≡ packet ∷ continuation_packets 128 cid 0 back
@@ -38,7 +38,7 @@ first_taken cid cmd n due rest front back packet now left is least f b p =
     sym left ∙ ap (λ d. packets_left cid d rest) is
     ∙ sym (ap₂ (λ q (r : List ℕ). q ∷ continuation_packets 128 cid 0 r) (p ∙ ap (λ x. initialization_packet cid cmd (length rest) x) few) more)
 
--- What is left of a message behind a continuation packet.
+-- What is left of a message after a continuation packet.
 pub next_taken : (cid number n : ℕ) (due : Due) (rest front back packet : List ℕ) (now : List (List ℕ))
     → packets_left cid due rest ≡ now → due ≡ Continuation number → CanCarry due rest → 0 < length rest
     → n ≡ min 59 (length rest) → front ≡ take n rest → back ≡ drop n rest

@@ -14,11 +14,11 @@ Continue cid number (packet ∷ packets) =
 abbrev pub IsLeast : (count len : ℕ) → Type 0
 IsLeast count len = ((len ≤ INITIALIZATION_DATA) × (count ≡ 0)) ⊎ ((len ≤ data_room count) × (data_room count < len + CONTINUATION_DATA))
 
--- the data of an initialization packet and of the continuation packets behind it, joined
+-- the data of an initialization packet and of the continuation packets after it, joined
 abbrev pub joined : List ℕ → List (List ℕ) → List ℕ
 joined first others = initialization_data first ++ flat_map continuation_data others
 
--- An initialization packet and the packets behind it carry a message: the first names the channel, the command and the
+-- An initialization packet and the packets after it carry a message: the first names the channel, the command and the
 -- length, the others continue it, they are as few as can be, and the bytes are the beginning of the joined data.
 pub record Carries (first : List ℕ) (others : List (List ℕ)) (cid cmd : ℕ) (bytes : List ℕ) : Type 0 where
   pub short : length bytes ≤ LONGEST_MESSAGE

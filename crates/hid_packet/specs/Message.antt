@@ -3,15 +3,15 @@ use Rattle.std.specs.Prelude.{ℕ, ◌+◌, ◌-◌, List, [], ◌∷◌, zero, 
 use Rattle.byteorder.specs.Endian.{big_bytes}
 use Rattle.hid_packet.specs.declared.limit.TheConstants.{CONTINUATION_DATA, INITIALIZATION_DATA}
 
--- the bytes, and zero bytes behind them up to 64
+-- the bytes, and zero bytes after them up to 64
 unfoldable pub padded : List ℕ → List ℕ
 padded bytes = bytes ++ replicate (64 - length bytes) 0
 
--- the initialization packet of a message of `len` bytes, with these data bytes and zeros behind them
+-- the initialization packet of a message of `len` bytes, with these data bytes and zeros after them
 unfoldable pub initialization_packet : ℕ → ℕ → ℕ → List ℕ → List ℕ
 initialization_packet cid cmd len part = padded (big_bytes 4 cid ++ (cmd + 128) ∷ [] ++ big_bytes 2 len ++ part)
 
--- a continuation packet with this sequence number and these data bytes, and zeros behind them
+-- a continuation packet with this sequence number and these data bytes, and zeros after them
 unfoldable pub continuation_packet : ℕ → ℕ → List ℕ → List ℕ
 continuation_packet cid number part = padded (big_bytes 4 cid ++ number ∷ [] ++ part)
 

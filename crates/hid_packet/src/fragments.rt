@@ -18,7 +18,7 @@ pub fn packets_for(len: u16) -> u16
     ensures least { IsLeast (result - 1) len }
     ensures written { (cid cmd : ℕ) (bytes : List ℕ) → length bytes ≡ len → length (written cid cmd bytes) ≡ result }
 {
-    // Rounded up: one continuation packet for each 59 bytes behind the first 57.
+    // Rounded up: one continuation packet for each 59 bytes after the first 57.
     1 + (len + 1) / 59
 }
 
@@ -57,7 +57,7 @@ pub(crate) fn put_continuation(out: &mut [u8], cid: u32, number: u8, part: &[u8]
     put_front(&mut out[5..], part);
 }
 
-/// The initialization packet with these data bytes, and zeros behind them.
+/// The initialization packet with these data bytes, and zeros after them.
 fn initialization(cid: u32, cmd: u8, len: u16, part: &[u8]) -> Packet
     requires command { cmd < 128 }
     requires fits { length part.now ≤ INITIALIZATION_DATA }
@@ -68,7 +68,7 @@ fn initialization(cid: u32, cmd: u8, len: u16, part: &[u8]) -> Packet
     Packet(packet)
 }
 
-/// The continuation packet with these data bytes, and zeros behind them.
+/// The continuation packet with these data bytes, and zeros after them.
 fn continuation(cid: u32, number: u8, part: &[u8]) -> Packet
     requires { length part.now ≤ CONTINUATION_DATA }
     ensures { result.0 ≡ continuation_packet cid number part.now }
@@ -87,7 +87,7 @@ pub(crate) enum Due {
     Continuation(u8),
 }
 
-/// The packets of a message, in order, as an iterator. Each packet's bytes behind the message are
+/// The packets of a message, in order, as an iterator. Each packet's bytes after the message are
 /// zero.
 #[derive(Drop)]
 pub struct Fragments<'a> {

@@ -20,13 +20,13 @@ pub fn written_packets_are_the_fewest()
     ensures one { (a b len : ℕ) → IsLeast a len → IsLeast b len → a ≡ b }
 {}
 
-/// They are packets of 64 bytes, and their data bytes behind the message are zero.
+/// They are packets of 64 bytes, and their data bytes after the message are zero.
 pub fn written_packets_end_in_zeros()
     ensures packets { (cid cmd : ℕ) (bytes : List ℕ) → cmd < 128 → AreBytes bytes → ArePackets (written cid cmd bytes) }
     ensures zeros { (cid cmd : ℕ) (bytes : List ℕ) → length bytes ≤ LONGEST_MESSAGE → FurtherDataIsZero bytes (written cid cmd bytes) }
 {}
 
-/// No other packets of 64 bytes carry the message with zeros behind it.
+/// No other packets of 64 bytes carry the message with zeros after it.
 pub fn written_packets_are_the_only_ones()
     ensures { (packets : List (List ℕ)) (cid cmd : ℕ) (bytes : List ℕ)
         → CarriesMessage packets cid cmd bytes → ArePackets packets → FurtherDataIsZero bytes packets

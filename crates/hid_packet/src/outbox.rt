@@ -119,7 +119,7 @@ impl Outbox {
         }
     }
 
-    /// Puts a packet behind those that wait.
+    /// Puts a packet after those that wait.
     pub fn put_packet(&mut self, packet: Packet)
         requires { length self.old < OUTBOX_CAPACITY }
         ensures { self.new ≡ self.old ++ packet.0 ∷ [] }
@@ -129,8 +129,8 @@ impl Outbox {
         self.len += 1;
     }
 
-    /// Puts the packets of the message `bytes`, with the command `cmd` on the channel `cid`, behind
-    /// those that wait. Bytes behind the message are zero.
+    /// Puts the packets of the message `bytes`, with the command `cmd` on the channel `cid`, after
+    /// those that wait. Bytes after the message are zero.
     pub fn put_message(&mut self, cid: u32, cmd: u8, bytes: &[u8])
         requires short { length bytes.now ≤ LONGEST_MESSAGE }
         requires command { cmd < 128 }

@@ -40,7 +40,7 @@ pub enum View<'a> {
 }
 
 impl Packet {
-    /// Reads the packet's fields. Every 64 bytes have them: bit 7 of byte 4 tells an initialization
+    /// Reads the packet's fields. Every 64 bytes have them: bit 7 of byte 4 marks an initialization
     /// packet from a continuation packet.
     #[tactic(auto, unfolding(crate::specs::Packet::channel, crate::specs::Packet::is_initialization, crate::specs::Packet::command, crate::specs::Packet::message_length, crate::specs::Packet::initialization_data, crate::specs::Packet::sequence, crate::specs::Packet::continuation_data))]
     pub fn view(&self) -> View<'_>

@@ -83,7 +83,7 @@ impl Ring {
         }
     }
 
-    /// Puts bytes behind those that wait.
+    /// Puts bytes after those that wait.
     pub(crate) fn put(&mut self, bytes: &[u8])
         requires { length self.old + length bytes.now ≤ 8320 }
         ensures { self.new ≡ self.old ++ bytes.now }

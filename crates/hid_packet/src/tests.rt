@@ -4,7 +4,7 @@ use crate::laws::written_packets_are_the_fewest;
 use crate::{Fragments, OUTBOX_CAPACITY, Outbox, Packet, View, packets_for};
 use std::test::Fail;
 
-/// The bytes, and zeros behind them.
+/// The bytes, and zeros after them.
 fn pad(bytes: &[u8]) -> Packet {
     let mut packet = [0; 64];
     for (slot, byte) in packet.iter_mut().zip(bytes) {

@@ -6,7 +6,7 @@ use session_log::{SliceIn, SliceOut, put_all};
 use std::str;
 use std::test::Fail;
 
-/// The status of the program on these words and this log, and whether its output and what it told are these.
+/// The status of the program on these words and this log, and whether its output and its faults are these.
 fn answer<'a>(
     rt: &HostRuntime,
     words: &'a [&'a str],

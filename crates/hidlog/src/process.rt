@@ -8,7 +8,7 @@ use std::env;
 use std::io::{self, ErrorKind};
 use std::rt::Env;
 
-/// Gives a text to the faults. One that can't be written is let go.
+/// Gives a text to the faults. One that can't be written is dropped.
 pub fn tell<E: Target>(faults: &mut E, text: &[u8])
     requires { E.failed faults.old < 2 ^ 64 - 1 }
     ensures { IsGiven E.taken E.failed (faults.old, faults.new) text.now }
@@ -16,7 +16,7 @@ pub fn tell<E: Target>(faults: &mut E, text: &[u8])
     let _ = put_all(faults, text);
 }
 
-/// Tells that memory is wanting. The exit status, 2.
+/// Writes that memory was refused. The exit status, 2.
 pub fn no_memory<E: Target>(faults: &mut E) -> u8
     requires { E.failed faults.old < 2 ^ 64 - 1 }
     ensures status { result ≡ 2 }
@@ -39,8 +39,8 @@ fn arguments<R: Env + AllocGlobal>(rt: &R) -> io::Result<Vec<String>> {
     Ok(env::args(rt)?.collect(rt.alloc())?)
 }
 
-/// The program's arguments, the first of them its name. Where one isn't UTF-8, or memory is wanting, that
-/// is told, and an error holds the exit status, 2.
+/// The program's arguments, the first of them its name. Where one isn't UTF-8, or memory is refused, that
+/// is written, and an error holds the exit status, 2.
 pub fn words_of<R: Env + AllocGlobal, E: Target>(rt: &R, faults: &mut E) -> Result<Vec<String>, u8>
     requires { E.failed faults.old < 2 ^ 64 - 1 }
     ensures silent { OnOk result (faults.new ≡ faults.old) }

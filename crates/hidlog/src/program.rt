@@ -170,7 +170,7 @@ where
 }
 
 /// Runs the program on these words, the first of them being its own name. An error holds the exit status: 1
-/// for a fault of the log, 2 for words that are no command, for a snapshot's file, and for want of memory
+/// for a fault of the log, 2 for words that are no command, for a snapshot's file, and for refused memory
 /// outside the log. Its text was given to `faults`, if that could be.
 pub fn run<'a, D, S, O, E>(
     files: &mut D,

@@ -111,7 +111,7 @@ fn sign_in(alloc: Global, replies: &str) -> Result<Vec<u8>, AllocError> {
 }
 
 /// The status of the program on these words and this log, whether its output has this text, and whether this
-/// is what it told.
+/// is what it wrote to the faults.
 fn status_of<'a>(
     alloc: Global,
     files: &mut Memory,
@@ -142,7 +142,7 @@ fn status_of<'a>(
 fn credentials_are_kept_between_runs(rt: HostRuntime) -> Result<(), Fail> {
     let alloc = rt.alloc();
     let words = ["hidlog", "replay", "--load", "old", "--save", "new"];
-    // A counter that is spent: no presence is asked for. A file of version 1 comes to be one of version 2.
+    // A counter that is spent: no presence is asked for. A file of version 1 becomes one of version 2.
     let mut files = holding(alloc, snapshot(alloc, 1, 1, 0xA7, b"\x1A\xFF\xFF\xFF\xFF")?);
     assert_eq!(rt; files.old.len(), 157);
     let log = sign_in(alloc, "")?;

@@ -1,7 +1,7 @@
 //! The session's start from a snapshot, and the snapshot of its end.
 ghost use Rattle.std.specs.Prelude.{◌≡◌, ◌<◌, ◌-◌, ◌^◌, [], List, Some, IfOk, IfErr, OnOk, OnErr};
 ghost use Rattle.cred_table.specs.declared.row.Row.{Row as AnyRow};
-ghost use Rattle.token_session.specs.Meters.{StandsBehind};
+ghost use Rattle.token_session.specs.Meters.{StandsAfter};
 ghost use Rattle.hidlog.specs.CommandLine.{path_of};
 ghost use Rattle.hidlog.specs.Program.{refused};
 ghost use Rattle.hidlog.specs.Saved.{FailsToOpen, Opens, Saves, start_with};
@@ -27,7 +27,7 @@ fn refusal(fault: SnapshotFault) -> &'static [u8]
     }
 }
 
-/// The rows of the snapshot at the path. Where it can't be read, or is refused, that is told, and an error holds
+/// The rows of the snapshot at the path. Where it can't be read, or is refused, that is written, and an error holds
 /// the exit status, 2.
 fn loaded<D: Files, E: Target>(files: &D, path: &str, faults: &mut E) -> Result<Store<CAPACITY>, u8>
     requires { E.failed faults.old < 2 ^ 64 - 1 }
@@ -56,7 +56,7 @@ fn loaded<D: Files, E: Target>(files: &D, path: &str, faults: &mut E) -> Result<
 
 /// The program's session at its start, with these credentials: its AAGUID is zero, and its moment 0.
 fn session_with(rows: Store<CAPACITY>) -> Session<CAPACITY>
-    ensures { StandsBehind result (start_with (⟦<Store<CAPACITY> as Table<CAPACITY>>⟧.rows rows)) [] }
+    ensures { StandsAfter result (start_with (⟦<Store<CAPACITY> as Table<CAPACITY>>⟧.rows rows)) [] }
 {
     Session::new(Config { aaguid: [0; 16] }, rows, 0)
 }
@@ -69,7 +69,7 @@ pub fn started<D: Files, E: Target>(
     faults: &mut E,
 ) -> Result<Session<CAPACITY>, u8>
     requires { E.failed faults.old < 2 ^ 64 - 1 }
-    ensures begins { IfOk result (λ session. (rows : List AnyRow) × Opens D.holds files.now (path_of path.entry) rows × StandsBehind session (start_with rows) []) }
+    ensures begins { IfOk result (λ session. (rows : List AnyRow) × Opens D.holds files.now (path_of path.entry) rows × StandsAfter session (start_with rows) []) }
     ensures silent { OnOk result (faults.new ≡ faults.old) }
     ensures status { IfErr result (λ code. code ≡ 2) }
     ensures told { OnErr result (FailsToOpen D.holds D.unreadable files.now (path_of path.entry) E.taken E.failed (faults.old, faults.new)) }
@@ -80,7 +80,7 @@ pub fn started<D: Files, E: Target>(
     }
 }
 
-/// Writes a snapshot of the session's credentials to the path. Where it can't be written, that is told, and an
+/// Writes a snapshot of the session's credentials to the path. Where it can't be written, that is reported, and an
 /// error holds the exit status, 2.
 pub fn save_rows<D: Files, E: Target>(
     files: &mut D,

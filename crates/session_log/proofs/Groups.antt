@@ -6,7 +6,7 @@ use Rattle.token_session.specs.declared.input.Timed.{Timed}
 use Rattle.session_log.specs.declared.fault.LogFault.{LogFault}
 use Rattle.session_log.specs.declared.fault.LogFault.TheVariants.{TooLong, Differs, TooManyLines}
 use Rattle.session_log.specs.declared.line.Line.{Line}
-use Rattle.session_log.specs.declared.line.Line.TheVariants.{Input, Sent, Remark, Count}
+use Rattle.session_log.specs.declared.line.Line.TheVariants.{Input, Sent, Comment, Count}
 use Rattle.session_log.specs.Check.{Compared, begun, difference, missing_of, differs_from, after_first, checking}
 use Rattle.session_log.specs.Groups.{Groups, with_first, grouped, found_groups, sent_groups, number_by, input_lines, DifferFirst, IsFirstDifference}
 use Rattle.session_log.specs.Inputs.{inputs, inputs_by}
@@ -72,7 +72,7 @@ none_differs (p ∷ due) packet f h = go (pointwise ◌==◌ p packet) refl h
 line_groups : {S : Type 0} (course : Course S) (n : ℕ) (c : Compared S) (l : Option Line) (groups : Groups) (xs : List Timed) → fault_by (checking course) n c l ≡ None
     → groups ≡ (after_by (checking course) c l).due ∷ sent_groups course (after_by (checking course) c l).session xs → grouped l groups ≡ c.due ∷ sent_groups course c.session (inputs_by l ++ xs)
 line_groups course n c None groups xs own h = cc
-line_groups course n c (Some Remark) groups xs own h = h
+line_groups course n c (Some Comment) groups xs own h = h
 line_groups course n c (Some Count) groups xs own h = h
 line_groups course n c (Some (Input x)) groups xs own h =
     ap (λ (gs : Groups). [] ∷ gs) h ∙ ap (λ (due : List (List ℕ)). due ∷ sent_groups course c.session (x ∷ xs)) (sym (none_missing c.due (difference c) own))
@@ -105,7 +105,7 @@ CountsOn c d xs groups = (d.inputs ≡ c.inputs + length xs) × (d.packets ≡ c
 line_counts : {S : Type 0} (course : Course S) (n : ℕ) (c d : Compared S) (l : Option Line) (groups : Groups) (xs : List Timed) → fault_by (checking course) n c l ≡ None
     → CountsOn (after_by (checking course) c l) d xs groups → CountsOn c d (inputs_by l ++ xs) (grouped l groups)
 line_counts course n c d None groups xs own h = cc
-line_counts course n c d (Some Remark) groups xs own h = h
+line_counts course n c d (Some Comment) groups xs own h = h
 line_counts course n c d (Some Count) groups xs own h = h
 line_counts course n c d (Some (Input x)) groups xs own h = (omega (arith, h.0), omega (arith, h.1))
 line_counts course n c d (Some (Sent p)) groups xs own h = (h.0, omega (arith, h.1, with_one_more p.0 groups))
@@ -243,7 +243,7 @@ some_group (line ∷ rest) = go (said line) (some_group rest)
   where
     go : (l : Option Line) → ((group : List (List ℕ)) × (more : Groups) × (found_groups rest ≡ group ∷ more)) → (group : List (List ℕ)) × (more : Groups) × (grouped l (found_groups rest) ≡ group ∷ more)
     go None s = s
-    go (Some Remark) s = s
+    go (Some Comment) s = s
     go (Some Count) s = s
     go (Some (Input x)) s = ([], found_groups rest, refl)
     go (Some (Sent p)) s = (p.0 ∷ s.0, s.1, ap (with_first p.0) s.2)
@@ -282,7 +282,7 @@ packet_differs (p ∷ due) q group input seen line packet h = go (pointwise ◌=
 here_differs : {S : Type 0} (course : Course S) (n : ℕ) (c : Compared S) (l : Option Line) (rest : List (List ℕ)) (xs : List Timed) (others : List ℕ) (line packet : ℕ) → fault_by (checking course) n c l ≡ Some (Differs line packet)
     → Differing c.found (grouped l (found_groups rest)) (c.due ∷ sent_groups course c.session (inputs_by l ++ xs)) (c.input ∷ others) line packet
 here_differs course n c None rest xs others line packet h = cc
-here_differs course n c (Some Remark) rest xs others line packet h = cc
+here_differs course n c (Some Comment) rest xs others line packet h = cc
 here_differs course n c (Some Count) rest xs others line packet h = cc
 here_differs course n c (Some (Input x)) rest xs others line packet h =
     let d = missing_differs c.due c.input c.found line packet h in
@@ -297,7 +297,7 @@ later_differs : {S : Type 0} (course : Course S) (n : ℕ) (c : Compared S) (l :
     → Differing (after_by (checking course) c l).found groups ((after_by (checking course) c l).due ∷ sent_groups course (after_by (checking course) c l).session xs) ((after_by (checking course) c l).input ∷ others) line packet
     → Differing c.found (grouped l groups) (c.due ∷ sent_groups course c.session (inputs_by l ++ xs)) (c.input ∷ number_by n l ++ others) line packet
 later_differs course n c None groups xs others line packet at own d = cc
-later_differs course n c (Some Remark) groups xs others line packet at own d = d
+later_differs course n c (Some Comment) groups xs others line packet at own d = d
 later_differs course n c (Some Count) groups xs others line packet at own d = d
 later_differs course n c (Some (Input x)) groups xs others line packet at own d =
     let sent = sent_groups course c.session (x ∷ xs) in
@@ -310,7 +310,7 @@ later_differs course n c (Some (Sent p)) groups xs others line packet at own d =
 
 lines_after : {S : Type 0} (course : Course S) (n : ℕ) (c : Compared S) (l : Option Line) → fault_by (checking course) n c l ≡ None → (after_by (checking course) c l).lines ≡ c.lines + 1
 lines_after course n c None own = cc
-lines_after course n c (Some Remark) own = refl
+lines_after course n c (Some Comment) own = refl
 lines_after course n c (Some Count) own = refl
 lines_after course n c (Some (Input x)) own = refl
 lines_after course n c (Some (Sent p)) own = refl

@@ -1,16 +1,16 @@
--- A session behind a history sends and counts what the history names.
+-- A session after a history sends and counts what the history names.
 use Rattle.std.proofs.Common.{◌≡◌, ℕ, Bool, cond, List, [], ◌∷◌, ◌++◌, flat_map, Option, Result, refl, sym, ap, ◌∙◌, subst}
 use Rattle.authn_core.specs.Turn.{Start}
 use Rattle.token_session.specs.declared.input.Timed.{Timed}
 use Rattle.token_session.specs.declared.input.Meters.{Meters}
 use Rattle.token_session.specs.History.{judged}
-use Rattle.token_session.specs.Meters.{SessionState, StandsBehind, session_of}
+use Rattle.token_session.specs.Meters.{SessionState, StandsAfter, session_of}
 use Rattle.token_session.proofs.Metering.{stands_longer, machine_behind}
 use Rattle.token_session.proofs.Noise.{noise_is_named}
 use Rattle.token_session.proofs.Runs.{step_sends}
 use Rattle.session_log.specs.declared.fault.LogFault.{LogFault}
 use Rattle.session_log.specs.declared.line.Line.{Line}
-use Rattle.session_log.specs.declared.line.Line.TheVariants.{Input, Sent, Remark, Count}
+use Rattle.session_log.specs.declared.line.Line.TheVariants.{Input, Sent, Comment, Count}
 use Rattle.session_log.specs.Check.{Compared, begun, difference, missing, differs_from, stops_compared, moves_compared, check_machine, check_history}
 use Rattle.session_log.specs.Ending.{Ending}
 use Rattle.session_log.specs.Replay.{Logs, Makes}
@@ -22,23 +22,23 @@ use Rattle.session_log.specs.Text.{ended, sent_text, tick_text, meters_line}
 use Rattle.session_log.specs.World.{World, moves_input, writes_again}
 use Rattle.session_log.proofs.Worlds.{Follows, makes_alike, logs_alike}
 
-counted : (s : SessionState) (start : Start) (h : List Timed) → StandsBehind s start h → s.meters ≡ (history start).counts h
+counted : (s : SessionState) (start : Start) (h : List Timed) → StandsAfter s start h → s.meters ≡ (history start).counts h
 unfolding session_of
 counted s start h r = ap (λ (z : SessionState). z.meters) r
 
-moved : (start : Start) (s : SessionState) (h : List Timed) (l : Line) → StandsBehind s start h → StandsBehind (moves_input sessions s l) start (moves_input (histories start) h l)
+moved : (start : Start) (s : SessionState) (h : List Timed) (l : Line) → StandsAfter s start h → StandsAfter (moves_input sessions s l) start (moves_input (histories start) h l)
 moved start s h (Input timed) r = stands_longer s start h timed r
 moved start s h (Sent packet) r = r
-moved start s h Remark r = r
+moved start s h Comment r = r
 moved start s h Count r = r
 
-wrote : (start : Start) (s : SessionState) (h : List Timed) (line : List ℕ) (l : Line) → StandsBehind s start h → writes_again sessions s line l ≡ writes_again (histories start) h line l
+wrote : (start : Start) (s : SessionState) (h : List Timed) (line : List ℕ) (l : Line) → StandsAfter s start h → writes_again sessions s line l ≡ writes_again (histories start) h line l
 wrote start s h line (Input timed) r = ap (λ (ps : List (List ℕ)). ended line ++ flat_map sent_text ps) (step_sends s.machine start h timed (machine_behind s start h r))
 wrote start s h line (Sent packet) r = refl
-wrote start s h line Remark r = refl
+wrote start s h line Comment r = refl
 wrote start s h line Count r = refl
 
-follows : (start : Start) → Follows machine (history start) (λ s h. StandsBehind s start h)
+follows : (start : Start) → Follows machine (history start) (λ s h. StandsAfter s start h)
 follows start = record {
   stops = λ s h l r. refl;
   moves = λ s h l r. moved start s h l r;
@@ -48,22 +48,22 @@ follows start = record {
   counts = λ s h r. counted s start h r;
 }
 
--- what an answer means of a session, it means of each history that the session stands behind
+-- what an answer means of a session, it means of each history that the session stands after
 pub replays_history : (left left' taken taken' : Option (List ℕ)) (s t : SessionState) (r : Result Meters LogFault) → Moves left left' taken taken' (λ bytes text. Logs machine s t bytes text r)
-    → (start : Start) (h : List Timed) → StandsBehind s start h → (later : List Timed) × StandsBehind t start later × Moves left left' taken taken' (λ bytes text. Logs (history start) h later bytes text r)
+    → (start : Start) (h : List Timed) → StandsAfter s start h → (later : List Timed) × StandsAfter t start later × Moves left left' taken taken' (λ bytes text. Logs (history start) h later bytes text r)
 replays_history left left' taken taken' s t r m start h stands =
-    let found = logs_alike machine (history start) (λ s h. StandsBehind s start h) (follows start) s t h stands m.0 m.1 r m.4 in
+    let found = logs_alike machine (history start) (λ s h. StandsAfter s start h) (follows start) s t h stands m.0 m.1 r m.4 in
     (found.0, found.1, (m.0, m.1, m.2, m.3, found.2))
 
 -- Made quiet.
 
-noised : (start : Start) (s : SessionState) (h : List Timed) (line : List ℕ) (l : Line) → StandsBehind s start h → quiet_machine.writes s line l ≡ (quiet_history start).writes h line l
+noised : (start : Start) (s : SessionState) (h : List Timed) (line : List ℕ) (l : Line) → StandsAfter s start h → quiet_machine.writes s line l ≡ (quiet_history start).writes h line l
 noised start s h line (Input timed) r = ap (λ (b : Bool). ended (cond b (tick_text timed.at) line)) (noise_is_named s.machine start h timed (machine_behind s start h r))
 noised start s h line (Sent packet) r = refl
-noised start s h line Remark r = refl
+noised start s h line Comment r = refl
 noised start s h line Count r = refl
 
-quiet_follows : (start : Start) → Follows quiet_machine (quiet_history start) (λ s h. StandsBehind s start h)
+quiet_follows : (start : Start) → Follows quiet_machine (quiet_history start) (λ s h. StandsAfter s start h)
 quiet_follows start = record {
   stops = λ s h l r. refl;
   moves = λ s h l r. moved start s h l r;
@@ -75,20 +75,20 @@ quiet_follows start = record {
 
 -- With what is needed.
 
-needed_behind : (start : Start) (s : SessionState) (h : List Timed) → StandsBehind s start h → session_needs s ≡ history_needs start h
+needed_behind : (start : Start) (s : SessionState) (h : List Timed) → StandsAfter s start h → session_needs s ≡ history_needs start h
 unfolding session_of named
 needed_behind start s h r = ap session_needs r
 
-told : (start : Start) (s : SessionState) (h : List Timed) (line : List ℕ) (l : Line) → StandsBehind s start h → live_machine.writes s line l ≡ (live_history start).writes h line l
+told : (start : Start) (s : SessionState) (h : List Timed) (line : List ℕ) (l : Line) → StandsAfter s start h → live_machine.writes s line l ≡ (live_history start).writes h line l
 told start s h line (Input timed) r =
     let sends = step_sends s.machine start h timed (machine_behind s start h r) in
     let needs = needed_behind start (sessions.turned s timed) (timed ∷ h) (stands_longer s start h timed r) in
     λ i. ended line ++ flat_map sent_text (sends i) ++ flat_map ended (need_lines (needs i))
 told start s h line (Sent packet) r = refl
-told start s h line Remark r = refl
+told start s h line Comment r = refl
 told start s h line Count r = refl
 
-live_follows : (start : Start) → Follows live_machine (live_history start) (λ s h. StandsBehind s start h)
+live_follows : (start : Start) → Follows live_machine (live_history start) (λ s h. StandsAfter s start h)
 live_follows start = record {
   stops = λ s h l r. refl;
   moves = λ s h l r. moved start s h l r;
@@ -99,9 +99,9 @@ live_follows start = record {
 }
 
 pub lives_history : (left left' taken taken' : Option (List ℕ)) (s t : SessionState) (r : Result Meters LogFault) → Moves left left' taken taken' (λ bytes text. Logs live_machine s t bytes text r)
-    → (start : Start) (h : List Timed) → StandsBehind s start h → (later : List Timed) × StandsBehind t start later × Moves left left' taken taken' (λ bytes text. Logs (live_history start) h later bytes text r)
+    → (start : Start) (h : List Timed) → StandsAfter s start h → (later : List Timed) × StandsAfter t start later × Moves left left' taken taken' (λ bytes text. Logs (live_history start) h later bytes text r)
 lives_history left left' taken taken' s t r m start h stands =
-    let found = logs_alike live_machine (live_history start) (λ s h. StandsBehind s start h) (live_follows start) s t h stands m.0 m.1 r m.4 in
+    let found = logs_alike live_machine (live_history start) (λ s h. StandsAfter s start h) (live_follows start) s t h stands m.0 m.1 r m.4 in
     (found.0, found.1, (m.0, m.1, m.2, m.3, found.2))
 
 -- what an ending means in one world, it means in the other
@@ -111,9 +111,9 @@ makes_there v w R f left left' taken taken' s t b r ending m =
     let found = makes_alike v w R f s t b r m.0 m.1 ending m.4 in (found.0, found.1, (m.0, m.1, m.2, m.3, found.2))
 
 pub quiets_history : (left left' taken taken' : Option (List ℕ)) (s t : SessionState) (ending : Ending) → Moves left left' taken taken' (λ bytes text. Makes quiet_machine s t bytes text ending)
-    → (start : Start) (h : List Timed) → StandsBehind s start h → (later : List Timed) × StandsBehind t start later × Moves left left' taken taken' (λ bytes text. Makes (quiet_history start) h later bytes text ending)
+    → (start : Start) (h : List Timed) → StandsAfter s start h → (later : List Timed) × StandsAfter t start later × Moves left left' taken taken' (λ bytes text. Makes (quiet_history start) h later bytes text ending)
 quiets_history left left' taken taken' s t ending m start h stands =
-    makes_there quiet_machine (quiet_history start) (λ s h. StandsBehind s start h) (quiet_follows start) left left' taken taken' s t h stands ending m
+    makes_there quiet_machine (quiet_history start) (λ s h. StandsAfter s start h) (quiet_follows start) left left' taken taken' s t h stands ending m
 
 -- Compared.
 
@@ -122,12 +122,12 @@ abbrev onto_history : List Timed → Compared SessionState → Compared (List Ti
 onto_history h c = record { session = h; lines = c.lines; input = c.input; found = c.found; due = c.due; inputs = c.inputs; packets = c.packets }
 
 abbrev IsBeside : Start → Compared SessionState → Compared (List Timed) → Type 0
-IsBeside start c d = StandsBehind c.session start d.session × (d ≡ onto_history d.session c)
+IsBeside start c d = StandsAfter c.session start d.session × (d ≡ onto_history d.session c)
 
 same_stops : (start : Start) (c : Compared SessionState) (d : Compared (List Timed)) (l : Line) → IsBeside start c d → stops_compared c l ≡ stops_compared d l
 same_stops start c d (Input timed) r = sym (ap missing r.1)
 same_stops start c d (Sent packet) r = sym (ap (λ (z : Compared (List Timed)). differs_from z.due packet.0 (difference z)) r.1)
-same_stops start c d Remark r = refl
+same_stops start c d Comment r = refl
 same_stops start c d Count r = refl
 
 same_moves : (start : Start) (c : Compared SessionState) (d : Compared (List Timed)) (l : Line) → IsBeside start c d → IsBeside start (moves_compared sessions c l) (moves_compared (histories start) d l)
@@ -138,7 +138,7 @@ same_moves start c d (Input timed) r =
           ∙ ap (λ (due : List (List ℕ)). record (moves_compared (histories start) (onto_history d.session c) (Input timed)) { due = due }) (sym sends),
     )
 same_moves start c d (Sent packet) r = (r.0, ap (λ (z : Compared (List Timed)). moves_compared (histories start) z (Sent packet)) r.1)
-same_moves start c d Remark r = (r.0, ap (λ (z : Compared (List Timed)). moves_compared (histories start) z Remark) r.1)
+same_moves start c d Comment r = (r.0, ap (λ (z : Compared (List Timed)). moves_compared (histories start) z Comment) r.1)
 same_moves start c d Count r = (r.0, ap (λ (z : Compared (List Timed)). moves_compared (histories start) z Count) r.1)
 
 check_follows : (start : Start) → Follows check_machine (check_history start) (IsBeside start)
@@ -153,13 +153,13 @@ check_follows start = record {
 
 pub checks_history : (left left' taken taken' : Option (List ℕ)) (s t : SessionState) (ending : Ending)
     → ((later : Compared SessionState) × (later.session ≡ t) × Moves left left' taken taken' (λ bytes text. Makes check_machine (begun s) later bytes text ending))
-    → (start : Start) (h : List Timed) → StandsBehind s start h
-    → (later : Compared (List Timed)) × StandsBehind t start later.session × Moves left left' taken taken' (λ bytes text. Makes (check_history start) (begun h) later bytes text ending)
+    → (start : Start) (h : List Timed) → StandsAfter s start h
+    → (later : Compared (List Timed)) × StandsAfter t start later.session × Moves left left' taken taken' (λ bytes text. Makes (check_history start) (begun h) later bytes text ending)
 checks_history left left' taken taken' s t ending m start h stands =
     let found = makes_there check_machine (check_history start) (IsBeside start) (check_follows start) left left' taken taken' (begun s) m.0 (begun h) (stands, refl) ending m.2 in
-    (found.0, subst (λ (z : SessionState). StandsBehind z start found.0.session) m.1 found.1.0, found.2)
+    (found.0, subst (λ (z : SessionState). StandsAfter z start found.0.session) m.1 found.1.0, found.2)
 
--- a session at its start stands behind the empty history
-pub begins : (s : SessionState) (start : Start) → s ≡ session_of start [] → StandsBehind s start []
+-- a session at its start stands after the empty history
+pub begins : (s : SessionState) (start : Start) → s ≡ session_of start [] → StandsAfter s start []
 unfolding judged
 begins s start e = e

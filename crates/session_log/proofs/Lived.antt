@@ -4,7 +4,7 @@ use Rattle.std.proofs.lemmas.Grind.{flat_map-append}
 use Rattle.std.proofs.lemmas.List.{length-map}
 use Rattle.authn_core.specs.Views.{Needed}
 use Rattle.session_log.specs.declared.line.Line.{Line}
-use Rattle.session_log.specs.declared.line.Line.TheVariants.{Input, Sent, Remark, Count}
+use Rattle.session_log.specs.declared.line.Line.TheVariants.{Input, Sent, Comment, Count}
 use Rattle.session_log.specs.Log.{behind, played, text_by, after_by}
 use Rattle.session_log.specs.Needs.{need_lines, tells_need}
 use Rattle.session_log.specs.Said.{said}
@@ -32,7 +32,7 @@ abbrev pub needs_of : {S : Type 0} → Course S → (S → Needed) → S → Lis
 needs_of course needs s line None = []
 needs_of course needs s line (Some Count) = []
 needs_of course needs s line (Some (Sent packet)) = []
-needs_of course needs s line (Some Remark) = cond (tells_need line) [] (line ∷ [])
+needs_of course needs s line (Some Comment) = cond (tells_need line) [] (line ∷ [])
 needs_of course needs s line (Some (Input timed)) = line ∷ map sent_line (course.sends s timed) ++ need_lines (needs (course.turned s timed))
 
 remark_lines : (line : List ℕ) (b : Bool) → cond b [] (ended line) ≡ flat_map ended (cond b [] (line ∷ []))
@@ -43,7 +43,7 @@ text_lines : {S : Type 0} (course : Course S) (needs : S → Needed) (s : S) (li
 text_lines course needs s line None = refl
 text_lines course needs s line (Some Count) = refl
 text_lines course needs s line (Some (Sent packet)) = refl
-text_lines course needs s line (Some Remark) = remark_lines line (tells_need line)
+text_lines course needs s line (Some Comment) = remark_lines line (tells_need line)
 text_lines course needs s line (Some (Input timed)) =
     let packets = course.sends s timed in
     let told = need_lines (needs (course.turned s timed)) in
@@ -59,7 +59,7 @@ line_are : {S : Type 0} (course : Course S) (needs : S → Needed) (s : S) (line
 line_are course needs s line None h sends = tt
 line_are course needs s line (Some Count) h sends = tt
 line_are course needs s line (Some (Sent packet)) h sends = tt
-line_are course needs s line (Some Remark) h sends = remark_are line (tells_need line) h
+line_are course needs s line (Some Comment) h sends = remark_are line (tells_need line) h
 line_are course needs s line (Some (Input timed)) h sends =
     let told = need_lines (needs (course.turned s timed)) in
     (h, AreLines-append (map sent_line (course.sends s timed)) told (sents_are (course.sends s timed) sends.0) (told_are told (needs_told (needs (course.turned s timed)) sends.1)))
@@ -71,7 +71,7 @@ told_dropped : {S : Type 0} (course : Course S) (needs : S → Needed) (m : ℕ)
 told_dropped course needs m s [] rest h few = ap (λ (k : ℕ). played (living course needs) k s rest) (add_zero m)
 told_dropped course needs m s (line ∷ more) rest h few =
     let next : m + 1 + length more ≡ m + suc (length more) = omega arith in
-    sound_step (living course needs) course.counts (live_logs course needs) m s line (more ++ rest) (Some Remark) (omega (arith, few)) h.0.sound h.0.said
+    sound_step (living course needs) course.counts (live_logs course needs) m s line (more ++ rest) (Some Comment) (omega (arith, few)) h.0.sound h.0.said
     ∙ ap (λ (b : Bool). behind (cond b [] (ended line)) (played (living course needs) (m + 1) s (more ++ rest))) h.0.tells
     ∙ told_dropped course needs (m + 1) s more rest h.1 (omega (arith, few, next))
     ∙ ap (λ (k : ℕ). played (living course needs) k s rest) next
@@ -81,12 +81,12 @@ told_copied : {S : Type 0} (course : Course S) (m : ℕ) (s : S) (ls rest : List
 told_copied course m s [] rest h few = ap (λ (k : ℕ). played (replaying course) k s rest) (add_zero m)
 told_copied course m s (line ∷ more) rest h few =
     let next : m + 1 + length more ≡ m + suc (length more) = omega arith in
-    sound_step (replaying course) course.counts (replay_logs course) m s line (more ++ rest) (Some Remark) (omega (arith, few)) h.0.sound h.0.said
+    sound_step (replaying course) course.counts (replay_logs course) m s line (more ++ rest) (Some Comment) (omega (arith, few)) h.0.sound h.0.said
     ∙ ap (behind (ended line)) (told_copied course (m + 1) s more rest h.1 (omega (arith, few, next)))
     ∙ behind_twice (ended line) (flat_map ended more) (played (replaying course) (m + 1 + length more) s rest)
     ∙ ap (λ (k : ℕ). behind (ended line ++ flat_map ended more) (played (replaying course) k s rest)) next
 
--- a remark is kept where it tells nothing
+-- a comment is kept where it tells nothing
 
 remark_kept : {S : Type 0} (w : World S) (m : ℕ) (s : S) (line : List ℕ) (rest : List (List ℕ)) (b : Bool) → (b ≡ false → m < 2 ^ 32 → played w m s (line ∷ rest) ≡ behind (ended line) (played w (m + 1) s rest))
     → m + length (cond b [] (line ∷ [])) ≤ 2 ^ 32
@@ -108,9 +108,9 @@ lived_again : {S : Type 0} (course : Course S) (needs : S → Needed) (m : ℕ) 
 lived_again course needs m s line None rest sound e h few = absurd (sound.says e)
 lived_again course needs m s line (Some Count) rest sound e h few = ap (λ (k : ℕ). played (living course needs) k s rest) (add_zero m)
 lived_again course needs m s line (Some (Sent packet)) rest sound e h few = ap (λ (k : ℕ). played (living course needs) k s rest) (add_zero m)
-lived_again course needs m s line (Some Remark) rest sound e h few =
+lived_again course needs m s line (Some Comment) rest sound e h few =
     remark_kept (living course needs) m s line rest (tells_need line)
-    (λ keeps room. sound_step (living course needs) course.counts (live_logs course needs) m s line rest (Some Remark) room sound e
+    (λ keeps room. sound_step (living course needs) course.counts (live_logs course needs) m s line rest (Some Comment) room sound e
     ∙ ap (λ (b : Bool). behind (cond b [] (ended line)) (played (living course needs) (m + 1) s rest)) keeps) few
 lived_again course needs m s line (Some (Input timed)) rest sound e h few =
     let w = living course needs in
@@ -132,9 +132,9 @@ replayed_again : {S : Type 0} (course : Course S) (needs : S → Needed) (m : �
 replayed_again course needs m s line None rest sound e h few = absurd (sound.says e)
 replayed_again course needs m s line (Some Count) rest sound e h few = ap (λ (k : ℕ). played (replaying course) k s rest) (add_zero m)
 replayed_again course needs m s line (Some (Sent packet)) rest sound e h few = ap (λ (k : ℕ). played (replaying course) k s rest) (add_zero m)
-replayed_again course needs m s line (Some Remark) rest sound e h few =
+replayed_again course needs m s line (Some Comment) rest sound e h few =
     remark_kept (replaying course) m s line rest (tells_need line)
-    (λ keeps room. sound_step (replaying course) course.counts (replay_logs course) m s line rest (Some Remark) room sound e) few
+    (λ keeps room. sound_step (replaying course) course.counts (replay_logs course) m s line rest (Some Comment) room sound e) few
 replayed_again course needs m s line (Some (Input timed)) rest sound e h few =
     let w = replaying course in
     let packets = course.sends s timed in

@@ -8,12 +8,12 @@ use Rattle.token_session.specs.declared.input.Timed.{Timed}
 use Rattle.token_session.specs.History.{judge, judged}
 use Rattle.token_session.specs.Law.{named, onto}
 use Rattle.token_session.specs.Meters.{SessionState, session_of}
-use Rattle.token_session.specs.Noise.{Quiet, IsQuiet, is_noise_behind, tick_at}
+use Rattle.token_session.specs.Noise.{Quiet, IsQuiet, is_noise_after, tick_at}
 use Rattle.token_session.proofs.Noise.{noise_is_named, quiet_alike}
 use Rattle.session_log.specs.declared.fault.LogFault.{LogFault}
 use Rattle.session_log.specs.declared.fault.LogFault.TheVariants.{TooLong, TooManyLines}
 use Rattle.session_log.specs.declared.line.Line.{Line}
-use Rattle.session_log.specs.declared.line.Line.TheVariants.{Input, Sent, Remark, Count}
+use Rattle.session_log.specs.declared.line.Line.TheVariants.{Input, Sent, Comment, Count}
 use Rattle.session_log.specs.Inputs.{inputs, inputs_by}
 use Rattle.session_log.specs.Lines.{lines}
 use Rattle.session_log.specs.Log.{Played, played, playing, text_by, after, after_by, fault_by, fault_at}
@@ -32,7 +32,7 @@ abbrev kept_by : {S : Type 0} → (S → Timed → Bool) → S → List ℕ → 
 kept_by noises s line None = []
 kept_by noises s line (Some Count) = []
 kept_by noises s line (Some (Sent packet)) = []
-kept_by noises s line (Some Remark) = line ∷ []
+kept_by noises s line (Some Comment) = line ∷ []
 kept_by noises s line (Some (Input x)) = cond (noises s x) (tick_text x.at) line ∷ []
 
 abbrev kept : {S : Type 0} → Course S → (S → Timed → Bool) → S → List (List ℕ) → List (List ℕ)
@@ -43,7 +43,7 @@ kept_text_by : {S : Type 0} (course : Course S) (noises : S → Timed → Bool) 
 kept_text_by course noises s line None = refl
 kept_text_by course noises s line (Some Count) = refl
 kept_text_by course noises s line (Some (Sent packet)) = refl
-kept_text_by course noises s line (Some Remark) = sym (append-nil (ended line))
+kept_text_by course noises s line (Some Comment) = sym (append-nil (ended line))
 kept_text_by course noises s line (Some (Input x)) = sym (append-nil (ended (cond (noises s x) (tick_text x.at) line)))
 
 kept_text : {S : Type 0} (course : Course S) (noises : S → Timed → Bool) (n : ℕ) (s : S) (ls : List (List ℕ)) → (played (quieting course noises) n s ls).fault ≡ None
@@ -72,7 +72,7 @@ line_kept : {S : Type 0} (noises : S → Timed → Bool) (s : S) (line : List �
 line_kept noises s line None e h = tt
 line_kept noises s line (Some Count) e h = tt
 line_kept noises s line (Some (Sent packet)) e h = tt
-line_kept noises s line (Some Remark) e h = (h, tt)
+line_kept noises s line (Some Comment) e h = (h, tt)
 line_kept noises s line (Some (Input x)) e h = (either_feedless (noises s x) (tick_text x.at) line (tick_feedless x.at (read_is_spelled line (Input x) e).0) h, tt)
 
 kept_are : {S : Type 0} (course : Course S) (noises : S → Timed → Bool) (s : S) (ls : List (List ℕ)) → AreLines ls → AreLines (kept course noises s ls)
@@ -90,12 +90,12 @@ either_said : (b : Bool) (line : List ℕ) (x : Timed) → said line ≡ Some (I
 either_said true line x e = tick_said x.at (read_is_spelled line (Input x) e).0
 either_said false line x e = e
 
-either_quiet : (start : Start) (h : List Timed) (x : Timed) (b : Bool) → is_noise_behind start (judge start x (judged start h)) (judged start h) ≡ b → IsQuiet start h x (cond b (tick_at x.at) x)
+either_quiet : (start : Start) (h : List Timed) (x : Timed) (b : Bool) → is_noise_after start (judge start x (judged start h)) (judged start h) ≡ b → IsQuiet start h x (cond b (tick_at x.at) x)
 either_quiet start h x true e = inr (refl, e)
 either_quiet start h x false e = inl refl
 
 abbrev is_noise : Start → List Timed → Timed → Bool
-is_noise start h x = is_noise_behind start (judge start x (judged start h)) (judged start h)
+is_noise start h x = is_noise_after start (judge start x (judged start h)) (judged start h)
 
 -- lines whose inputs go on with quiet histories
 abbrev GoesOn : Start → List (List ℕ) → Type 0
@@ -106,7 +106,7 @@ line_goes_on : (start : Start) (line : List ℕ) (more : List (List ℕ)) (l : O
 line_goes_on start line more None e on h g q = on h g q
 line_goes_on start line more (Some Count) e on h g q = on h g q
 line_goes_on start line more (Some (Sent packet)) e on h g q = on h g q
-line_goes_on start line more (Some Remark) e on h g q =
+line_goes_on start line more (Some Comment) e on h g q =
     subst (λ (l : Option Line). Quiet start (onto (inputs more) h) (onto (inputs_by l ++ inputs (kept (histories start) (is_noise start) h more)) g)) (sym e) (on h g q)
 line_goes_on start line more (Some (Input x)) e on h g q =
     let b = is_noise start h x in
@@ -153,7 +153,7 @@ line_stays : (start : Start) (line : List ℕ) (more : List (List ℕ)) (l : Opt
 line_stays start line more None e on h g q = on h g q
 line_stays start line more (Some Count) e on h g q = on h g q
 line_stays start line more (Some (Sent packet)) e on h g q = on h g q
-line_stays start line more (Some Remark) e on h g q =
+line_stays start line more (Some Comment) e on h g q =
     let rest = kept (histories start) (is_noise start) h more in
     ap (λ (l : Option Line). kept_by (is_noise start) g line l ++ kept (histories start) (is_noise start) (after_by (quiet_history start) g l) rest) e ∙ ap (λ (ls : List (List ℕ)). line ∷ ls) (on h g q)
 line_stays start line more (Some (Input x)) e on h g q =
@@ -215,7 +215,7 @@ line_sound : {S : Type 0} (noises : S → Timed → Bool) (s : S) (line : List �
 line_sound noises s line None e h = (tt, omega arith)
 line_sound noises s line (Some Count) e h = (tt, omega arith)
 line_sound noises s line (Some (Sent packet)) e h = (tt, omega arith)
-line_sound noises s line (Some Remark) e h = ((h, tt), omega arith)
+line_sound noises s line (Some Comment) e h = ((h, tt), omega arith)
 line_sound noises s line (Some (Input x)) e h = ((either_sound (noises s x) (tick_text x.at) line (tick_sound x.at (read_is_spelled line (Input x) e).0) h, tt), omega arith)
 
 kept_sound : {S : Type 0} (course : Course S) (noises : S → Timed → Bool) (n : ℕ) (s : S) (ls : List (List ℕ)) → n ≤ 2 ^ 32 → (played (quieting course noises) n s ls).fault ≡ None

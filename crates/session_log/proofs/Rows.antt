@@ -8,7 +8,7 @@ use Rattle.token_session.specs.declared.input.Input.TheVariants.{Packet, Tick, P
 use Rattle.session_log.specs.declared.fault.LogFault.{LogFault}
 use Rattle.session_log.specs.declared.fault.LogFault.TheVariants.{BadLine, TooLong, Differs, TooManyLines}
 use Rattle.session_log.specs.Check.{Compared, begun, checking}
-use Rattle.session_log.specs.declared.line.Line.TheVariants.{Input, Sent, Remark, Count}
+use Rattle.session_log.specs.declared.line.Line.TheVariants.{Input, Sent, Comment, Count}
 use Rattle.session_log.specs.Lines.{lines, whole_lines, last_piece}
 use Rattle.session_log.specs.Log.{fault_at, fault_of, playing, log}
 use Rattle.session_log.specs.Said.{moment, said}
@@ -33,11 +33,11 @@ row-whole = refl
 row-last : last_piece (codes "a\nb") ≡ codes "b"
 row-last = refl
 
--- remarks and counts
-row-empty : said [] ≡ Some Remark
+-- comments and counts
+row-empty : said [] ≡ Some Comment
 row-empty = refl
 
-row-comment : said (codes "# any") ≡ Some Remark
+row-comment : said (codes "# any") ≡ Some Comment
 row-comment = refl
 
 row-count : said (codes "=") ≡ Some Count
@@ -191,7 +191,7 @@ row-last_line = refl
 row-too_many : fault_at echo (2 ^ 32) 0 (replicate 256 120) ≡ Some TooManyLines
 row-too_many = refl
 
--- the log of a log: inputs and remarks again, with what was sent, and the meters line in place of the old one
+-- the log of a log: inputs and comments again, with what was sent, and the meters line in place of the old one
 row-log : log echo 0 (codes "#\nt 5\n= held 9\n") ≡ codes "#\nt 5\n= held 0 rows 0 pending 0 requests 1 bytes 0 steps 0\n"
 unfolding moment digits came_back
 row-log = refl

@@ -12,7 +12,7 @@ use Rattle.authn_core.specs.declared.replies.Presence.TheVariants.{Granted, Deni
 use Rattle.token_session.specs.declared.input.Input.{Input as AnyInput}
 use Rattle.token_session.specs.declared.input.Input.TheVariants.{Packet, Tick, Presence, Key, Signature}
 use Rattle.session_log.specs.declared.line.Line.{Line}
-use Rattle.session_log.specs.declared.line.Line.TheVariants.{Input, Sent, Remark, Count}
+use Rattle.session_log.specs.declared.line.Line.TheVariants.{Input, Sent, Comment, Count}
 use Rattle.session_log.specs.Grammar.{IsHexOf, SpellsField, SpellsInput, Spells, front_of}
 use Rattle.session_log.specs.Said.{◌>>=◌, first_field, moment, bytes_of, is_word, packet_said, presence_said, key_of, key_said, signature_of, signature_said, input_by, input_line, tick_line, sent_line, said_by, said}
 use Rattle.session_log.specs.Words.{presence_word, refusal_word}
@@ -102,7 +102,7 @@ signature_read field bytes h low high =
     ap (λ (b : Bool). cond b (Some (Signature None)) (read (signature_of field))) (not_word field (all_hex field (length bytes) bytes h) (omega arith))
     ∙ ap read (signature_bytes field bytes h low high)
 
--- a field, behind a letter and a moment
+-- a field, after a letter and a moment
 line_read : (letter at : ℕ) (field : List ℕ) (input : AnyInput) → at < 2 ^ 64 → input_by letter field ≡ Some input → input_line letter (decimal at ++ 32 ∷ field) ≡ Some (Input (record { at = at; input = input }))
 line_read letter at field input fits e =
     ap (λ (o : Option (List ℕ × List ℕ)). o >>= (λ parts. moment parts.0 >>= (λ m. input_by letter parts.1 >>= (λ i. Some (Input (record { at = m; input = i })))))) (fields_of at field fits)
@@ -123,9 +123,9 @@ input_read line at (Signature None) fits h = ap said h.1 ∙ line_read 115 at h.
 input_read line at (Signature (Some bytes)) fits h =
     let f = h.2 in ap said h.1 ∙ line_read 115 at h.0 (Signature (Some bytes)) fits (signature_read h.0 bytes f.0 f.1 f.2)
 
-remark_rest : (rest : List ℕ) → said (35 ∷ rest) ≡ Some Remark
-remark_rest [] = refl
-remark_rest (x ∷ xs) = refl
+comment_rest : (rest : List ℕ) → said (35 ∷ rest) ≡ Some Comment
+comment_rest [] = refl
+comment_rest (x ∷ xs) = refl
 
 pub count_rest : (rest : List ℕ) → said (61 ∷ rest) ≡ Some Count
 count_rest [] = refl
@@ -134,8 +134,8 @@ count_rest (x ∷ xs) = refl
 pub spelled_is_read : (line : List ℕ) (l : Line) → Spells line l → said line ≡ Some l
 spelled_is_read line (Input timed) h = input_read line timed.at timed.input h.0 h.1
 spelled_is_read line (Sent packet) h = ap said h.1 ∙ ap (λ (o : Option (List ℕ)). o >>= (λ p. Some (Sent (record { 0 = p })))) (digits_of h.0 64 packet.0 h.2)
-spelled_is_read line Remark (inl e) = ap said e
-spelled_is_read line Remark (inr h) = ap said h.1 ∙ remark_rest h.0
+spelled_is_read line Comment (inl e) = ap said e
+spelled_is_read line Comment (inr h) = ap said h.1 ∙ comment_rest h.0
 spelled_is_read line Count h = ap said h.1 ∙ count_rest h.0
 
 -- From the reading to the grammar.
@@ -259,27 +259,27 @@ by_letter first fields l true tick s t e = subst (λ (x : ℕ). Spells (x ∷ 32
 by_letter first fields l false true s t e = subst (λ (x : ℕ). Spells (x ∷ 32 ∷ fields) l) (sym (eqb-true first 116 t)) (tick_spelled fields l e)
 by_letter first fields l false false s t e = input_spelled first fields l e
 
-remark_spelled : (first : ℕ) (rest : List ℕ) (l : Line) → (first == 35) ≡ true → Some Remark ≡ Some l → Spells (first ∷ rest) l
-remark_spelled first rest l h e = subst (Spells (first ∷ rest)) (some_is Remark l e) (inr (rest, ap (λ (x : ℕ). x ∷ rest) (eqb-true first 35 h)))
+comment_spelled : (first : ℕ) (rest : List ℕ) (l : Line) → (first == 35) ≡ true → Some Comment ≡ Some l → Spells (first ∷ rest) l
+comment_spelled first rest l h e = subst (Spells (first ∷ rest)) (some_is Comment l e) (inr (rest, ap (λ (x : ℕ). x ∷ rest) (eqb-true first 35 h)))
 
 count_spelled : (first : ℕ) (rest : List ℕ) (l : Line) → (first == 61) ≡ true → Some Count ≡ Some l → Spells (first ∷ rest) l
 count_spelled first rest l h e = subst (Spells (first ∷ rest)) (some_is Count l e) (rest, ap (λ (x : ℕ). x ∷ rest) (eqb-true first 61 h))
 
-one_byte : (first : ℕ) (l : Line) (remark count : Bool) → (first == 35) ≡ remark → (first == 61) ≡ count → cond remark (Some Remark) (cond count (Some Count) None) ≡ Some l → Spells (first ∷ []) l
-one_byte first l true count r c e = remark_spelled first [] l r e
+one_byte : (first : ℕ) (l : Line) (remark count : Bool) → (first == 35) ≡ remark → (first == 61) ≡ count → cond remark (Some Comment) (cond count (Some Count) None) ≡ Some l → Spells (first ∷ []) l
+one_byte first l true count r c e = comment_spelled first [] l r e
 one_byte first l false true r c e = count_spelled first [] l c e
 one_byte first l false false r c e = cc
 
 more_bytes : (first second : ℕ) (fields : List ℕ) (l : Line) (remark count space : Bool) → (first == 35) ≡ remark → (first == 61) ≡ count → (second == 32) ≡ space
-    → cond remark (Some Remark) (cond count (Some Count) (cond space (said_by first fields) None)) ≡ Some l → Spells (first ∷ second ∷ fields) l
-more_bytes first second fields l true count space r c s e = remark_spelled first (second ∷ fields) l r e
+    → cond remark (Some Comment) (cond count (Some Count) (cond space (said_by first fields) None)) ≡ Some l → Spells (first ∷ second ∷ fields) l
+more_bytes first second fields l true count space r c s e = comment_spelled first (second ∷ fields) l r e
 more_bytes first second fields l false true space r c s e = count_spelled first (second ∷ fields) l c e
 more_bytes first second fields l false false true r c s e =
     subst (λ (x : ℕ). Spells (first ∷ x ∷ fields) l) (sym (eqb-true second 32 s)) (by_letter first fields l (first == 60) (first == 116) refl refl e)
 more_bytes first second fields l false false false r c s e = cc
 
 pub read_is_spelled : (line : List ℕ) (l : Line) → said line ≡ Some l → Spells line l
-read_is_spelled [] l e = subst (Spells []) (some_is Remark l e) (inl refl)
+read_is_spelled [] l e = subst (Spells []) (some_is Comment l e) (inl refl)
 read_is_spelled (first ∷ []) l e = one_byte first l (first == 35) (first == 61) refl refl e
 read_is_spelled (first ∷ second ∷ fields) l e = more_bytes first second fields l (first == 35) (first == 61) (second == 32) refl refl refl e
 

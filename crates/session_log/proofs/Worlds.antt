@@ -11,7 +11,7 @@ use Rattle.session_log.specs.Ending.{Ending, Done, Refused, Unread, Unwritten, e
 use Rattle.session_log.specs.Replay.{IsDone, IsRefused, IsUnread, IsUnwritten, Makes, Logs, next_text, next_state}
 use Rattle.session_log.specs.World.{World}
 
--- b stands behind what a names, and stays so
+-- b stands after what a names, and stays so
 pub record Follows {A B : Type 0} (v : World A) (w : World B) (R : A → B → Type 0) : Type 0 where
   pub stops : (a : A) (b : B) (l : Line) → R a b → v.stops a l ≡ w.stops b l
   pub moves : (a : A) (b : B) (l : Line) → R a b → R (v.moves a l) (w.moves b l)

@@ -8,7 +8,7 @@ use Rattle.token_session.specs.Meters.{SessionState}
 use Rattle.session_log.specs.declared.fault.LogFault.{LogFault}
 use Rattle.session_log.specs.declared.fault.LogFault.TheVariants.{Differs}
 use Rattle.session_log.specs.declared.line.Line.{Line}
-use Rattle.session_log.specs.declared.line.Line.TheVariants.{Input, Sent, Remark, Count}
+use Rattle.session_log.specs.declared.line.Line.TheVariants.{Input, Sent, Comment, Count}
 use Rattle.session_log.specs.Session.{sessions, histories}
 use Rattle.session_log.specs.Text.{same_line}
 use Rattle.session_log.specs.World.{Course, World}
@@ -52,7 +52,7 @@ differs_from (p ∷ due) packet fault = if pointwise ◌==◌ p packet then None
 abbrev pub stops_compared : {S : Type 0} → Compared S → Line → Option LogFault
 stops_compared c (Input timed) = missing c
 stops_compared c (Sent packet) = differs_from c.due packet.0 (difference c)
-stops_compared c Remark = None
+stops_compared c Comment = None
 stops_compared c Count = None
 
 abbrev pub after_first : List (List ℕ) → List (List ℕ)
@@ -78,7 +78,7 @@ moves_compared course c (Sent packet) = record {
   inputs = c.inputs;
   packets = c.packets + 1;
 }
-moves_compared course c Remark = record c { lines = c.lines + 1 }
+moves_compared course c Comment = record c { lines = c.lines + 1 }
 moves_compared course c Count = record c { lines = c.lines + 1 }
 
 -- Nothing is written before the end.

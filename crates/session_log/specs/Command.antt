@@ -3,7 +3,7 @@ use Rattle.std.specs.Prelude.{◌≡◌, ℕ, Bool, List, [], Option, OnOk, Resu
 use Rattle.authn_core.specs.Turn.{Start}
 use Rattle.token_session.specs.declared.input.Meters.{Meters}
 use Rattle.token_session.specs.declared.input.Timed.{Timed}
-use Rattle.token_session.specs.Meters.{SessionState, StandsBehind}
+use Rattle.token_session.specs.Meters.{SessionState, StandsAfter}
 use Rattle.session_log.specs.declared.fault.LogFault.{LogFault}
 use Rattle.session_log.specs.Check.{Compared, begun, check_history}
 use Rattle.session_log.specs.Ending.{ending_of, read_fails, write_fails}
@@ -38,7 +38,7 @@ IsCounted left unread ended unwritten answer input output =
 abbrev pub IsLogged : {I O : Type 0} → (Start → World (List Timed)) → Start → List Timed → (left : I → Option (List ℕ)) → (unread : I → ℕ) → (ended : I → Bool) → (taken : O → Option (List ℕ)) → (unwritten : O → ℕ)
     → Status → SessionState → (I × I) → (O × O) → Type 0
 IsLogged world start h left unread ended taken unwritten status s input output =
-    (answer : Result Meters LogFault) × (later : List Timed) × (status ≡ status_of answer) × StandsBehind s start later
+    (answer : Result Meters LogFault) × (later : List Timed) × (status ≡ status_of answer) × StandsAfter s start later
     × Moves (left input.0) (left input.1) (taken output.0) (taken output.1)
     (λ bytes text. Logs (world start) h later bytes text answer)
     × IsCounted left unread ended unwritten answer input output
@@ -56,7 +56,7 @@ IsLived start h left unread ended taken unwritten status s input output = IsLogg
 abbrev pub IsQuieted : {I O : Type 0} → Start → List Timed → (left : I → Option (List ℕ)) → (unread : I → ℕ) → (ended : I → Bool) → (taken : O → Option (List ℕ)) → (unwritten : O → ℕ)
     → Status → SessionState → (I × I) → (O × O) → Type 0
 IsQuieted start h left unread ended taken unwritten status s input output =
-    (answer : Result (Unit {0}) LogFault) × (later : List Timed) × (status ≡ status_of answer) × StandsBehind s start later
+    (answer : Result (Unit {0}) LogFault) × (later : List Timed) × (status ≡ status_of answer) × StandsAfter s start later
     × Moves (left input.0) (left input.1) (taken output.0) (taken output.1)
     (λ bytes text. Makes (quiet_history start) h later bytes text (ending_of answer))
     × IsCounted left unread ended unwritten answer input output
@@ -65,7 +65,7 @@ IsQuieted start h left unread ended taken unwritten status s input output =
 abbrev pub IsChecked : {I O : Type 0} → Start → List Timed → (left : I → Option (List ℕ)) → (unread : I → ℕ) → (ended : I → Bool) → (taken : O → Option (List ℕ)) → (unwritten : O → ℕ)
     → Status → SessionState → (I × I) → (O × O) → Type 0
 IsChecked start h left unread ended taken unwritten status s input output =
-    (answer : Result (Unit {0}) LogFault) × (later : Compared (List Timed)) × (status ≡ status_of answer) × StandsBehind s start later.session
+    (answer : Result (Unit {0}) LogFault) × (later : Compared (List Timed)) × (status ≡ status_of answer) × StandsAfter s start later.session
     × Moves (left input.0) (left input.1) (taken output.0) (taken output.1)
     (λ bytes text. Makes (check_history start) (begun h) later bytes text (ending_of answer))
     × IsCounted left unread ended unwritten answer input output

@@ -1,10 +1,10 @@
--- The grammar of log lines (docs/LOG_FORMAT.md): what it is for a line to spell an input or a remark.
+-- The grammar of log lines (docs/LOG_FORMAT.md): what it is for a line to spell an input or a comment.
 use Rattle.std.specs.Prelude.{◌≡◌, ℕ, ◌<◌, ◌≤◌, ◌^◌, List, [], ◌++◌, length, codes, decimal, Some, None, Ok, ◌⊎◌}
 use Rattle.hex.specs.Hex.{decode_sized}
 use Rattle.token_session.specs.declared.input.Input.{Input as AnyInput}
 use Rattle.token_session.specs.declared.input.Input.TheVariants.{Packet, Tick, Presence, Key, Signature}
 use Rattle.session_log.specs.declared.line.Line.{Line}
-use Rattle.session_log.specs.declared.line.Line.TheVariants.{Input, Sent, Remark, Count}
+use Rattle.session_log.specs.declared.line.Line.TheVariants.{Input, Sent, Comment, Count}
 use Rattle.session_log.specs.Words.{presence_word, refusal_word}
 
 -- two hexadecimal digits a byte, in either case
@@ -36,9 +36,9 @@ abbrev pub SpellsInput : List ℕ → ℕ → AnyInput → Type 0
 SpellsInput line at Tick = line ≡ codes "t " ++ decimal at
 SpellsInput line at input = (field : List ℕ) × (line ≡ front_of input ++ (decimal at ++ (codes " " ++ field))) × SpellsField field input
 
--- `< P` is a packet that was sent, `=..` what was counted, `#..` and an empty line are remarks
+-- `< P` is a packet that was sent, `=..` what was counted, `#..` and an empty line are comments
 abbrev pub Spells : List ℕ → Line → Type 0
 Spells line (Input timed) = (timed.at < 2 ^ 64) × SpellsInput line timed.at timed.input
 Spells line (Sent packet) = (digits : List ℕ) × (line ≡ codes "< " ++ digits) × IsHexOf digits 64 packet.0
-Spells line Remark = (line ≡ []) ⊎ ((rest : List ℕ) × (line ≡ codes "#" ++ rest))
+Spells line Comment = (line ≡ []) ⊎ ((rest : List ℕ) × (line ≡ codes "#" ++ rest))
 Spells line Count = (rest : List ℕ) × (line ≡ codes "=" ++ rest)

@@ -3,7 +3,7 @@
 use Rattle.std.specs.Prelude.{◌≡◌, ◌≢◌, ℕ, ◌+◌, List, [], ◌∷◌, ◌++◌, length, Option, Some, None}
 use Rattle.token_session.specs.declared.input.Timed.{Timed}
 use Rattle.session_log.specs.declared.line.Line.{Line}
-use Rattle.session_log.specs.declared.line.Line.TheVariants.{Input, Sent, Remark, Count}
+use Rattle.session_log.specs.declared.line.Line.TheVariants.{Input, Sent, Comment, Count}
 use Rattle.session_log.specs.Said.{said}
 use Rattle.session_log.specs.World.{Course}
 
@@ -20,7 +20,7 @@ abbrev pub grouped : Option Line → Groups → Groups
 grouped None groups = groups
 grouped (Some (Input timed)) groups = [] ∷ groups
 grouped (Some (Sent packet)) groups = with_first packet.0 groups
-grouped (Some Remark) groups = groups
+grouped (Some Comment) groups = groups
 grouped (Some Count) groups = groups
 
 -- the packets of a log
@@ -38,7 +38,7 @@ abbrev pub number_by : ℕ → Option Line → List ℕ
 number_by n None = []
 number_by n (Some (Input timed)) = n ∷ []
 number_by n (Some (Sent packet)) = []
-number_by n (Some Remark) = []
+number_by n (Some Comment) = []
 number_by n (Some Count) = []
 
 abbrev pub input_lines : ℕ → List (List ℕ) → List ℕ

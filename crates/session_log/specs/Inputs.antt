@@ -2,14 +2,14 @@
 use Rattle.std.specs.Prelude.{ℕ, List, [], ◌∷◌, ◌++◌, Option, Some, None}
 use Rattle.token_session.specs.declared.input.Timed.{Timed}
 use Rattle.session_log.specs.declared.line.Line.{Line}
-use Rattle.session_log.specs.declared.line.Line.TheVariants.{Input, Sent, Remark, Count}
+use Rattle.session_log.specs.declared.line.Line.TheVariants.{Input, Sent, Comment, Count}
 use Rattle.session_log.specs.Said.{said}
 
 abbrev pub inputs_by : Option Line → List Timed
 inputs_by None = []
 inputs_by (Some Count) = []
 inputs_by (Some (Sent packet)) = []
-inputs_by (Some Remark) = []
+inputs_by (Some Comment) = []
 inputs_by (Some (Input timed)) = timed ∷ []
 
 -- in order

@@ -25,9 +25,9 @@ new_key_letter = 107
 abbrev pub signature_letter : ℕ
 signature_letter = 115
 
--- `#`, a remark
-abbrev pub remark_letter : ℕ
-remark_letter = 35
+-- `#`, a comment
+abbrev pub comment_letter : ℕ
+comment_letter = 35
 
 -- `=`, what was counted
 abbrev pub count_letter : ℕ

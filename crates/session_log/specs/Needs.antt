@@ -23,6 +23,6 @@ need_lines presence = codes "# need presence" ∷ []
 need_lines key = codes "# need key" ∷ []
 need_lines (sign id signed) = map signed_line (pieces_of signed) ++ signature_line id ∷ []
 
--- whether a remark is one of these lines
+-- whether a comment is one of these lines
 abbrev pub tells_need : List ℕ → Bool
 tells_need line = starts_with ◌==◌ line (codes "# need ") || starts_with ◌==◌ line (codes "# signed ")

@@ -10,8 +10,8 @@ use Rattle.authn_core.specs.declared.replies.Presence.TheVariants.{Granted, Deni
 use Rattle.token_session.specs.declared.input.Input.{Input as AnyInput}
 use Rattle.token_session.specs.declared.input.Input.TheVariants.{Packet, Tick, Presence, Key, Signature}
 use Rattle.session_log.specs.declared.line.Line.{Line}
-use Rattle.session_log.specs.declared.line.Line.TheVariants.{Input, Sent, Remark, Count}
-use Rattle.session_log.specs.Letters.{host_letter, key_letter, tick_letter, presence_letter, new_key_letter, signature_letter, remark_letter, count_letter, space}
+use Rattle.session_log.specs.declared.line.Line.TheVariants.{Input, Sent, Comment, Count}
+use Rattle.session_log.specs.Letters.{host_letter, key_letter, tick_letter, presence_letter, new_key_letter, signature_letter, comment_letter, count_letter, space}
 use Rattle.session_log.specs.Words.{refusal_word}
 
 -- a value where there is one, and else nothing
@@ -112,10 +112,10 @@ said_by letter fields =
 
 -- what the line says, if it is a log line
 abbrev pub said : List ℕ → Option Line
-said [] = Some Remark
-said (first ∷ []) = if first == remark_letter then Some Remark else if first == count_letter then Some Count else None
+said [] = Some Comment
+said (first ∷ []) = if first == comment_letter then Some Comment else if first == count_letter then Some Count else None
 said (first ∷ second ∷ fields) =
-    if first == remark_letter then Some Remark
+    if first == comment_letter then Some Comment
     else if first == count_letter then Some Count
     else if second == space then said_by first fields
     else None

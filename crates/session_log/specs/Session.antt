@@ -6,7 +6,7 @@ use Rattle.token_session.specs.declared.input.Timed.{Timed}
 use Rattle.token_session.specs.History.{core, judge, judged}
 use Rattle.token_session.specs.Law.{sent_now}
 use Rattle.token_session.specs.Meters.{SessionState, stepped, sent_by, meters_of}
-use Rattle.token_session.specs.Noise.{is_noise_at, is_noise_behind}
+use Rattle.token_session.specs.Noise.{is_noise_at, is_noise_after}
 use Rattle.session_log.specs.Lines.{lines}
 use Rattle.session_log.specs.Log.{log}
 use Rattle.authn_core.specs.Views.{Needed, needs}
@@ -32,7 +32,7 @@ abbrev pub quiet_machine : World SessionState
 quiet_machine = quieting sessions (λ s x. is_noise_at s.machine x)
 
 abbrev pub quiet_history : Start → World (List Timed)
-quiet_history start = quieting (histories start) (λ h x. is_noise_behind start (judge start x (judged start h)) (judged start h))
+quiet_history start = quieting (histories start) (λ h x. is_noise_after start (judge start x (judged start h)) (judged start h))
 
 -- what they need
 abbrev pub session_needs : SessionState → Needed

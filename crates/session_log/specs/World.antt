@@ -4,7 +4,7 @@ use Rattle.token_session.specs.declared.input.Timed.{Timed}
 use Rattle.token_session.specs.declared.input.Meters.{Meters}
 use Rattle.session_log.specs.declared.fault.LogFault.{LogFault}
 use Rattle.session_log.specs.declared.line.Line.{Line}
-use Rattle.session_log.specs.declared.line.Line.TheVariants.{Input, Sent, Remark, Count}
+use Rattle.session_log.specs.declared.line.Line.TheVariants.{Input, Sent, Comment, Count}
 use Rattle.authn_core.specs.Views.{Needed}
 use Rattle.authn_core.specs.Needs.{IsNeed}
 use Rattle.session_log.specs.Needs.{need_lines, tells_need}
@@ -28,25 +28,25 @@ pub record World (S : Type 0) : Type 1 where
   pub ending : S → List ℕ
   pub counts : S → Meters
 
--- Replayed, each input line and each remark comes again, after an input line the packets that are sent for it, and at the
+-- Replayed, each input line and each comment comes again, after an input line the packets that are sent for it, and at the
 -- end the meters. No line is faulty but for its text.
 
 abbrev pub moves_input : {S : Type 0} → Course S → S → Line → S
 moves_input course s (Input timed) = course.turned s timed
 moves_input course s (Sent packet) = s
-moves_input course s Remark = s
+moves_input course s Comment = s
 moves_input course s Count = s
 
 abbrev pub sends_packets : {S : Type 0} → Course S → S → Line → Type 0
 sends_packets course s (Input timed) = ArePackets (course.sends s timed)
 sends_packets course s (Sent packet) = Unit {0}
-sends_packets course s Remark = Unit {0}
+sends_packets course s Comment = Unit {0}
 sends_packets course s Count = Unit {0}
 
 abbrev pub writes_again : {S : Type 0} → Course S → S → List ℕ → Line → List ℕ
 writes_again course s line (Input timed) = ended line ++ flat_map sent_text (course.sends s timed)
 writes_again course s line (Sent packet) = []
-writes_again course s line Remark = ended line
+writes_again course s line Comment = ended line
 writes_again course s line Count = []
 
 abbrev pub replaying : {S : Type 0} → Course S → World S
@@ -60,12 +60,12 @@ replaying course = record {
   counts = course.counts;
 }
 
--- Made quiet, each input line and each remark comes again, but a tick's line in place of noise, and nothing else.
+-- Made quiet, each input line and each comment comes again, but a tick's line in place of noise, and nothing else.
 
 abbrev pub writes_quiet : {S : Type 0} → (S → Timed → Bool) → S → List ℕ → Line → List ℕ
 writes_quiet noises s line (Input timed) = ended (if noises s timed then tick_text timed.at else line)
 writes_quiet noises s line (Sent packet) = []
-writes_quiet noises s line Remark = ended line
+writes_quiet noises s line Comment = ended line
 writes_quiet noises s line Count = []
 
 abbrev pub quieting : {S : Type 0} → Course S → (S → Timed → Bool) → World S
@@ -85,14 +85,14 @@ quieting course noises = record {
 abbrev pub sends_needs : {S : Type 0} → Course S → (S → Needed) → S → Line → Type 0
 sends_needs course needs s (Input timed) = ArePackets (course.sends s timed) × IsNeed (needs (course.turned s timed))
 sends_needs course needs s (Sent packet) = Unit {0}
-sends_needs course needs s Remark = Unit {0}
+sends_needs course needs s Comment = Unit {0}
 sends_needs course needs s Count = Unit {0}
 
 abbrev pub writes_needs : {S : Type 0} → Course S → (S → Needed) → S → List ℕ → Line → List ℕ
 writes_needs course needs s line (Input timed) =
     ended line ++ flat_map sent_text (course.sends s timed) ++ flat_map ended (need_lines (needs (course.turned s timed)))
 writes_needs course needs s line (Sent packet) = []
-writes_needs course needs s line Remark = if tells_need line then [] else ended line
+writes_needs course needs s line Comment = if tells_need line then [] else ended line
 writes_needs course needs s line Count = []
 
 abbrev pub living : {S : Type 0} → Course S → (S → Needed) → World S

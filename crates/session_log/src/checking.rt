@@ -6,7 +6,7 @@ ghost use Rattle.session_log.specs.Replay.{Closes, Makes, ReadsTo};
 ghost use Rattle.session_log.specs.Streams.{Counts, IsAllRead, Moves};
 ghost use Rattle.token_session.specs.declared.input.Timed.{Timed as OneInput};
 ghost use Rattle.authn_core.specs.Turn.{Start};
-ghost use Rattle.token_session.specs.Meters.{SessionState, StandsBehind};
+ghost use Rattle.token_session.specs.Meters.{SessionState, StandsAfter};
 
 use crate::fault::LogFault;
 use crate::line::{Line, read_line};
@@ -138,7 +138,7 @@ impl<const C: usize> Player<C> for Checking {
     ) -> Result<(), LogFault> {
         match read_line(line) {
             None => Err(LogFault::BadLine(number)),
-            Some(Line::Remark | Line::Count) => {
+            Some(Line::Comment | Line::Count) => {
                 self.lines = number;
                 Ok(())
             }
@@ -162,7 +162,7 @@ impl<const C: usize> Player<C> for Checking {
 }
 
 /// Compares a log with what a session sends for its inputs (docs/LOG_FORMAT.md): after each input line have to
-/// stand the packets that are sent for it, all of them, in order, and no other ones; remarks and the lines of what
+/// stand the packets that are sent for it, all of them, in order, and no other ones; comments and the lines of what
 /// was counted may stand between them. Hexadecimal digits are compared as what they say. Nothing is written before
 /// the reader's end, and there how many inputs and packets were the same. It allocates nothing.
 ///
@@ -190,8 +190,8 @@ pub fn check<S: Source, T: Target, const C: usize>(
     ensures reach { ReadsTo check_machine (begun session.old) (S.left reader.old) (S.left reader.new)
         (IsAllRead S.left S.ended reader.new) (ending_of result) }
     // After any history, all this holds of what the history names in place of what the session holds.
-    ensures history { (start : Start) (h : List OneInput) → StandsBehind session.old start h
-        → (later : Compared (List OneInput)) × StandsBehind session.new start later.session
+    ensures history { (start : Start) (h : List OneInput) → StandsAfter session.old start h
+        → (later : Compared (List OneInput)) × StandsAfter session.new start later.session
         × Moves (S.left reader.old) (S.left reader.new) (T.taken writer.old) (T.taken writer.new)
         (λ bytes text. Makes (check_history start) (begun h) later bytes text (ending_of result)) }
     // A failure was counted exactly at Read, and exactly at Write.

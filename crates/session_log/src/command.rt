@@ -2,7 +2,7 @@
 ghost use Rattle.std.specs.Prelude.{◌≡◌, ◌<◌, ◌-◌, ◌^◌, List, OnOk};
 ghost use Rattle.authn_core.specs.Turn.{Start};
 ghost use Rattle.token_session.specs.declared.input.Timed.{Timed as OneInput};
-ghost use Rattle.token_session.specs.Meters.{StandsBehind};
+ghost use Rattle.token_session.specs.Meters.{StandsAfter};
 ghost use Rattle.session_log.specs.Command.{IsChecked, IsLived, IsQuieted, IsReplayed, status_of};
 
 use crate::checking::check;
@@ -19,7 +19,7 @@ use token_session::Session;
 /// The most credential rows, and the most pending assertions, of the program's session.
 pub const CAPACITY: usize = 64;
 
-/// Writes the text of a fault and a line feed. A text that can't be written is let go.
+/// Writes the text of a fault and a line feed. A text that can't be written is dropped.
 pub fn tell_fault<E: Target>(faults: &mut E, fault: &LogFault)
     requires { E.failed faults.old < 2 ^ 64 - 1 }
 {
@@ -56,10 +56,10 @@ pub fn replay_command<S: Source, O: Target, E: Target, const C: usize>(
     requires writes { O.failed output.old < 2 ^ 64 - 1 }
     requires tells { E.failed faults.old < 2 ^ 64 - 1 }
     // It is the log of each history that the session stands after that was written.
-    ensures replayed { (start : Start) (h : List OneInput) → StandsBehind session.old start h
+    ensures replayed { (start : Start) (h : List OneInput) → StandsAfter session.old start h
         → IsReplayed start h S.left S.failed S.ended O.taken O.failed result session.new
         (input.old, input.new) (output.old, output.new) }
-    // Without a fault nothing is told.
+    // Without a fault nothing is written to `faults`.
     ensures silent { OnOk result (faults.new ≡ faults.old) }
 {
     let answer = replay(input, output, session);
@@ -78,10 +78,10 @@ pub fn live_command<S: Source, O: Target, E: Target, const C: usize>(
     requires writes { O.failed output.old < 2 ^ 64 - 1 }
     requires tells { E.failed faults.old < 2 ^ 64 - 1 }
     // It is the log of each history that the session stands after, with what is needed, that was written.
-    ensures lived { (start : Start) (h : List OneInput) → StandsBehind session.old start h
+    ensures lived { (start : Start) (h : List OneInput) → StandsAfter session.old start h
         → IsLived start h S.left S.failed S.ended O.taken O.failed result session.new
         (input.old, input.new) (output.old, output.new) }
-    // Without a fault nothing is told.
+    // Without a fault nothing is written to `faults`.
     ensures silent { OnOk result (faults.new ≡ faults.old) }
 {
     let answer = live(input, output, session);
@@ -100,10 +100,10 @@ pub fn check_command<S: Source, O: Target, E: Target, const C: usize>(
     requires writes { O.failed output.old < 2 ^ 64 - 1 }
     requires tells { E.failed faults.old < 2 ^ 64 - 1 }
     // It was compared with what each history names that the session stands after.
-    ensures checked { (start : Start) (h : List OneInput) → StandsBehind session.old start h
+    ensures checked { (start : Start) (h : List OneInput) → StandsAfter session.old start h
         → IsChecked start h S.left S.failed S.ended O.taken O.failed result session.new
         (input.old, input.new) (output.old, output.new) }
-    // Without a fault nothing is told.
+    // Without a fault nothing is written to `faults`.
     ensures silent { OnOk result (faults.new ≡ faults.old) }
 {
     let answer = check(input, output, session);
@@ -122,10 +122,10 @@ pub fn quiet_command<S: Source, O: Target, E: Target, const C: usize>(
     requires writes { O.failed output.old < 2 ^ 64 - 1 }
     requires tells { E.failed faults.old < 2 ^ 64 - 1 }
     // It is quiet after each history that the session stands after.
-    ensures quieted { (start : Start) (h : List OneInput) → StandsBehind session.old start h
+    ensures quieted { (start : Start) (h : List OneInput) → StandsAfter session.old start h
         → IsQuieted start h S.left S.failed S.ended O.taken O.failed result session.new
         (input.old, input.new) (output.old, output.new) }
-    // Without a fault nothing is told.
+    // Without a fault nothing is written to `faults`.
     ensures silent { OnOk result (faults.new ≡ faults.old) }
 {
     let answer = quiet(input, output, session);

@@ -16,7 +16,7 @@ pub enum Line {
     /// `< P`: a packet that an earlier run sent.
     Sent(Packet),
     /// `#..` or an empty line.
-    Remark,
+    Comment,
     /// `=..`: what an earlier run counted.
     Count,
 }
@@ -170,7 +170,7 @@ pub fn read_line(line: &[u8]) -> Option<Line>
     ensures { result ≡ said line.now }
 {
     match line {
-        [] | [b'#', ..] => Some(Line::Remark),
+        [] | [b'#', ..] => Some(Line::Comment),
         [b'=', ..] => Some(Line::Count),
         [b'<', b' ', digits @ ..] => Some(Line::Sent(Packet(read_bytes(digits)?))),
         [b't', b' ', digits @ ..] => Some(Line::Input(Timed {

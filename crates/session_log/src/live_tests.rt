@@ -187,7 +187,7 @@ fn faults(rt: HostRuntime) {
 #[test]
 fn what_is_needed_is_told_before_more_is_read(rt: HostRuntime) -> Result<(), AllocError> {
     let greeting = format!(in rt.alloc(); "> 0 {INIT:0<128}\n")?;
-    // The INIT, half a tick, and its other half with a remark.
+    // The INIT, half a tick, and its other half with a comment.
     let pieces = [greeting.as_str(), "t ", "5\n# a\n"];
     let (taken, calls) = (Cell::new(0), Cell::new(0));
     let mut watching = Watching {

@@ -6,7 +6,7 @@ ghost use Rattle.session_log.specs.Replay.{Logs, ReadsTo};
 ghost use Rattle.session_log.specs.Session.{live_history, live_machine, Repeats, RepeatsIn};
 ghost use Rattle.token_session.specs.declared.input.Timed.{Timed as OneInput};
 ghost use Rattle.authn_core.specs.Turn.{Start};
-ghost use Rattle.token_session.specs.Meters.{SessionState, StandsBehind};
+ghost use Rattle.token_session.specs.Meters.{SessionState, StandsAfter};
 ghost use Rattle.session_log.specs.Streams.{Counts, IsAllRead, Moves};
 
 use crate::fault::LogFault;
@@ -18,8 +18,8 @@ use crate::text::{Text, put_line, put_meters, put_served};
 use hid_packet::Outbox;
 use token_session::{Meters, Session};
 
-/// Each input line and each remark is written again, after an input line the packets that are sent for it and what
-/// is needed then. Remarks that an earlier run wrote of this are dropped.
+/// Each input line and each comment is written again, after an input line the packets that are sent for it and what
+/// is needed then. Comments that an earlier run wrote of this are dropped.
 #[derive(Drop)]
 struct Living {
     outbox: Outbox,
@@ -37,7 +37,7 @@ impl Living {
     }
 }
 
-/// Whether a remark tells what an earlier run needed.
+/// Whether a comment tells what an earlier run needed.
 fn tells_need(remark: &[u8]) -> bool
     ensures { result ≡ is_told remark.now }
 {
@@ -63,7 +63,7 @@ impl<const C: usize> Player<C> for Living {
         match read_line(line) {
             None => Err(LogFault::BadLine(number)),
             Some(Line::Sent(_) | Line::Count) => Ok(()),
-            Some(Line::Remark) => {
+            Some(Line::Comment) => {
                 if tells_need(line) {
                     Ok(())
                 } else {
@@ -86,8 +86,8 @@ impl<const C: usize> Player<C> for Living {
 }
 
 /// Replays a log on a session as [`crate::replay`] does, and tells after the packets of each input line what the
-/// session needs ([`Session::need`]; docs/LOG_FORMAT.md): remarks of which just one, the last, begins with
-/// `# need `. Remarks that begin with `# need ` or `# signed ` are dropped, so what was written is its own log, of this
+/// session needs ([`Session::need`]; docs/LOG_FORMAT.md): comments of which just one, the last, begins with
+/// `# need `. Comments that begin with `# need ` or `# signed ` are dropped, so what was written is its own log, of this
 /// and of a replay. The text for a line is handed to the target whole, before more is asked of the source than the line
 /// that it is for. It allocates nothing.
 ///
@@ -113,8 +113,8 @@ pub fn live<S: Source, T: Target, const C: usize>(
     ensures reach { ReadsTo live_machine session.old (S.left reader.old) (S.left reader.new)
         (IsAllRead S.left S.ended reader.new) (ending_of result) }
     // After any history, all this holds of what the history names in place of what the session holds.
-    ensures history { (start : Start) (h : List OneInput) → StandsBehind session.old start h
-        → (later : List OneInput) × StandsBehind session.new start later
+    ensures history { (start : Start) (h : List OneInput) → StandsAfter session.old start h
+        → (later : List OneInput) × StandsAfter session.new start later
         × Moves (S.left reader.old) (S.left reader.new) (T.taken writer.old) (T.taken writer.new)
         (λ bytes text. Logs (live_history start) h later bytes text result) }
     // A failure was counted exactly at Read, and exactly at Write.

@@ -25,7 +25,7 @@ pub trait Player<const C: usize> {
     /// What is made of a line.
     ghost world: { World State };
 
-    /// What the lines so far came to.
+    /// The state that the lines so far led to.
     ghost state: { Self → SessionState → State };
 
     /// Whether it is ready for line n.

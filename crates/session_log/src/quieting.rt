@@ -5,7 +5,7 @@ ghost use Rattle.session_log.specs.Replay.{Makes, ReadsTo};
 ghost use Rattle.session_log.specs.Session.{quiet_history, quiet_machine};
 ghost use Rattle.token_session.specs.declared.input.Timed.{Timed as OneInput};
 ghost use Rattle.authn_core.specs.Turn.{Start};
-ghost use Rattle.token_session.specs.Meters.{SessionState, StandsBehind};
+ghost use Rattle.token_session.specs.Meters.{SessionState, StandsAfter};
 ghost use Rattle.session_log.specs.Streams.{Counts, IsAllRead, Moves};
 
 use crate::fault::LogFault;
@@ -17,7 +17,7 @@ use crate::text::{Text, put_line, put_tick};
 use hid_packet::Outbox;
 use token_session::Session;
 
-/// Each input line and each remark is written again, but a tick's line in place of noise.
+/// Each input line and each comment is written again, but a tick's line in place of noise.
 #[derive(Drop)]
 struct Quieting {
     outbox: Outbox,
@@ -61,7 +61,7 @@ impl<const C: usize> Player<C> for Quieting {
         match read_line(line) {
             None => Err(LogFault::BadLine(number)),
             Some(Line::Sent(_) | Line::Count) => Ok(()),
-            Some(Line::Remark) => put_line(writer, &mut self.text, line),
+            Some(Line::Comment) => put_line(writer, &mut self.text, line),
             Some(Line::Input(timed)) => {
                 // Whether it is noise is asked of the session as the input finds it.
                 let noise = session.noise(timed.at, &timed.input);
@@ -77,7 +77,7 @@ impl<const C: usize> Player<C> for Quieting {
     }
 }
 
-/// Makes a log quiet (docs/LOG_FORMAT.md): writes each input line and each remark again, but in place of an input
+/// Makes a log quiet (docs/LOG_FORMAT.md): writes each input line and each comment again, but in place of an input
 /// that is noise ([`Session::noise`]) the line of a tick at the same moment. The session steps the inputs as they are
 /// read; what it sends isn't written, nor what it counts. Replayed on an equal session, what was written sends what
 /// the log sends, less what answers the noise, and ends with equal meters. It allocates nothing.
@@ -100,8 +100,8 @@ pub fn quiet<S: Source, T: Target, const C: usize>(
     ensures reach { ReadsTo quiet_machine session.old (S.left reader.old) (S.left reader.new)
         (IsAllRead S.left S.ended reader.new) (ending_of result) }
     // After any history, all this holds of what is noise after it.
-    ensures history { (start : Start) (h : List OneInput) → StandsBehind session.old start h
-        → (later : List OneInput) × StandsBehind session.new start later
+    ensures history { (start : Start) (h : List OneInput) → StandsAfter session.old start h
+        → (later : List OneInput) × StandsAfter session.new start later
         × Moves (S.left reader.old) (S.left reader.new) (T.taken writer.old) (T.taken writer.new)
         (λ bytes text. Makes (quiet_history start) h later bytes text (ending_of result)) }
     // A failure was counted exactly at Read, and exactly at Write.

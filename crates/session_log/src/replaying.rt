@@ -5,7 +5,7 @@ ghost use Rattle.session_log.specs.Replay.{Logs, ReadsTo};
 ghost use Rattle.session_log.specs.Session.{history, machine, Repeats};
 ghost use Rattle.token_session.specs.declared.input.Timed.{Timed as OneInput};
 ghost use Rattle.authn_core.specs.Turn.{Start};
-ghost use Rattle.token_session.specs.Meters.{SessionState, StandsBehind};
+ghost use Rattle.token_session.specs.Meters.{SessionState, StandsAfter};
 ghost use Rattle.session_log.specs.Streams.{Counts, IsAllRead, Moves};
 
 use crate::fault::LogFault;
@@ -17,7 +17,7 @@ use crate::text::{Text, put_input, put_line, put_meters};
 use hid_packet::Outbox;
 use token_session::{Meters, Session};
 
-/// Each input line and each remark is written again, after an input line the packets that are sent for it.
+/// Each input line and each comment is written again, after an input line the packets that are sent for it.
 #[derive(Drop)]
 struct Replaying {
     outbox: Outbox,
@@ -54,7 +54,7 @@ impl<const C: usize> Player<C> for Replaying {
         match read_line(line) {
             None => Err(LogFault::BadLine(number)),
             Some(Line::Sent(_) | Line::Count) => Ok(()),
-            Some(Line::Remark) => put_line(writer, &mut self.text, line),
+            Some(Line::Comment) => put_line(writer, &mut self.text, line),
             Some(Line::Input(timed)) => {
                 session.step(timed.at, timed.input, &mut self.outbox);
                 put_input(writer, &mut self.text, line, &mut self.outbox)
@@ -63,7 +63,7 @@ impl<const C: usize> Player<C> for Replaying {
     }
 }
 
-/// Replays a log on a session (docs/LOG_FORMAT.md): writes each input line and each remark again, after an
+/// Replays a log on a session (docs/LOG_FORMAT.md): writes each input line and each comment again, after an
 /// input line the packets that the session sends for it, and at the end the session's meters, which it
 /// answers too. The text for a line is handed to the target whole, before more is asked of the source than
 /// the line that it is for. It allocates nothing.
@@ -92,8 +92,8 @@ pub fn replay<S: Source, T: Target, const C: usize>(
     ensures reach { ReadsTo machine session.old (S.left reader.old) (S.left reader.new)
         (IsAllRead S.left S.ended reader.new) (ending_of result) }
     // After any history, all this holds of what the history names in place of what the session holds.
-    ensures history { (start : Start) (h : List OneInput) → StandsBehind session.old start h
-        → (later : List OneInput) × StandsBehind session.new start later
+    ensures history { (start : Start) (h : List OneInput) → StandsAfter session.old start h
+        → (later : List OneInput) × StandsAfter session.new start later
         × Moves (S.left reader.old) (S.left reader.new) (T.taken writer.old) (T.taken writer.new)
         (λ bytes text. Logs (history start) h later bytes text result) }
     // A failure was counted exactly at Read, and exactly at Write.

@@ -66,7 +66,7 @@ impl Source for SliceIn<'_> {
             result out.new }
         ensures end { self.new.ended ≡ (self.old.ended || gave_nothing result (length out.new)) }
         ensures counted { 0 ≡ (if is_ok result then 0 else 0 + 1) }
-        // It gives as much as fits, and writes nothing behind that.
+        // It gives as much as fits, and writes nothing after that.
         ensures most { result ≡ Ok (min (length self.old.rest.now) (length out.old)) }
         ensures rest { drop (length self.old.rest.now) out.new ≡ drop (length self.old.rest.now) out.old }
     {

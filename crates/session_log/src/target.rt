@@ -14,7 +14,7 @@ pub trait Target {
     /// How many calls failed.
     ghost failed: { Self → ℕ };
 
-    /// Takes the front of the piece, and tells how many bytes these are: at least one of a piece that is
+    /// Takes the front of the piece, and returns how many bytes these are: at least one of a piece that is
     /// not empty. After a failure it has taken what it had.
     fn put(&mut self, piece: &[u8]) -> Result<usize, Failed>
         requires { failed self.old < 2 ^ 64 - 1 }

@@ -23,7 +23,7 @@ const METERS: &str = "= held 0 rows 0 pending 0 requests 0 bytes 0 steps 0\n";
 
 type Text = ArrayVec<u8, 1024>;
 
-/// A reader that gives at most `step` bytes a call, and may fail behind its last one.
+/// A reader that gives at most `step` bytes a call, and may fail after its last one.
 #[derive(Drop)]
 struct Drip<'a> {
     rest: &'a [u8],
@@ -43,7 +43,7 @@ impl Read for Drip<'_> {
     }
 }
 
-/// A writer that takes at most `step` bytes a call, and fails behind this many calls.
+/// A writer that takes at most `step` bytes a call, and fails after this many calls.
 #[derive(Drop)]
 struct Narrow {
     taken: Text,
@@ -88,7 +88,7 @@ impl Read for Watching<'_> {
     }
 }
 
-/// A writer that tells how much it took, in how many calls.
+/// A writer that knows how much it took, in how many calls.
 #[derive(Drop)]
 pub struct Watched<'a> {
     pub taken: &'a Cell<usize>,
@@ -119,7 +119,7 @@ fn replayed(log: &[u8]) -> (Option<LogFault>, Text) {
     (answer.err(), text)
 }
 
-/// The same from one byte a call, which may fail behind the last one.
+/// The same from one byte a call, which may fail after the last one.
 fn dripped(log: &[u8], fails: bool) -> (Option<LogFault>, Text) {
     let mut buffer = [0; 1024];
     let mut reader = FromRead::new(Drip {
@@ -135,7 +135,7 @@ fn dripped(log: &[u8], fails: bool) -> (Option<LogFault>, Text) {
     (answer.err(), text)
 }
 
-/// The same into a writer that takes at most `step` bytes a call and fails behind this many calls.
+/// The same into a writer that takes at most `step` bytes a call and fails after this many calls.
 fn narrowed(log: &[u8], step: usize, calls: usize) -> (Option<LogFault>, Text) {
     let mut reader = SliceIn::new(log);
     let mut narrow = Narrow {
@@ -270,7 +270,7 @@ fn writers_fail(rt: HostRuntime) -> Result<(), AllocError> {
 #[test]
 fn a_line_is_answered_before_more_is_read(rt: HostRuntime) -> Result<(), AllocError> {
     let greeting = format!(in rt.alloc(); "> 0 {INIT:0<128}\n")?;
-    // The INIT, half a tick, its other half with a remark and the front of another.
+    // The INIT, half a tick, its other half with a comment and the front of another.
     let pieces = [greeting.as_str(), "t ", "5\n# a\n#", " b\n"];
     let (taken, calls) = (Cell::new(0), Cell::new(0));
     let mut watching = Watching {

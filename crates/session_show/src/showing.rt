@@ -29,7 +29,7 @@ fn show_line<T: Target>(
 }
 
 /// Shows a log to a person (docs/LOG_FORMAT.md, "Shown to a person"): writes a line for each packet, tick and
-/// reply, and after the last packet of a CBOR message a line with its item in diagnostic notation. Remarks and
+/// reply, and after the last packet of a CBOR message a line with its item in diagnostic notation. Comments and
 /// counts are left out. The text for a line is handed to the target whole, before more is asked of the source.
 ///
 /// It allocates, from `alloc`, for the text of one line and for the item of one message, so that what it takes

@@ -38,7 +38,7 @@ impl Transcript {
         match line {
             Line::Input(timed) => self.add_input(alloc, number, timed),
             Line::Sent(packet) => self.add_answer(alloc, number, packet),
-            Line::Remark | Line::Count => Ok(()),
+            Line::Comment | Line::Count => Ok(()),
         }
     }
 

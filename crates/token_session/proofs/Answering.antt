@@ -80,7 +80,7 @@ request_at start t h (Packet x) m good le fin is =
     rw (e.quiet, fin, no_ping m is, asks) refl
 request_at start t h other m good le fin is = cc
 
--- The AAGUID behind every history is that of the start.
+-- The AAGUID after every history is that of the start.
 pub core_aaguid : (start : Start) (h : List Judged) → (core start h).setup.aaguid ≡ start.aaguid
 unfolding core
 core_aaguid start [] = refl

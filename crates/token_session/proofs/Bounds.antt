@@ -82,7 +82,7 @@ unfolding peak_held
 peak_few start [] = held_few start []
 peak_few start (e ∷ h) = let one = held_few start (e ∷ h) in let others = peak_few start h in omega arith
 
--- Where each message takes at most four steps for each byte behind the first and two more, so do they together.
+-- Where each message takes at most four steps for each byte after the first and two more, so do they together.
 pub few_steps : (steps : List ℕ → ℕ) → ((m : List ℕ) → steps m ≤ 4 * (length m - 1) + 2) → (ms : List (List ℕ))
     → sum_by steps ms ≤ 4 * sum_by (λ m. length m - 1) ms + 2 * length ms
 few_steps steps each [] = omega arith

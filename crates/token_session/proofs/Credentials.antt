@@ -11,7 +11,7 @@ use Rattle.authn_core.specs.declared.task.Job.{Job}
 use Rattle.authn_core.specs.State.{Event, Request}
 use Rattle.authn_core.specs.Turn.{Start, CoreState, Work, as_work, working, first_state}
 use Rattle.authn_core.specs.Ready.{Ready}
-use Rattle.authn_core.specs.Marks.{Step, Orderly, core_behind, marks, rows_of, texts, all_differ}
+use Rattle.authn_core.specs.Marks.{Step, Orderly, core_at, marks, rows_of, texts, all_differ}
 use Rattle.token_session.specs.declared.input.Input.{Input}
 use Rattle.token_session.specs.declared.input.Input.TheVariants.{Packet}
 use Rattle.token_session.specs.declared.input.Timed.{Timed}
@@ -26,13 +26,13 @@ use Rattle.token_session.proofs.Opens.{and_true}
 use Rattle.token_session.proofs.Serve.{OpenGiven, cond_case, says_admitted}
 use Rattle.token_session.proofs.Follows.{Good, good_judged, judged_at, safe_at}
 
-one_step : (start : CoreState) (at : ℕ) (e : Option Event) (past : List Step) → core_behind start (step_of at e ++ past) ≡ event_core (core_behind start past) at e
-unfolding core_behind
+one_step : (start : CoreState) (at : ℕ) (e : Option Event) (past : List Step) → core_at start (step_of at e ++ past) ≡ event_core (core_at start past) at e
+unfolding core_at
 one_step start at None past = refl
 one_step start at (Some e) past = refl
 
-pub core_is : (start : Start) (h : List Judged) → core start h ≡ core_behind (first_state start) (steps start h)
-unfolding core steps core_behind event_at
+pub core_is : (start : Start) (h : List Judged) → core start h ≡ core_at (first_state start) (steps start h)
+unfolding core steps core_at event_at
 core_is start [] = refl
 core_is start (e ∷ past) =
     ap (λ k. event_core k e.at (event_at start e past)) (core_is start past)
@@ -89,10 +89,10 @@ no_job : (w : Option Job) → option_map (λ (v : Work). v.cid) (option_map as_w
 no_job None h = refl
 no_job (Some job) h = cc
 
-one_orderly : (k : CoreState) (at : ℕ) (e : Option Event) (past : List Step) → AsksIdle (working (core_behind k past)) e → Orderly k past → Orderly k (step_of at e ++ past)
+one_orderly : (k : CoreState) (at : ℕ) (e : Option Event) (past : List Step) → AsksIdle (working (core_at k past)) e → Orderly k past → Orderly k (step_of at e ++ past)
 unfolding Orderly
 one_orderly k at None past a o = o
-one_orderly k at (Some (Request cid bytes)) past a o = (no_job (core_behind k past).state.work a, o)
+one_orderly k at (Some (Request cid bytes)) past a o = (no_job (core_at k past).state.work a, o)
 one_orderly k at (Some e) past a o = (tt, o)
 
 pub orderly : (start : Start) (h : List Timed) → Orderly (first_state start) (steps start (judged start h))
@@ -111,14 +111,14 @@ first_ready start = record { pending = tt; work = tt }
 
 -- The laws of the credentials over the authenticator's steps, lifted to the history.
 abbrev RowsLaw : Type 0
-RowsLaw = (start : CoreState) (h : List Step) → Orderly start h → (core_behind start h).state.rows ≡ rows_of start.state.rows (marks start h)
+RowsLaw = (start : CoreState) (h : List Step) → Orderly start h → (core_at start h).state.rows ≡ rows_of start.state.rows (marks start h)
 
 abbrev LawfulLaw : Type 0
-LawfulLaw = (start : CoreState) (h : List Step) → Ready (start.setup).room start.state → Lawful (start.setup).room (start.state).rows → Lawful (start.setup).room ((core_behind start h).state).rows
+LawfulLaw = (start : CoreState) (h : List Step) → Ready (start.setup).room start.state → Lawful (start.setup).room (start.state).rows → Lawful (start.setup).room ((core_at start h).state).rows
 
 abbrev PendingLaw : Type 0
 PendingLaw = (start : CoreState) (h : List Step) → Ready (start.setup).room start.state → Lawful (start.setup).room (start.state).rows → pending_count (start.state).pending ≤ (start.setup).room
-    → pending_count ((core_behind start h).state).pending ≤ (start.setup).room
+    → pending_count ((core_at start h).state).pending ≤ (start.setup).room
 
 abbrev TextsLaw : Type 0
 TextsLaw = (start : CoreState) (h : List Step) → Ready (start.setup).room start.state → Lawful (start.setup).room (start.state).rows → Orderly start h → all_differ (texts start h) ≡ true

@@ -8,7 +8,7 @@ use Rattle.token_session.specs.Drive.{driven, driven_sends}
 use Rattle.token_session.specs.Law.{numbered, onto, sent_from, sent_now}
 use Rattle.token_session.specs.declared.input.Meters.{Meters}
 use Rattle.token_session.specs.Noise.{Quiet, quiet_from}
-use Rattle.token_session.specs.Meters.{SessionState, StandsBehind, stepped, sent_by}
+use Rattle.token_session.specs.Meters.{SessionState, StandsAfter, stepped, sent_by}
 use Rattle.token_session.proofs.Metering.{stands_longer, machine_behind}
 use Rattle.token_session.proofs.Noise.{quiet_alike, quiet_runs}
 use Rattle.token_session.proofs.Runs.{step_sends}
@@ -42,12 +42,12 @@ sends_more xs i s v ps old now next x d h is a b f e =
 pub room_here : (now all : List (ℕ × List ℕ)) (places : ℕ) → now ≡ all → length now + 130 ≤ places → length all + 130 ≤ places
 room_here now all places e h = let n = ap (length {A = ℕ × List ℕ}) e in omega (arith, n)
 
--- A session that stands behind a history is driven along it.
-pub driven_stands : (xs : List Timed) (s : SessionState) (start : Start) (h : List Timed) → StandsBehind s start h → StandsBehind (driven s xs) start (onto xs h)
+-- A session that stands after a history is driven along it.
+pub driven_stands : (xs : List Timed) (s : SessionState) (start : Start) (h : List Timed) → StandsAfter s start h → StandsAfter (driven s xs) start (onto xs h)
 driven_stands [] s start h b = b
 driven_stands (x ∷ xs) s start h b = driven_stands xs (stepped s x) start (x ∷ h) (stands_longer s start h x b)
 
-pub driven_follows : (xs : List Timed) (s : SessionState) (start : Start) (n : ℕ) (h : List Timed) → StandsBehind s start h → driven_sends n s xs ≡ sent_from n start h xs
+pub driven_follows : (xs : List Timed) (s : SessionState) (start : Start) (n : ℕ) (h : List Timed) → StandsAfter s start h → driven_sends n s xs ≡ sent_from n start h xs
 driven_follows [] s start n h b = refl
 driven_follows (x ∷ xs) s start n h b =
     ap (λ ps. numbered n ps ++ driven_sends (n + 1) (stepped s x) xs) (step_sends s.machine start h x (machine_behind s start h b))
@@ -55,12 +55,12 @@ driven_follows (x ∷ xs) s start n h b =
 
 -- Two drives by which quiet histories go on.
 pub drives_alike : (start : Start) (h g xs ys : List Timed) (s t : SessionState) (m k : Meters) (old new : List (ℕ × List ℕ)) → Quiet start h g → Quiet start (onto xs h) (onto ys g)
-    → StandsBehind s start (onto (take (length xs) xs) h) → StandsBehind t start (onto (take (length ys) ys) g) → m ≡ s.meters → k ≡ t.meters
+    → StandsAfter s start (onto (take (length xs) xs) h) → StandsAfter t start (onto (take (length ys) ys) g) → m ≡ s.meters → k ≡ t.meters
     → new ≡ old ++ sent_from 0 start g (take (length ys) ys)
     → (s ≡ t) × (m ≡ k) × (new ≡ old ++ quiet_from 0 start h xs ys)
 drives_alike start h g xs ys s t m k old new q longer stands stands' counts counts' sent =
-    let first : StandsBehind s start (onto xs h) = subst (λ (l : List Timed). StandsBehind s start (onto l h)) (take-length xs) stands in
-    let second : StandsBehind t start (onto ys g) = subst (λ (l : List Timed). StandsBehind t start (onto l g)) (take-length ys) stands' in
+    let first : StandsAfter s start (onto xs h) = subst (λ (l : List Timed). StandsAfter s start (onto l h)) (take-length xs) stands in
+    let second : StandsAfter t start (onto ys g) = subst (λ (l : List Timed). StandsAfter t start (onto l g)) (take-length ys) stands' in
     let same : s ≡ t = first ∙ quiet_alike start (onto xs h) (onto ys g) longer ∙ sym second in (
       same,
       counts ∙ ap (λ (v : SessionState). v.meters) same ∙ sym counts',

@@ -64,7 +64,7 @@ pass_named now g t keepalive_at None k = pass_both (keepalive_due (waiting k) ke
 pass_named now g t keepalive_at (Some b) k =
     rw (not_below (last_at b.at b.own + 500) t) (pass_open (nat_lt t (last_at b.at b.own + 500)) g t keepalive_at b k)
 
--- What holds behind every history.
+-- What holds after every history.
 pub record Good (start : Start) (h : List Judged) : Type 0 where
   pub lawful : Lawful start h
   pub safe : Safe (given h) (open_at h (end start h)) (working (core start h))
@@ -138,7 +138,7 @@ named_turn start e h =
 abbrev pub judged_at : Start → ℕ → List Judged → Input → Judged
 judged_at start t h i = record { at = t; input = i; admitted = is_packet (admits (given h) (open_at h t) (working (core start h))) i }
 
--- what the machine does behind time, at t
+-- what the machine does after time, at t
 abbrev late_state : Start → List Judged → ℕ → State
 late_state start h t = record { now = t; given = given h; current = option_map as_open (open_at h t); core = core start h; keepalive_at = time_keepalive (open_at h (end start h)) (open_at h t) (waiting (core start h)) (last_keepalive start h) t }
 
@@ -210,7 +210,7 @@ opens_more : (g k : ℕ) (o : Option Begun) (w : Option ℕ) → g ≤ k → Ope
 opens_more g k None w le h = tt
 opens_more g k (Some b) w le h = (h.0, omega (arith, h.1), h.2)
 
--- behind an input, with what it made of the open message and of the authenticator
+-- after an input, with what it made of the open message and of the authenticator
 safe_of : (start : Start) (t : ℕ) (h : List Judged) (i : Input) (o : Option Begun) (w : Option ℕ) → IsGiven (given h) w → OpenGiven (given h) o w
     → open_at (judged_at start t h i ∷ h) t ≡ o → Safe (given (judged_at start t h i ∷ h)) (open_at (judged_at start t h i ∷ h) t) w
 safe_of start t h i o w works opens is =
@@ -233,7 +233,7 @@ safe_behind start t h other good le =
     safe_of start t h other (open_at h t) _ (reply_works (given h) (core start h) t other s.works) (reply_alone (given h) (open_at h t) (core start h) t other s.opens)
     (open_behind h (judged_at start t h other) start good.lawful le ∙ other_next t false other (open_at h t) refl)
 
--- What holds behind a history holds behind a longer one.
+-- What holds after a history holds after a longer one.
 good_longer : (start : Start) (h : List Judged) (x : Timed) → Good start h → Good start (judge start x h ∷ h)
 unfolding judge core
 good_longer start h x good =

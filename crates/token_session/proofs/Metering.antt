@@ -15,9 +15,9 @@ use Rattle.token_session.specs.Messages.{Begun, open_at, open_among}
 use Rattle.token_session.specs.History.{judged, judge, held, core, last_keepalive}
 use Rattle.token_session.specs.Machine.{State, Turn, turn, start_state}
 use Rattle.token_session.specs.Messages.{as_open}
-use Rattle.token_session.specs.Law.{named, event_at, Behind}
+use Rattle.token_session.specs.Law.{named, event_at, IsAfter}
 use Rattle.cred_table.specs.Waiting.{pending_count}
-use Rattle.token_session.specs.Meters.{AreBounded, peak_rows, peak_pending, metered_by, as_list, requests, peak_held, meters_of, one_more, bytes_in, steps_in, metered, SessionState, StandsBehind, stepped, session_of}
+use Rattle.token_session.specs.Meters.{AreBounded, peak_rows, peak_pending, metered_by, as_list, requests, peak_held, meters_of, one_more, bytes_in, steps_in, metered, SessionState, StandsAfter, stepped, session_of}
 use Rattle.token_session.proofs.Runs.{turn_behind}
 
 -- the bytes held are those that the history names
@@ -56,8 +56,8 @@ meters_more start e h =
     let steps = sym (capped (sum_by steps_of (requests start h)) (steps_in (request_in (event_at start e h))) _ (steps_more (event_at start e h) (requests start h))) in
     λ i. record { held = max (peak_held start h) (held start (e ∷ h)); rows = peak_rows start (e ∷ h); pending = peak_pending start (e ∷ h); requests = counts i; bytes = sums i; steps = steps i }
 
--- A session that stands behind a history stands behind the longer one.
-pub stands_longer : (s : SessionState) (start : Start) (h : List Timed) (x : Timed) → StandsBehind s start h → StandsBehind (stepped s x) start (x ∷ h)
+-- A session that stands after a history stands after the longer one.
+pub stands_longer : (s : SessionState) (start : Start) (h : List Timed) (x : Timed) → StandsAfter s start h → StandsAfter (stepped s x) start (x ∷ h)
 unfolding stepped session_of named judged
 stands_longer s start h x b =
     let turned = turn_behind s.machine start h x (ap (λ (v : SessionState). v.machine) b) in
@@ -98,7 +98,7 @@ starts start m rows is counted =
     (λ i. record { machine = m; meters = record { held = 0; rows = counted i; pending = 0; requests = 0; bytes = 0; steps = 0 } })
     ∙ ap (λ (v : State). record { machine = v; meters = record { held = 0; rows = length v.core.state.rows; pending = 0; requests = 0; bytes = 0; steps = 0 } }) is
 
-pub machine_behind : (s : SessionState) (start : Start) (h : List Timed) → StandsBehind s start h → Behind s.machine start h
+pub machine_behind : (s : SessionState) (start : Start) (h : List Timed) → StandsAfter s start h → IsAfter s.machine start h
 unfolding session_of
 machine_behind s start h b = ap (λ (v : SessionState). v.machine) b
 

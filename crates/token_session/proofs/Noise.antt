@@ -20,14 +20,14 @@ use Rattle.token_session.specs.Machine.{State, Turn, turn, time_passed, served, 
 use Rattle.token_session.specs.Inputs.{Judged, end, given}
 use Rattle.token_session.specs.Messages.{open_at, as_open}
 use Rattle.token_session.specs.History.{core, judge, judged, sent, sent_at, time_packets}
-use Rattle.token_session.specs.Law.{named, Behind, onto, numbered, sent_now, sent_from}
+use Rattle.token_session.specs.Law.{named, IsAfter, onto, numbered, sent_now, sent_from}
 use Rattle.token_session.specs.Meters.{SessionState, stepped, session_of, metered}
-use Rattle.token_session.specs.Noise.{is_noise_among, is_noise_to, is_noise_at, is_noise_behind, tick_at, IsQuiet, Quiet, is_replaced, quiet_now, quiet_sent, quiet_from}
+use Rattle.token_session.specs.Noise.{is_noise_among, is_noise_to, is_noise_at, is_noise_after, tick_at, IsQuiet, Quiet, is_replaced, quiet_now, quiet_sent, quiet_from}
 use Rattle.token_session.proofs.Follows.{Good, good_judged, time_named}
 use Rattle.token_session.proofs.Runs.{step_sends}
 use Rattle.token_session.proofs.Metering.{stands_longer}
 
--- What a turn leaves behind, beside the packets: the state, and what a request that it finished took to read.
+-- What a turn leaves after, beside the packets: the state, and what a request that it finished took to read.
 pub record Leaves (t : Turn) (u : Turn) : Type 0 where
   pub state : t.state ≡ u.state
   pub request : request_in t.event ≡ request_in u.event
@@ -130,18 +130,18 @@ pub tick_sends : (s : State) (at : ℕ) → (turn s (tick_at at)).packets ≡ (t
 unfolding turn
 tick_sends s at = append-nil _
 
--- What is noise to the state that a history names is noise behind that history.
-noise_named : (start : Start) (h : List Judged) (x : Timed) → Good start h → is_noise_at (named start h) x ≡ is_noise_behind start (judge start x h) h
-unfolding is_noise_at is_noise_behind judge named
+-- What is noise to the state that a history names is noise after that history.
+noise_named : (start : Start) (h : List Judged) (x : Timed) → Good start h → is_noise_at (named start h) x ≡ is_noise_after start (judge start x h) h
+unfolding is_noise_at is_noise_after judge named
 noise_named start h x good =
     let t = max (end start h) x.at in
     let le : end start h ≤ t = omega arith in
     ap (λ (v : Turn). is_noise_to v.state x.input) (time_named start t h good le)
 
-pub noise_is_named : (s : State) (start : Start) (h : List Timed) (x : Timed) → Behind s start h → is_noise_at s x ≡ is_noise_behind start (judge start x (judged start h)) (judged start h)
+pub noise_is_named : (s : State) (start : Start) (h : List Timed) (x : Timed) → IsAfter s start h → is_noise_at s x ≡ is_noise_after start (judge start x (judged start h)) (judged start h)
 noise_is_named s start h x b = ap (λ v. is_noise_at v x) b ∙ noise_named start (judged start h) x (good_judged start h)
 
--- Histories: first what one input makes of a session that stands behind both.
+-- Histories: first what one input makes of a session that stands after both.
 stepped_alike : (start : Start) (h : List Timed) (x y : Timed) → IsQuiet start h x y → stepped (session_of start (judged start h)) x ≡ stepped (session_of start (judged start h)) y
 unfolding session_of
 stepped_alike start h x y (inl same) = ap (λ v. stepped (session_of start (judged start h)) v) (sym same)
@@ -149,7 +149,7 @@ stepped_alike start h x y (inr tick) =
     noise_steps (session_of start (judged start h)) x (noise_is_named (named start (judged start h)) start h x refl ∙ tick.1)
     ∙ ap (λ v. stepped (session_of start (judged start h)) v) (sym tick.0)
 
--- Sessions behind quiet histories hold the same.
+-- Sessions after quiet histories hold the same.
 pub quiet_alike : (start : Start) (h g : List Timed) → Quiet start h g → session_of start (judged start h) ≡ session_of start (judged start g)
 quiet_alike start [] [] q = refl
 quiet_alike start [] (y ∷ g) q = absurd q
@@ -166,8 +166,8 @@ noise_is_replaced : (g : ℕ) (o : Option Open) (k : CoreState) (i : Input) → 
 noise_is_replaced g o k Tick h = cc
 noise_is_replaced g o k other h = refl
 
--- The packets that one input sends behind both, the second with the same input or with a tick.
-now_same : (start : Start) (h g : List Timed) (x : Timed) → Behind (named start (judged start h)) start g → sent_now start g x ≡ quiet_now start h x x
+-- The packets that one input sends after both, the second with the same input or with a tick.
+now_same : (start : Start) (h g : List Timed) (x : Timed) → IsAfter (named start (judged start h)) start g → sent_now start g x ≡ quiet_now start h x x
 unfolding sent_now quiet_now judge
 now_same start h g x b =
     let s = named start (judged start h) in
@@ -175,9 +175,9 @@ now_same start h g x b =
     sym (step_sends s start g x b) ∙ step_sends s start h x refl
     ∙ ap (λ r. cond r (time_packets start (judged start h) e.at) (sent_at start e (judged start h))) (sym (never_replaced x.input))
 
-now_tick : (start : Start) (h g : List Timed) (x : Timed) → Behind (named start (judged start h)) start g → is_noise_behind start (judge start x (judged start h)) (judged start h) ≡ true
+now_tick : (start : Start) (h g : List Timed) (x : Timed) → IsAfter (named start (judged start h)) start g → is_noise_after start (judge start x (judged start h)) (judged start h) ≡ true
     → sent_now start g (tick_at x.at) ≡ quiet_now start h x (tick_at x.at)
-unfolding quiet_now judge named is_noise_behind
+unfolding quiet_now judge named is_noise_after
 now_tick start h g x b noise =
     let past = judged start h in
     let s = named start past in
@@ -191,10 +191,10 @@ now_tick start h g x b noise =
 quiet_sends_now : (start : Start) (h g : List Timed) (x y : Timed) → Quiet start h g → IsQuiet start h x y → sent_now start g y ≡ quiet_now start h x y
 unfolding session_of
 quiet_sends_now start h g x y q (inl same) =
-    let b : Behind (named start (judged start h)) start g = ap (λ (v : SessionState). v.machine) (quiet_alike start h g q) in
+    let b : IsAfter (named start (judged start h)) start g = ap (λ (v : SessionState). v.machine) (quiet_alike start h g q) in
     subst (λ (v : Timed). sent_now start g v ≡ quiet_now start h x v) (sym same) (now_same start h g x b)
 quiet_sends_now start h g x y q (inr tick) =
-    let b : Behind (named start (judged start h)) start g = ap (λ (v : SessionState). v.machine) (quiet_alike start h g q) in
+    let b : IsAfter (named start (judged start h)) start g = ap (λ (v : SessionState). v.machine) (quiet_alike start h g q) in
     subst (λ (v : Timed). sent_now start g v ≡ quiet_now start h x v) (sym tick.0) (now_tick start h g x b tick.1)
 
 -- The quiet history sends what the other sends, less the packets of service at the replaced inputs.

@@ -168,7 +168,7 @@ from_one : (L : List Judged) (x : Judged) (t : ℕ) → From t L → t ≤ x.at 
 from_one [] x t f le = (le, tt)
 from_one (e ∷ L) x t f le = (f.0, from_one L x t f.1 le)
 
--- One more input: what was open goes on by it, and nothing else comes to be open behind the newest start.
+-- One more input: what was open goes on by it, and nothing else comes to be open after the newest start.
 pub one_more : (h L : List Judged) (x : Judged) (start : Start) → Lawful start h → From (end start h) L → end start h ≤ x.at
     → open_among (L ++ x ∷ []) h x.at ≡ then_next x (open_among L h x.at)
 unfolding open_among open_at
@@ -197,7 +197,7 @@ open_now x =
     let soon : nat_lt x.at (x.at + 500) ≡ true = grind (arith, nat_tests) in
     and_also (x.admitted && is_long (packet x.input)) (nat_lt x.at (x.at + 500)) soon
 
--- What is open behind one more input.
+-- What is open after one more input.
 pub open_behind : (h : List Judged) (x : Judged) (start : Start) → Lawful start h → end start h ≤ x.at
     → open_at (x ∷ h) x.at
     ≡ cond (x.admitted && is_long (packet x.input)) (Some (record { packet = packet x.input; at = x.at; own = [] })) (then_next x (open_at h x.at))

@@ -33,7 +33,7 @@ in_time_at (Some m) t h = go (nat_le (m.last + 500) t) h
 abbrev pub whole : ℕ → Assembly → CoreState → ℕ → State
 whole n a k b = record { now = n; given = a.given; current = a.current; core = k; keepalive_at = b }
 
--- the assembly behind the passing of time
+-- the assembly after the passing of time
 abbrev pub passed_to : Assembly → ℕ → Assembly
 passed_to a t = record { given = a.given; current = still_open a.current t; finished = a.finished }
 

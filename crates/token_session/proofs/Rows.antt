@@ -30,7 +30,7 @@ came t x = record { at = t; input = Packet (record { 0 = pad x }) }
 abbrev tick : ℕ → Timed
 tick t = record { at = t; input = Tick }
 
--- the inputs of a list in order, behind two INITs
+-- the inputs of a list in order, after two INITs
 abbrev init_line : List ℕ
 init_line = 255 ∷ 255 ∷ 255 ∷ 255 ∷ 134 ∷ 0 ∷ 8 ∷ 1 ∷ 1 ∷ 1 ∷ 1 ∷ 1 ∷ 1 ∷ 1 ∷ 1 ∷ []
 
@@ -118,7 +118,7 @@ broken_off : sent_by (begun_with_two (came 0 ping_100 ∷ came 10 (one (145 ∷ 
 unfolding sent_by error_1
 broken_off = refl
 
--- the packets 0 .. n-1 behind the first
+-- the packets 0 .. n-1 after the first
 abbrev numbers_from : ℕ → ℕ → List Timed
 numbers_from zero k = []
 numbers_from (suc n) k = came 0 (one (k ∷ replicate 59 2)) ∷ numbers_from n (k + 1)
@@ -173,13 +173,13 @@ get_info : sent_by (begun_with_two (came 0 (one (144 ∷ 0 ∷ 1 ∷ 4 ∷ [])) 
 unfolding sent_by info_1
 get_info = refl
 
--- a byte behind its command
+-- a byte after its command
 get_info_refused : sent_by (begun_with_two (came 0 (one (144 ∷ 0 ∷ 2 ∷ 4 ∷ 0 ∷ [])) ∷ [])) ≡ behind_two (pad (one (144 ∷ 0 ∷ 1 ∷ 3 ∷ [])) ∷ [])
 unfolding sent_by
 get_info_refused = refl
 
 -- Work waits for the user's presence on channel 1 since the moment 0. (No command begins work yet, so that such a state
--- stands behind no history.)
+-- stands after no history.)
 waiting : State
 waiting = record { now = 0; given = 2; current = None; core = record { setup = record { aaguid = replicate 16 0; began = 0; room = 64 }; state = record { rows = []; pending = None; work = Some (record { cid = 1; task = Selects }) } }; keepalive_at = 0 }
 

@@ -1,4 +1,4 @@
--- Behind every input at most one message is open or waits, on a channel that was given.
+-- After every input at most one message is open or waits, on a channel that was given.
 use Rattle.std.proofs.Common.{◌≡◌, ℕ, ◌≤◌, ◌==◌, true, false, cond, ◌&&◌, List, [], ◌∷◌, ◌++◌, length, not, nat_lt, ◌+◌, ◌*◌, Option, Some, None, refl, sym, ◌∙◌, ap, subst, arith, nat_le}
 use Rattle.std.proofs.lemmas.Option.{same_Some}
 use Rattle.token_session.proofs.Serve.{OpenGiven, Safe, new_open, cond_case, says_admitted, never_admitted, now_came, long_says, is_le, no_event, own_more, not_is, all_four}
@@ -59,7 +59,7 @@ packet_works g o k t x s =
     go None h = s.works
     go (Some e) h = work_stays_given g k t e s.works h
 
--- Where a message is open behind a packet, the packet is no event, and no work waits.
+-- Where a message is open after a packet, the packet is no event, and no work waits.
 no_work_event : (p : List ℕ) → packet_event None None p ≡ None
 no_work_event p = no_event None None p (λ _. refl) (λ _ _. refl)
 
@@ -107,7 +107,7 @@ next_alone g b k t x (Some c) low high idle n =
       still_idle k t x.0 _ idle (rw (never_admitted g b (working k) x.0, last) refl),
     )
 
--- Behind a packet at most one message is open or waits.
+-- After a packet at most one message is open or waits.
 pub packet_alone : (g : ℕ) (o : Option Begun) (k : CoreState) (t : ℕ) (x : Packet64) → Safe g o (working k)
     → OpenGiven g (new_open g o (working k) t x.0 (Packet x)) (working (event_core k t (packet_event (working k) (finished o (admits g o (working k) x.0) (Packet x)) x.0)))
 packet_alone g None k t x s =

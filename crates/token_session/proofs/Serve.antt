@@ -560,7 +560,7 @@ abbrev pub OpenGiven : ℕ → Option Begun → Option ℕ → Type 0
 OpenGiven g None w = Unit {0}
 OpenGiven g (Some b) w = (1 ≤ channel b.packet) × (channel b.packet ≤ g) × (w ≡ None)
 
--- what holds behind every history: at most one message is open or waits, on a channel that was given
+-- what holds after every history: at most one message is open or waits, on a channel that was given
 pub record Safe (g : ℕ) (o : Option Begun) (w : Option ℕ) : Type 0 where
   pub few : g ≤ LAST_CHANNEL
   pub works : IsGiven g w

@@ -34,6 +34,6 @@ unfoldable pub carriers : Option Begun → Bool → Input → List (List ℕ)
 carriers o admitted (Packet p) = if admitted && nat_le (message_length p.0) INITIALIZATION_DATA then p.0 ∷ [] else long_carriers o p.0
 carriers o admitted other = []
 
--- the packets that carried the message that an input finishes behind a history
+-- the packets that carried the message that an input finishes after a history
 abbrev pub carriers_at : Judged → List Judged → List (List ℕ)
 carriers_at e past = carriers (open_at past e.at) e.admitted e.input

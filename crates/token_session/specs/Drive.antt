@@ -14,7 +14,7 @@ use Rattle.hid_packet.specs.declared.limit.TheConstants.{OUTBOX_CAPACITY}
 abbrev pub as_pair : Sent → ℕ × List ℕ
 as_pair s = (s.input, (s.packet).0)
 
--- the session behind the inputs of a list, and what they send
+-- the session after the inputs of a list, and what they send
 abbrev pub driven : SessionState → List Timed → SessionState
 driven s [] = s
 driven s (x ∷ xs) = driven (stepped s x) xs

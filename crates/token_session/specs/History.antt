@@ -27,11 +27,11 @@ unfoldable pub event : Option ℕ → Option Message → Input → Option Event
 event work m (Packet p) = packet_event work m p.0
 event work m other = reply_in other
 
--- the event that an input is behind a history, to an authenticator in this state
+-- the event that an input is after a history, to an authenticator in this state
 abbrev pub event_to : CoreState → Judged → List Judged → Option Event
 event_to k e past = event (working k) (finished_at e past) e.input
 
--- The authenticator behind a history: its turns over the events, one after the other.
+-- The authenticator after a history: its turns over the events, one after the other.
 unfoldable pub core : Start → List Judged → CoreState
 core start [] = first_state start
 core start (e ∷ past) = let before = core start past in event_core before e.at (event_to before e past)

@@ -22,18 +22,18 @@ named start h = record {
 }
 
 -- The state holds what the history names.
-abbrev pub Behind : State → Start → List Timed → Type 0
-Behind s start h = s ≡ named start (judged start h)
+abbrev pub IsAfter : State → Start → List Timed → Type 0
+IsAfter s start h = s ≡ named start (judged start h)
 
--- the packets that x sends behind h
+-- the packets that x sends after h
 unfoldable pub sent_now : Start → List Timed → Timed → List (List ℕ)
 sent_now start h x = sent_at start (judge start x (judged start h)) (judged start h)
 
--- the event that an input is behind a history
+-- the event that an input is after a history
 unfoldable pub event_at : Start → Judged → List Judged → Option Event
 event_at start e past = event_to (core start past) e past
 
--- the inputs of a list, in order, behind a history
+-- the inputs of a list, in order, after a history
 abbrev pub onto : List Timed → List Timed → List Timed
 onto [] h = h
 onto (x ∷ xs) h = onto xs (x ∷ h)
@@ -43,7 +43,7 @@ abbrev pub numbered : ℕ → List (List ℕ) → List (ℕ × List ℕ)
 numbered n [] = []
 numbered n (p ∷ ps) = (n, p) ∷ numbered n ps
 
--- what the inputs of a list send behind a history, in order, with the number of the input
+-- what the inputs of a list send after a history, in order, with the number of the input
 abbrev pub sent_from : ℕ → Start → List Timed → List Timed → List (ℕ × List ℕ)
 sent_from n start h [] = []
 sent_from n start h (x ∷ xs) = numbered n (sent_now start h x) ++ sent_from (n + 1) start (x ∷ h) xs

@@ -42,7 +42,7 @@ time_passed s at =
     then record { state = record s { now = at; keepalive_at = at }; packets = keepalive_packets (waiting s.core); event = None }
     else record { state = record s { now = at }; packets = []; event = None }
 
--- An event behind what else a packet changed: the packets of time come first, then those of the row, then the event's.
+-- An event after what else a packet changed: the packets of time come first, then those of the row, then the event's.
 abbrev pub happens : ℕ → ℕ → Option Open → CoreState → ℕ → List (List ℕ) → List (List ℕ) → Option Event → Turn
 happens at given current core keepalive_at early packets e =
     record {
@@ -69,7 +69,7 @@ served_by s f early row =
     early (row_packets s.given f row ++ ping_packets (message_after s.current f row))
     (event_after (working s.core) f (message_after s.current f row) row)
 
--- An input is served behind the packets of time.
+-- An input is served after the packets of time.
 abbrev pub served : State → List (List ℕ) → Input → Turn
 served s early (Packet p) = served_by s (fields p.0) early (ruling_of s.given s.current (working s.core) (fields p.0))
 served s early other = happens s.now s.given s.current s.core s.keepalive_at early [] (reply_in other)
@@ -81,7 +81,7 @@ turn s x = let at = max s.now x.at in served (time_passed s at).state (time_pass
 unfoldable pub start_state : Start → State
 start_state start = record { now = start.moment; given = 0; current = None; core = first_state start; keepalive_at = 0 }
 
--- The state behind a list of inputs, the newest first.
+-- The state after a list of inputs, the newest first.
 unfoldable pub machine : Start → List Timed → State
 machine start [] = start_state start
 machine start (x ∷ past) = (turn (machine start past) x).state

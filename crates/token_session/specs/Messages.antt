@@ -42,7 +42,7 @@ is_open e later t =
     let b = begun_by e later in
     e.admitted && is_long b.packet && goes_on (message_length b.packet) 0 b.at b.own t
 
--- the open message at t among these inputs, behind which those others came
+-- the open message at t among these inputs, after which those others came
 unfoldable pub open_among : List Judged → List Judged → ℕ → Option Begun
 open_among later [] t = None
 open_among later (e ∷ before) t = if is_open e later t then Some (begun_by e later) else open_among (e ∷ later) before t

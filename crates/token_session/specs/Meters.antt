@@ -21,7 +21,7 @@ unfoldable pub requests : Start → List Judged → List (List ℕ)
 requests start [] = []
 requests start (e ∷ past) = as_list (request_in (event_at start e past)) ++ requests start past
 
--- the most data bytes held of an open message, at the start and behind each input
+-- the most data bytes held of an open message, at the start and after each input
 unfoldable pub peak_held : Start → List Judged → ℕ
 peak_held start [] = held start []
 peak_held start (e ∷ past) = max (peak_held start past) (held start (e ∷ past))
@@ -83,7 +83,7 @@ abbrev pub metered_by : Meters → Turn → Meters
 metered_by m t =
     metered m (held_bytes t.state.current) (length t.state.core.state.rows) (pending_count t.state.core.state.pending) (request_in t.event)
 
--- the session behind one input more
+-- the session after one input more
 unfoldable pub stepped : SessionState → Timed → SessionState
 stepped s x = record {
   machine = (turn s.machine x).state;
@@ -98,6 +98,6 @@ sent_by s x = (turn s.machine x).packets
 unfoldable pub session_of : Start → List Judged → SessionState
 session_of start h = record { machine = named start h; meters = meters_of start h }
 
--- The session stands behind a history.
-abbrev pub StandsBehind : SessionState → Start → List Timed → Type 0
-StandsBehind s start h = s ≡ session_of start (judged start h)
+-- The session stands after a history.
+abbrev pub StandsAfter : SessionState → Start → List Timed → Type 0
+StandsAfter s start h = s ≡ session_of start (judged start h)

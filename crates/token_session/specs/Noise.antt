@@ -32,15 +32,15 @@ unfoldable pub is_noise_at : State → Timed → Bool
 is_noise_at s x = is_noise_to (time_passed s (max s.now x.at)).state x.input
 
 -- after a history
-unfoldable pub is_noise_behind : Start → Judged → List Judged → Bool
-is_noise_behind start e past = is_noise_among (given past) (option_map as_open (open_at past e.at)) (core start past) e.input
+unfoldable pub is_noise_after : Start → Judged → List Judged → Bool
+is_noise_after start e past = is_noise_among (given past) (option_map as_open (open_at past e.at)) (core start past) e.input
 
 abbrev pub tick_at : ℕ → Timed
 tick_at at = record { at = at; input = Tick }
 
--- In the place of x, which came behind h, stands x, or a tick at its moment where x is noise.
+-- In the place of x, which came after h, stands x, or a tick at its moment where x is noise.
 abbrev pub IsQuiet : Start → List Timed → (x y : Timed) → Type 0
-IsQuiet start h x y = (y ≡ x) ⊎ ((y ≡ tick_at x.at) × (is_noise_behind start (judge start x (judged start h)) (judged start h) ≡ true))
+IsQuiet start h x y = (y ≡ x) ⊎ ((y ≡ tick_at x.at) × (is_noise_after start (judge start x (judged start h)) (judged start h) ≡ true))
 
 -- The second history is the first, with ticks in place of noise: in all such places, in some or in none.
 abbrev pub Quiet : Start → (h g : List Timed) → Type 0
@@ -55,7 +55,7 @@ is_replaced Tick j = false
 is_replaced i Tick = true
 is_replaced i j = false
 
--- what x sends behind h, but only the packets of time where a tick stands for it
+-- what x sends after h, but only the packets of time where a tick stands for it
 abbrev pub quiet_packets : Start → List Judged → Judged → Input → List (List ℕ)
 quiet_packets start past e j = if is_replaced e.input j then time_packets start past e.at else sent_at start e past
 
@@ -68,7 +68,7 @@ quiet_sent start [] g = []
 quiet_sent start (x ∷ h) [] = []
 quiet_sent start (x ∷ h) (y ∷ g) = quiet_sent start h g ++ quiet_now start h x y
 
--- the same of the inputs of a list behind a history, with their numbers
+-- the same of the inputs of a list after a history, with their numbers
 abbrev pub quiet_from : ℕ → Start → (h xs ys : List Timed) → List (ℕ × List ℕ)
 quiet_from n start h [] ys = []
 quiet_from n start h (x ∷ xs) [] = []

@@ -36,7 +36,7 @@ fn put_keepalive(outbox: &mut Outbox, cid: u32, status: KeepaliveStatus)
     outbox.put_message(cid, KEEPALIVE, &[status.number()]);
 }
 
-/// The authenticator and its KEEPALIVEs: it sends what its turns come to, and a KEEPALIVE every 100 ms while work waits.
+/// The authenticator and its KEEPALIVEs: it sends what its turns give, and a KEEPALIVE every 100 ms while work waits.
 #[derive(Drop)]
 pub(crate) struct Authenticator<const C: usize> {
     core: Core<Store<C>, C>,
@@ -215,7 +215,7 @@ impl<const C: usize> Authenticator<C> {
         self.core.drop_work();
     }
 
-    /// Sends what a turn comes to on the channel of the work that waited before it, and nothing where none did.
+    /// Sends what a turn gives on the channel of the work that waited before it, and nothing where none did.
     #[tactic(auto, unfolding(crate::specs::Replies::answer_packets, crate::specs::Replies::answer_keeps_alive))]
     fn answer(&mut self, now: u64, work: Option<Work>, turn: &Turn, outbox: &mut Outbox)
         requires { length outbox.old ≤ 1 }
@@ -229,7 +229,7 @@ impl<const C: usize> Authenticator<C> {
         }
     }
 
-    /// Sends what a turn comes to, where work waited with the status `before` or none did.
+    /// Sends what a turn gives, where work waited with the status `before` or none did.
     #[tactic(auto, using(hid_packet::proofs::Carrying::few_written), unfolding(crate::specs::Replies::answer_packets, crate::specs::Replies::answer_keeps_alive))]
     fn send(
         &mut self,

@@ -5,7 +5,7 @@ ghost use Rattle.authn_core.specs.Turn.{Start};
 ghost use Rattle.token_session.specs.declared.input.Timed.{Timed as OneInput};
 ghost use Rattle.token_session.specs.Drive.{as_pair, driven, driven_sends, done_of, first_done, second_done, HadRoom};
 ghost use Rattle.token_session.specs.Law.{numbered, onto, sent_from};
-ghost use Rattle.token_session.specs.Meters.{StandsBehind};
+ghost use Rattle.token_session.specs.Meters.{StandsAfter};
 ghost use Rattle.token_session.specs.Noise.{Quiet, quiet_from};
 ghost use Rattle.hid_packet.specs.declared.limit.TheConstants.{OUTBOX_CAPACITY};
 
@@ -52,7 +52,7 @@ pub fn drive<const C: usize, const N: usize>(
     inputs: &[Timed],
     sent: &mut ArrayVec<Sent, N>,
 ) -> Result<Meters, DriveFault>
-    // The session and the list stand exactly behind the inputs done.
+    // The session and the list stand exactly after the inputs done.
     ensures state { session.new ≡ driven session.old (take (done_of (length inputs.now) result) inputs.now) }
     ensures packets { map as_pair sent.new.items
         ≡ map as_pair sent.old.items ++ driven_sends 0 session.old (take (done_of (length inputs.now) result) inputs.now) }
@@ -60,10 +60,10 @@ pub fn drive<const C: usize, const N: usize>(
     // It is full exactly where too few places are free.
     ensures full { IfErr result (λ e. (done_of 0 result < length inputs.now) × (N < array_vec_len sent.new + OUTBOX_CAPACITY)) }
     ensures room { HadRoom N (map as_pair sent.old.items) session.old inputs.now (done_of (length inputs.now) result) }
-    // Behind any history.
-    ensures behind { (start : Start) (h : List OneInput) → StandsBehind session.old start h
-        → StandsBehind session.new start (onto (take (done_of (length inputs.now) result) inputs.now) h) }
-    ensures sent { (start : Start) (h : List OneInput) → StandsBehind session.old start h
+    // After any history.
+    ensures after { (start : Start) (h : List OneInput) → StandsAfter session.old start h
+        → StandsAfter session.new start (onto (take (done_of (length inputs.now) result) inputs.now) h) }
+    ensures sent { (start : Start) (h : List OneInput) → StandsAfter session.old start h
         → map as_pair sent.new.items ≡ map as_pair sent.old.items ++ sent_from 0 start h (take (done_of (length inputs.now) result) inputs.now) }
 {
     let mut outbox = Outbox::new();
@@ -102,8 +102,8 @@ pub fn drive_both<const C: usize, const N: usize>(
         ⊎ ((first_done 0 result ≡ length inputs.now) × (second_done 0 result < length quiet.now) × (N < array_vec_len quiet_sent.new + OUTBOX_CAPACITY))) }
     ensures first_room { HadRoom N (map as_pair sent.old.items) first.old inputs.now (first_done (length inputs.now) result) }
     ensures second_room { HadRoom N (map as_pair quiet_sent.old.items) second.old quiet.now (second_done (length quiet.now) result) }
-    // Behind histories of one start of which the second has ticks in place of noise, before and after.
-    ensures alike { (start : Start) (h g : List OneInput) → StandsBehind first.old start h → StandsBehind second.old start g
+    // After histories of one start of which the second has ticks in place of noise, before and after.
+    ensures alike { (start : Start) (h g : List OneInput) → StandsAfter first.old start h → StandsAfter second.old start g
         → Quiet start h g → Quiet start (onto inputs.now h) (onto quiet.now g)
         → IfOk result (λ meters. (first.new ≡ second.new) × (meters.0 ≡ meters.1)
         × (map as_pair quiet_sent.new.items ≡ map as_pair quiet_sent.old.items ++ quiet_from 0 start h inputs.now quiet.now)) }

@@ -33,7 +33,7 @@ pub struct Sent {
 /// What a session has held and served.
 #[derive(Clone, Copy, Debug, PartialEq, Eq)]
 pub struct Meters {
-    /// The most data bytes of an open message, at the start and behind each input.
+    /// The most data bytes of an open message, at the start and after each input.
     pub held: u16,
     /// The most credential rows.
     pub rows: u16,
@@ -41,7 +41,7 @@ pub struct Meters {
     pub pending: u16,
     /// How many CBOR requests were finished, at most 2^64-1.
     pub requests: u64,
-    /// Their bytes behind the command byte, at most 2^64-1.
+    /// Their bytes after the command byte, at most 2^64-1.
     pub bytes: u64,
     /// The steps that reading them took, at most 2^64-1.
     pub steps: u64,

@@ -21,11 +21,11 @@ ghost use Rattle.token_session.specs.Messages.{finished_at, open_at};
 ghost use Rattle.token_session.specs.History.{judge, judged, held, core, sent, service_packets, last_keepalive};
 ghost use Rattle.token_session.specs.Machine.{State, machine, turn, time_passed};
 ghost use Rattle.token_session.specs.Events.{event_packets};
-ghost use Rattle.token_session.specs.Law.{all_open, keeps_alive, Behind, sent_now, onto, sent_from, run_state, run_sent};
+ghost use Rattle.token_session.specs.Law.{all_open, keeps_alive, IsAfter, sent_now, onto, sent_from, run_state, run_sent};
 ghost use Rattle.token_session.specs.Credentials.{steps};
 ghost use Rattle.token_session.specs.Headline.{IsAnswered};
 ghost use Rattle.token_session.specs.Meters.{SessionState, meters_of, session_of, stepped};
-ghost use Rattle.token_session.specs.Noise.{Quiet, is_noise_at, is_noise_behind, quiet_from, quiet_sent, tick_at};
+ghost use Rattle.token_session.specs.Noise.{Quiet, is_noise_at, is_noise_after, quiet_from, quiet_sent, tick_at};
 ghost use Rattle.hid_packet.specs.declared.limit.TheConstants.{OUTBOX_CAPACITY};
 
 use authn_core::laws::{rows_follow_history, texts_to_sign_differ};
@@ -34,15 +34,15 @@ use ctap_message::laws::steps_are_bounded;
 /// The composed turn, over any history, is in the state that the history names, and each input sends
 /// the packets that the history says.
 pub fn machine_follows_history()
-    ensures state { (start : Start) (h : List OneInput) → Behind (machine start h) start h }
+    ensures state { (start : Start) (h : List OneInput) → IsAfter (machine start h) start h }
     ensures packets { (start : Start) (h : List OneInput) (x : OneInput) → (turn (machine start h) x).packets ≡ sent_now start h x }
 {}
 
-/// A run from a state that stands behind a history stands behind the longer one, and sends what the
+/// A run from a state that stands after a history stands after the longer one, and sends what the
 /// longer history says.
 pub fn runs_follow_history()
-    ensures state { (s : State) (start : Start) (h xs : List OneInput) → Behind s start h → Behind (run_state s xs) start (onto xs h) }
-    ensures packets { (s : State) (start : Start) (n : ℕ) (h xs : List OneInput) → Behind s start h → run_sent n s xs ≡ sent_from n start h xs }
+    ensures state { (s : State) (start : Start) (h xs : List OneInput) → IsAfter s start h → IsAfter (run_state s xs) start (onto xs h) }
+    ensures packets { (s : State) (start : Start) (n : ℕ) (h xs : List OneInput) → IsAfter s start h → run_sent n s xs ≡ sent_from n start h xs }
 {}
 
 /// The moment from which the next KEEPALIVE counts is that of the last input that sent one.
@@ -51,7 +51,7 @@ pub fn keepalives_count_from_the_last()
         ≡ (if keeps_alive (sent_now start h x) then (judge start x (judged start h)).at else last_keepalive start (judged start h)) }
 {}
 
-/// At most one message is open behind a history, at its end and at any later moment, and at most 7550
+/// At most one message is open after a history, at its end and at any later moment, and at most 7550
 /// bytes are held of it.
 pub fn one_message_is_open()
     ensures one { (start : Start) (t : ℕ) (h : List OneInput) → end start (judged start h) ≤ t → all_open [] (judged start h) t ≡ option_to_list (open_at (judged start h) t) }
@@ -82,7 +82,7 @@ pub fn requests_are_answered()
 {}
 
 /// The meters of every history are bounded: at most 7550 bytes were held of an unfinished message, and reading
-/// took at most four steps for each byte behind a command byte, and two for each request.
+/// took at most four steps for each byte after a command byte, and two for each request.
 pub fn meters_are_bounded()
     ensures held { (start : Start) (h : List OneInput) → (meters_of start (judged start h)).held ≤ 7550 }
     ensures steps { (start : Start) (h : List OneInput)
@@ -109,8 +109,8 @@ pub fn finished_messages_were_carried()
 pub fn noise_is_a_tick()
     ensures step { (s : SessionState) (x : OneInput) → is_noise_at s.machine x ≡ true → stepped s x ≡ stepped s (tick_at x.at) }
     ensures packets { (s : State) (at : ℕ) → (turn s (tick_at at)).packets ≡ (time_passed s (max s.now at)).packets }
-    ensures named { (s : State) (start : Start) (h : List OneInput) (x : OneInput) → Behind s start h
-        → is_noise_at s x ≡ is_noise_behind start (judge start x (judged start h)) (judged start h) }
+    ensures named { (s : State) (start : Start) (h : List OneInput) (x : OneInput) → IsAfter s start h
+        → is_noise_at s x ≡ is_noise_after start (judge start x (judged start h)) (judged start h) }
 {}
 
 /// Of two histories of one start, the second is the first with ticks in place of noise. Then all that a session holds after

@@ -215,7 +215,7 @@ impl<const C: usize> Machine<C> {
         }
     }
 
-    /// Serves an input behind the packets of time.
+    /// Serves an input after the packets of time.
     fn serve(&mut self, input: Input, outbox: &mut Outbox) -> Option<Reading>
         requires { length outbox.old ≤ 1 }
         ensures state { self.new ≡ (served self.old outbox.old input).state }

@@ -8,9 +8,9 @@ ghost use Rattle.authn_core.specs.Turn.{Start};
 ghost use Rattle.token_session.specs.declared.input.Timed.{Timed as OneInput};
 ghost use Rattle.token_session.specs.History.{judge, judged, held};
 ghost use Rattle.token_session.specs.Law.{sent_now};
-ghost use Rattle.token_session.specs.Meters.{AreBounded, SessionState, StandsBehind, stepped, sent_by, session_of};
+ghost use Rattle.token_session.specs.Meters.{AreBounded, SessionState, StandsAfter, stepped, sent_by, session_of};
 ghost use Rattle.token_session.specs.Readings.{with_reading};
-ghost use Rattle.token_session.specs.Noise.{is_noise_at, is_noise_behind};
+ghost use Rattle.token_session.specs.Noise.{is_noise_at, is_noise_after};
 ghost use Rattle.hid_packet.specs.declared.limit.TheConstants.{OUTBOX_CAPACITY};
 
 use crate::authenticator::Reading;
@@ -97,10 +97,10 @@ impl<const C: usize> Session<C> {
         ensures state { self.new ≡ stepped self.old (record { at = at; input = input }) }
         ensures packets { outbox.new ≡ sent_by self.old (record { at = at; input = input }) }
         ensures few { length outbox.new ≤ OUTBOX_CAPACITY }
-        // Behind any history that the session stands behind, it stands behind the longer one, and it
+        // After any history that the session stands after, it stands after the longer one, and it
         // sent just what that history names for the input.
-        ensures behind { (start : Start) (h : List OneInput) → StandsBehind self.old start h → StandsBehind self.new start (record { at = at; input = input } ∷ h) }
-        ensures sent { (start : Start) (h : List OneInput) → StandsBehind self.old start h → outbox.new ≡ sent_now start h (record { at = at; input = input }) }
+        ensures after { (start : Start) (h : List OneInput) → StandsAfter self.old start h → StandsAfter self.new start (record { at = at; input = input } ∷ h) }
+        ensures sent { (start : Start) (h : List OneInput) → StandsAfter self.old start h → outbox.new ≡ sent_now start h (record { at = at; input = input }) }
     {
         steps_are_bounded();
         let reading = self.machine.step(at, input, outbox);
@@ -117,9 +117,9 @@ impl<const C: usize> Session<C> {
     /// session stays as it is.
     pub fn noise(&self, at: u64, input: &Input) -> bool
         ensures state { result ≡ is_noise_at self.now.machine (record { at = at; input = input.now }) }
-        // It is noise after each history that the session stands behind.
-        ensures history { (start : Start) (h : List OneInput) → StandsBehind self.now start h
-            → result ≡ is_noise_behind start (judge start (record { at = at; input = input.now }) (judged start h)) (judged start h) }
+        // It is noise after each history that the session stands after.
+        ensures history { (start : Start) (h : List OneInput) → StandsAfter self.now start h
+            → result ≡ is_noise_after start (judge start (record { at = at; input = input.now }) (judged start h)) (judged start h) }
     {
         self.machine.noise(at, input)
     }
@@ -128,7 +128,7 @@ impl<const C: usize> Session<C> {
     pub fn held(&self) -> u16
         ensures bytes { result ≡ held_bytes self.now.machine.current }
         ensures limit { result ≤ 7550 }
-        ensures named { (start : Start) (h : List OneInput) → StandsBehind self.now start h → result ≡ held start (judged start h) }
+        ensures named { (start : Start) (h : List OneInput) → StandsAfter self.now start h → result ≡ held start (judged start h) }
     {
         self.machine.held()
     }

@@ -5,7 +5,7 @@ use authn_core::Need;
 use hid_packet::{Outbox, Packet};
 use std::process::Abort;
 
-/// The bytes, and zeros behind them.
+/// The bytes, and zeros after them.
 pub(crate) fn pad(bytes: &[u8]) -> Packet {
     let mut packet = [0; 64];
     for (slot, byte) in packet.iter_mut().zip(bytes) {

@@ -164,7 +164,7 @@ fn is_quieted<const C: usize>(alloc: Global, log: &[u8]) -> Option<bool>
     Some(again == quiet && counts(sent.as_slice()) == counts(log))
 }
 
-/// The log less the remarks that tell what is needed, and how many of these say what it is.
+/// The log less the comments that tell what is needed, and how many of these say what it is.
 fn without_needs(alloc: Global, log: &[u8]) -> Result<(Vec<u8>, u64), AllocError> {
     let (mut text, mut needs) = (Vec::new(alloc), 0u64);
     for line in log.split_inclusive(|byte| *byte == b'\n') {

@@ -94,7 +94,7 @@ fn expected(place: usize, byte: u8) -> Result<(), SnapshotFault> {
     }
 }
 
-/// Puts a discoverable row behind others.
+/// Puts a discoverable row after others.
 fn push_whole_row(rt: &impl Abort, out: &mut Bytes, id: &[u8; 32], user: u8, name: u8) {
     push(rt, out, &[0xA8]);
     push_hash(rt, out, 1, &RP);

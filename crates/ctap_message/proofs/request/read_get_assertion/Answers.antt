@@ -8,31 +8,31 @@ use Rattle.ctap_message.proofs.request.read_get_assertion.Goals as goal
 pub returns-then-is_err-clause-request : goal.returns-then-is_err-clause-request
 returns-then-is_err-clause-request c =
     let err = sym c.is_err.ensures.value ∙ c.if-is_err.true in
-    sym (ap assertion_request (refused c.args.behind.now c.new-cursor.result c.read_whole.new.cursor c.read_whole.result c.whole_readings.ensures c.new-cursor.ensures err c.read_whole.ensures).0)
+    sym (ap assertion_request (refused c.args.parameters.now c.new-cursor.result c.read_whole.new.cursor c.read_whole.result c.whole_readings.ensures c.new-cursor.ensures err c.read_whole.ensures).0)
 
 pub returns-then-is_err-clause-steps : goal.returns-then-is_err-clause-steps
 returns-then-is_err-clause-steps c =
     let err = sym c.is_err.ensures.value ∙ c.if-is_err.true in
-    c.steps.ensures ∙ (refused c.args.behind.now c.new-cursor.result c.read_whole.new.cursor c.read_whole.result c.whole_readings.ensures c.new-cursor.ensures err c.read_whole.ensures).1
+    c.steps.ensures ∙ (refused c.args.parameters.now c.new-cursor.result c.read_whole.new.cursor c.read_whole.result c.whole_readings.ensures c.new-cursor.ensures err c.read_whole.ensures).1
 
 pub unreachable-requires : goal.unreachable-requires
 unreachable-requires c =
     let ok = sym c.is_err.ensures.value ∙ c.if-is_err.false in
-    let first = accepted c.args.behind.now c.new-cursor.result c.read_whole.new.cursor c.read_whole.result c.whole_readings.ensures c.new-cursor.ensures ok c.read_whole.ensures in
-    never c.args.behind.now c.read_whole.new.cursor c.rewind.new.self c.read_assert_again.new.cursor c.in-Err.field-0 c.whole_readings.ensures first (c.rewind.ensures ∙ first.back) c.in-Err.ensures
+    let first = accepted c.args.parameters.now c.new-cursor.result c.read_whole.new.cursor c.read_whole.result c.whole_readings.ensures c.new-cursor.ensures ok c.read_whole.ensures in
+    never c.args.parameters.now c.read_whole.new.cursor c.rewind.new.self c.read_assert_again.new.cursor c.in-Err.field-0 c.whole_readings.ensures first (c.rewind.ensures ∙ first.back) c.in-Err.ensures
 
 pub returns-clause-request : goal.returns-clause-request
 returns-clause-request c =
     let ok = sym c.is_err.ensures.value ∙ c.if-is_err.false in
-    let first = accepted c.args.behind.now c.new-cursor.result c.read_whole.new.cursor c.read_whole.result c.whole_readings.ensures c.new-cursor.ensures ok c.read_whole.ensures in
+    let first = accepted c.args.parameters.now c.new-cursor.result c.read_whole.new.cursor c.read_whole.result c.whole_readings.ensures c.new-cursor.ensures ok c.read_whole.ensures in
     let h = c.in-Ok.ensures in
-    let t = told (map_told assert_told) c.args.behind.now (shown_assert c.in-Ok.assert) c.read_whole.new.cursor c.rewind.new.self h.0 c.read_assert_again.new.cursor c.whole_readings.ensures first (c.rewind.ensures ∙ first.back) h.1 h.2 in
+    let t = told (map_told assert_told) c.args.parameters.now (shown_assert c.in-Ok.assert) c.read_whole.new.cursor c.rewind.new.self h.0 c.read_assert_again.new.cursor c.whole_readings.ensures first (c.rewind.ensures ∙ first.back) h.1 h.2 in
     c.judge_assert.ensures.request ∙ ap (λ (x : AssertTold). assertion_judged true x.0 x.1.0) t.value_is ∙ sym (ap assertion_request t.tree_is)
 
 pub returns-clause-steps : goal.returns-clause-steps
 returns-clause-steps c =
     let ok = sym c.is_err.ensures.value ∙ c.if-is_err.false in
-    let first = accepted c.args.behind.now c.new-cursor.result c.read_whole.new.cursor c.read_whole.result c.whole_readings.ensures c.new-cursor.ensures ok c.read_whole.ensures in
+    let first = accepted c.args.parameters.now c.new-cursor.result c.read_whole.new.cursor c.read_whole.result c.whole_readings.ensures c.new-cursor.ensures ok c.read_whole.ensures in
     let h = c.in-Ok.ensures in
-    let t = told (map_told assert_told) c.args.behind.now (shown_assert c.in-Ok.assert) c.read_whole.new.cursor c.rewind.new.self h.0 c.read_assert_again.new.cursor c.whole_readings.ensures first (c.rewind.ensures ∙ first.back) h.1 h.2 in
+    let t = told (map_told assert_told) c.args.parameters.now (shown_assert c.in-Ok.assert) c.read_whole.new.cursor c.rewind.new.self h.0 c.read_assert_again.new.cursor c.whole_readings.ensures first (c.rewind.ensures ∙ first.back) h.1 h.2 in
     c.steps-in-Ok.ensures ∙ t.steps_are

@@ -3,7 +3,7 @@ use Rattle.std.specs.Io.KnownBytes.{Consumes, Appends}
 use Rattle.session_log.proofs.Through.{Through}
 use Rattle.session_log.proofs.playing.play_all.Given as goal
 
--- whole lines were read, played and written, and what was read behind them stands in the window
+-- whole lines were read, played and written, and what was read after them stands in the window
 abbrev pub invariant-lines : goal.invariant-lines
 invariant-lines g l =
     let left = g.S.Source.left in

@@ -5,16 +5,16 @@ use Rattle.token_session.specs.Drive.{as_pair}
 use Rattle.token_session.proofs.Drives.{driven_more, sends_more, room_here, driven_stands, driven_follows}
 use Rattle.token_session.proofs.driving.drive.Goals as goal
 
-pub returns-then-remaining_capacity-lt-OUTBOX_CAPACITY-clause-behind : goal.returns-then-remaining_capacity-lt-OUTBOX_CAPACITY-clause-behind
-returns-then-remaining_capacity-lt-OUTBOX_CAPACITY-clause-behind g c = λ start h b.
+pub returns-then-remaining_capacity-lt-OUTBOX_CAPACITY-clause-after : goal.returns-then-remaining_capacity-lt-OUTBOX_CAPACITY-clause-after
+returns-then-remaining_capacity-lt-OUTBOX_CAPACITY-clause-after g c = λ start h b.
     c.loop-i.invariant.state ∙ driven_stands (take c.loop-i.i c.args.inputs.now) _ start h b
 
 pub returns-then-remaining_capacity-lt-OUTBOX_CAPACITY-clause-sent : goal.returns-then-remaining_capacity-lt-OUTBOX_CAPACITY-clause-sent
 returns-then-remaining_capacity-lt-OUTBOX_CAPACITY-clause-sent g c = λ start h b.
     c.loop-i.invariant.packets ∙ ap (λ q. map as_pair c.args.sent.now.items ++ q) (driven_follows (take c.loop-i.i c.args.inputs.now) _ start 0 h b)
 
-pub returns-clause-behind : goal.returns-clause-behind
-returns-clause-behind g c = λ start h b.
+pub returns-clause-after : goal.returns-clause-after
+returns-clause-after g c = λ start h b.
     let e : c.loop-i.i ≡ length c.args.inputs.now = omega arith in
     rw (← e) (c.loop-i.invariant.state ∙ driven_stands (take c.loop-i.i c.args.inputs.now) _ start h b)
 

@@ -10,7 +10,7 @@ use Rattle.session_log.specs.Sent.{SendsPackets}
 use Rattle.session_log.specs.Streams.{PutsLine}
 use Rattle.session_log.specs.Text.{ArePackets, ended, sent_text}
 use Rattle.session_log.specs.declared.line.Line.{Line}
-use Rattle.session_log.specs.declared.line.Line.TheVariants.{Input, Remark}
+use Rattle.session_log.specs.declared.line.Line.TheVariants.{Input, Comment}
 use Rattle.session_log.proofs.Exits.{hands_over}
 use Rattle.session_log.proofs.living.LivingPlayer.play.Goals as goal
 
@@ -40,7 +40,7 @@ returns-else-tells_need-clause-played g c =
     let n = c.args.number in
     let s = c.args.session.now in
     let line = c.args.line.now in
-    let is : said line ≡ Some Remark = sym c.in-Some-Remark.ensures ∙ ap (λ (l : Line). Some l) c.in-Some-Remark.field-0-is in
+    let is : said line ≡ Some Comment = sym c.in-Some-Comment.ensures ∙ ap (λ (l : Line). Some l) c.in-Some-Comment.field-0-is in
     let sound : fault_by live_machine n s (said line) ≡ None = ap (fault_by live_machine n s) is in
     let stood : s ≡ after live_machine s line = ap (after_by live_machine s) (sym is) in
     let packets : SendsPackets live_machine s (said line) = subst (SendsPackets live_machine s) (sym is) tt in

@@ -6,7 +6,7 @@ use Rattle.session_log.specs.Sent.{SendsPackets}
 use Rattle.session_log.specs.Streams.{PutsLine}
 use Rattle.session_log.specs.Text.{ArePackets, ended, sent_text}
 use Rattle.session_log.specs.declared.line.Line.{Line}
-use Rattle.session_log.specs.declared.line.Line.TheVariants.{Input, Remark}
+use Rattle.session_log.specs.declared.line.Line.TheVariants.{Input, Comment}
 use Rattle.session_log.proofs.Exits.{hands_over}
 use Rattle.session_log.proofs.replaying.ReplayingPlayer.play.Goals as goal
 
@@ -26,14 +26,14 @@ returns-in-Some-Input-clause-played g c =
     hands_over machine taken failed n s c.step.new.self line (c.args.writer.now, c.put_input.new.writer) c.put_input.result sound stood packets
     (subst (λ (t : List ℕ). PutsLine taken failed (c.args.writer.now, c.put_input.new.writer) t c.put_input.result) text c.put_input.ensures.puts)
 
-pub returns-in-Some-Remark-clause-played : goal.returns-in-Some-Remark-clause-played
-returns-in-Some-Remark-clause-played g c =
+pub returns-in-Some-Comment-clause-played : goal.returns-in-Some-Comment-clause-played
+returns-in-Some-Comment-clause-played g c =
     let taken = g.T.Target.taken in
     let failed = g.T.Target.failed in
     let n = c.args.number in
     let s = c.args.session.now in
     let line = c.args.line.now in
-    let is : said line ≡ Some Remark = sym c.in-Some-Remark.ensures ∙ ap (λ (l : Line). Some l) c.in-Some-Remark.field-0-is in
+    let is : said line ≡ Some Comment = sym c.in-Some-Comment.ensures ∙ ap (λ (l : Line). Some l) c.in-Some-Comment.field-0-is in
     let sound : fault_by machine n s (said line) ≡ None = ap (fault_by machine n s) is in
     let stood : s ≡ after machine s line = ap (after_by machine s) (sym is) in
     let packets : SendsPackets machine s (said line) = subst (SendsPackets machine s) (sym is) tt in

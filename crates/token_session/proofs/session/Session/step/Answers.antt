@@ -22,8 +22,8 @@ pub returns-clause-few : goal.returns-clause-few
 returns-clause-few g c =
     subst (λ (ps : List (List ℕ)). length ps ≤ 130) (sym c.step-reading.ensures.packets) (turn_few c.self.inside.machine (record { at = c.args.at; input = c.args.input }))
 
-pub returns-clause-behind : goal.returns-clause-behind
-returns-clause-behind g c = λ start h b. returns-clause-state g c ∙ stands_longer c.args.self.now start h (record { at = c.args.at; input = c.args.input }) b
+pub returns-clause-after : goal.returns-clause-after
+returns-clause-after g c = λ start h b. returns-clause-state g c ∙ stands_longer c.args.self.now start h (record { at = c.args.at; input = c.args.input }) b
 
 pub returns-clause-sent : goal.returns-clause-sent
 returns-clause-sent g c = λ start h b.
