@@ -7,6 +7,7 @@ pub mod MakeCredential
 pub mod GetAssertion
 pub mod Turn
 pub mod Views
+pub mod Needs
 pub mod Ready
 pub mod Padded
 pub mod Marks

@@ -6,6 +6,7 @@ ghost use Rattle.ctap_message.specs.Requests.{steps_of, LARGEST};
 ghost use Rattle.authn_core.specs.Bare.{bare_rows};
 ghost use Rattle.authn_core.specs.State.{Request as Asks, PresenceIs, KeyIs, SignatureIs, Cancel, Drop as DropWork};
 ghost use Rattle.authn_core.specs.Turn.{first_state, core_after, core_answer, waiting};
+ghost use Rattle.authn_core.specs.Needs.{IsNeed};
 ghost use Rattle.authn_core.specs.Views.{answer_of, needs, needed, is_presence, is_key, is_sign, work_of};
 
 use crate::kept::Kept;
@@ -193,9 +194,10 @@ impl<T: Table<C>, const C: usize> Core<T, C> {
         self.parts.drop_work();
     }
 
-    /// What the waiting work needs, nothing where none waits.
+    /// What the waiting work needs, nothing where none waits. At most 196 bytes are to sign.
     pub fn need(&self) -> Need<'_>
-        ensures { needed result ≡ needs self.now.core.state.work }
+        ensures value { needed result ≡ needs self.now.core.state.work }
+        ensures sized { IsNeed (needed result) }
     {
         need_of(&self.parts.work)
     }

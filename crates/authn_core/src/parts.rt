@@ -15,7 +15,8 @@ ghost use Rattle.authn_core.specs.Asking.{reset_begins, reset_asked, selection_b
 ghost use Rattle.authn_core.specs.MakeCredential as make;
 ghost use Rattle.authn_core.specs.GetAssertion as get;
 ghost use Rattle.authn_core.specs.Turn.{requested, presence_turn, key_turn, signature_turn};
-ghost use Rattle.authn_core.specs.Views.{answer_of, status_number, needs, needed};
+ghost use Rattle.authn_core.specs.Needs.{IsNeed};
+ghost use Rattle.authn_core.specs.Views.{answer_of, status_number, needs, needed, sign};
 ghost use Rattle.authn_core.specs.Ready.{Ready, AllThere};
 
 use crate::authenticator::{Need, Turn};
@@ -79,9 +80,21 @@ pub(crate) fn status_of(task: &Task) -> KeepaliveStatus
     }
 }
 
+/// That these bytes are signed by the key of the credential.
+fn signature_need<'a>(id: &'a [u8; 32], signed: &'a ArrayVec<u8, 196>) -> Need<'a>
+    ensures value { needed result ≡ sign id.now signed.now.items }
+    ensures sized { IsNeed (needed result) }
+{
+    Need::Sign {
+        id,
+        signed: signed.as_slice(),
+    }
+}
+
 /// What the caller has to hand in.
 pub(crate) fn need_of(work: &Option<Job>) -> Need<'_>
-    ensures { needed result ≡ needs work.now }
+    ensures value { needed result ≡ needs work.now }
+    ensures sized { IsNeed (needed result) }
 {
     match work {
         None => Need::None,
@@ -89,14 +102,8 @@ pub(crate) fn need_of(work: &Option<Job>) -> Need<'_>
             Task::Resets | Task::Selects | Task::AsksMake(..) | Task::AsksAssert(_) =>
                 Need::Presence,
             Task::WantsKey(_) => Need::Key,
-            Task::SignsMake(_, key, signed) => Need::Sign {
-                id: &key.id,
-                signed: signed.as_slice(),
-            },
-            Task::SignsAssert(a, _, signed) => Need::Sign {
-                id: &a.id,
-                signed: signed.as_slice(),
-            },
+            Task::SignsMake(_, key, signed) => signature_need(&key.id, signed),
+            Task::SignsAssert(a, _, signed) => signature_need(&a.id, signed),
         },
     }
 }

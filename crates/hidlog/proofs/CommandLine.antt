@@ -135,26 +135,27 @@ command_given false true b faultless = cc
 command_given false false b faultless = cc
 
 -- The command that a walk stopped at asks for something, unless it is `help`.
-asks_something : (a b c d help : Shape) (words : List Text) (is_a is_b is_c is_d is_help : Bool)
-    → a.name ≡ codes "replay" → b.name ≡ codes "check" → c.name ≡ codes "quiet" → d.name ≡ codes "show" → (is_help ≡ true → ⊥)
+asks_something : (a b c d e help : Shape) (words : List Text) (is_a is_b is_c is_d is_e is_help : Bool)
+    → a.name ≡ codes "replay" → b.name ≡ codes "live" → c.name ≡ codes "check" → d.name ≡ codes "quiet" → e.name ≡ codes "show" → (is_help ≡ true → ⊥)
     → let met = option_map (λ (s : Shape). rows_at s words) (cond (is_a || false) (Some a) (cond (is_b || false) (Some b)
-    (cond (is_c || false) (Some c) (cond (is_d || false) (Some d) (cond (is_help || false) (Some help) None))))) in
+    (cond (is_c || false) (Some c) (cond (is_d || false) (Some d) (cond (is_e || false) (Some e) (cond (is_help || false) (Some help) None)))))) in
     is_some met ≡ true → is_some (option_and_then ask_of met) ≡ true
-asks_something a b c d help words true is_b is_c is_d is_help a_name b_name c_name d_name no_help some = rw a_name refl
-asks_something a b c d help words false true is_c is_d is_help a_name b_name c_name d_name no_help some = rw b_name refl
-asks_something a b c d help words false false true is_d is_help a_name b_name c_name d_name no_help some = rw c_name refl
-asks_something a b c d help words false false false true is_help a_name b_name c_name d_name no_help some = rw d_name refl
-asks_something a b c d help words false false false false true a_name b_name c_name d_name no_help some = absurd (no_help refl)
-asks_something a b c d help words false false false false false a_name b_name c_name d_name no_help some = cc
+asks_something a b c d e help words true is_b is_c is_d is_e is_help a_name b_name c_name d_name e_name no_help some = rw a_name refl
+asks_something a b c d e help words false true is_c is_d is_e is_help a_name b_name c_name d_name e_name no_help some = rw b_name refl
+asks_something a b c d e help words false false true is_d is_e is_help a_name b_name c_name d_name e_name no_help some = rw c_name refl
+asks_something a b c d e help words false false false true is_e is_help a_name b_name c_name d_name e_name no_help some = rw d_name refl
+asks_something a b c d e help words false false false false true is_help a_name b_name c_name d_name e_name no_help some = rw e_name refl
+asks_something a b c d e help words false false false false false true a_name b_name c_name d_name e_name no_help some = absurd (no_help refl)
+asks_something a b c d e help words false false false false false false a_name b_name c_name d_name e_name no_help some = cc
 
 entered_asks : (stop : Option (Text × List Text)) → NoHelp stop → is_some (entered (built grammar) stop) ≡ true
     → is_some (option_and_then ask_of (entered (built grammar) stop)) ≡ true
 entered_asks None no_help some = cc
 entered_asks (Some stop) no_help some =
     let sub : ℕ → Shape = λ place. slice_index_or (built grammar).subs place help_shape in
-    asks_something (sub 0) (sub 1) (sub 2) (sub 3) (sub 4) stop.1
-    (bytes_eq (codes "replay") stop.0) (bytes_eq (codes "check") stop.0) (bytes_eq (codes "quiet") stop.0) (bytes_eq (codes "show") stop.0) (bytes_eq (codes "help") stop.0)
-    refl refl refl refl
+    asks_something (sub 0) (sub 1) (sub 2) (sub 3) (sub 4) (sub 5) stop.1
+    (bytes_eq (codes "replay") stop.0) (bytes_eq (codes "live") stop.0) (bytes_eq (codes "check") stop.0) (bytes_eq (codes "quiet") stop.0) (bytes_eq (codes "show") stop.0) (bytes_eq (codes "help") stop.0)
+    refl refl refl refl refl
     (λ same. no_help (sym ((bytes_eq-Decides (codes "help") stop.0).0 same))) some
 
 -- Words without fault ask for something.

@@ -2,7 +2,7 @@
 use Rattle.std.proofs.Common.{◌≡◌, ℕ, List, [], ◌∷◌, Option, Some, None, codes, refl}
 use Rattle.clap.proofs.OnLiterals.{clap_on_literals}
 use Rattle.clap.specs.Kinds.{Kinds}
-use Rattle.hidlog.specs.CommandLine.{Ask, replay, check, quiet, show, answers_to, asked_by}
+use Rattle.hidlog.specs.CommandLine.{Ask, replay, live, check, quiet, show, answers_to, asked_by}
 
 -- what clap answers to these words after the program's name
 answers : List (List ℕ) → Kinds
@@ -20,6 +20,10 @@ replay_alone = refl
 both_options : asked (codes "replay" ∷ codes "--save" ∷ codes "new" ∷ codes "--load" ∷ codes "old" ∷ []) ≡ Some (replay (Some (codes "old")) (Some (codes "new")))
 unfolding asked
 both_options = refl
+
+live_alone : asked (codes "live" ∷ codes "--save" ∷ codes "new" ∷ []) ≡ Some (live None (Some (codes "new")))
+unfolding asked
+live_alone = refl
 
 -- a value may stand after `=`
 attached : asked (codes "check" ∷ codes "--load=old" ∷ []) ≡ Some (check (Some (codes "old")))

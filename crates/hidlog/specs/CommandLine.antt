@@ -7,7 +7,7 @@ use Rattle.clap.specs.Kinds.{Kinds}
 use Rattle.clap.specs.Faults.{fault_of}
 use Rattle.clap.specs.Walk.{Row, Rule, first_of}
 use Rattle.hidlog.specs.declared.command_line.Task.{Task}
-use Rattle.hidlog.specs.declared.command_line.Task.TheVariants.{Replay, Check, Quiet, Show}
+use Rattle.hidlog.specs.declared.command_line.Task.TheVariants.{Replay, Live, Check, Quiet, Show}
 
 -- ---- the grammar
 
@@ -19,11 +19,12 @@ path_option name = record (new_rule name) { long = Some name; value_names = 1 }
 abbrev pub command : List ℕ → List Rule → Shape
 command name options = record (new_shape name) { rules = options }
 
--- the four commands, of which one is required; clap adds `help`
+-- the five commands, of which one is required; clap adds `help`
 abbrev pub grammar : App
 grammar = record {
   top = record (new_shape (codes "hidlog")) { subcommand_required = true; is_leaf = false };
   subs = command (codes "replay") (path_option (codes "load") ∷ path_option (codes "save") ∷ [])
+      ∷ command (codes "live") (path_option (codes "load") ∷ path_option (codes "save") ∷ [])
       ∷ command (codes "check") (path_option (codes "load") ∷ [])
       ∷ command (codes "quiet") (path_option (codes "load") ∷ [])
       ∷ command (codes "show") []
@@ -39,6 +40,7 @@ answers_to words = fault_of grammar words
 -- what words ask for, with the paths that they give
 pub data Ask : Type 0 where
   replay : (load save : Option (List ℕ)) → Ask
+  live : (load save : Option (List ℕ)) → Ask
   check : (load : Option (List ℕ)) → Ask
   quiet : (load : Option (List ℕ)) → Ask
   show : Ask
@@ -48,6 +50,7 @@ path_of = option_map (λ path. path.now)
 
 abbrev pub asks : Task → Ask
 asks (Replay load save) = replay (path_of load) (path_of save)
+asks (Live load save) = live (path_of load) (path_of save)
 asks (Check load) = check (path_of load)
 asks (Quiet load) = quiet (path_of load)
 asks Show = show
@@ -56,6 +59,7 @@ asks Show = show
 abbrev pub ask_of : List ℕ × List Row → Option Ask
 ask_of (name, found) =
     if bytes_eq name (codes "replay") then Some (replay (first_of (codes "load") found) (first_of (codes "save") found))
+    else if bytes_eq name (codes "live") then Some (live (first_of (codes "load") found) (first_of (codes "save") found))
     else if bytes_eq name (codes "check") then Some (check (first_of (codes "load") found))
     else if bytes_eq name (codes "quiet") then Some (quiet (first_of (codes "load") found))
     else if bytes_eq name (codes "show") then Some show

@@ -5,10 +5,13 @@ use Rattle.clap.specs.declared.error.kind.ErrorKind.{ErrorKind}
 use Rattle.clap.specs.declared.error.kind.ErrorKind.TheVariants.{OutOfMemory}
 use Rattle.authn_core.specs.Turn.{Start}
 use Rattle.cred_table.specs.declared.row.Row.{Row}
+use Rattle.token_session.specs.declared.input.Timed.{Timed}
 use Rattle.token_session.specs.Meters.{SessionState}
 use Rattle.session_log.specs.declared.fault.LogFault.{LogFault}
-use Rattle.session_log.specs.Command.{IsChecked, IsCounted, IsQuieted, IsReplayed, Status, status_of}
-use Rattle.hidlog.specs.CommandLine.{Ask, answers_to, asked_by, replay, check, quiet, show}
+use Rattle.session_log.specs.Command.{IsChecked, IsCounted, IsLogged, IsQuieted, Status, status_of}
+use Rattle.session_log.specs.Session.{history, live_history}
+use Rattle.session_log.specs.World.{World}
+use Rattle.hidlog.specs.CommandLine.{Ask, answers_to, asked_by, replay, live, check, quiet, show}
 use Rattle.hidlog.specs.Program.{Explains, LacksMemory}
 use Rattle.hidlog.specs.Saved.{FailsToOpen, Opens, Saves, start_with}
 
@@ -22,10 +25,11 @@ module _ {D I O F : Type 0} (holds : D → List ℕ → List ℕ → Type 0) (un
       ((status ≡ Err 2) × (files.1 ≡ files.0) × (input.1 ≡ input.0) × (output.1 ≡ output.0) × FailsToOpen holds unreadable files.0 path told untold faults)
       ⊎ ((rows : List Row) × Opens holds files.0 path rows × Goes (start_with rows))
 
-  -- The log was replayed on the start. Then, where it had no fault, the credentials were saved at the path.
-  abbrev pub Replays : Option (List ℕ) → Status → (D × D) → (I × I) → (O × O) → (F × F) → Start → Type 0
-  Replays path status files input output faults start =
-      (played : Status) × (s : SessionState) × IsReplayed start [] left unread ended taken unput played s input output
+  -- The log was replayed on the start, as this world says of its histories. Then, where it had no fault, the credentials were
+  -- saved at the path.
+  abbrev pub Replays : (Start → World (List Timed)) → Option (List ℕ) → Status → (D × D) → (I × I) → (O × O) → (F × F) → Start → Type 0
+  Replays world path status files input output faults start =
+      (played : Status) × (s : SessionState) × IsLogged world start [] left unread ended taken unput played s input output
       × MatchResult played (λ _. Saves written unwritten path s told untold status files faults) (λ code. (status ≡ Err code) × (files.1 ≡ files.0))
 
   -- The log was compared with what is sent from the start on, or made quiet.
@@ -45,7 +49,8 @@ module _ {D I O F : Type 0} (holds : D → List ℕ → List ℕ → Type 0) (un
 
   -- What is asked for is done.
   abbrev pub Does : Ask → Status → (D × D) → (I × I) → (O × O) → (F × F) → Type 0
-  Does (replay load save) status files input output faults = Begins load (Replays save status files input output faults) status files input output faults
+  Does (replay load save) status files input output faults = Begins load (Replays history save status files input output faults) status files input output faults
+  Does (live load save) status files input output faults = Begins load (Replays live_history save status files input output faults) status files input output faults
   Does (check load) status files input output faults = Begins load (Checks status files input output faults) status files input output faults
   Does (quiet load) status files input output faults = Begins load (Quiets status files input output faults) status files input output faults
   Does show status files input output faults = Shows status files input output faults

@@ -16,6 +16,11 @@ pub enum Task<'a> {
         load: Option<&'a str>,
         save: Option<&'a str>,
     },
+    /// `hidlog live [--load F] [--save F]`
+    Live {
+        load: Option<&'a str>,
+        save: Option<&'a str>,
+    },
     /// `hidlog check [--load F]`
     Check {
         load: Option<&'a str>,
@@ -61,6 +66,19 @@ fn replay<'a>(alloc: Global) -> Result<Command<'a>, AllocError>
         .arg(save(alloc))
 }
 
+/// The command `live`.
+fn live<'a>(alloc: Global) -> Result<Command<'a>, AllocError>
+    ensures shape { IfOk result (λ made. shape_of made ≡ command (codes "live") (path_option (codes "load") ∷ path_option (codes "save") ∷ [])) }
+    ensures local { IfOk result (λ made. (fields_of made).has_globals ≡ false) }
+{
+    Command::new(alloc, "live")
+        .about(
+            "Replays the log line by line as it comes, and tells what the key needs after each input",
+        )
+        .arg(load(alloc))?
+        .arg(save(alloc))
+}
+
 /// The command `check`.
 fn check<'a>(alloc: Global) -> Result<Command<'a>, AllocError>
     ensures shape { IfOk result (λ made. shape_of made ≡ command (codes "check") (path_option (codes "load") ∷ [])) }
@@ -98,6 +116,7 @@ fn program<'a>(alloc: Global) -> Result<Command<'a>, AllocError>
             .about("Replays text logs of CTAPHID sessions on a FIDO2 security key")
             .subcommand_required(true)
             .subcommand(replay(alloc)?)?
+            .subcommand(live(alloc)?)?
             .subcommand(check(alloc)?)?
             .subcommand(quiet(alloc)?)?
             .subcommand(show(alloc))?,
@@ -110,6 +129,10 @@ fn task_in<'a>(matches: &ArgMatches<'a>) -> Option<Task<'a>>
 {
     match matches.subcommand()? {
         ("replay", options) => Some(Task::Replay {
+            load: options.get_str("load"),
+            save: options.get_str("save"),
+        }),
+        ("live", options) => Some(Task::Live {
             load: options.get_str("load"),
             save: options.get_str("save"),
         }),

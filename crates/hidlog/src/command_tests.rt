@@ -1,8 +1,9 @@
-//! The commands that compare, quiet and show logs: exit statuses and texts.
+//! The commands that compare, quiet and show logs, and that tell what is needed: exit statuses and texts.
 use crate::files::HostFiles;
 use crate::program::run;
 use crate::snapshot_tests::push_packet;
-use session_log::{SliceIn, SliceOut};
+use session_log::{SliceIn, SliceOut, put_all};
+use std::str;
 use std::test::Fail;
 
 /// The status of the program on these words and this log, and whether its output and its faults are these.
@@ -92,9 +93,26 @@ fn logs_are_made_quiet_and_shown(rt: HostRuntime) -> Result<(), Fail> {
 }
 
 #[test]
+fn what_is_needed_is_told(rt: HostRuntime) {
+    let live = "# idle\nt 7\n# need nothing\n";
+    let end = "= held 0 rows 0 pending 0 requests 0 bytes 0 steps 0\n";
+    let fault = "hidlog: line 4: not a log line\n";
+    let mut out = [0; 256];
+    let mut whole = SliceOut::new(&mut out);
+    let _ = put_all(&mut whole, live.as_bytes());
+    let _ = put_all(&mut whole, end.as_bytes());
+    let whole = str::from_utf8(whole.written()).unwrap_or("");
+    let words = ["hidlog", "live"];
+    let log = b"# idle\n# need key\nt 7";
+    assert_eq!(rt; answer(&rt, &words, log, whole, ""), (0, true, true));
+    let log = b"# idle\n# need key\nt 7\nt 08\n";
+    assert_eq!(rt; answer(&rt, &words, log, live, fault), (1, true, true));
+}
+
+#[test]
 fn commands_begin_with_a_snapshot(rt: HostRuntime) {
     let fault = "hidlog: cannot read snapshot\n";
-    for command in ["check", "quiet"] {
+    for command in ["live", "check", "quiet"] {
         let words = ["hidlog", command, "--load", "no-such-folder/snapshot"];
         assert_eq!(rt; answer(&rt, &words, b"t 05\n", "", fault), (2, true, true));
     }

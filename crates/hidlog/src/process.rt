@@ -2,11 +2,10 @@
 ghost use Rattle.std.specs.Prelude.{◌≡◌, ◌<◌, ◌-◌, ◌^◌, ◌⊎◌, IfErr, OnOk, OnErr};
 ghost use Rattle.hidlog.specs.Program.{IsGiven, no_memory as no_memory_text, not_text};
 
-use arrayvec::ArrayVec;
-use session_log::{LogFault, Target, put_all};
+use session_log::{LogFault, Target, put_all, tell_fault};
 use std::alloc::AllocGlobal;
 use std::env;
-use std::io::{self, ErrorKind, Write};
+use std::io::{self, ErrorKind};
 use std::rt::Env;
 
 /// Gives a text to the faults. One that can't be written is dropped.
@@ -32,10 +31,7 @@ pub fn log_fault<E: Target>(faults: &mut E, fault: &LogFault) -> u8
     requires { E.failed faults.old < 2 ^ 64 - 1 }
     ensures { result ≡ 1 }
 {
-    let mut text = ArrayVec::<u8, 96>::new();
-    if writeln!(text, "hidlog: {fault}").is_ok() {
-        tell(faults, text.as_slice());
-    }
+    tell_fault(faults, fault);
     1
 }
 

@@ -3,7 +3,7 @@ ghost use Rattle.std.specs.Prelude.{◌≡◌, ◌<◌, ◌-◌, ◌^◌, ◌⊎
 ghost use Rattle.clap.specs.Words.{kind_of};
 ghost use Rattle.session_log.specs.declared.fault.LogFault.{LogFault as AnyFault};
 ghost use Rattle.session_log.specs.Command.{IsCounted, status_of};
-ghost use Rattle.hidlog.specs.CommandLine.{check, quiet, replay, path_of, texts_of};
+ghost use Rattle.hidlog.specs.CommandLine.{check, live, quiet, replay, path_of, texts_of};
 ghost use Rattle.hidlog.specs.Program.{Explains};
 ghost use Rattle.hidlog.specs.Commands.{Answers, Does};
 
@@ -13,7 +13,9 @@ use crate::process::{log_fault, no_memory, tell};
 use crate::snapshots::{save_rows, started};
 use clap::Error;
 use clap::error::ErrorKind;
-use session_log::{Source, Target, check_command, put_all, quiet_command, replay_command};
+use session_log::{
+    Source, Target, check_command, live_command, put_all, quiet_command, replay_command,
+};
 use session_show::show;
 use std::alloc::Global;
 
@@ -64,6 +66,36 @@ where
 {
     let mut session = started(files, load, faults)?;
     replay_command(&mut session, input, output, faults)?;
+    match save {
+        Some(path) => save_rows(files, alloc, path, &session, faults),
+        None => Ok(()),
+    }
+}
+
+/// Replays the log and tells what the key needs, and saves the credentials that the session has after it.
+fn live_log<D, S, O, E>(
+    files: &mut D,
+    alloc: Global,
+    load: Option<&str>,
+    save: Option<&str>,
+    input: &mut S,
+    output: &mut O,
+    faults: &mut E,
+) -> Result<(), u8>
+where
+    D: Files,
+    S: Source,
+    O: Target,
+    E: Target,
+    requires reads { S.failed input.old < 2 ^ 64 - 1 }
+    requires writes { O.failed output.old < 2 ^ 64 - 1 }
+    requires tells { E.failed faults.old < 2 ^ 64 - 1 }
+    ensures status { IfErr result (λ code. (code ≡ 1) ⊎ (code ≡ 2)) }
+    ensures does { Does D.holds D.unreadable D.written D.unwritten S.left S.failed S.ended O.taken O.failed E.taken E.failed
+        (live (path_of load.entry) (path_of save.entry)) result (files.old, files.new) (input.old, input.new) (output.old, output.new) (faults.old, faults.new) }
+{
+    let mut session = started(files, load, faults)?;
+    live_command(&mut session, input, output, faults)?;
     match save {
         Some(path) => save_rows(files, alloc, path, &session, faults),
         None => Ok(()),
@@ -164,6 +196,9 @@ where
     match task_of(alloc, words) {
         Ok(Task::Replay { load, save }) => {
             replay_log(files, alloc, load, save, input, output, faults)
+        }
+        Ok(Task::Live { load, save }) => {
+            live_log(files, alloc, load, save, input, output, faults)
         }
         Ok(Task::Check { load }) => check_log(files, load, input, output, faults),
         Ok(Task::Quiet { load }) => quiet_log(files, load, input, output, faults),

@@ -15,6 +15,15 @@ const RP: [u8; 32] = [
     0x1E, 0x68, 0x2F, 0xAB, 0x9F, 0x2D, 0x30, 0xAB, 0x13, 0xD2, 0x12, 0x55, 0x86, 0xCE, 0x19, 0x47,
 ];
 
+/// Why a file can't be read.
+fn fault_of(path: &str) -> ErrorKind {
+    match path {
+        "folder" => ErrorKind::IsADirectory,
+        "locked" => ErrorKind::PermissionDenied,
+        _ => ErrorKind::NotFound,
+    }
+}
+
 /// Two files in memory: `old` can be read, and `new` written. No other can be either.
 #[derive(Drop)]
 struct Memory {
@@ -34,7 +43,7 @@ impl Files for Memory {
 
     fn read(&self, path: &str) -> io::Result<Vec<u8>> {
         if path != "old" {
-            return Err(io::Error::from(ErrorKind::NotFound));
+            return Err(io::Error::from(fault_of(path)));
         }
         Ok(self.old.as_slice().to_vec(self.alloc)?)
     }
@@ -159,6 +168,29 @@ fn credentials_are_kept_between_runs(rt: HostRuntime) -> Result<(), Fail> {
     Ok(())
 }
 
+/// What the key needs of its caller is told, and the credentials are kept as a replay keeps them.
+#[test]
+fn a_live_sign_in(rt: HostRuntime) -> Result<(), Fail> {
+    let alloc = rt.alloc();
+    let words = ["hidlog", "live", "--load", "old", "--save", "new"];
+    let log = sign_in(alloc, "p 10 granted\ns 20 dd\n")?;
+    // The bytes to sign: the hash of `example.com`, flags, the counter, and the hash of the client data.
+    let needs = "\np 10 granted\n\
+        < 00000001bb00010100000000000000000000000000000000000000000000000000000000000000\
+        00000000000000000000000000000000000000000000000000\n\
+        # signed a379a6f6eeafb9a55e378c118034e2751e682fab9f2d30ab13d2125586ce1947\
+        0100000001\
+        2222222222222222222222222222222222222222222222222222222222222222\n\
+        # need signature aaaaaaaaaaaaaaaaaaaaaaaaaaaaaaaaaaaaaaaaaaaaaaaaaaaaaaaaaaaaaaaa\ns 20 dd\n";
+    for text in [needs, "\n# need presence\np 10", "\n# need nothing\n= held"] {
+        let mut files = holding(alloc, snapshot(alloc, 1, 1, 0xA7, b"\x00")?);
+        let ended = status_of(alloc, &mut files, &words, log.as_slice(), text, "");
+        assert_eq!(rt; ended, (0, true, true), "{text}");
+        assert!(rt; files.new == snapshot(alloc, 2, 1, 0xA8, b"\x01\x08\x60")?);
+    }
+    Ok(())
+}
+
 #[test]
 fn old_snapshots_are_migrated(rt: HostRuntime) -> Result<(), Fail> {
     let alloc = rt.alloc();
@@ -198,14 +230,31 @@ fn snapshots_are_refused_before_the_log_is_read(rt: HostRuntime) -> Result<(), F
         let (status, _, told) = status_of(alloc, &mut files, &words, b"t 05\n", "", fault);
         assert_eq!(rt; (status, told, files.new.len()), (2, true, 0), "{fault}");
     }
-    let words = ["hidlog", "replay", "--load", "none"];
-    let mut files = holding(alloc, Vec::new(alloc));
-    let fault = "hidlog: cannot read snapshot\n";
-    assert_eq!(rt;
-        status_of(alloc, &mut files, &words, b"t 5\n", "", fault),
-        (2, true, true)
-    );
     Ok(())
+}
+
+/// Neither the log nor the text of a line comes where the snapshot can't be read.
+#[test]
+fn snapshots_that_cannot_be_read(rt: HostRuntime) {
+    let fault = "hidlog: cannot read snapshot\n";
+    for command in ["replay", "live", "check", "quiet"] {
+        for path in ["none", "folder", "locked"] {
+            let (mut out, mut told) = ([0; 64], [0; 64]);
+            let mut writer = SliceOut::new(&mut out);
+            let mut teller = SliceOut::new(&mut told);
+            let ended = run(
+                &mut holding(rt.alloc(), Vec::new(rt.alloc())),
+                rt.alloc(),
+                &["hidlog", command, "--load", path],
+                &mut SliceIn::new(b"t 5\n"),
+                &mut writer,
+                &mut teller,
+            );
+            assert_eq!(rt; ended, Err(2), "{path}");
+            assert!(rt; writer.written().is_empty(), "{path}");
+            assert!(rt; teller.written() == fault.as_bytes(), "{path}");
+        }
+    }
 }
 
 #[test]
@@ -227,9 +276,15 @@ fn snapshots_are_saved_after_logs_without_fault(rt: HostRuntime) -> Result<(), F
 #[test]
 fn files_of_the_system(rt: HostRuntime) {
     let meters = b"= held 0 rows 0 pending 0 requests 0 bytes 0 steps 0\n".as_slice();
-    for (option, output, fault) in [
-        ("--load", b"".as_slice(), "hidlog: cannot read snapshot\n"),
-        ("--save", meters, "hidlog: cannot write snapshot\n"),
+    let (unread, unwritten) = (
+        "hidlog: cannot read snapshot\n",
+        "hidlog: cannot write snapshot\n",
+    );
+    for (option, path, output, fault) in [
+        ("--load", "no-such-folder/snapshot", b"".as_slice(), unread),
+        ("--load", "/", b"", unread),
+        ("--save", "no-such-folder/snapshot", meters, unwritten),
+        ("--save", "/", meters, unwritten),
     ] {
         let (mut out, mut told) = ([0; 256], [0; 256]);
         let mut writer = SliceOut::new(&mut out);
@@ -237,7 +292,7 @@ fn files_of_the_system(rt: HostRuntime) {
         let ended = run(
             &mut HostFiles(&rt),
             rt.alloc(),
-            &["hidlog", "replay", option, "no-such-folder/snapshot"],
+            &["hidlog", "replay", option, path],
             &mut SliceIn::new(b""),
             &mut writer,
             &mut teller,

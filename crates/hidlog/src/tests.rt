@@ -133,6 +133,7 @@ Usage: hidlog <COMMAND>
 
 Commands:
   replay  Replays the log on standard input: writes it with the packets that the key sends, and what it counted
+  live    Replays the log line by line as it comes, and tells what the key needs after each input
   check   Compares the packets that the log names as sent with those that the key sends
   quiet   Writes the log's inputs, with a tick in place of each that is noise
   show    Writes what the log's lines say, line by line
@@ -158,8 +159,19 @@ Options:
       --save <F>  Writes a snapshot of the credentials to F, unless the log has a fault
   -h, --help      Print help
 ";
+    let live = "\
+Replays the log line by line as it comes, and tells what the key needs after each input
+
+Usage: hidlog live [OPTIONS]
+
+Options:
+      --load <F>  Starts with the credentials of the snapshot F, and not with none
+      --save <F>  Writes a snapshot of the credentials to F, unless the log has a fault
+  -h, --help      Print help
+";
     for (words, output, faults) in [
         (["hidlog", "--help"].as_slice(), help, ""),
+        (["hidlog", "live", "--help"].as_slice(), live, ""),
         (["hidlog", "replay", "--help"].as_slice(), options, ""),
         (["hidlog", "--what"].as_slice(), "", refusal),
     ] {

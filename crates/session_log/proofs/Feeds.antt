@@ -19,11 +19,11 @@ abbrev pub AreLines : List (List ℕ) → Type 0
 AreLines [] = Unit {0}
 AreLines (line ∷ more) = (feedless line ≡ true) × AreLines more
 
-both : (b c : Bool) → cond b false c ≡ true → (b ≡ false) × (c ≡ true)
+pub both : (b c : Bool) → cond b false c ≡ true → (b ≡ false) × (c ≡ true)
 both true c h = cc
 both false c h = (refl, h)
 
-joined : (b c : Bool) → b ≡ false → c ≡ true → cond b false c ≡ true
+pub joined : (b c : Bool) → b ≡ false → c ≡ true → cond b false c ≡ true
 joined b c h k = λ i. cond (h i) false (k i)
 
 pub feedless-append : (xs ys : List ℕ) → feedless xs ≡ true → feedless ys ≡ true → feedless (xs ++ ys) ≡ true

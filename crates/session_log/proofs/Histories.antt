@@ -1,5 +1,5 @@
 -- A session after a history sends and counts what the history names.
-use Rattle.std.proofs.Common.{◌≡◌, ℕ, Bool, cond, List, [], ◌++◌, flat_map, Option, Result, refl, sym, ap, ◌∙◌, subst}
+use Rattle.std.proofs.Common.{◌≡◌, ℕ, Bool, cond, List, [], ◌∷◌, ◌++◌, flat_map, Option, Result, refl, sym, ap, ◌∙◌, subst}
 use Rattle.authn_core.specs.Turn.{Start}
 use Rattle.token_session.specs.declared.input.Timed.{Timed}
 use Rattle.token_session.specs.declared.input.Meters.{Meters}
@@ -14,7 +14,9 @@ use Rattle.session_log.specs.declared.line.Line.TheVariants.{Input, Sent, Commen
 use Rattle.session_log.specs.Check.{Compared, begun, difference, missing, differs_from, stops_compared, moves_compared, check_machine, check_history}
 use Rattle.session_log.specs.Ending.{Ending}
 use Rattle.session_log.specs.Replay.{Logs, Makes}
-use Rattle.session_log.specs.Session.{sessions, histories, machine, history, quiet_machine, quiet_history}
+use Rattle.token_session.specs.Law.{named}
+use Rattle.session_log.specs.Needs.{need_lines}
+use Rattle.session_log.specs.Session.{sessions, histories, machine, history, quiet_machine, quiet_history, live_machine, live_history, session_needs, history_needs}
 use Rattle.session_log.specs.Streams.{Moves}
 use Rattle.session_log.specs.Text.{ended, sent_text, tick_text, meters_line}
 use Rattle.session_log.specs.World.{World, moves_input, writes_again}
@@ -70,6 +72,37 @@ quiet_follows start = record {
   ending = λ s h r. refl;
   counts = λ s h r. counted s start h r;
 }
+
+-- With what is needed.
+
+needed_behind : (start : Start) (s : SessionState) (h : List Timed) → StandsAfter s start h → session_needs s ≡ history_needs start h
+unfolding session_of named
+needed_behind start s h r = ap session_needs r
+
+told : (start : Start) (s : SessionState) (h : List Timed) (line : List ℕ) (l : Line) → StandsAfter s start h → live_machine.writes s line l ≡ (live_history start).writes h line l
+told start s h line (Input timed) r =
+    let sends = step_sends s.machine start h timed (machine_behind s start h r) in
+    let needs = needed_behind start (sessions.turned s timed) (timed ∷ h) (stands_longer s start h timed r) in
+    λ i. ended line ++ flat_map sent_text (sends i) ++ flat_map ended (need_lines (needs i))
+told start s h line (Sent packet) r = refl
+told start s h line Comment r = refl
+told start s h line Count r = refl
+
+live_follows : (start : Start) → Follows live_machine (live_history start) (λ s h. StandsAfter s start h)
+live_follows start = record {
+  stops = λ s h l r. refl;
+  moves = λ s h l r. moved start s h l r;
+  writes = λ s h line l r. told start s h line l r;
+  lacks = λ s h r. refl;
+  ending = λ s h r. ap meters_line (counted s start h r);
+  counts = λ s h r. counted s start h r;
+}
+
+pub lives_history : (left left' taken taken' : Option (List ℕ)) (s t : SessionState) (r : Result Meters LogFault) → Moves left left' taken taken' (λ bytes text. Logs live_machine s t bytes text r)
+    → (start : Start) (h : List Timed) → StandsAfter s start h → (later : List Timed) × StandsAfter t start later × Moves left left' taken taken' (λ bytes text. Logs (live_history start) h later bytes text r)
+lives_history left left' taken taken' s t r m start h stands =
+    let found = logs_alike live_machine (live_history start) (λ s h. StandsAfter s start h) (live_follows start) s t h stands m.0 m.1 r m.4 in
+    (found.0, found.1, (m.0, m.1, m.2, m.3, found.2))
 
 -- what an ending means in one world, it means in the other
 makes_there : {A B : Type 0} (v : World A) (w : World B) (R : A → B → Type 0) → Follows v w R → (left left' taken taken' : Option (List ℕ)) (s t : A) (b : B) → R s b → (ending : Ending)

@@ -13,6 +13,10 @@ pub mod Rows
 pub mod Feeds
 pub mod Sound
 pub mod Again
+pub mod Replayed
+pub mod Tells
+pub mod Pieces
+pub mod Lived
 pub mod Quieted
 pub mod Groups
 pub mod Checks

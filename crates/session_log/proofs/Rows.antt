@@ -1,5 +1,5 @@
 -- The definitions on worked examples, by computation.
-use Rattle.std.proofs.Common.{◌≡◌, ℕ, ◌+◌, ◌-◌, ◌^◌, List, [], ◌∷◌, ◌++◌, ◌==◌, codes, replicate, Option, Some, None, refl}
+use Rattle.std.proofs.Common.{◌≡◌, ℕ, ◌+◌, ◌-◌, ◌^◌, List, [], ◌∷◌, ◌++◌, ◌==◌, codes, replicate, Option, Some, None, refl, if◌then◌else◌}
 use Rattle.std.specs.Fmt.{digits}
 use Rattle.hex.proofs.OnLiterals.{hex_on_literals}
 use Rattle.token_session.specs.declared.input.Input.{Input as AnyInput}
@@ -12,7 +12,10 @@ use Rattle.session_log.specs.declared.line.Line.TheVariants.{Input, Sent, Commen
 use Rattle.session_log.specs.Lines.{lines, whole_lines, last_piece}
 use Rattle.session_log.specs.Log.{fault_at, fault_of, playing, log}
 use Rattle.session_log.specs.Said.{moment, said}
-use Rattle.session_log.specs.World.{Course, World, replaying, quieting}
+use Rattle.session_log.specs.World.{Course, World, replaying, quieting, living}
+use Rattle.session_log.specs.Needs.{need_lines}
+use Rattle.authn_core.specs.Views.{nothing, presence, sign}
+use Rattle.hex.specs.Hex.{encode_with}
 
 -- lines, with and without a last line feed
 row-lines : lines (codes "a\nb") ≡ codes "a" ∷ codes "b" ∷ []
@@ -206,6 +209,21 @@ row-faulty = refl
 row-quiet : log (quieting echoes (λ s x. s == 0)) 0 (codes "> 3 AB" ++ replicate 126 48 ++ codes "\n< ab" ++ replicate 126 48 ++ codes "\n#\n= held 9\np 2 denied") ≡ codes "t 3\n#\np 2 denied\n"
 unfolding moment digits came_back hex_on_literals
 row-quiet = refl
+
+-- what is needed: the bytes to sign, 96 a line, and the credential
+row-to_sign : need_lines (sign (171 ∷ []) (replicate 97 0)) ≡ (codes "# signed " ++ replicate 192 48) ∷ codes "# signed 00" ∷ codes "# need signature ab" ∷ []
+unfolding encode_with
+row-to_sign = refl
+
+row-nothing_to_sign : need_lines (sign (171 ∷ []) []) ≡ codes "# need signature ab" ∷ []
+unfolding encode_with
+row-nothing_to_sign = refl
+
+-- it is what is needed after the input that is told; what an earlier run told is dropped
+row-live : log (living echoes (λ s. if s == 1 then presence else nothing)) 0 (codes "# need key\n# need\nt 5\n# signed 00\n= held 9\np 6 denied")
+    ≡ codes "# need\nt 5\n# need presence\np 6 denied\n# need nothing\n= held 0 rows 0 pending 0 requests 2 bytes 0 steps 0\n"
+unfolding moment digits came_back
+row-live = refl
 
 -- compared: the packets that are sent stand after their input
 abbrev check_echo : World (Compared ℕ)

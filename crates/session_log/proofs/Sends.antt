@@ -1,6 +1,6 @@
 -- Lists of packets.
 use Rattle.std.proofs.Common.{◌≡◌, ℕ, List, [], ◌∷◌, ◌++◌, sym, ◌∙◌, ap, subst, append-nil}
-use Rattle.session_log.specs.Sent.{IsPacket, ArePackets}
+use Rattle.session_log.specs.Text.{IsPacket, ArePackets}
 
 pub ArePackets-snoc : (packets : List (List ℕ)) (packet : List ℕ) → ArePackets packets → IsPacket packet → ArePackets (packets ++ packet ∷ [])
 ArePackets-snoc [] packet h k = (k, tt)

@@ -86,7 +86,7 @@ abbrev pub checking : {S : Type 0} → Course S → World (Compared S)
 checking course = record {
   stops = stops_compared;
   moves = moves_compared course;
-  sends = λ c l. [];
+  sound = λ c l. Unit {0};
   writes = λ c line l. [];
   lacks = missing;
   ending = λ c. same_line c.inputs c.packets;

@@ -8,8 +8,9 @@ use Rattle.session_log.specs.declared.fault.LogFault.{LogFault}
 use Rattle.session_log.specs.Check.{Compared, begun, check_history}
 use Rattle.session_log.specs.Ending.{ending_of, read_fails, write_fails}
 use Rattle.session_log.specs.Replay.{Logs, Makes}
-use Rattle.session_log.specs.Session.{history, quiet_history}
+use Rattle.session_log.specs.Session.{history, live_history, quiet_history}
 use Rattle.session_log.specs.Streams.{Counts, IsAllRead, Moves}
+use Rattle.session_log.specs.World.{World}
 
 -- the start of the program's session: an AAGUID of sixteen zero bytes, the moment 0, and room for 64 credentials, none of
 -- which is there
@@ -33,14 +34,23 @@ IsCounted left unread ended unwritten answer input output =
     × OnOk answer (IsAllRead left ended input.1)
 
 -- A log was replayed on a session that stood after this history of this start, with this exit status; it is now at s. The
--- log is that of the history.
-abbrev pub IsReplayed : {I O : Type 0} → Start → List Timed → (left : I → Option (List ℕ)) → (unread : I → ℕ) → (ended : I → Bool) → (taken : O → Option (List ℕ)) → (unwritten : O → ℕ)
+-- log is what this world says of the history.
+abbrev pub IsLogged : {I O : Type 0} → (Start → World (List Timed)) → Start → List Timed → (left : I → Option (List ℕ)) → (unread : I → ℕ) → (ended : I → Bool) → (taken : O → Option (List ℕ)) → (unwritten : O → ℕ)
     → Status → SessionState → (I × I) → (O × O) → Type 0
-IsReplayed start h left unread ended taken unwritten status s input output =
+IsLogged world start h left unread ended taken unwritten status s input output =
     (answer : Result Meters LogFault) × (later : List Timed) × (status ≡ status_of answer) × StandsAfter s start later
     × Moves (left input.0) (left input.1) (taken output.0) (taken output.1)
-    (λ bytes text. Logs (history start) h later bytes text answer)
+    (λ bytes text. Logs (world start) h later bytes text answer)
     × IsCounted left unread ended unwritten answer input output
+
+-- Replayed alone, and with what is needed.
+abbrev pub IsReplayed : {I O : Type 0} → Start → List Timed → (left : I → Option (List ℕ)) → (unread : I → ℕ) → (ended : I → Bool) → (taken : O → Option (List ℕ)) → (unwritten : O → ℕ)
+    → Status → SessionState → (I × I) → (O × O) → Type 0
+IsReplayed start h left unread ended taken unwritten status s input output = IsLogged history start h left unread ended taken unwritten status s input output
+
+abbrev pub IsLived : {I O : Type 0} → Start → List Timed → (left : I → Option (List ℕ)) → (unread : I → ℕ) → (ended : I → Bool) → (taken : O → Option (List ℕ)) → (unwritten : O → ℕ)
+    → Status → SessionState → (I × I) → (O × O) → Type 0
+IsLived start h left unread ended taken unwritten status s input output = IsLogged live_history start h left unread ended taken unwritten status s input output
 
 -- A log was made quiet, likewise.
 abbrev pub IsQuieted : {I O : Type 0} → Start → List Timed → (left : I → Option (List ℕ)) → (unread : I → ℕ) → (ended : I → Bool) → (taken : O → Option (List ℕ)) → (unwritten : O → ℕ)

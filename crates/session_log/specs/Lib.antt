@@ -7,6 +7,7 @@ pub mod Words
 pub mod Grammar
 pub mod Said
 pub mod Text
+pub mod Needs
 pub mod World
 pub mod Log
 pub mod Sent

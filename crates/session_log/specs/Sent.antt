@@ -1,23 +1,15 @@
--- What is sent while lines are played: packets of 64 bytes.
-use Rattle.std.specs.Prelude.{◌≡◌, ℕ, ◌<◌, ◌^◌, List, [], ◌∷◌, length, Option, Some, None}
-use Rattle.hex.specs.Hex.{IsBytes}
+-- What is known of all that is written while lines are played.
+use Rattle.std.specs.Prelude.{ℕ, ◌<◌, ◌^◌, List, [], ◌∷◌, Option, Some, None}
 use Rattle.token_session.specs.declared.input.Meters.{Meters}
 use Rattle.session_log.specs.declared.line.Line.{Line}
 use Rattle.session_log.specs.Log.{after}
 use Rattle.session_log.specs.Said.{said}
 use Rattle.session_log.specs.World.{World}
 
-abbrev pub IsPacket : List ℕ → Type 0
-IsPacket packet = (length packet ≡ 64) × IsBytes packet
-
-abbrev pub ArePackets : List (List ℕ) → Type 0
-ArePackets [] = Unit {0}
-ArePackets (packet ∷ more) = IsPacket packet × ArePackets more
-
 -- for a line, by what it says
 abbrev pub SendsPackets : {S : Type 0} → World S → S → Option Line → Type 0
 SendsPackets world s None = Unit {0}
-SendsPackets world s (Some l) = ArePackets (world.sends s l)
+SendsPackets world s (Some l) = world.sound s l
 
 -- for lines, one after the other
 abbrev pub AllSend : {S : Type 0} → World S → S → List (List ℕ) → Type 0

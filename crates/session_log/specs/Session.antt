@@ -3,13 +3,14 @@ use Rattle.std.specs.Prelude.{◌≡◌, ℕ, ◌<◌, ◌^◌, List, ◌∷◌,
 use Rattle.std.specs.Io.KnownBytes.{Appends}
 use Rattle.authn_core.specs.Turn.{Start}
 use Rattle.token_session.specs.declared.input.Timed.{Timed}
-use Rattle.token_session.specs.History.{judge, judged}
+use Rattle.token_session.specs.History.{core, judge, judged}
 use Rattle.token_session.specs.Law.{sent_now}
 use Rattle.token_session.specs.Meters.{SessionState, stepped, sent_by, meters_of}
 use Rattle.token_session.specs.Noise.{is_noise_at, is_noise_after}
 use Rattle.session_log.specs.Lines.{lines}
 use Rattle.session_log.specs.Log.{log}
-use Rattle.session_log.specs.World.{Course, World, replaying, quieting}
+use Rattle.authn_core.specs.Views.{Needed, needs}
+use Rattle.session_log.specs.World.{Course, World, replaying, quieting, living}
 
 -- what a session holds, moved on by inputs
 abbrev pub sessions : Course SessionState
@@ -33,6 +34,24 @@ quiet_machine = quieting sessions (λ s x. is_noise_at s.machine x)
 abbrev pub quiet_history : Start → World (List Timed)
 quiet_history start = quieting (histories start) (λ h x. is_noise_after start (judge start x (judged start h)) (judged start h))
 
--- what was written is its own log, on a session that stands at s, unless it has too many lines
+-- what they need
+abbrev pub session_needs : SessionState → Needed
+session_needs s = needs s.machine.core.state.work
+
+abbrev pub history_needs : Start → List Timed → Needed
+history_needs start h = needs (core start (judged start h)).state.work
+
+-- a log replayed on them, with what is needed
+abbrev pub live_machine : World SessionState
+live_machine = living sessions session_needs
+
+abbrev pub live_history : Start → World (List Timed)
+live_history start = living (histories start) (history_needs start)
+
+-- what was written is its own log in this world, from s on, unless it has too many lines
+abbrev pub RepeatsIn : World SessionState → Option (List ℕ) → Option (List ℕ) → SessionState → Type 0
+RepeatsIn world taken taken' s = (text : List ℕ) × Appends taken taken' text × (length (lines text) < 2 ^ 32 → log world s text ≡ text)
+
+-- replayed
 abbrev pub Repeats : Option (List ℕ) → Option (List ℕ) → SessionState → Type 0
-Repeats taken taken' s = (text : List ℕ) × Appends taken taken' text × (length (lines text) < 2 ^ 32 → log machine s text ≡ text)
+Repeats = RepeatsIn machine

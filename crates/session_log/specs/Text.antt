@@ -1,6 +1,6 @@
 -- The lines that are written.
-use Rattle.std.specs.Prelude.{ℕ, List, [], ◌∷◌, ◌++◌, codes, decimal}
-use Rattle.hex.specs.Hex.{encode_lower}
+use Rattle.std.specs.Prelude.{◌≡◌, ℕ, List, [], ◌∷◌, ◌++◌, length, codes, decimal}
+use Rattle.hex.specs.Hex.{IsBytes, encode_lower}
 use Rattle.token_session.specs.declared.input.Meters.{Meters}
 
 -- a line and its line feed
@@ -10,6 +10,14 @@ ended line = line ++ 10 ∷ []
 -- the line of a tick, without its line feed
 abbrev pub tick_text : ℕ → List ℕ
 tick_text at = codes "t " ++ decimal at
+
+-- packets that are sent: 64 bytes each
+abbrev pub IsPacket : List ℕ → Type 0
+IsPacket packet = (length packet ≡ 64) × IsBytes packet
+
+abbrev pub ArePackets : List (List ℕ) → Type 0
+ArePackets [] = Unit {0}
+ArePackets (packet ∷ more) = IsPacket packet × ArePackets more
 
 -- the line of a packet that was sent
 abbrev pub sent_text : List ℕ → List ℕ

@@ -5,7 +5,10 @@ use Rattle.token_session.specs.declared.input.Meters.{Meters}
 use Rattle.session_log.specs.declared.fault.LogFault.{LogFault}
 use Rattle.session_log.specs.declared.line.Line.{Line}
 use Rattle.session_log.specs.declared.line.Line.TheVariants.{Input, Sent, Comment, Count}
-use Rattle.session_log.specs.Text.{ended, sent_text, tick_text, meters_line}
+use Rattle.authn_core.specs.Views.{Needed}
+use Rattle.authn_core.specs.Needs.{IsNeed}
+use Rattle.session_log.specs.Needs.{need_lines, tells_need}
+use Rattle.session_log.specs.Text.{ArePackets, ended, sent_text, tick_text, meters_line}
 
 -- how an input moves a state, the packets that are sent for it, and what is counted
 pub record Course (S : Type 0) : Type 0 where
@@ -13,13 +16,13 @@ pub record Course (S : Type 0) : Type 0 where
   pub sends : S → Timed → List (List ℕ)
   pub counts : S → Meters
 
--- of what a line says: the fault that it has on a state, if any, where it leads, the packets that are sent and the text
--- that is written for it; what is wrong after the last line, if anything, and else the text that is written there; and
--- what is counted
-pub record World (S : Type 0) : Type 0 where
+-- of what a line says: the fault that it has on a state, if any, where it leads, what is known of the packets that are sent
+-- for it, and the text that is written for it; what is wrong after the last line, if anything, and else the text that is
+-- written there; and what is counted
+pub record World (S : Type 0) : Type 1 where
   pub stops : S → Line → Option LogFault
   pub moves : S → Line → S
-  pub sends : S → Line → List (List ℕ)
+  pub sound : S → Line → Type 0
   pub writes : S → List ℕ → Line → List ℕ
   pub lacks : S → Option LogFault
   pub ending : S → List ℕ
@@ -34,11 +37,11 @@ moves_input course s (Sent packet) = s
 moves_input course s Comment = s
 moves_input course s Count = s
 
-abbrev pub sends_input : {S : Type 0} → Course S → S → Line → List (List ℕ)
-sends_input course s (Input timed) = course.sends s timed
-sends_input course s (Sent packet) = []
-sends_input course s Comment = []
-sends_input course s Count = []
+abbrev pub sends_packets : {S : Type 0} → Course S → S → Line → Type 0
+sends_packets course s (Input timed) = ArePackets (course.sends s timed)
+sends_packets course s (Sent packet) = Unit {0}
+sends_packets course s Comment = Unit {0}
+sends_packets course s Count = Unit {0}
 
 abbrev pub writes_again : {S : Type 0} → Course S → S → List ℕ → Line → List ℕ
 writes_again course s line (Input timed) = ended line ++ flat_map sent_text (course.sends s timed)
@@ -50,7 +53,7 @@ abbrev pub replaying : {S : Type 0} → Course S → World S
 replaying course = record {
   stops = λ s l. None;
   moves = moves_input course;
-  sends = sends_input course;
+  sound = sends_packets course;
   writes = writes_again course;
   lacks = λ s. None;
   ending = λ s. meters_line (course.counts s);
@@ -69,9 +72,36 @@ abbrev pub quieting : {S : Type 0} → Course S → (S → Timed → Bool) → W
 quieting course noises = record {
   stops = λ s l. None;
   moves = moves_input course;
-  sends = λ s l. [];
+  sound = λ s l. Unit {0};
   writes = writes_quiet noises;
   lacks = λ s. None;
   ending = λ s. [];
+  counts = course.counts;
+}
+
+-- Replayed with what is needed: after the packets of an input line stand the lines of what is needed then. Those that an
+-- earlier run wrote are dropped.
+
+abbrev pub sends_needs : {S : Type 0} → Course S → (S → Needed) → S → Line → Type 0
+sends_needs course needs s (Input timed) = ArePackets (course.sends s timed) × IsNeed (needs (course.turned s timed))
+sends_needs course needs s (Sent packet) = Unit {0}
+sends_needs course needs s Comment = Unit {0}
+sends_needs course needs s Count = Unit {0}
+
+abbrev pub writes_needs : {S : Type 0} → Course S → (S → Needed) → S → List ℕ → Line → List ℕ
+writes_needs course needs s line (Input timed) =
+    ended line ++ flat_map sent_text (course.sends s timed) ++ flat_map ended (need_lines (needs (course.turned s timed)))
+writes_needs course needs s line (Sent packet) = []
+writes_needs course needs s line Comment = if tells_need line then [] else ended line
+writes_needs course needs s line Count = []
+
+abbrev pub living : {S : Type 0} → Course S → (S → Needed) → World S
+living course needs = record {
+  stops = λ s l. None;
+  moves = moves_input course;
+  sound = sends_needs course needs;
+  writes = writes_needs course needs;
+  lacks = λ s. None;
+  ending = λ s. meters_line (course.counts s);
   counts = course.counts;
 }

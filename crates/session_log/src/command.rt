@@ -3,10 +3,11 @@ ghost use Rattle.std.specs.Prelude.{◌≡◌, ◌<◌, ◌-◌, ◌^◌, List, 
 ghost use Rattle.authn_core.specs.Turn.{Start};
 ghost use Rattle.token_session.specs.declared.input.Timed.{Timed as OneInput};
 ghost use Rattle.token_session.specs.Meters.{StandsAfter};
-ghost use Rattle.session_log.specs.Command.{IsChecked, IsQuieted, IsReplayed, status_of};
+ghost use Rattle.session_log.specs.Command.{IsChecked, IsLived, IsQuieted, IsReplayed, status_of};
 
 use crate::checking::check;
 use crate::fault::LogFault;
+use crate::living::live;
 use crate::quieting::quiet;
 use crate::replaying::replay;
 use crate::source::Source;
@@ -19,7 +20,7 @@ use token_session::Session;
 pub const CAPACITY: usize = 64;
 
 /// Writes the text of a fault and a line feed. A text that can't be written is dropped.
-fn tell_fault<E: Target>(faults: &mut E, fault: &LogFault)
+pub fn tell_fault<E: Target>(faults: &mut E, fault: &LogFault)
     requires { E.failed faults.old < 2 ^ 64 - 1 }
 {
     let mut text = ArrayVec::<u8, 96>::new();
@@ -62,6 +63,28 @@ pub fn replay_command<S: Source, O: Target, E: Target, const C: usize>(
     ensures silent { OnOk result (faults.new ≡ faults.old) }
 {
     let answer = replay(input, output, session);
+    status(faults, answer)
+}
+
+/// The command `live`: replays the log on the session, and tells what the session needs. An error holds the exit
+/// status, 1, as for [`replay_command`].
+pub fn live_command<S: Source, O: Target, E: Target, const C: usize>(
+    session: &mut Session<C>,
+    input: &mut S,
+    output: &mut O,
+    faults: &mut E,
+) -> Result<(), u8>
+    requires reads { S.failed input.old < 2 ^ 64 - 1 }
+    requires writes { O.failed output.old < 2 ^ 64 - 1 }
+    requires tells { E.failed faults.old < 2 ^ 64 - 1 }
+    // It is the log of each history that the session stands after, with what is needed, that was written.
+    ensures lived { (start : Start) (h : List OneInput) → StandsAfter session.old start h
+        → IsLived start h S.left S.failed S.ended O.taken O.failed result session.new
+        (input.old, input.new) (output.old, output.new) }
+    // Without a fault nothing is written to `faults`.
+    ensures silent { OnOk result (faults.new ≡ faults.old) }
+{
+    let answer = live(input, output, session);
     status(faults, answer)
 }
 

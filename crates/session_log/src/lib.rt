@@ -10,6 +10,9 @@ mod fault;
 pub mod laws;
 mod line;
 mod lines;
+#[cfg(test)]
+mod live_tests;
+mod living;
 mod playing;
 #[cfg(test)]
 mod quiet_tests;
@@ -23,10 +26,13 @@ mod text;
 mod window;
 
 pub use checking::check;
-pub use command::{CAPACITY, check_command, quiet_command, replay_command};
+pub use command::{
+    CAPACITY, check_command, live_command, quiet_command, replay_command, tell_fault,
+};
 pub use fault::{Failed, LogFault};
 pub use line::{Line, read_line};
 pub use lines::next_line;
+pub use living::live;
 pub use quieting::quiet;
 pub use replaying::replay;
 pub use source::{FromRead, SliceIn, Source};

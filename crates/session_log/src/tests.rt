@@ -68,10 +68,10 @@ impl Write for Narrow {
 
 /// A reader that gives a piece a call, and notes how much a writer had taken by then.
 #[derive(Drop)]
-struct Watching<'a> {
-    pieces: &'a [&'a str],
-    taken: &'a Cell<usize>,
-    seen: ArrayVec<usize, 9>,
+pub struct Watching<'a> {
+    pub pieces: &'a [&'a str],
+    pub taken: &'a Cell<usize>,
+    pub seen: ArrayVec<usize, 9>,
 }
 
 impl Read for Watching<'_> {
@@ -90,9 +90,9 @@ impl Read for Watching<'_> {
 
 /// A writer that knows how much it took, in how many calls.
 #[derive(Drop)]
-struct Watched<'a> {
-    taken: &'a Cell<usize>,
-    calls: &'a Cell<usize>,
+pub struct Watched<'a> {
+    pub taken: &'a Cell<usize>,
+    pub calls: &'a Cell<usize>,
 }
 
 impl Write for Watched<'_> {

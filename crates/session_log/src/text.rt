@@ -1,26 +1,36 @@
 //! The lines that are written: the text of a line is gathered, and handed to the target whole.
-ghost use Rattle.std.specs.Prelude.{◌≡◌, ◌<◌, ◌≤◌, ◌+◌, ◌*◌, ◌-◌, ◌^◌, [], ◌∷◌, ◌++◌, length, flat_map, decimal, OnOk, OnErr, IfErr};
+ghost use Rattle.std.specs.Prelude.{◌≡◌, ◌<◌, ◌≤◌, ◌+◌, ◌*◌, ◌-◌, ◌^◌, [], ◌∷◌, ◌++◌, length, flat_map, map, decimal, ◌/◌, OnOk, OnErr, IfErr};
 ghost use Rattle.std.specs.Io.KnownBytes.{Appends};
-ghost use Rattle.session_log.specs.Sent.{ArePackets, FitsMeters, IsPacket};
-ghost use Rattle.session_log.specs.Text.{ended, sent_text, tick_text, meters_line, same_line};
+ghost use Rattle.hex.specs.Hex.{encode_lower};
+ghost use Rattle.authn_core.specs.Needs.{IsNeed};
+ghost use Rattle.authn_core.specs.Views.{needed};
+ghost use Rattle.session_log.specs.declared.text.TheConstants.{LONGEST, PIECE};
+ghost use Rattle.session_log.specs.Needs.{need_lines, pieces_of, signature_line, signed_line};
+ghost use Rattle.session_log.specs.Sent.{FitsMeters};
+ghost use Rattle.session_log.specs.Text.{ArePackets, IsPacket, ended, sent_text, tick_text, meters_line, same_line};
 ghost use Rattle.session_log.specs.Streams.{PutsLine};
 
 use crate::fault::LogFault;
 use crate::target::{Target, put_all};
 use arrayvec::ArrayVec;
+use authn_core::Need;
 use hid_packet::{Outbox, Packet};
 use itoa::Buffer;
 use token_session::Meters;
 
-/// The most bytes that are written for one line: the line with its line feed, and 130 packets' lines.
-const LONGEST: usize = 255 + 1 + 130 * 131;
+/// The most bytes that are written for one line: the line with its line feed, 130 packets' lines, and 504 bytes
+/// of what is needed, which is a signature of 196 bytes.
+const LONGEST: usize = 255 + 1 + 130 * 131 + 504;
+
+/// The most bytes to sign in one line.
+const PIECE: usize = 96;
 
 /// The text that is written for a line.
 pub type Text = ArrayVec<u8, LONGEST>;
 
 /// Appends a line and its line feed.
 fn push_line(text: &mut Text, line: &[u8])
-    requires { length text.old.items + length line.now < 17286 }
+    requires { length text.old.items + length line.now < LONGEST }
     ensures { text.new.items ≡ text.old.items ++ ended line.now }
 {
     let _ = text.try_extend_from_slice(line);
@@ -29,7 +39,7 @@ fn push_line(text: &mut Text, line: &[u8])
 
 /// Appends the line of a packet that was sent.
 fn push_packet(text: &mut Text, packet: Packet)
-    requires { length text.old.items + 131 ≤ 17286 }
+    requires { length text.old.items + 131 ≤ LONGEST }
     ensures text { text.new.items ≡ text.old.items ++ sent_text packet.0 }
     ensures short { length text.new.items ≤ length text.old.items + 131 }
     ensures packet { IsPacket packet.0 }
@@ -43,8 +53,9 @@ fn push_packet(text: &mut Text, packet: Packet)
 
 /// Appends the lines of the packets that were sent, and empties the outbox.
 fn push_packets(text: &mut Text, outbox: &mut Outbox)
-    requires { length text.old.items + 131 * length outbox.old ≤ 17286 }
+    requires { length text.old.items + 131 * length outbox.old ≤ LONGEST }
     ensures text { text.new.items ≡ text.old.items ++ flat_map sent_text outbox.old }
+    ensures short { length text.new.items ≤ length text.old.items + 131 * length outbox.old }
     ensures empty { outbox.new ≡ [] }
     ensures packets { ArePackets outbox.old }
 {
@@ -53,9 +64,76 @@ fn push_packets(text: &mut Text, outbox: &mut Outbox)
     }
 }
 
+/// Appends the digits of some bytes.
+fn push_digits(text: &mut Text, bytes: &[u8])
+    requires few { length bytes.now ≤ PIECE }
+    requires room { length text.old.items + 2 * length bytes.now ≤ LONGEST }
+    ensures text { text.new.items ≡ text.old.items ++ encode_lower bytes.now }
+    ensures short { length text.new.items ≤ length text.old.items + 2 * length bytes.now }
+{
+    let mut digits = [0; 2 * PIECE];
+    let used = digits.split_at_mut(2 * bytes.len()).0;
+    let _ = hex::encode_to_slice(bytes, used);
+    let _ = text.try_extend_from_slice(used);
+}
+
+/// Appends the line of a piece of what is to sign.
+fn push_piece(text: &mut Text, piece: &[u8])
+    requires few { length piece.now ≤ PIECE }
+    requires room { length text.old.items + 10 + 2 * length piece.now ≤ LONGEST }
+    ensures text { text.new.items ≡ text.old.items ++ ended (signed_line piece.now) }
+    ensures short { length text.new.items ≤ length text.old.items + 10 + 2 * length piece.now }
+{
+    let _ = text.try_extend_from_slice(b"# signed ");
+    push_digits(text, piece);
+    text.push(b'\n');
+}
+
+/// Appends the lines of what is to sign.
+fn push_signed(text: &mut Text, signed: &[u8])
+    requires few { length signed.now ≤ 196 }
+    requires room { length text.old.items + 422 ≤ LONGEST }
+    ensures text { text.new.items ≡ text.old.items ++ flat_map ended (map signed_line (pieces_of signed.now)) }
+    ensures short { length text.new.items ≤ length text.old.items + 422 }
+{
+    let mut rest = signed;
+    while !rest.is_empty() {
+        let len = PIECE.min(rest.len());
+        push_piece(text, rest.split_at(len).0);
+        rest = rest.split_at(len).1;
+    }
+}
+
+/// Appends the line of the credential that signs.
+fn push_signature(text: &mut Text, id: &[u8; 32])
+    requires { length text.old.items + 82 ≤ LONGEST }
+    ensures { text.new.items ≡ text.old.items ++ ended (signature_line id.now) }
+{
+    let _ = text.try_extend_from_slice(b"# need signature ");
+    push_digits(text, id);
+    text.push(b'\n');
+}
+
+/// Appends the lines of what is needed.
+fn push_need(text: &mut Text, need: Need<'_>)
+    requires sized { IsNeed (needed need) }
+    requires room { length text.old.items + 504 ≤ LONGEST }
+    ensures { text.new.items ≡ text.old.items ++ flat_map ended (need_lines (needed need.entry)) }
+{
+    match need {
+        Need::None => push_line(text, b"# need nothing"),
+        Need::Presence => push_line(text, b"# need presence"),
+        Need::Key => push_line(text, b"# need key"),
+        Need::Sign { id, signed } => {
+            push_signed(text, signed);
+            push_signature(text, id);
+        }
+    }
+}
+
 /// Appends a word and a number.
 fn push_count(text: &mut Text, word: &[u8], count: u64)
-    requires { length text.old.items + length word.now + 20 ≤ 17286 }
+    requires { length text.old.items + length word.now + 20 ≤ LONGEST }
     ensures text { text.new.items ≡ text.old.items ++ word.now ++ decimal count }
     ensures short { length text.new.items ≤ length text.old.items + length word.now + 20 }
 {
@@ -128,6 +206,30 @@ pub fn put_input<T: Target>(
     text.clear();
     push_line(text, line);
     push_packets(text, outbox);
+    put_text(writer, text.as_slice())
+}
+
+/// Writes an input line, the packets that were sent for it, which it takes from the outbox, and what is needed then.
+pub fn put_served<T: Target>(
+    writer: &mut T,
+    text: &mut Text,
+    line: &[u8],
+    sent: &mut Outbox,
+    need: Need<'_>,
+) -> Result<(), LogFault>
+    requires write { T.failed writer.old < 2 ^ 64 - 1 }
+    requires short { length line.now < 256 }
+    requires few { length sent.old ≤ 130 }
+    requires sized { IsNeed (needed need) }
+    ensures puts { PutsLine T.taken T.failed (writer.old, writer.new)
+        (ended line.now ++ flat_map sent_text sent.old ++ flat_map ended (need_lines (needed need.entry))) result }
+    ensures empty { sent.new ≡ [] }
+    ensures packets { ArePackets sent.old }
+{
+    text.clear();
+    push_line(text, line);
+    push_packets(text, sent);
+    push_need(text, need);
     put_text(writer, text.as_slice())
 }
 

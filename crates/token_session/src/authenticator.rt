@@ -3,6 +3,7 @@ ghost use Rattle.cred_table.specs.Waiting.{pending_count};
 ghost use Rattle.authn_core.specs.Bare.{bare_rows};
 ghost use Rattle.authn_core.specs.State.{Cancel, Drop as DropWork, Request, PresenceIs, KeyIs, SignatureIs};
 ghost use Rattle.authn_core.specs.Turn.{first_state, waiting, working};
+ghost use Rattle.authn_core.specs.Needs.{IsNeed};
 ghost use Rattle.authn_core.specs.Views.{answer_of, needed, needs, status_number, work_of};
 ghost use Rattle.token_session.specs.Replies.{keepalive, work_channel, status_of, answer_packets, answer_keeps_alive};
 ghost use Rattle.token_session.specs.Events.{event_core, event_keeps_alive, event_packets, keepalive_due, keepalive_packets};
@@ -74,7 +75,8 @@ impl<const C: usize> Authenticator<C> {
 
     /// What the waiting work needs.
     pub(crate) fn need(&self) -> Need<'_>
-        ensures { needed result ≡ needs self.now.core.state.work }
+        ensures value { needed result ≡ needs self.now.core.state.work }
+        ensures sized { IsNeed (needed result) }
     {
         self.core.need()
     }

@@ -2,6 +2,7 @@ ghost use Rattle.std.specs.Prelude.{◌≡◌, ◌≤◌, ◌++◌, [], length, 
 ghost use Rattle.hid_assemble.specs.Assembly.{held_bytes};
 ghost use Rattle.hid_assemble.specs.Codes.{code_number};
 ghost use Rattle.authn_core.specs.Bare.{bare_rows};
+ghost use Rattle.authn_core.specs.Needs.{IsNeed};
 ghost use Rattle.authn_core.specs.Views.{needs, needed};
 ghost use Rattle.cred_table.specs.Waiting.{pending_count};
 ghost use Rattle.token_session.specs.Replies.{error, greeting};
@@ -142,7 +143,8 @@ impl<const C: usize> Machine<C> {
 
     /// What the authenticator needs.
     pub(crate) fn need(&self) -> Need<'_>
-        ensures { needed result ≡ needs self.now.core.state.work }
+        ensures value { needed result ≡ needs self.now.core.state.work }
+        ensures sized { IsNeed (needed result) }
     {
         self.authenticator.need()
     }

@@ -1,6 +1,7 @@
 ghost use Rattle.std.specs.Prelude.{◌≡◌, ℕ, ◌≤◌, [], ◌∷◌, List, length, option_map};
 ghost use Rattle.hid_assemble.specs.Assembly.{held_bytes};
 ghost use Rattle.authn_core.specs.Bare.{bare_rows};
+ghost use Rattle.authn_core.specs.Needs.{IsNeed};
 ghost use Rattle.authn_core.specs.Views.{needs, needed};
 ghost use Rattle.cred_table.specs.Waiting.{pending_count};
 ghost use Rattle.authn_core.specs.Turn.{Start};
@@ -132,9 +133,11 @@ impl<const C: usize> Session<C> {
         self.machine.held()
     }
 
-    /// What the authenticator needs of its caller before its work goes on, with the exact bytes to sign.
+    /// What the authenticator needs of its caller before its work goes on, with the exact bytes to sign, at
+    /// most 196.
     pub fn need(&self) -> Need<'_>
-        ensures { needed result ≡ needs self.now.machine.core.state.work }
+        ensures value { needed result ≡ needs self.now.machine.core.state.work }
+        ensures sized { IsNeed (needed result) }
     {
         self.machine.need()
     }

@@ -1,10 +1,11 @@
 //! What the commands make of a worked log: a replay writes it again; compared with what is sent it is the same, and a packet
-//! that is changed, left out or put in is found; made quiet it sends no packet that it didn't send, and counts the same.
+//! that is changed, left out or put in is found; made quiet it sends no packet that it didn't send, and counts the same; and
+//! with what is needed it is its own log, and the log besides.
 
 ghost use Rattle.std.specs.Prelude.{◌≤◌};
 
 use crate::walk::{Place, Walk, is_packet};
-use session_log::{LogFault, SliceIn, ToWrite, check, quiet, replay};
+use session_log::{LogFault, SliceIn, ToWrite, check, live, quiet, replay};
 use std::alloc::{AllocError, Global};
 use token_session::Session;
 
@@ -23,6 +24,16 @@ fn replayed<const C: usize>(alloc: Global, log: &[u8]) -> Option<Vec<u8>>
     let mut text = Vec::new(alloc);
     let writer = &mut ToWrite::new(&mut text);
     replay(&mut SliceIn::new(log), writer, &mut session::<C>()).ok()?;
+    Some(text)
+}
+
+fn lived<const C: usize>(alloc: Global, log: &[u8]) -> Option<Vec<u8>>
+    requires some { 1 ≤ C }
+    requires few { C ≤ 256 }
+{
+    let mut text = Vec::new(alloc);
+    let writer = &mut ToWrite::new(&mut text);
+    live(&mut SliceIn::new(log), writer, &mut session::<C>()).ok()?;
     Some(text)
 }
 
@@ -47,15 +58,21 @@ fn compared<const C: usize>(alloc: Global, log: &[u8]) -> Result<Vec<u8>, LogFau
     Ok(text)
 }
 
+/// What was passed of a whole log.
+fn walked(log: &[u8]) -> Walk {
+    let mut walk = Walk::default();
+    for line in log.split_inclusive(|byte| *byte == b'\n') {
+        walk.pass(line);
+    }
+    walk
+}
+
 /// Whether the log is the same as what is sent, with the right counts.
 fn is_same<const C: usize>(alloc: Global, log: &[u8]) -> Result<bool, AllocError>
     requires some { 1 ≤ C }
     requires few { C ≤ 256 }
 {
-    let mut walk = Walk::default();
-    for line in log.split_inclusive(|byte| *byte == b'\n') {
-        walk.pass(line);
-    }
+    let walk = walked(log);
     let wanted = format!(in alloc; "same {} inputs {} packets\n", walk.inputs, walk.packets)?;
     Ok(compared::<C>(alloc, log).is_ok_and(|text| text.as_slice() == wanted.as_bytes()))
 }
@@ -147,6 +164,32 @@ fn is_quieted<const C: usize>(alloc: Global, log: &[u8]) -> Option<bool>
     Some(again == quiet && counts(sent.as_slice()) == counts(log))
 }
 
+/// The log less the comments that tell what is needed, and how many of these say what it is.
+fn without_needs(alloc: Global, log: &[u8]) -> Result<(Vec<u8>, u64), AllocError> {
+    let (mut text, mut needs) = (Vec::new(alloc), 0u64);
+    for line in log.split_inclusive(|byte| *byte == b'\n') {
+        if line.starts_with(b"# need ") {
+            needs = needs.saturating_add(1);
+        } else if !line.starts_with(b"# signed ") {
+            text.extend_from_slice(line)?;
+        }
+    }
+    Ok((text, needs))
+}
+
+/// Whether the log with what is needed after each input stays as it is, played so again and replayed, and is the log
+/// without that.
+fn is_lived<const C: usize>(alloc: Global, log: &[u8]) -> Option<bool>
+    requires some { 1 ≤ C }
+    requires few { C ≤ 256 }
+{
+    let told = lived::<C>(alloc, log)?;
+    let again = lived::<C>(alloc, told.as_slice())?;
+    let sent = replayed::<C>(alloc, told.as_slice())?;
+    let (rest, needs) = without_needs(alloc, told.as_slice()).ok()?;
+    Some(again == told && sent == told && rest.as_slice() == log && needs == walked(log).inputs)
+}
+
 /// Whether the commands make of the log what they should, on a session that has room for `C` credentials.
 pub fn is_worked<const C: usize>(alloc: Global, log: &[u8]) -> bool
     requires some { 1 ≤ C }
@@ -156,4 +199,5 @@ pub fn is_worked<const C: usize>(alloc: Global, log: &[u8]) -> bool
         && is_same::<C>(alloc, log) == Ok(true)
         && changes_are_found::<C>(alloc, log) == Ok(true)
         && is_quieted::<C>(alloc, log) == Some(true)
+        && is_lived::<C>(alloc, log) == Some(true)
 }

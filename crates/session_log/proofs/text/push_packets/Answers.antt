@@ -5,7 +5,7 @@ use Rattle.session_log.proofs.Sends.{ArePackets-snoc}
 use Rattle.session_log.proofs.text.push_packets.Goals as goal
 
 pub loop-packet-init : goal.loop-packet-init
-loop-packet-init c = record { room = c.requires; done = ([], refl, tt, sym (append-nil c.args.text.now.items)) }
+loop-packet-init c = record { room = omega arith; done = ([], refl, tt, sym (append-nil c.args.text.now.items)) }
 
 pub loop-packet-preserved : goal.loop-packet-preserved
 loop-packet-preserved c =

@@ -2,9 +2,9 @@ use Rattle.std.proofs.Common.{◌≡◌, List, ℕ, Some, None, flat_map, ◌++�
 use Rattle.session_log.specs.Session.{machine}
 use Rattle.session_log.specs.Log.{text_of, text_by, after, after_by, fault_by}
 use Rattle.session_log.specs.Said.{said}
-use Rattle.session_log.specs.Sent.{ArePackets, SendsPackets}
+use Rattle.session_log.specs.Sent.{SendsPackets}
 use Rattle.session_log.specs.Streams.{PutsLine}
-use Rattle.session_log.specs.Text.{ended, sent_text}
+use Rattle.session_log.specs.Text.{ArePackets, ended, sent_text}
 use Rattle.session_log.specs.declared.line.Line.{Line}
 use Rattle.session_log.specs.declared.line.Line.TheVariants.{Input, Comment}
 use Rattle.session_log.proofs.Exits.{hands_over}

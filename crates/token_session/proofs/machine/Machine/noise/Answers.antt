@@ -12,10 +12,10 @@ pub returns-in-Tick : goal.returns-in-Tick
 returns-in-Tick g c = other_noise _ _ _ _ _ c.in-Tick.is refl
 
 pub returns-in-Presence : goal.returns-in-Presence
-returns-in-Presence g c = other_noise _ _ _ _ _ c.in-Presence.is (ap not (c.is_presence.ensures ∙ ap is_presence c.need.ensures))
+returns-in-Presence g c = other_noise _ _ _ _ _ c.in-Presence.is (ap not (c.is_presence.ensures ∙ ap is_presence c.need.ensures.value))
 
 pub returns-in-Key : goal.returns-in-Key
-returns-in-Key g c = other_noise _ _ _ _ _ c.in-Key.is (ap not (c.is_key.ensures ∙ ap is_key c.need-in-Key.ensures))
+returns-in-Key g c = other_noise _ _ _ _ _ c.in-Key.is (ap not (c.is_key.ensures ∙ ap is_key c.need-in-Key.ensures.value))
 
 pub returns-in-Signature : goal.returns-in-Signature
-returns-in-Signature g c = other_noise _ _ _ _ _ c.in-Signature.is (ap not (c.is_sign.ensures ∙ ap is_sign c.need-in-Signature.ensures))
+returns-in-Signature g c = other_noise _ _ _ _ _ c.in-Signature.is (ap not (c.is_sign.ensures ∙ ap is_sign c.need-in-Signature.ensures.value))

@@ -1,0 +1,46 @@
+use Rattle.std.proofs.Common.{◌≡◌, ◌∙◌, inr, refl, rules, sym, Ok, Err, []}
+use Rattle.hidlog.specs.Saved.{start_with}
+use Rattle.hidlog.proofs.program.live_log.Goals as goal
+
+pub returns-in_err-live_command-clause-does : goal.returns-in_err-live_command-clause-does
+returns-in_err-live_command-clause-does g c =
+    let begun = c.in_ok-session.ensures.begins in
+    inr (
+      begun.0,
+      begun.1,
+      (
+        Err c.in_err-live_command.field-0.0,
+        c.live_command.new.session,
+        c.in_err-live_command.ensures.lived (start_with begun.0) [] begun.2,
+        (search rules, refl),
+      ),
+    )
+
+pub returns-in-Some-clause-does : goal.returns-in-Some-clause-does
+returns-in-Some-clause-does g c =
+    let begun = c.in_ok-session.ensures.begins in
+    let silent : c.live_command.new.faults ≡ c.args.faults.now = c.in_ok-live_command.ensures.silent ∙ c.in_ok-session.ensures.silent in
+    inr (
+      begun.0,
+      begun.1,
+      (
+        Ok c.in_ok-live_command.field-0,
+        c.live_command.new.session,
+        c.in_ok-live_command.ensures.lived (start_with begun.0) [] begun.2,
+        rw (c.in-Some.is, sym silent) c.save_rows.ensures,
+      ),
+    )
+
+pub returns-in-None-clause-does : goal.returns-in-None-clause-does
+returns-in-None-clause-does g c =
+    let begun = c.in_ok-session.ensures.begins in
+    inr (
+      begun.0,
+      begun.1,
+      (
+        Ok c.in_ok-live_command.field-0,
+        c.live_command.new.session,
+        c.in_ok-live_command.ensures.lived (start_with begun.0) [] begun.2,
+        rw c.in-None.is (refl, refl, c.in_ok-live_command.ensures.silent ∙ c.in_ok-session.ensures.silent),
+      ),
+    )

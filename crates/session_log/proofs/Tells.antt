@@ -1,0 +1,73 @@
+-- The lines that tell what is needed are comments, and short.
+use Rattle.std.proofs.Common.{◌≡◌, ℕ, zero, suc, ◌+◌, ◌≤◌, ◌<◌, ◌/◌, ◌%◌, true, false, List, [], ◌∷◌, ◌++◌, length, take, drop, map, codes, Some, refl, sym, ◌∙◌, arith, length-append, slice_index}
+use Rattle.std.specs.Simd.{first_chunks}
+use Rattle.std.proofs.lemmas.List.{length-take}
+use Rattle.hex.specs.Hex.{encode_with, encode_lower, lower_digits}
+use Rattle.hex.proofs.HexLemmas.{length-encode_with}
+use Rattle.authn_core.specs.Needs.{IsNeed}
+use Rattle.authn_core.specs.Views.{Needed, nothing, presence, key, sign}
+use Rattle.session_log.specs.declared.line.Line.TheVariants.{Comment}
+use Rattle.session_log.specs.Lines.{is_feed}
+use Rattle.session_log.specs.Needs.{need_lines, pieces_of, signature_line, signed_line, tells_need}
+use Rattle.session_log.specs.Said.{said}
+use Rattle.session_log.proofs.Feeds.{feedless, AreLines, both, joined, feedless-append}
+use Rattle.session_log.proofs.Sound.{IsSound}
+
+-- no digit is a line feed, whatever the byte
+
+from_digits : (ds : List ℕ) → feedless ds ≡ true → (n : ℕ) → is_feed (slice_index ds n) ≡ false
+from_digits [] h n = refl
+from_digits (d ∷ ds) h zero = (both (is_feed d) (feedless ds) h).0
+from_digits (d ∷ ds) h (suc n) = from_digits ds (both (is_feed d) (feedless ds) h).1 n
+
+two_more : (a b : ℕ) (xs : List ℕ) → is_feed a ≡ false → is_feed b ≡ false → feedless xs ≡ true → feedless (a ∷ b ∷ xs) ≡ true
+two_more a b xs h k l = joined (is_feed a) (feedless (b ∷ xs)) h (joined (is_feed b) (feedless xs) k l)
+
+pub encoded_feedless : (bytes : List ℕ) → feedless (encode_lower bytes) ≡ true
+unfolding encode_with
+encoded_feedless [] = refl
+encoded_feedless (b ∷ more) =
+    two_more (slice_index lower_digits (b / 16)) (slice_index lower_digits (b % 16)) (encode_lower more) (from_digits lower_digits refl (b / 16)) (from_digits lower_digits refl (b % 16)) (encoded_feedless more)
+
+-- each is a line of a log
+
+pub record IsTold (line : List ℕ) : Type 0 where
+  pub feedless : feedless line ≡ true
+  pub sound : IsSound line
+  pub said : said line ≡ Some Comment
+  pub tells : tells_need line ≡ true
+
+abbrev pub AreTold : List (List ℕ) → Type 0
+AreTold [] = Unit {0}
+AreTold (line ∷ more) = IsTold line × AreTold more
+
+AreTold-append : (xs ys : List (List ℕ)) → AreTold xs → AreTold ys → AreTold (xs ++ ys)
+AreTold-append [] ys h k = k
+AreTold-append (x ∷ xs) ys h k = (h.0, AreTold-append xs ys h.1 k)
+
+told : (line : List ℕ) → feedless line ≡ true → length line < 256 → said line ≡ Some Comment → tells_need line ≡ true → IsTold line
+told line whole short is tells = record { feedless = whole; sound = record { short = short; says = λ e. cc (sym e ∙ is) }; said = is; tells = tells }
+
+signed_told : (bytes : List ℕ) → length bytes ≤ 96 → IsTold (signed_line bytes)
+signed_told bytes few =
+    told (signed_line bytes) (feedless-append (codes "# signed ") (encode_lower bytes) refl (encoded_feedless bytes))
+    (omega (arith, few, length-append (codes "# signed ") (encode_lower bytes), length-encode_with lower_digits bytes)) refl refl
+
+signature_told : (id : List ℕ) → length id ≡ 32 → IsTold (signature_line id)
+signature_told id is =
+    told (signature_line id) (feedless-append (codes "# need signature ") (encode_lower id) refl (encoded_feedless id))
+    (omega (arith, is, length-append (codes "# need signature ") (encode_lower id), length-encode_with lower_digits id)) refl refl
+
+chunks_told : (k : ℕ) (bytes : List ℕ) → AreTold (map signed_line (first_chunks 96 k bytes))
+chunks_told zero bytes = tt
+chunks_told (suc k) bytes = (signed_told (take 96 bytes) (omega (arith, length-take 96 bytes)), chunks_told k (drop 96 bytes))
+
+pub needs_told : (n : Needed) → IsNeed n → AreTold (need_lines n)
+needs_told nothing h = (told (codes "# need nothing") refl (omega arith) refl refl, tt)
+needs_told presence h = (told (codes "# need presence") refl (omega arith) refl refl, tt)
+needs_told key h = (told (codes "# need key") refl (omega arith) refl refl, tt)
+needs_told (sign id signed) h = AreTold-append (map signed_line (pieces_of signed)) (signature_line id ∷ []) (chunks_told ((length signed + 95) / 96) signed) (signature_told id h.0, tt)
+
+pub told_are : (ls : List (List ℕ)) → AreTold ls → AreLines ls
+told_are [] h = tt
+told_are (line ∷ more) h = (h.0.feedless, told_are more h.1)
