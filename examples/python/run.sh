@@ -1,5 +1,5 @@
 #!/usr/bin/env bash
-# Runs the tests of registration and sign-in, and then has hidlog check each log that they left, and those of examples/.
+# Runs the tests of registration and sign-in. Then hidlog checks each log that they left, and the recorded ones.
 #
 #     examples/python/run.sh [FOLDER]        the logs are kept in FOLDER; by default nowhere
 #

@@ -38,8 +38,8 @@ class SecurityKey(CtapHidConnection):
              nothing, and KEEPALIVE packets come until the client cancels.
     delay    how many milliseconds the user takes.
     keys     the private keys by credential id. Hand them to the next SecurityKey for a restart.
-    moment   milliseconds since the start. Each line of the log takes one, a wait for the user takes 100. So a log doesn't
-             depend on the machine's speed. With `real_time` waits really take their time, and moments are the clock's.
+    moment   milliseconds since the start. Each line of the log takes one, a wait for the user takes 100. So a log
+             doesn't depend on the machine's speed. With `real_time` waits take their time, and a clock is read.
     random   gives n random bytes. `random.Random(1).randbytes` gives the same keys in each run (Python 3.9).
     load     a snapshot of credentials to start with; save: where to write one at `close`.
     program  the program that is started; by default what the variable HIDLOG names, or ./hidlog.
