@@ -11,13 +11,13 @@ export HIDLOG=${HIDLOG:-$here/../../hidlog}
 
 python=
 for found in "${PYTHON:-python3}" /usr/bin/python3; do
-    if "$found" -c 'import cryptography, fido2.server' 2>/dev/null; then
+    if "$found" -c 'import cryptography, fido2.server; assert fido2.__version__.startswith("0.9")' 2>/dev/null; then
         python=$found
         break
     fi
 done
 if [ -z "$python" ]; then
-    echo "run.sh: no python3 with fido2 and cryptography: apt-get install python3-fido2 python3-cryptography" >&2
+    echo "run.sh: no python3 with fido2 0.9 and cryptography: apt-get install python3-fido2 python3-cryptography" >&2
     exit 2
 fi
 

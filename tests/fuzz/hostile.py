@@ -183,7 +183,7 @@ class Maker:
         return self.request(channel, self.one_of(data, data, data, b""), self.presence())
 
     def ping(self, channel):
-        length = self.one_of(0, 1, 57, 58, 116, 117, 300, LONGEST if self.often(0.1) else 57)
+        length = self.one_of(0, 1, 57, 58, 116, 117, 300, LONGEST if self.often(0.3) else 57)
         return packets_of(channel, PING, self.some_bytes(length), None if self.often(0.9) else LONGEST + 1)
 
     def stray(self, channel):
