@@ -218,7 +218,7 @@ class Maker:
         return events
 
     def mixed(self, flows):
-        """The events of flows, one flow behind the other, or all at once with each in its order."""
+        """The events of flows, one flow after the other, or all at once with each in its order."""
         if self.often(0.6):
             return [event for flow in flows for event in flow]
         turns = [number for number, flow in enumerate(flows) for _ in flow]

@@ -23,7 +23,7 @@ RULES = {
     "quiet packets": "a quiet log sends what the log sends, less what answers the noise, and counts the same",
     "quiet again": "a quiet log stays as it is",
     "live lines": "live writes what replay writes, and what is needed",
-    "needs": "behind each input and its packets one line says what is needed, after the bytes to sign",
+    "needs": "after each input and its packets one line says what is needed, last, after the bytes to sign",
     "live again": "what live wrote is its own replay, and its own live session",
     "show": "show has a line for each input and each packet, in order",
 }
@@ -177,7 +177,7 @@ def judge_quiet(log, output, run):
 
 
 def judge_needs(lines):
-    """Looks at what live says to be needed, behind each input and its packets."""
+    """Looks at what live says to be needed, after each input and its packets."""
     after = None
     for line in lines:
         need = line.startswith(NEEDS)
