@@ -13,12 +13,14 @@ import multiprocessing
 import os
 import subprocess
 import sys
+import tempfile
 import time
+from functools import partial
 
 sys.dont_write_bytecode = True
 
-from hostile import hostile_log
-from judge import COUNTS, Finding, judge, lines_of
+from hostile import hostile_log, hostile_snapshot
+from judge import COUNTS, Finding, judge, judge_saved, lines_of
 
 TOP = os.path.realpath(os.path.join(os.path.dirname(os.path.abspath(__file__)), "..", ".."))
 SECONDS = 60
@@ -47,8 +49,9 @@ def built(program):
 def runner_of(program):
     """What runs a command of the program on a log."""
 
-    def run(command, log):
-        ran = subprocess.run([program, command], input=log, capture_output=True, timeout=SECONDS, check=False)
+    def run(command, log, *options):
+        words = [program, command, *options]
+        ran = subprocess.run(words, input=log, capture_output=True, timeout=SECONDS, check=False)
         return ran.returncode, ran.stdout, ran.stderr
 
     return run
@@ -57,8 +60,12 @@ def runner_of(program):
 def play(task):
     """Plays a log. What was found, or what its session counted."""
     program, seed, number = task
+    log, run = hostile_log(seed, number), runner_of(program)
     try:
-        output, faulty = judge(hostile_log(seed, number), runner_of(program))
+        output, faulty = judge(log, run)
+        if number % 8 == 0:
+            with tempfile.TemporaryDirectory() as folder:
+                judge_saved(log, output, faulty, run, folder, partial(hostile_snapshot, seed, number))
     except Finding as finding:
         return number, str(finding), None
     except subprocess.TimeoutExpired:

@@ -99,6 +99,10 @@ class Maker:
             return ("s", "no")
         return ("s", self.some_bytes(self.one_of(1, 70, 71, 72, 72)).hex())
 
+    def text(self):
+        """A name, with characters of one to four bytes."""
+        return self.chance.randrange(3) * "x" + self.chance.randrange(80) * self.one_of("n", "ü", "€", "𝄞", "\0")
+
     def descriptors(self):
         kind = "public-key" if self.often(0.9) else "other"
         count = self.one_of(0, 1, 1, 2, 3, 40 if self.often(0.1) else 2)
@@ -108,7 +112,7 @@ class Maker:
         """The parameters of authenticatorMakeCredential, most of them good."""
         user = {"id": bytes([self.chance.randrange(4)]) * self.one_of(1, 1, 1, 64, 65)}
         if self.often(0.5):
-            user.update(name="n" * self.chance.randrange(80), displayName="d" * self.chance.randrange(80))
+            user.update(name=self.text(), displayName=self.text())
         asked = {
             1: self.some_bytes(32),
             2: {"id": self.one_of(*self.sites), "name": "x"},
@@ -342,3 +346,8 @@ class Maker:
 def hostile_log(seed, number):
     """The log of this number, from this seed."""
     return Maker(f"{seed}/{number}").log()
+
+
+def hostile_snapshot(seed, number, snapshot):
+    """A snapshot, damaged."""
+    return Maker(f"{seed}/{number}/snapshot").damaged(snapshot)

@@ -1,9 +1,10 @@
 """Judges what hidlog makes of a log, by properties that need no second key.
 
-`judge(log, run)` raises a Finding where one of RULES is broken. `run(command, log)` gives the exit status and what was
-written to standard output and to standard error.
+`judge(log, run)` raises a Finding where one of RULES is broken, and so does `judge_saved`, which looks at snapshots.
+`run(command, log, *options)` gives the exit status and what was written to standard output and to standard error.
 """
 
+import os
 import re
 
 PACKETS, HELD, ROWS, PENDING = 130, 7550, 64, 64
@@ -25,6 +26,8 @@ RULES = {
     "live lines": "live writes what replay writes, and what is needed",
     "needs": "after each input and its packets one line says what is needed, last, after the bytes to sign",
     "live again": "what live wrote is its own replay, and its own live session",
+    "saved": "a snapshot loaded and saved again is the same, and is saved only where the log has no fault",
+    "refused": "a damaged snapshot is loaded, or refused in the documented words with nothing else done",
     "show": "show has a line for each input and each packet, in order",
 }
 
@@ -232,6 +235,33 @@ def judge_fault(log, fault, run):
             cut = b"".join(it + b"\n" for it in lines_of(whole)[:-1])
         hold(output == cut, "lines before", f"{command} wrote {len(output)} bytes and not {len(cut)}")
     return before
+
+
+def read(path):
+    with open(path, "rb") as file:
+        return file.read()
+
+
+def judge_saved(log, output, fault, run, folder, damaged):
+    """Looks at the snapshot of a log's session, and at one that is damaged."""
+    first, second = os.path.join(folder, "first"), os.path.join(folder, "second")
+    if fault:
+        run("replay", log, "--save", first)
+        hold(not os.path.exists(first), "saved", "it was saved after a fault")
+        return
+    hold(run("replay", log, "--save", first) == (0, output, b""), "saved", "the log changed")
+    status, counts, said = run("replay", b"", "--load", first, "--save", second)
+    hold((status, said) == (0, b"") and read(first) == read(second), "saved", f"{status}, {said!r}")
+    rows, most = (int(COUNTS.fullmatch(lines_of(it)[-1])[2]) for it in (counts, output))
+    hold(rows <= most, "saved", f"{rows} rows of {most}")
+    with open(second, "wb") as file:
+        file.write(damaged(read(first)))
+    status, written, said = run("replay", log, "--load", second)
+    if status == 2:
+        hold(written == b"" and re.fullmatch(rb"hidlog: snapshot refused: [123]\n", said), "refused", repr(said))
+    else:
+        hold((status, said) == (0, b""), "refused", f"{status}, {said!r}")
+        judge_written(lines_of(log), written)
 
 
 def judge(log, run):

@@ -9,12 +9,13 @@ that it breaks.
 
 import os
 import sys
+import tempfile
 
 sys.dont_write_bytecode = True
 
 from fuzz import TOP, built, runner_of
 from hostile import BROADCAST, CBOR, GET, INIT, MAKE, PING, encode, packets_of
-from judge import RULES, Finding, judge
+from judge import RULES, Finding, judge, judge_saved
 
 
 def good_log():
@@ -80,6 +81,18 @@ def counted(count):
     return output(change)
 
 
+def file(name):
+    """Adds a byte to a file of the folder in which snapshots are."""
+
+    def change(ended):
+        with open(os.path.join(FOLDER.name, name), "ab") as written:
+            written.write(b"\0")
+        return ended
+
+    return change
+
+
+FOLDER = tempfile.TemporaryDirectory()
 # The rule, the log, which run of which command, and what is done to its answer.
 CASES = [
     ("status", GOOD, "replay", 1, status(2)),
@@ -141,6 +154,14 @@ CASES = [
     ("show", GOOD, "show", 1, without_line(b"2 > ")),
     ("show", GOOD, "show", 1, replaced(b"\n3 > ", b"\n4 > ")),
     ("show", GOOD, "show", 1, output(lambda text: text + b"99 t 0\n")),
+    ("saved", BAD, "replay", 7, file("first")),
+    ("saved", GOOD, "replay", 5, without_line(b"< ")),
+    ("saved", GOOD, "replay", 6, status(2)),
+    ("saved", GOOD, "replay", 6, counted("rows 2")),
+    ("saved", GOOD, "replay", 6, file("second")),
+    ("refused", GOOD, "replay", 7, said(b"refused: 1", b"refused: 4")),
+    ("refused", GOOD, "replay", 7, status(1)),
+    ("refused", GOOD, "replay", 7, output(lambda text: b"t 0\n")),
 ]
 
 
@@ -148,9 +169,9 @@ def doctored(run, command, which, change):
     """Runs as `run` does, but changes the answer of this run of this command."""
     seen = 0
 
-    def run_doctored(asked, log):
+    def run_doctored(asked, log, *options):
         nonlocal seen
-        ended = run(asked, log)
+        ended = run(asked, log, *options)
         seen += asked == command
         return change(ended) if asked == command and seen == which else ended
 
@@ -158,9 +179,12 @@ def doctored(run, command, which, change):
 
 
 def found(log, run):
-    """The rule that the judge finds broken, or None."""
+    """The rule that the judge finds broken, or None. The damaged snapshot lacks its last byte."""
+    for name in os.listdir(FOLDER.name):
+        os.remove(os.path.join(FOLDER.name, name))
     try:
-        judge(log, run)
+        written, faulty = judge(log, run)
+        judge_saved(log, written, faulty, run, FOLDER.name, lambda snapshot: snapshot[:-1])
     except Finding as finding:
         return finding.rule
     return None
