@@ -58,6 +58,8 @@ class Maker:
         self.chance = random.Random(seed)
         self.hosts = self.one_of(1, 1, 2, 3)
         self.sites = SITES[: self.one_of(1, 1, 2, 3)]
+        # The ids that were handed in for a site, so that lists name what was made before.
+        self.made = {site: [] for site in SITES}
 
     def often(self, share):
         return self.chance.random() < share
@@ -68,9 +70,11 @@ class Maker:
     def some_bytes(self, count):
         return self.chance.randbytes(count)
 
-    def credential(self):
-        """A credential's id, of a few, so that lists name what was made before."""
-        return bytes([self.chance.randrange(4)]) * 32 if self.often(0.8) else self.some_bytes(32)
+    def credential(self, site=None):
+        """A credential's id: one that was made for the site, or another one."""
+        if site and self.made[site] and self.often(0.7):
+            return self.chance.choice(self.made[site])
+        return bytes([self.chance.randrange(9)]) * 32 if self.often(0.5) else self.some_bytes(32)
 
     def channel(self):
         """A channel: mostly one that was given out."""
@@ -79,7 +83,7 @@ class Maker:
         return self.one_of(self.hosts + 1, 0, BROADCAST, self.chance.randrange(2**32))
 
     def greeting(self, channel=BROADCAST):
-        length = 8 if self.often(0.9) else self.chance.randrange(58)
+        length = 8 if self.often(0.96) else self.chance.randrange(58)
         return packets_of(channel, INIT, self.some_bytes(length))
 
     def reply(self):
@@ -89,10 +93,12 @@ class Maker:
     def presence(self):
         return ("p", self.one_of("granted", "granted", "granted", "granted", "denied", "timeout"))
 
-    def key(self):
+    def key(self, site=SITES[0]):
         if self.often(0.05):
             return ("k", "no")
-        return ("k", f"{self.credential().hex()} {self.some_bytes(32).hex()} {self.some_bytes(32).hex()}")
+        name = self.credential()
+        self.made[site].append(name)
+        return ("k", f"{name.hex()} {self.some_bytes(32).hex()} {self.some_bytes(32).hex()}")
 
     def signature(self):
         if self.often(0.05):
@@ -103,35 +109,44 @@ class Maker:
         """A name, with characters of one to four bytes."""
         return self.chance.randrange(3) * "x" + self.chance.randrange(80) * self.one_of("n", "ü", "€", "𝄞", "\0")
 
-    def descriptors(self):
+    def descriptors(self, site):
         kind = "public-key" if self.often(0.9) else "other"
         count = self.one_of(0, 1, 1, 2, 3, 40 if self.often(0.1) else 2)
-        return [{"type": kind, "id": self.credential()} for _ in range(count)]
+        return [{"type": kind, "id": self.credential(site)} for _ in range(count)]
 
-    def registration(self):
+    def options(self):
+        """Options, most of them good for one of the two commands."""
+        names = self.one_of(["rk"], ["rk"], ["rk"], ["up"], ["uv"], ["rk", "up", "uv", "other"])
+        return {name: self.often(0.8 if name == "rk" else 0.3) for name in names}
+
+    def registration(self, site):
         """The parameters of authenticatorMakeCredential, most of them good."""
         user = {"id": bytes([self.chance.randrange(4)]) * self.one_of(1, 1, 1, 64, 65)}
         if self.often(0.5):
             user.update(name=self.text(), displayName=self.text())
         asked = {
             1: self.some_bytes(32),
-            2: {"id": self.one_of(*self.sites), "name": "x"},
+            2: {"id": site, "name": "x"},
             3: user,
             4: [{"alg": self.one_of(-7, -7, -7, -7, -8), "type": "public-key"}],
         }
         if self.often(0.6):
-            asked[7] = {"rk": self.often(0.8)}
+            asked[7] = {"rk": True} if self.often(0.8) else self.options()
         if self.often(0.3):
-            asked[5] = self.descriptors()
+            asked[5] = self.descriptors(site)
+        if self.often(0.03):
+            asked[8] = self.some_bytes(16)
         return bytes([MAKE]) + encode(self.spoilt(asked))
 
-    def assertion(self):
+    def assertion(self, site):
         """The parameters of authenticatorGetAssertion, most of them good."""
-        asked = {1: self.one_of(*self.sites), 2: self.some_bytes(32)}
+        asked = {1: site, 2: self.some_bytes(32)}
         if self.often(0.5):
-            asked[3] = self.descriptors()
+            asked[3] = self.descriptors(site)
         if self.often(0.3):
-            asked[5] = {"up": self.often(0.5)}
+            asked[5] = {"up": self.often(0.5)} if self.often(0.8) else self.options()
+        if self.often(0.03):
+            asked[6] = self.some_bytes(16)
         return bytes([GET]) + encode(self.spoilt(asked))
 
     def spoilt(self, asked):
@@ -164,6 +179,8 @@ class Maker:
         if self.often(0.05):
             length = self.one_of(0, 1, len(data) + 1, len(data) - 1, LONGEST, LONGEST + 1, 65535)
         waits = [("t",)] * self.one_of(0, 0, 1, 2)
+        if self.often(0.05):
+            waits += packets_of(channel, self.one_of(CANCEL, CANCEL, INIT), bytes(8))
         return packets_of(channel, CBOR, data, length) + waits + list(replies)
 
     def flow(self):
@@ -173,10 +190,13 @@ class Maker:
         return self.one_of(*kinds, self.ping, self.stray)(channel)
 
     def register(self, channel):
-        return self.request(channel, self.registration(), self.presence(), self.key(), self.signature())
+        site = self.one_of(*self.sites)
+        asked = self.registration(site)
+        return self.request(channel, asked, self.presence(), self.key(site), self.signature())
 
     def sign_in(self, channel):
-        events = self.request(channel, self.assertion(), self.presence(), self.signature())
+        asked = self.assertion(self.one_of(*self.sites))
+        events = self.request(channel, asked, self.presence(), self.signature())
         for _ in range(self.one_of(0, 0, 1, 2, 3)):
             events += self.request(channel, bytes([NEXT]), self.signature())
         return events
