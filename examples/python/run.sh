@@ -32,7 +32,7 @@ export HIDLOG_LOGS
 
 # The first call proves and builds the program, where that is still to do.
 "$HIDLOG" --help >/dev/null
-"$python" "$here/test_sign_in.py"
+"$python" -m unittest discover -s "$here"
 
 # Each log has what the key sends, and is its own replay and its own live session.
 check_logs() {
