@@ -2,6 +2,7 @@
 use Rattle.std.proofs.Common.{◌≡◌, ℕ, List, [], ◌∷◌, Option, Some, None, codes, refl}
 use Rattle.clap.proofs.OnLiterals.{clap_on_literals}
 use Rattle.clap.specs.Kinds.{Kinds}
+use Rattle.clap.specs.declared.error.kind.ErrorKind.TheVariants.{DisplayVersion}
 use Rattle.hidlog.specs.CommandLine.{Ask, replay, live, check, quiet, show, answers_to, asked_by}
 
 -- what clap answers to these words after the program's name
@@ -12,6 +13,10 @@ answers words = answers_to (codes "hidlog" ∷ words)
 asked : List (List ℕ) → Option Ask
 unfolding asked_by answers_to clap_on_literals
 asked words = asked_by (codes "hidlog" ∷ words)
+
+version_asked : answers (codes "--version" ∷ []) ≡ DisplayVersion ∷ []
+unfolding answers
+version_asked = refl
 
 replay_alone : asked (codes "replay" ∷ []) ≡ Some (replay None None)
 unfolding asked

@@ -19,10 +19,10 @@ path_option name = record (new_rule name) { long = Some name; value_names = 1 }
 abbrev pub command : List ℕ → List Rule → Shape
 command name options = record (new_shape name) { rules = options }
 
--- the five commands, of which one is required; clap adds `help`
+-- the five commands, of which one is required; clap adds `help` and `--version`
 abbrev pub grammar : App
 grammar = record {
-  top = record (new_shape (codes "hidlog")) { subcommand_required = true; is_leaf = false };
+  top = record (new_shape (codes "hidlog")) { has_version = true; subcommand_required = true; is_leaf = false };
   subs = command (codes "replay") (path_option (codes "load") ∷ path_option (codes "save") ∷ [])
       ∷ command (codes "live") (path_option (codes "load") ∷ path_option (codes "save") ∷ [])
       ∷ command (codes "check") (path_option (codes "load") ∷ [])
@@ -31,7 +31,7 @@ grammar = record {
       ∷ [];
 }
 
--- the kinds that clap's answer to these words may have: what is wrong with them, or help; none where they are a command line
+-- the kinds that clap's answer to these words may have: what is wrong with them, help or the version; none where they are a command line
 unfoldable pub answers_to : List (List ℕ) → Kinds
 answers_to words = fault_of grammar words
 

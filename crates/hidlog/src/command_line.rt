@@ -8,6 +8,9 @@ use clap::error::ErrorKind;
 use clap::{Arg, ArgMatches, Command, Error};
 use std::alloc::{AllocError, Global};
 
+/// The version, which CHANGELOG.md describes.
+const VERSION: &str = "0.1.0";
+
 /// What the program is asked to do, with the paths of snapshots as they stand.
 #[derive(Clone, Copy, Debug, PartialEq, Eq)]
 pub enum Task<'a> {
@@ -73,7 +76,7 @@ fn live<'a>(alloc: Global) -> Result<Command<'a>, AllocError>
 {
     Command::new(alloc, "live")
         .about(
-            "Replays the log line by line as it comes, and tells what the key needs after each input",
+            "Replays the log line by line as it comes, and says what the key needs after each input",
         )
         .arg(load(alloc))?
         .arg(save(alloc))
@@ -113,6 +116,7 @@ fn program<'a>(alloc: Global) -> Result<Command<'a>, AllocError>
 {
     Ok(
         Command::new(alloc, "hidlog")
+            .version(VERSION)
             .about("Replays text logs of CTAPHID sessions on a FIDO2 security key")
             .subcommand_required(true)
             .subcommand(replay(alloc)?)?

@@ -133,14 +133,15 @@ Usage: hidlog <COMMAND>
 
 Commands:
   replay  Replays the log on standard input: writes it with the packets that the key sends, and what it counted
-  live    Replays the log line by line as it comes, and tells what the key needs after each input
+  live    Replays the log line by line as it comes, and says what the key needs after each input
   check   Compares the packets that the log names as sent with those that the key sends
   quiet   Writes the log's inputs, with a tick in place of each that is noise
   show    Writes what the log's lines say, line by line
   help    Print this message or the help of the given subcommand(s)
 
 Options:
-  -h, --help  Print help
+  -h, --help     Print help
+  -V, --version  Print version
 ";
     let refusal = "\
 error: unexpected argument '--what' found
@@ -160,7 +161,7 @@ Options:
   -h, --help      Print help
 ";
     let live = "\
-Replays the log line by line as it comes, and tells what the key needs after each input
+Replays the log line by line as it comes, and says what the key needs after each input
 
 Usage: hidlog live [OPTIONS]
 
@@ -171,6 +172,7 @@ Options:
 ";
     for (words, output, faults) in [
         (["hidlog", "--help"].as_slice(), help, ""),
+        (["hidlog", "--version"].as_slice(), "hidlog 0.1.0\n", ""),
         (["hidlog", "live", "--help"].as_slice(), live, ""),
         (["hidlog", "replay", "--help"].as_slice(), options, ""),
         (["hidlog", "--what"].as_slice(), "", refusal),
