@@ -201,3 +201,14 @@ pub fn is_worked<const C: usize>(alloc: Global, log: &[u8]) -> bool
         && is_quieted::<C>(alloc, log) == Some(true)
         && is_lived::<C>(alloc, log) == Some(true)
 }
+
+/// Whether a log that was recorded live, with what was needed, is what the session sends and needs: replayed, compared and
+/// played live.
+pub fn is_recorded<const C: usize>(alloc: Global, log: &[u8]) -> bool
+    requires some { 1 ≤ C }
+    requires few { C ≤ 256 }
+{
+    replayed::<C>(alloc, log).is_some_and(|text| text.as_slice() == log)
+        && lived::<C>(alloc, log).is_some_and(|text| text.as_slice() == log)
+        && is_same::<C>(alloc, log) == Ok(true)
+}

@@ -1,13 +1,14 @@
 //! Plays worked logs. What a replay writes is its own log, so that each file is both what is read and what is wanted: it
 //! was written by hand, from what CTAP says. A folder's name says the session that its logs are played on. Of each log the
-//! commands that compare and quieten are asked too, and the one that tells what is needed.
+//! commands that compare and quieten are asked too, and the one that says what is needed. The logs of `recorded` come from
+//! tests of a service (examples/python), with what was needed.
 //! Prints a line for each log of which a command makes something else and a count, and ends with 1 where there is one.
 #![tactic(auto)]
 
 mod commands;
 mod walk;
 
-use commands::is_worked;
+use commands::{is_recorded, is_worked};
 use std::alloc::Global;
 use std::process::ExitCode;
 use std::{fs, io};
@@ -26,6 +27,7 @@ fn is_right(alloc: Global, folder: &str, log: &[u8]) -> bool {
         "capacity_2" => is_worked::<2>(alloc, log),
         "capacity_64" => is_worked::<64>(alloc, log),
         "capacity_256" => is_worked::<256>(alloc, log),
+        "recorded" => is_recorded::<64>(alloc, log),
         _ => false,
     }
 }
