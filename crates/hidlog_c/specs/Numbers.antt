@@ -1,0 +1,38 @@
+-- The outcome of a command in numbers.
+use Rattle.std.specs.Prelude.{ℕ, Result, Ok, Err}
+use Rattle.cred_table.specs.declared.fault.SnapshotFault.{SnapshotFault}
+use Rattle.cred_table.specs.declared.fault.SnapshotFault.TheVariants.{NotSnapshot, TooMany, RowBroken, Memory as NoMemory}
+use Rattle.session_log.specs.declared.fault.LogFault.{LogFault}
+use Rattle.session_log.specs.declared.fault.LogFault.TheVariants.{BadLine, TooLong, Differs, Read, Write, TooManyLines, Memory}
+use Rattle.session_log.specs.Numbers.{fault_number}
+use Rattle.hidlog_c.specs.declared.outcome.Outcome.{Outcome}
+
+-- the line that a fault names, and the packet; 0 where it names none
+abbrev pub line_of : LogFault → ℕ
+line_of (BadLine n) = n
+line_of (TooLong n) = n
+line_of (Differs line packet) = line
+line_of (Read n) = n
+line_of Write = 0
+line_of TooManyLines = 0
+line_of (Memory n) = n
+
+abbrev pub packet_of : LogFault → ℕ
+packet_of (Differs line packet) = packet
+packet_of _ = 0
+
+-- the numbers of the texts that say why a snapshot is refused
+abbrev pub refusal_number : SnapshotFault → ℕ
+refusal_number NotSnapshot = 1
+refusal_number TooMany = 2
+refusal_number (RowBroken place) = 3
+refusal_number NoMemory = 4
+
+-- a command with this answer, which wrote so many bytes
+abbrev pub outcome_of : {A : Type 0} → Result A LogFault → ℕ → Outcome
+outcome_of (Ok x) written = record { status = 0; fault = 0; line = 0; packet = 0; written = written }
+outcome_of (Err f) written = record { status = 1; fault = fault_number f; line = line_of f; packet = packet_of f; written = written }
+
+-- a snapshot that was refused, where nothing was written
+abbrev pub refused : SnapshotFault → Outcome
+refused f = record { status = 2; fault = refusal_number f; line = 0; packet = 0; written = 0 }

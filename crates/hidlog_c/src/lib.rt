@@ -1,0 +1,50 @@
+//! The commands on session logs as functions of C: a log and a snapshot in, a text and an outcome out (hidlog.h). The log is
+//! the state: nothing is kept between two calls, and nothing is allocated. The same source makes the WebAssembly module of
+//! the web page (web/build.sh).
+#![tactic(auto)]
+
+mod commands;
+mod lent;
+mod outcome;
+mod started;
+
+ghost use Rattle.hidlog_c.specs.Commands.{Answers, Checks, Lives, Quiets, Replays};
+
+use crate::commands::{Check, Live, Quiet, Replay, run};
+use crate::outcome::Outcome;
+
+/// Replays the log on a session with the credentials of the snapshot, or with none where the snapshot is empty. What a
+/// replay writes goes to the front of `out`.
+#[unsafe(no_mangle)]
+pub extern "C" fn hidlog_replay(log: &[u8], snapshot: &[u8], out: &mut [u8], outcome: &mut Outcome)
+    ensures { Answers Replays log.now snapshot.now (out.old, out.new) outcome.new }
+{
+    *outcome = run::<Replay>(log, snapshot, out);
+}
+
+/// Replays the log, and says after the packets of each input line what the session needs. Both go to the front of `out`.
+#[unsafe(no_mangle)]
+pub extern "C" fn hidlog_live(log: &[u8], snapshot: &[u8], out: &mut [u8], outcome: &mut Outcome)
+    ensures { Answers Lives log.now snapshot.now (out.old, out.new) outcome.new }
+{
+    *outcome = run::<Live>(log, snapshot, out);
+}
+
+/// Compares the log with what the session sends. The count of what was the same goes to the front of `out`.
+#[unsafe(no_mangle)]
+pub extern "C" fn hidlog_check(log: &[u8], snapshot: &[u8], out: &mut [u8], outcome: &mut Outcome)
+    ensures { Answers Checks log.now snapshot.now (out.old, out.new) outcome.new }
+{
+    *outcome = run::<Check>(log, snapshot, out);
+}
+
+/// Makes the log quiet. The quiet log goes to the front of `out`.
+#[unsafe(no_mangle)]
+pub extern "C" fn hidlog_quiet(log: &[u8], snapshot: &[u8], out: &mut [u8], outcome: &mut Outcome)
+    ensures { Answers Quiets log.now snapshot.now (out.old, out.new) outcome.new }
+{
+    *outcome = run::<Quiet>(log, snapshot, out);
+}
+
+#[cfg(test)]
+mod tests;

@@ -1,0 +1,30 @@
+//! The session that a log is played on.
+ghost use Rattle.std.specs.Prelude.{◌≡◌, ◌≢◌, [], List, IfOk, IfErr};
+ghost use Rattle.cred_table.specs.declared.row.Row.{Row as AnyRow};
+ghost use Rattle.cred_table.specs.Snapshots.{Refuses};
+ghost use Rattle.token_session.specs.Meters.{StandsAfter};
+ghost use Rattle.hidlog_c.specs.Begin.{Opens, start_with};
+
+use authn_core::Config;
+use cred_table::{SnapshotFault, Store, Table, load};
+use session_log::CAPACITY;
+use token_session::Session;
+
+/// A session at its start with these credentials: its AAGUID is zero, and its moment 0.
+fn session_with(rows: Store<CAPACITY>) -> Session<CAPACITY>
+    ensures { StandsAfter result (start_with (⟦<Store<CAPACITY> as Table<CAPACITY>>⟧.rows rows)) [] }
+{
+    Session::new(Config { aaguid: [0; 16] }, rows, 0)
+}
+
+/// A session at its start with the credentials of the snapshot, or with none where the snapshot is empty.
+pub fn started(snapshot: &[u8]) -> Result<Session<CAPACITY>, SnapshotFault>
+    ensures begins { IfOk result (λ session. (rows : List AnyRow) × Opens snapshot.now rows × StandsAfter session (start_with rows) []) }
+    ensures refused { IfErr result (λ fault. (snapshot.now ≢ []) × Refuses 64 snapshot.now fault) }
+{
+    let mut rows = Store::new();
+    if !snapshot.is_empty() {
+        load(snapshot, &mut rows)?;
+    }
+    Ok(session_with(rows))
+}

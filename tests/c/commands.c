@@ -1,0 +1,120 @@
+/* Runs the commands of libhidlog_c.a from C: commands FOLDER, the folder of the worked logs. */
+#include "hidlog.h"
+
+#include <stdio.h>
+#include <stdlib.h>
+#include <string.h>
+
+enum { ROOM = 1 << 20, CANARY = 0xa5 };
+
+typedef void command(const uint8_t *, size_t, const uint8_t *, size_t, uint8_t *, size_t, struct hidlog_outcome *);
+
+static uint8_t log_bytes[ROOM], snapshot[ROOM], out[ROOM];
+static struct hidlog_outcome outcome;
+static const char *folder;
+static int failures;
+
+static void expect(int holds, const char *what)
+{
+    if (!holds) {
+        fprintf(stderr, "FAILED: %s (status %u, fault %u, line %llu, packet %llu, written %llu)\n", what, outcome.status, outcome.fault,
+                (unsigned long long)outcome.line, (unsigned long long)outcome.packet, (unsigned long long)outcome.written);
+        failures++;
+    }
+}
+
+static size_t read_file(const char *name, uint8_t *to)
+{
+    char path[512];
+    snprintf(path, sizeof path, "%s/%s", folder, name);
+    FILE *file = fopen(path, "rb");
+    if (!file) {
+        perror(path);
+        exit(2);
+    }
+    size_t size = fread(to, 1, ROOM, file);
+    fclose(file);
+    return size;
+}
+
+/* Runs a command into a buffer with so much room, and says whether the byte behind it was left alone. */
+static int run(command *it, size_t log_len, size_t snapshot_len, size_t room)
+{
+    memset(out, CANARY, sizeof out);
+    it(log_bytes, log_len, snapshot, snapshot_len, out, room, &outcome);
+    return out[room] == CANARY;
+}
+
+/* A worked log is its own replay, and passes the check. */
+static void test_worked_log(const char *name, const char *from)
+{
+    size_t size = read_file(name, log_bytes), begins = from ? read_file(from, snapshot) : 0;
+    run(hidlog_replay, size, begins, ROOM - 1);
+    expect(outcome.status == HIDLOG_DONE && outcome.written == size && !memcmp(out, log_bytes, size), name);
+    run(hidlog_check, size, begins, ROOM - 1);
+    expect(outcome.status == HIDLOG_DONE && !memcmp(out, "same ", 5), name);
+}
+
+/* Each room that is too small gives the fault and the text's beginning. */
+static void test_small_rooms(void)
+{
+    size_t size = read_file("registration.log", log_bytes);
+    for (size_t room = 0; room < size; room++) {
+        expect(run(hidlog_replay, size, 0, room), "the byte behind the buffer is left alone");
+        expect(outcome.status == HIDLOG_FAULT && outcome.fault == HIDLOG_WRITE && outcome.written == room, "a full buffer is the write fault");
+        expect(!memcmp(out, log_bytes, room), "the text's beginning was written");
+    }
+    expect(run(hidlog_replay, size, 0, size) && outcome.status == HIDLOG_DONE, "a room that is just enough");
+}
+
+static void test_faults(void)
+{
+    const char bad[] = "t 1\nt 2\nt x\n";
+    memcpy(log_bytes, bad, sizeof bad - 1);
+    run(hidlog_replay, sizeof bad - 1, 0, ROOM - 1);
+    expect(outcome.status == HIDLOG_FAULT && outcome.fault == HIDLOG_BAD_LINE && outcome.line == 3 && outcome.written == 8, "a bad line");
+    memset(log_bytes, '#', 256);
+    run(hidlog_quiet, 256, 0, ROOM - 1);
+    expect(outcome.fault == HIDLOG_TOO_LONG && outcome.line == 1 && outcome.written == 0, "a line of 256 bytes");
+    run(hidlog_quiet, 0, 0, 0);
+    expect(outcome.status == HIDLOG_DONE && outcome.written == 0, "an empty log");
+}
+
+/* A digit of an answer is changed: the check names the line of the input and the packet. */
+static void test_difference(void)
+{
+    size_t size = read_file("registration.log", log_bytes);
+    char *answer = strstr((char *)log_bytes, "< 00000001bb0001");
+    answer[20] = '1';
+    run(hidlog_check, size, 0, ROOM - 1);
+    expect(outcome.fault == HIDLOG_DIFFERS && outcome.line == 5 && outcome.packet == 1 && outcome.written == 0, "a packet that differs");
+}
+
+static void test_snapshots(void)
+{
+    size_t size = read_file("sign_in_again.log", log_bytes), begins = read_file("example_com.snapshot", snapshot);
+    run(hidlog_check, size, 0, ROOM - 1);
+    expect(outcome.fault == HIDLOG_DIFFERS, "a sign-in without its credential");
+    expect(run(hidlog_check, size, begins - 1, 64), "a snapshot that ends early");
+    expect(outcome.status == HIDLOG_REFUSED && outcome.fault == HIDLOG_NOT_SNAPSHOT && outcome.written == 0, "a snapshot that ends early");
+    expect(out[0] == CANARY, "nothing is written where the snapshot is refused");
+}
+
+int main(int count, char **words)
+{
+    static const char *const logs[] = { "registration.log", "sign_in.log", "selection.log" };
+    if (count != 2) {
+        fprintf(stderr, "usage: commands FOLDER\n");
+        return 2;
+    }
+    folder = words[1];
+    for (size_t at = 0; at < sizeof logs / sizeof *logs; at++)
+        test_worked_log(logs[at], NULL);
+    test_worked_log("sign_in_again.log", "example_com.snapshot");
+    test_small_rooms();
+    test_faults();
+    test_difference();
+    test_snapshots();
+    printf("%s\n", failures ? "the C tests FAILED" : "the C tests passed");
+    return failures != 0;
+}

@@ -1,0 +1,57 @@
+// What the pages of tests share: a list of tests, run in turn, whose results are posted to the server that started the browser.
+
+export const results = { tests: [], figures: [], logs: {} };
+
+/** Fails a test where a condition doesn't hold. */
+export const expect = (holds, text) => {
+    if (!holds) {
+        throw new Error(text);
+    }
+};
+
+/** The error with which a promise is rejected. */
+export const rejection = async (promise) => {
+    try {
+        await promise;
+    } catch (error) {
+        return error;
+    }
+    throw new Error("nothing was refused");
+};
+
+export const wait = (milliseconds) => new Promise((done) => setTimeout(done, milliseconds));
+
+/** Waits until a condition holds. */
+export const until = async (holds, text) => {
+    for (let tries = 0; tries < 400; tries += 1) {
+        if (holds()) {
+            return;
+        }
+        await wait(10);
+    }
+    throw new Error(`waited in vain: ${text}`);
+};
+
+export const post = async (path, given) => {
+    const answer = await fetch(path, { method: "POST", body: JSON.stringify(given) });
+    const said = await answer.json();
+    if (!answer.ok) {
+        throw new Error(said.error);
+    }
+    return said;
+};
+
+/** Runs tests by their names, and posts what came of them. */
+export const run = async (tests) => {
+    for (const [name, test] of Object.entries(tests)) {
+        let error = "";
+        try {
+            await test();
+        } catch (thrown) {
+            error = `${thrown.name}: ${thrown.message}`;
+        }
+        results.tests.push({ name, error });
+    }
+    document.body.textContent = JSON.stringify(results.tests, null, 1);
+    await post("/done", results);
+};

@@ -1,0 +1,190 @@
+// web/security_key.js against python-fido2's server: what a service tests, with the key in the place of navigator.credentials.
+import { install } from "../../web/security_key.js";
+import { expect, post, rejection, results, run, wait } from "./harness.js";
+
+const fromText = (text) => Uint8Array.from(atob(text.replaceAll("-", "+").replaceAll("_", "/")), (it) => it.charCodeAt(0));
+
+/** Options as a page makes them of what a server sent. */
+const decoded = ({ publicKey }) => {
+    const ids = (list) => list?.map((it) => ({ ...it, id: fromText(it.id) }));
+    const options = { ...publicKey, challenge: fromText(publicKey.challenge) };
+    if (publicKey.user) {
+        options.user = { ...publicKey.user, id: fromText(publicKey.user.id) };
+    }
+    options.excludeCredentials = ids(publicKey.excludeCredentials);
+    options.allowCredentials = ids(publicKey.allowCredentials);
+    return options;
+};
+
+const register = async (given, more = {}) => {
+    const options = decoded(await post("/rp/register_begin", given));
+    const made = await navigator.credentials.create({ publicKey: { ...options, ...more.publicKey }, signal: more.signal });
+    const known = await post("/rp/register_complete", { user: given.user, ...made.toJSON().response });
+    return { made, known };
+};
+
+const signIn = async (given = {}, more = {}) => {
+    const options = decoded(await post("/rp/sign_in_begin", given));
+    const used = await navigator.credentials.get({ publicKey: { ...options, ...more.publicKey }, signal: more.signal });
+    return post("/rp/sign_in_complete", { id: used.id, ...used.toJSON().response });
+};
+
+/** Moments that do not depend on the machine's speed, so that a recording is the same each time but for its keys. */
+const steady = () => {
+    let moment = 0;
+    return (passed = 1) => (moment += passed);
+};
+
+/** A test on a key of its own, whose recording is kept. */
+const withKey = (log, test, options = {}) => async () => {
+    const before = navigator.credentials;
+    const key = await install({ clock: steady(), ...options });
+    await post("/rp/forget", {});
+    try {
+        await test(key);
+    } finally {
+        key.uninstall();
+        results.logs[log] = key.log();
+    }
+    expect(navigator.credentials === before, "uninstall puts back what was there");
+};
+
+const isRefused = async (promise, name) => {
+    const error = await rejection(promise);
+    expect(error.name === name && error instanceof DOMException, `${error.name} in place of ${name}: ${error.message}`);
+};
+
+const registersAndSignsIn = async () => {
+    const { made, known } = await register({ user: "ann" });
+    expect(known.id === made.id && known.format === "packed", "the server took another credential");
+    expect(made instanceof PublicKeyCredential, "no PublicKeyCredential");
+    expect(made.response.getTransports()[0] === "usb", "its transport");
+    const key = await crypto.subtle.importKey("spki", made.response.getPublicKey(), { name: "ECDSA", namedCurve: "P-256" }, true, ["verify"]);
+    expect(key.type === "public", "its public key");
+    const first = await signIn({ user: "ann" });
+    const second = await signIn({ user: "ann" });
+    expect(second.counter === first.counter + 1, "counters rise by one");
+};
+
+const findsItsAccount = async () => {
+    await register({ user: "ann", resident: true });
+    expect((await signIn()).user === "ann", "a sign-in without a name");
+};
+
+const choosesAmongAccounts = async (key) => {
+    await register({ user: "ann", resident: true });
+    await register({ user: "bob", resident: true });
+    expect((await signIn()).user === "bob", "the newest account comes first");
+    key.choose = (accounts) => accounts.findIndex((it) => new TextDecoder().decode(it.userHandle) === "ann");
+    expect((await signIn()).user === "ann", "the account that is chosen");
+};
+
+const excludesTheKnown = async () => {
+    await register({ user: "ann" });
+    await isRefused(register({ user: "ann", exclude: true }), "InvalidStateError");
+    await register({ user: "bob", exclude: true });
+};
+
+const mayBeDenied = async (key) => {
+    key.presence = "denied";
+    await isRefused(register({ user: "ann" }), "NotAllowedError");
+    key.presence = () => "granted";
+    await register({ user: "ann" });
+    key.presence = "timeout";
+    await isRefused(signIn({ user: "ann" }), "NotAllowedError");
+};
+
+const comesLate = async (key) => {
+    key.delay = 250;
+    await register({ user: "ann" });
+    expect(/^t \d+\n< 00000001bb000102/m.test(key.log()), "KEEPALIVE while the user is awaited");
+    await isRefused(signIn({ user: "ann" }, { publicKey: { timeout: 120 } }), "NotAllowedError");
+    expect(/^> \d+ 0000000191/m.test(key.log()), "CANCEL at the time-out");
+};
+
+const canBeAborted = async (key) => {
+    key.delay = 5000;
+    const abort = new AbortController();
+    setTimeout(() => abort.abort(), 150);
+    await isRefused(register({ user: "ann" }, { signal: abort.signal }), "AbortError");
+    await isRefused(register({ user: "ann" }, { signal: AbortSignal.abort() }), "AbortError");
+};
+
+const asksByAClick = async (key) => {
+    key.presence = "click";
+    const registering = register({ user: "ann" });
+    await wait(50);
+    document.querySelector("dialog button").click();
+    await registering;
+    const signing = isRefused(signIn({ user: "ann" }), "NotAllowedError");
+    await wait(50);
+    document.querySelectorAll("dialog button")[1].click();
+    await signing;
+    expect(!document.querySelector("dialog"), "the dialog is gone");
+};
+
+const refusesWhatItCannot = async () => {
+    await isRefused(register({ user: "ann", verification: "required" }), "NotAllowedError");
+    await isRefused(register({ user: "ann" }, { publicKey: { rp: { id: "example.com", name: "" } } }), "SecurityError");
+    const other = { pubKeyCredParams: [{ type: "public-key", alg: -257 }] };
+    await isRefused(register({ user: "ann" }, { publicKey: other }), "NotAllowedError");
+    const none = { pubKeyCredParams: [{ type: "password", alg: -7 }] };
+    await isRefused(register({ user: "ann" }, { publicKey: none }), "NotSupportedError");
+    const unnamed = { user: { id: new Uint8Array(0), name: "", displayName: "" } };
+    const error = await rejection(register({ user: "ann" }, { publicKey: unnamed }));
+    expect(error instanceof TypeError, "a user without an id");
+    await isRefused(signIn({ user: "ann" }), "NotAllowedError");
+};
+
+const WEBCRYPTO = ["generateKey", "exportKey", "sign", "digest"];
+
+/** Counts the time between the calls of WebCrypto and their results. */
+const meterWebCrypto = () => {
+    const meter = { spent: 0, restore: () => WEBCRYPTO.forEach((name) => delete crypto.subtle[name]) };
+    for (const name of WEBCRYPTO) {
+        crypto.subtle[name] = async (...given) => {
+            const begun = performance.now();
+            const result = await SubtleCrypto.prototype[name].apply(crypto.subtle, given);
+            meter.spent += performance.now() - begun;
+            return result;
+        };
+    }
+    return meter;
+};
+
+/** How long a registration and a sign-in take, less WebCrypto's own time. Nothing else runs meanwhile. */
+const isFast = async () => {
+    const ROUNDS = 60;
+    const options = (more) => ({ publicKey: { challenge: new Uint8Array(32), rpId: "localhost", ...more } });
+    const [all, own] = [[], []];
+    for (let round = 0; round < ROUNDS; round += 1) {
+        const key = await install({ clock: steady() });
+        const meter = meterWebCrypto();
+        const begun = performance.now();
+        const made = await navigator.credentials.create(options({
+            rp: { id: "localhost", name: "A service" }, user: { id: Uint8Array.of(round), name: "ann", displayName: "Ann" },
+            pubKeyCredParams: [{ type: "public-key", alg: -7 }],
+        }));
+        await navigator.credentials.get(options({ allowCredentials: [{ type: "public-key", id: made.rawId }] }));
+        all.push(performance.now() - begun);
+        own.push(all.at(-1) - meter.spent);
+        meter.restore();
+        key.uninstall();
+    }
+    const median = (list) => list.toSorted((a, b) => a - b)[ROUNDS / 2].toFixed(2);
+    results.figures.push(`a registration and a sign-in: ${median(all)} ms, ${median(own)} ms of it beside WebCrypto`
+        + ` (median of ${ROUNDS}; the first ${own[0].toFixed(2)} ms)`);
+};
+
+run({
+    "a registration and two sign-ins": withKey("registration_and_sign_in.log", registersAndSignsIn),
+    "a discoverable credential": withKey("discoverable.log", findsItsAccount),
+    "two accounts": withKey("two_accounts.log", choosesAmongAccounts),
+    "an exclude list": withKey("excluded.log", excludesTheKnown),
+    "a user who denies, and one who does nothing": withKey("denied.log", mayBeDenied),
+    "a user who comes late, and too late": withKey("late.log", comesLate),
+    "requests that are aborted": withKey("aborted.log", canBeAborted),
+    "presence by a click": withKey("click.log", asksByAClick),
+    "what the key can't do": withKey("refused.log", refusesWhatItCannot),
+    "how long it takes": isFast,
+});

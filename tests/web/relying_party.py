@@ -1,0 +1,86 @@
+"""A relying party that isn't ours: python-fido2's server, over JSON with byte strings in base64url."""
+
+from types import SimpleNamespace
+
+from fido2.attestation import PackedAttestation
+from fido2.client import ClientData
+from fido2.ctap2 import AttestationObject, AuthenticatorData
+from fido2.server import Fido2Server
+from fido2.utils import websafe_decode, websafe_encode
+from fido2.webauthn import PublicKeyCredentialRpEntity
+
+
+def verify_packed(attestation, client_data_hash):
+    """Verifies a packed self attestation, which names no chain."""
+    PackedAttestation().verify(attestation.att_statement, attestation.auth_data, client_data_hash)
+
+
+def plain(value):
+    """What JSON takes of an options object."""
+    if isinstance(value, bytes):
+        return websafe_encode(value)
+    if isinstance(value, dict):
+        return {key: plain(inner) for key, inner in value.items() if inner is not None}
+    if isinstance(value, (list, tuple)):
+        return [plain(inner) for inner in value]
+    return str.__str__(value) if isinstance(value, str) else value
+
+
+class RelyingParty:
+    """Registers users and signs them in. It keeps the credentials of each user, and each credential's last counter."""
+
+    def __init__(self, origin):
+        entity = PublicKeyCredentialRpEntity("localhost", "A service under test")
+        self._server = Fido2Server(
+            entity, attestation="direct", verify_origin=lambda it: it == origin, verify_attestation=verify_packed
+        )
+        self._state = None
+        self._credentials = {}
+
+    def _of(self, user):
+        return self._credentials.setdefault(user, [])
+
+    def register_begin(self, user, exclude=False, resident=False, verification=None):
+        """The options of a registration."""
+        entity = {"id": user.encode(), "name": user, "displayName": f"User {user}"}
+        known = [it.data for it in self._of(user)] if exclude else None
+        options, self._state = self._server.register_begin(
+            entity, known, resident_key=resident, user_verification=verification
+        )
+        return plain(options)
+
+    def register_complete(self, user, clientDataJSON, attestationObject, **_):
+        """Verifies a registration, its attestation too."""
+        attestation = AttestationObject(websafe_decode(attestationObject))
+        data = self._server.register_complete(self._state, ClientData(websafe_decode(clientDataJSON)), attestation)
+        self._of(user).append(SimpleNamespace(data=data.credential_data, counter=data.counter))
+        return {"id": websafe_encode(data.credential_data.credential_id), "format": attestation.fmt}
+
+    def sign_in_begin(self, user=None, verification=None):
+        """The options of a sign-in: of a user by an allow list, or of whoever comes."""
+        known = [it.data for it in self._of(user)] if user else None
+        options, self._state = self._server.authenticate_begin(known, user_verification=verification)
+        return plain(options)
+
+    def sign_in_complete(self, id, clientDataJSON, authenticatorData, signature, userHandle=None, **_):
+        """Verifies a sign-in: the signature, and a counter that rose."""
+        known = [it for kept in self._credentials.values() for it in kept]
+        data = AuthenticatorData(websafe_decode(authenticatorData))
+        used = self._server.authenticate_complete(
+            self._state,
+            [it.data for it in known],
+            websafe_decode(id),
+            ClientData(websafe_decode(clientDataJSON)),
+            data,
+            websafe_decode(signature),
+        )
+        row = next(it for it in known if it.data.credential_id == used.credential_id)
+        if data.counter <= row.counter:
+            raise ValueError("the counter did not rise")
+        row.counter = data.counter
+        return {"counter": data.counter, "user": userHandle and websafe_decode(userHandle).decode()}
+
+    def forget(self):
+        """Forgets all users."""
+        self._credentials.clear()
+        return {}

@@ -1,0 +1,67 @@
+#!/usr/bin/env bash
+# Runs the tests of web/ in each browser that is there: the page that shows sessions, and the key in a page, whose recordings then
+# pass `hidlog check`, of the program that the variable HIDLOG names or of ./hidlog. Says what is missing. With the words `chromium` or `firefox` that browser alone is run.
+set -euo pipefail
+top=$(cd "$(dirname "${BASH_SOURCE[0]}")/../.." && pwd)
+here=$top/tests/web
+program=${HIDLOG:-$top/hidlog}
+python=
+for each in python3 /usr/bin/python3; do
+    if command -v "$each" >/dev/null && "$each" -c 'import fido2.server' 2>/dev/null; then
+        python=$each
+    fi
+done
+if [ -z "$python" ]; then
+    echo "tests/web: python-fido2 is missing (apt-get install python3-fido2); nothing was run" >&2
+    exit 3
+fi
+room=$(mktemp -d)
+trap 'rm -rf "$room"' EXIT
+failed=0
+ran=0
+
+run_pages() {
+    local browser=$1 page
+    shift
+    echo "== $("$1" --version 2>/dev/null)"
+    ran=1
+    for page in viewer.html key.html; do
+        mkdir -p "$room/$browser"
+        "$python" "$here/serve.py" "$room/$browser" "$page" "$@" || failed=1
+    done
+    check_logs "$room/$browser"
+}
+
+# The recordings are logs that replay exactly.
+check_logs() {
+    local log
+    for log in "$1"/*.log; do
+        [ -e "$log" ] || continue
+        if "$program" check <"$log" >"$room/said" 2>&1; then
+            echo "ok  hidlog check ${log##*/}: $(cat "$room/said")"
+        else
+            echo "FAILED  hidlog check ${log##*/}: $(cat "$room/said")"
+            failed=1
+        fi
+    done
+}
+
+wanted=${1:-all}
+if [ "$wanted" != firefox ]; then
+    if command -v chromium >/dev/null; then
+        run_pages chromium chromium --headless=new --no-sandbox --user-data-dir=PROFILE
+    else
+        echo "tests/web: chromium is missing (apt-get install chromium)" >&2
+    fi
+fi
+if [ "$wanted" != chromium ]; then
+    if command -v firefox-esr >/dev/null; then
+        run_pages firefox firefox-esr --headless --no-remote --profile PROFILE
+    else
+        echo "tests/web: firefox-esr is missing (apt-get install firefox-esr)" >&2
+    fi
+fi
+if [ "$ran" = 0 ]; then
+    exit 3
+fi
+exit "$failed"

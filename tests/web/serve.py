@@ -1,0 +1,98 @@
+#!/usr/bin/env python3
+"""Runs a page of tests in a browser: serve.py FOLDER PAGE BROWSER WORD..
+
+Serves the repository's files on 127.0.0.1 alone, with the relying party under /rp/, starts the browser with the page's address
+behind the words, and waits for what the page posts to /done. Logs that the page recorded are written to FOLDER. It ends with 0 where
+all tests of the page passed.
+"""
+
+import json
+import os
+import signal
+import subprocess
+import sys
+import tempfile
+import threading
+from http.server import SimpleHTTPRequestHandler, ThreadingHTTPServer
+
+from relying_party import RelyingParty
+
+TOP = os.path.abspath(os.path.join(os.path.dirname(__file__), "..", ".."))
+SECONDS = 120
+
+
+class Handler(SimpleHTTPRequestHandler):
+    """The files, the relying party, and the end of the tests."""
+
+    def __init__(self, *rest):
+        super().__init__(*rest, directory=TOP)
+
+    def end_headers(self):
+        # Pages that are isolated get a clock of five microseconds.
+        self.send_header("Cross-Origin-Opener-Policy", "same-origin")
+        self.send_header("Cross-Origin-Embedder-Policy", "require-corp")
+        self.send_header("Cache-Control", "no-store")
+        super().end_headers()
+
+    def log_message(self, *_):
+        """Says nothing of each request."""
+
+    def do_POST(self):
+        """Answers a call of the page."""
+        given = json.loads(self.rfile.read(int(self.headers["Content-Length"])))
+        status, answer = 200, {}
+        if self.path == "/done":
+            self.server.results = given
+            self.server.is_done.set()
+        else:
+            try:
+                answer = getattr(self.server.relying_party, self.path.removeprefix("/rp/"))(**given)
+            except Exception as error:
+                status, answer = 400, {"error": f"{type(error).__name__}: {error}"}
+        body = json.dumps(answer).encode()
+        self.send_response(status)
+        self.send_header("Content-Type", "application/json")
+        self.send_header("Content-Length", str(len(body)))
+        self.end_headers()
+        self.wfile.write(body)
+
+
+def run_browser(words, url, server):
+    """Starts the browser on a profile of its own, and waits for the results."""
+    with tempfile.TemporaryDirectory(ignore_cleanup_errors=True) as profile:
+        filled = [word.replace("PROFILE", profile) for word in words]
+        started = subprocess.Popen(
+            [*filled, url], stdout=subprocess.DEVNULL, stderr=subprocess.DEVNULL, start_new_session=True
+        )
+        server.is_done.wait(SECONDS)
+        os.killpg(started.pid, signal.SIGTERM)
+        started.wait()
+
+
+def report(results, folder):
+    """Prints what came of each test, and keeps the logs. Returns whether all passed."""
+    if results is None:
+        print(f"the page posted nothing within {SECONDS} seconds")
+        return False
+    for name, text in results["logs"].items():
+        with open(os.path.join(folder, name), "w", encoding="utf-8") as file:
+            file.write(text)
+    for test in results["tests"]:
+        print(f"{'ok' if not test['error'] else 'FAILED'}  {test['name']}{test['error'] and ': ' + test['error']}")
+    for line in results["figures"]:
+        print(f"    {line}")
+    return bool(results["tests"]) and not any(test["error"] for test in results["tests"])
+
+
+def main():
+    folder, page, *words = sys.argv[1:]
+    server = ThreadingHTTPServer(("127.0.0.1", 0), Handler)
+    origin = f"http://localhost:{server.server_address[1]}"
+    server.relying_party, server.results, server.is_done = RelyingParty(origin), None, threading.Event()
+    threading.Thread(target=server.serve_forever, daemon=True).start()
+    run_browser(words, f"{origin}/tests/web/{page}", server)
+    return 0 if report(server.results, folder) else 1
+
+
+if __name__ == "__main__":
+    sys.exit(main())

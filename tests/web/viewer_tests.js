@@ -1,0 +1,158 @@
+// web/index.html, driven as a user drives it: by files that are dropped, keys and clicks.
+import { expect, results, run, until } from "./harness.js";
+
+const LOGS = ["first", "get_info", "registration", "selection", "sign_in", "sign_in_again", "time_out", "two_hosts"];
+const frame = document.querySelector("iframe");
+const page = () => frame.contentWindow;
+const at = (id) => page().document.getElementById(id);
+const notice = () => at("notice").textContent;
+const rows = () => [...at("space").querySelectorAll(".row")];
+const texts = () => rows().map((row) => row.textContent);
+
+const drop = (name, bytes) => {
+    const transfer = new (page().DataTransfer)();
+    transfer.items.add(new (page().File)([bytes], name));
+    page().document.dispatchEvent(new (page().DragEvent)("drop", { dataTransfer: transfer, cancelable: true }));
+};
+
+const press = (key) => page().document.dispatchEvent(new (page().KeyboardEvent)("keydown", { key, bubbles: true, cancelable: true }));
+
+const choose = (id, value) => {
+    at(id).value = value;
+    at(id).dispatchEvent(new (page().Event)(id === "search" ? "input" : "change"));
+};
+
+const fetched = async (name) => new Uint8Array(await (await fetch(`/examples/${name}`)).arrayBuffer());
+
+const encode = (text) => new TextEncoder().encode(text);
+
+/** Loads the page anew, and drops a file on it. */
+const open = async (name, bytes) => {
+    page().document.documentElement.dataset.ready = "";
+    page().location.reload();
+    await until(() => page().document.documentElement?.dataset.ready === "yes", "the page");
+    if (bytes) {
+        drop(name, bytes);
+        await until(() => notice() !== "", "a word on the file");
+    }
+};
+
+/** As many rows as the log has lines, and each row of a packet says its command. */
+const showsALog = (name) => async () => {
+    const bytes = await fetched(`${name}.log`);
+    await open(`${name}.log`, bytes);
+    const lines = new TextDecoder().decode(bytes).split("\n").length - 1;
+    const inputsAlone = notice().includes("inputs alone");
+    expect(inputsAlone || notice() === `${name}.log: ${lines} lines, no fault.`, notice());
+    expect(texts().some((text) => /INIT, (8|17) bytes/.test(text)), "the INIT is named");
+    expect(inputsAlone || rows().length === Math.min(lines, rows().length), "a row a line");
+};
+
+const decodesAMessage = async () => {
+    await open("registration.log", await fetched("registration.log"));
+    choose("search", "makecredential");
+    rows()[0].click();
+    const said = at("detail-text").textContent;
+    expect(said.includes('(rp): {\n    "id": "example.com"'), "the request is decoded");
+    choose("search", "packed");
+    rows()[0].click();
+    expect(at("detail-text").textContent.includes("· flags UP AT\n"), "the authenticator data are decoded");
+};
+
+const folds = async () => {
+    await open("registration.log", await fetched("registration.log"));
+    const lines = rows().length;
+    at("fold").click();
+    expect(rows().length < lines && texts().some((text) => text.includes("CBOR makeCredential → CBOR OK")), "folded");
+    const place = texts().findIndex((text) => text.includes("makeCredential"));
+    rows()[place].click();
+    expect(texts().some((text) => text.includes("presence: granted")), "unfolded");
+};
+
+const filtersByChannel = async () => {
+    await open("two_hosts.log", await fetched("two_hosts.log"));
+    choose("channel", "00000002");
+    expect(rows().length > 0 && texts().every((text) => text.includes("00000002")), "one channel alone");
+};
+
+const marksTheDifference = async () => {
+    const text = new TextDecoder().decode(await fetched("registration.log"));
+    const changed = text.replace("< 00000001bb000102", "< 00000001bb000101");
+    await open("changed.log", encode(changed));
+    at("check").click();
+    expect(notice() === "changed.log: line 5: differs at packet 1.", notice());
+    const marked = rows().filter((row) => row.classList.contains("differs"));
+    expect(marked.length === 1 && marked[0].textContent.startsWith("6"), "the packet's line is marked");
+    expect(at("detail-text").textContent.includes("The key sends: < 00000001bb000102"), "what is sent is shown");
+};
+
+const passesTheCheck = async () => {
+    await open("sign_in_again.log", await fetched("sign_in_again.log"));
+    drop("example_com.snapshot", await fetched("example_com.snapshot"));
+    await until(() => notice().includes("on the credentials of example_com.snapshot"), "the log on the snapshot");
+    press("c");
+    expect(/The key sends just this: same \d+ inputs \d+ packets\./.test(notice()), notice());
+};
+
+const cutsNoise = async () => {
+    const text = new TextDecoder().decode(await fetched("first.log"));
+    const noise = `> 9 000000ff910000${"0".repeat(114)}\n`;
+    await open("noisy.log", encode(text + noise));
+    choose("view", "quiet");
+    expect(notice() === "1 inputs are noise, and ticks stand in their place.", notice());
+    expect(rows().filter((row) => row.classList.contains("noise")).length === 1, "what went is shown");
+};
+
+const saysWhatIsFaulty = async () => {
+    const text = new TextDecoder().decode(await fetched("first.log"));
+    await open("faulty.log", encode(`${text}what is this\n# and more\n`));
+    expect(notice() === "The log is shown up to its faulty line: line 3: not a log line.", notice());
+    expect(rows().length === 3 && texts()[2].includes("line 3: not a log line"), "the lines before it are shown");
+    await open("picture.png", Uint8Array.of(0x89, 0x50, 0x4e, 0x47, 13, 10, 26, 10, 0, 0));
+    expect(notice() === "This is no session log: line 1: not a log line.", notice());
+    await open("empty.log", new Uint8Array(0));
+    expect(notice() === "empty.log is empty: a log has a line at least.", notice());
+    await open("huge.log", new Uint8Array(100 * 1024 * 1024));
+    expect(notice() === "huge.log has 100.0 MB: the page takes logs of up to 32.0 MB.", notice());
+    drop("first.log", encode(text));
+    await until(() => notice().includes("inputs alone") || notice().includes("no fault"), "the page still works");
+};
+
+/** 10,000 lines: how long a jump through them takes to draw. */
+const scrollsSmoothly = async () => {
+    const line = (at) => `t ${at}\n`;
+    const bytes = encode(Array.from({ length: 10000 }, (_, at) => line(at)).join(""));
+    const begun = performance.now();
+    await open("long.log", bytes);
+    await until(() => at("count").textContent.includes("of 1000"), "the rows");
+    const opened = performance.now() - begun;
+    expect(rows().length < 60, "only rows in sight are made");
+    for (const mode of ["table-tab", "drawing-tab"]) {
+        at(mode).click();
+        const scroller = at("scroller");
+        const steps = 120;
+        const from = performance.now();
+        for (let step = 0; step < steps; step += 1) {
+            scroller.scrollTop = (step * scroller.scrollHeight) / steps;
+            await new Promise((done) => page().requestAnimationFrame(() => page().requestAnimationFrame(done)));
+        }
+        const each = (performance.now() - from) / steps;
+        results.figures.push(`10,000 lines, ${mode.slice(0, -4)}: ${each.toFixed(1)} ms for each of ${steps} jumps of two frames`);
+        expect(each < 60, "a jump takes long");
+    }
+    results.figures.push(`10,000 lines opened in ${opened.toFixed(0)} ms, the page's own load with it`);
+};
+
+const loaded = Object.fromEntries(LOGS.map((name) => [`examples/${name}.log`, showsALog(name)]));
+
+run({
+    ...loaded,
+    "a message is decoded": decodesAMessage,
+    "transactions fold": folds,
+    "one channel alone": filtersByChannel,
+    "check marks the first difference": marksTheDifference,
+    "check on a snapshot": passesTheCheck,
+    "quiet shows what went": cutsNoise,
+    "faulty, empty and huge files": saysWhatIsFaulty,
+    "10,000 lines": scrollsSmoothly,
+});

@@ -1,0 +1,25 @@
+#!/usr/bin/env bash
+# Makes wasm.js anew: proves crates/hidlog_c and builds it as a WebAssembly module, and puts that into a script, since a page that
+# was opened from a file can fetch nothing. The gate takes no crate of the kind wasm64, so a repository in crates/hidlog_c/out names
+# the same source as one.
+set -euo pipefail
+top=$(cd "$(dirname "${BASH_SOURCE[0]}")/.." && pwd)
+room=$top/crates/hidlog_c/out/wasm
+mkdir -p "$room/crates/hidlog_c"
+for crate in "$top"/crates/*; do
+    name=${crate##*/}
+    if [ "$name" != hidlog_c ]; then
+        rm -rf "$room/crates/$name"
+        cp -al "$crate" "$room/crates/$name"
+    fi
+done
+for part in src specs proofs; do
+    rm -rf "$room/crates/hidlog_c/$part"
+    cp -a "$top/crates/hidlog_c/$part" "$room/crates/hidlog_c/$part"
+done
+sed 's/^hidlog_c staticlib:/hidlog_c wasm64 memory=2097152 stack=524288:/' "$top/crates.txt" >"$room/crates.txt"
+echo "web: proving and building the module, which takes minutes from nothing" >&2
+(cd "$room/crates/hidlog_c" && rt lib) >"$room/log" 2>&1 || { tail -20 "$room/log" >&2; exit 3; }
+tail -1 "$room/log" >&2
+python3 "$top/web/embed.py" "$room/crates/hidlog_c/out/hidlog_c.wasm" "$top/examples/registration.log" >"$room/wasm.js"
+cp "$room/wasm.js" "$top/web/wasm.js"

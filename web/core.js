@@ -1,0 +1,90 @@
+// The proved core as WebAssembly: the commands of crates/hidlog_c over bytes. A classic script, so that a page that was opened from
+// a file can use it; as a module it is imported for its effect. It sets `globalThis.hidlog`.
+"use strict";
+
+(() => {
+    const WASM_PAGE = 65536;
+    const OUTCOME_BYTES = 32;
+    const WRITE_FAULT = 5;
+    const MOST_MEMORY = 768 * 1024 * 1024;
+
+    const fromBase64 = (text) => Uint8Array.from(atob(text), (c) => c.charCodeAt(0));
+
+    const aligned = (place) => Math.ceil(place / 16) * 16;
+
+    /** The text of a fault, as docs/LOG_FORMAT.md has it. */
+    const faultText = ({ status, fault, line, packet }) => {
+        if (status === 2) {
+            return `snapshot refused: ${fault}`;
+        }
+        const texts = [
+            "",
+            `line ${line}: not a log line`,
+            `line ${line}: longer than 255 bytes`,
+            `line ${line}: differs at packet ${packet}`,
+            `line ${line}: reading failed`,
+            "writing failed",
+            "too many lines",
+            `line ${line}: no memory`,
+        ];
+        return texts[fault];
+    };
+
+    /** The module's exports, over a memory that grows as a log needs it. */
+    class Core {
+        constructor(exports) {
+            this.exports = exports;
+            this.base = aligned(Number(exports.__heap_base.value));
+        }
+
+        /** Makes the memory at least so many bytes long. */
+        reserve(bytes) {
+            const memory = this.exports.memory;
+            const missing = bytes - memory.buffer.byteLength;
+            if (missing > 0) {
+                memory.grow(BigInt(Math.ceil(missing / WASM_PAGE)));
+            }
+        }
+
+        /** One call of a command, with room for so many bytes. */
+        call(command, log, snapshot, room) {
+            const logAt = this.base + OUTCOME_BYTES;
+            const snapshotAt = aligned(logAt + log.length);
+            const outAt = aligned(snapshotAt + snapshot.length);
+            this.reserve(outAt + room);
+            const bytes = new Uint8Array(this.exports.memory.buffer);
+            bytes.set(log, logAt);
+            bytes.set(snapshot, snapshotAt);
+            const numbers = [logAt, log.length, snapshotAt, snapshot.length, outAt, room, this.base];
+            this.exports[`hidlog_${command}`](...numbers.map(BigInt));
+            const outcome = new DataView(this.exports.memory.buffer, this.base, OUTCOME_BYTES);
+            const long = (at) => Number(outcome.getBigUint64(at, true));
+            return {
+                status: outcome.getUint32(0, true),
+                fault: outcome.getUint32(4, true),
+                line: long(8),
+                packet: long(16),
+                text: bytes.slice(outAt, outAt + long(24)),
+            };
+        }
+
+        /** Runs a command. Where the room was too small, it is run again with more. */
+        run(command, log, snapshot = new Uint8Array(0)) {
+            let room = 2 * log.length + 4096;
+            let outcome = this.call(command, log, snapshot, room);
+            while (outcome.fault === WRITE_FAULT && outcome.status === 1 && room < MOST_MEMORY) {
+                room *= 4;
+                outcome = this.call(command, log, snapshot, room);
+            }
+            return outcome;
+        }
+    }
+
+    /** The core, once its module is compiled. */
+    const load = async () => {
+        const module = await WebAssembly.compile(fromBase64(globalThis.HIDLOG_WASM));
+        return new Core((await WebAssembly.instantiate(module, {})).exports);
+    };
+
+    globalThis.hidlog = { load, faultText, fromBase64 };
+})();

@@ -1,0 +1,249 @@
+// What the bytes of a session say: CBOR items, the maps of CTAP2, authenticator data. It sets `globalThis.hidlogDecode`.
+"use strict";
+
+(() => {
+    const COMMANDS = {
+        0x01: "PING", 0x03: "MSG", 0x04: "LOCK", 0x06: "INIT", 0x08: "WINK", 0x10: "CBOR",
+        0x11: "CANCEL", 0x3b: "KEEPALIVE", 0x3f: "ERROR",
+    };
+    const REQUESTS = {
+        0x01: "makeCredential", 0x02: "getAssertion", 0x04: "getInfo", 0x07: "reset",
+        0x08: "getNextAssertion", 0x0b: "selection",
+    };
+    const STATUSES = {
+        0x00: "OK", 0x01: "INVALID_COMMAND", 0x02: "INVALID_PARAMETER", 0x03: "INVALID_LENGTH",
+        0x11: "CBOR_UNEXPECTED_TYPE", 0x12: "INVALID_CBOR", 0x14: "MISSING_PARAMETER",
+        0x15: "LIMIT_EXCEEDED", 0x19: "CREDENTIAL_EXCLUDED", 0x26: "UNSUPPORTED_ALGORITHM",
+        0x27: "OPERATION_DENIED", 0x28: "KEY_STORE_FULL", 0x2b: "UNSUPPORTED_OPTION",
+        0x2c: "INVALID_OPTION", 0x2d: "KEEPALIVE_CANCEL", 0x2e: "NO_CREDENTIALS",
+        0x2f: "USER_ACTION_TIMEOUT", 0x30: "NOT_ALLOWED", 0x7f: "OTHER",
+    };
+    const ERRORS = {
+        0x01: "INVALID_CMD", 0x03: "INVALID_LEN", 0x04: "INVALID_SEQ", 0x05: "MSG_TIMEOUT",
+        0x06: "CHANNEL_BUSY", 0x0b: "INVALID_CHANNEL", 0x7f: "OTHER",
+    };
+    const WORKING = { 1: "processing", 2: "user presence needed" };
+    const KEYS = {
+        makeCredential: ["", "clientDataHash", "rp", "user", "pubKeyCredParams", "excludeList", "extensions",
+            "options", "pinUvAuthParam", "pinUvAuthProtocol", "enterpriseAttestation"],
+        getAssertion: ["", "rpId", "clientDataHash", "allowList", "extensions", "options", "pinUvAuthParam",
+            "pinUvAuthProtocol"],
+        "makeCredential answer": ["", "fmt", "authData", "attStmt"],
+        "getAssertion answer": ["", "credential", "authData", "signature", "user", "numberOfCredentials"],
+        "getNextAssertion answer": ["", "credential", "authData", "signature", "user", "numberOfCredentials"],
+        "getInfo answer": ["", "versions", "extensions", "aaguid", "options", "maxMsgSize", "pinUvAuthProtocols",
+            "maxCredentialCountInList", "maxCredentialIdLength", "transports", "algorithms"],
+    };
+
+    const toHex = (bytes) => Array.from(bytes, (b) => b.toString(16).padStart(2, "0")).join("");
+    const fromHex = (text) => Uint8Array.from(text.match(/../g) ?? [], (pair) => parseInt(pair, 16));
+    const byteName = (table, byte) => table[byte] ?? `0x${byte.toString(16).padStart(2, "0")}`;
+
+    /** A reader of CBOR items of definite length. What it can't read throws. */
+    class CborReader {
+        constructor(bytes) {
+            this.bytes = bytes;
+            this.at = 0;
+        }
+
+        take(count) {
+            if (this.at + count > this.bytes.length) {
+                throw new Error(`the item ends early, at byte ${this.bytes.length}`);
+            }
+            this.at += count;
+            return this.bytes.subarray(this.at - count, this.at);
+        }
+
+        argument(info) {
+            if (info < 24) {
+                return info;
+            }
+            if (info > 27) {
+                throw new Error(`additional information ${info} at byte ${this.at - 1}`);
+            }
+            const number = this.take(1 << (info - 24)).reduce((sum, b) => sum * 256n + BigInt(b), 0n);
+            return number <= Number.MAX_SAFE_INTEGER ? Number(number) : number;
+        }
+
+        item(depth = 0) {
+            const head = this.take(1)[0];
+            const [major, info] = [head >> 5, head & 31];
+            if (depth > 8) {
+                throw new Error(`too deep at byte ${this.at - 1}`);
+            }
+            if (major === 7) {
+                return this.simple(info);
+            }
+            const argument = this.argument(info);
+            const readers = [
+                () => argument,
+                () => -1n - BigInt(argument),
+                () => this.take(Number(argument)),
+                () => new TextDecoder("utf-8", { fatal: true }).decode(this.take(Number(argument))),
+                () => this.list(Number(argument), () => this.item(depth + 1)),
+                () => new Map(this.list(Number(argument), () => [this.item(depth + 1), this.item(depth + 1)])),
+            ];
+            if (!readers[major]) {
+                throw new Error(`a tag at byte ${this.at - 1}`);
+            }
+            const value = readers[major]();
+            const isShort = typeof value === "bigint" && Number.isSafeInteger(Number(value));
+            return isShort ? Number(value) : value;
+        }
+
+        list(count, read) {
+            if (count > this.bytes.length) {
+                throw new Error(`a count of ${count} at byte ${this.at}`);
+            }
+            return Array.from({ length: count }, read);
+        }
+
+        simple(info) {
+            const values = { 20: false, 21: true, 22: null };
+            if (!(info in values)) {
+                throw new Error(`simple value ${info} at byte ${this.at - 1}`);
+            }
+            return values[info];
+        }
+    }
+
+    /** The item that the bytes are, and how many of them it took. */
+    const readCbor = (bytes) => {
+        const reader = new CborReader(bytes);
+        return { value: reader.item(), used: reader.at };
+    };
+
+    /** The head of an item: its major type, and its argument in as few bytes as hold it. */
+    const writeHead = (major, argument) => {
+        if (argument < 24) {
+            return [(major << 5) | argument];
+        }
+        const size = [1, 2, 4].find((it) => argument < 2 ** (8 * it));
+        const bytes = Array.from({ length: size }, (_, at) => Math.floor(argument / 2 ** (8 * (size - 1 - at))) % 256);
+        return [(major << 5) | (23 + { 1: 1, 2: 2, 4: 3 }[size]), ...bytes];
+    };
+
+    /** The bytes of an item. The members of a map are written in the order in which it has them. */
+    const writeCbor = (value) => {
+        if (typeof value === "boolean") {
+            return [value ? 0xf5 : 0xf4];
+        }
+        if (typeof value === "number") {
+            return value < 0 ? writeHead(1, -1 - value) : writeHead(0, value);
+        }
+        if (typeof value === "string") {
+            const bytes = new TextEncoder().encode(value);
+            return [...writeHead(3, bytes.length), ...bytes];
+        }
+        if (value instanceof Uint8Array) {
+            return [...writeHead(2, value.length), ...value];
+        }
+        if (Array.isArray(value)) {
+            return [...writeHead(4, value.length), ...value.flatMap(writeCbor)];
+        }
+        return [...writeHead(5, value.size), ...Array.from(value).flat().flatMap(writeCbor)];
+    };
+
+    const pad = (depth) => "  ".repeat(depth);
+
+    /** An item in diagnostic notation, a member a line; members of a known map are named behind their numbers. */
+    const showItem = (value, depth = 0, names = []) => {
+        if (value instanceof Uint8Array) {
+            return `h'${toHex(value)}'`;
+        }
+        if (value instanceof Map) {
+            const members = Array.from(value, ([key, inner]) => {
+                const name = names[key] ? ` (${names[key]})` : "";
+                const text = showItem(inner, depth + 1);
+                return `${pad(depth + 1)}${showItem(key)}${name}: ${text}${authDataLines(names[key], inner, depth + 2)}`;
+            });
+            return members.length ? `{\n${members.join(",\n")}\n${pad(depth)}}` : "{}";
+        }
+        if (Array.isArray(value)) {
+            const entries = value.map((inner) => pad(depth + 1) + showItem(inner, depth + 1));
+            return entries.length ? `[\n${entries.join(",\n")}\n${pad(depth)}]` : "[]";
+        }
+        return typeof value === "string" ? JSON.stringify(value) : String(value);
+    };
+
+    const FLAGS = ["UP", "", "UV", "BE", "BS", "", "AT", "ED"];
+
+    /** The fields of authenticator data, a line each. */
+    const showAuthData = (data) => {
+        const view = new DataView(data.buffer, data.byteOffset, data.byteLength);
+        const flags = FLAGS.filter((name, bit) => name && data[32] & (1 << bit));
+        const lines = [
+            `rpIdHash ${toHex(data.subarray(0, 32))}`,
+            `flags ${flags.join(" ") || "none"}`,
+            `signCount ${view.getUint32(33)}`,
+        ];
+        if (data[32] & 0x40) {
+            const length = view.getUint16(53);
+            lines.push(`aaguid ${toHex(data.subarray(37, 53))}`);
+            lines.push(`credentialId ${toHex(data.subarray(55, 55 + length))}`);
+            lines.push(`publicKey ${showItem(readCbor(data.subarray(55 + length)).value, 2)}`);
+        }
+        return lines;
+    };
+
+    const authDataLines = (name, value, depth) => {
+        if (name !== "authData" || !(value instanceof Uint8Array) || value.length < 37) {
+            return "";
+        }
+        return showAuthData(value).map((line) => `\n${pad(depth)}· ${line}`).join("");
+    };
+
+    /** The text of a CBOR message: its first byte by name, and its item. */
+    const showCborMessage = (bytes, fromHost, request) => {
+        if (!bytes.length) {
+            return "(empty)";
+        }
+        const name = fromHost ? byteName(REQUESTS, bytes[0]) : byteName(STATUSES, bytes[0]);
+        if (bytes.length === 1) {
+            return name;
+        }
+        try {
+            const { value, used } = readCbor(bytes.subarray(1));
+            const names = KEYS[fromHost ? name : `${request} answer`];
+            const rest = used + 1 < bytes.length ? `\n${bytes.length - used - 1} bytes behind it` : "";
+            return `${name} ${showItem(value, 0, names)}${rest}`;
+        } catch (error) {
+            return `${name}, not CBOR: ${error.message}`;
+        }
+    };
+
+    const showInit = (bytes, fromHost) => {
+        if (fromHost || bytes.length < 17) {
+            return `nonce ${toHex(bytes.subarray(0, 8))}`;
+        }
+        const channel = toHex(bytes.subarray(8, 12));
+        return `nonce ${toHex(bytes.subarray(0, 8))}, channel ${channel}, CTAPHID ${bytes[12]}`;
+    };
+
+    /** The text of a whole message. `request` names the request that an answer is for. */
+    const showMessage = ({ command, bytes, fromHost, request }) => {
+        const texts = {
+            0x06: () => showInit(bytes, fromHost),
+            0x10: () => showCborMessage(bytes, fromHost, request),
+            0x3b: () => byteName(WORKING, bytes[0] ?? 0),
+            0x3f: () => byteName(ERRORS, bytes[0] ?? 0),
+        };
+        return texts[command] ? texts[command]() : toHex(bytes);
+    };
+
+    /** What a message is called in one short piece. */
+    const nameMessage = ({ command, bytes, fromHost }) => {
+        const name = byteName(COMMANDS, command);
+        if (command === 0x10 && bytes.length) {
+            return `${name} ${byteName(fromHost ? REQUESTS : STATUSES, bytes[0])}`;
+        }
+        if (command === 0x3b) {
+            return `${name} ${byteName(WORKING, bytes[0] ?? 0)}`;
+        }
+        return command === 0x3f ? `${name} ${byteName(ERRORS, bytes[0] ?? 0)}` : name;
+    };
+
+    globalThis.hidlogDecode = {
+        toHex, fromHex, readCbor, writeCbor, showItem, showMessage, nameMessage, COMMANDS, REQUESTS, STATUSES,
+    };
+})();

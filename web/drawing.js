@@ -1,0 +1,156 @@
+// The rows that are in sight as a sequence drawing: a lifeline for each channel of the hosts, one for the key and one for its
+// caller. It sets `globalThis.hidlogDrawing`.
+"use strict";
+
+(() => {
+    const HEAD = 28;
+    const MOST_CHANNELS = 6;
+
+    /** Places the lifelines in a width. Channels past the last place share it. */
+    const placeLifelines = (channels, width) => {
+        const own = channels.slice(0, MOST_CHANNELS);
+        const names = [...own.map((it) => (it === "ffffffff" ? "broadcast" : `host ${it}`)), "key", "caller"];
+        const left = width < 700 ? 44 : 120;
+        const step = (width - left - 40) / Math.max(1, names.length - 1);
+        const places = names.map((_, at) => left + at * step);
+        const ofChannel = (channel) => places[Math.max(0, Math.min(own.indexOf(channel), own.length - 1))];
+        return { names, places, ofChannel, key: places[own.length], caller: places[own.length + 1], isNarrow: width < 700 };
+    };
+
+    /** A pen over a canvas, in the page's colours. */
+    class Pen {
+        constructor(canvas) {
+            const scale = globalThis.devicePixelRatio || 1;
+            const { clientWidth: width, clientHeight: height } = canvas.parentElement;
+            canvas.width = width * scale;
+            canvas.height = height * scale;
+            canvas.style.width = `${width}px`;
+            canvas.style.height = `${height}px`;
+            this.to = canvas.getContext("2d");
+            this.to.scale(scale, scale);
+            this.to.font = "12px ui-monospace, 'DejaVu Sans Mono', monospace";
+            this.to.textBaseline = "middle";
+            Object.assign(this, { width, height, styles: new Map() });
+        }
+
+        colour(name) {
+            if (!this.styles.has(name)) {
+                const probe = document.createElement("span");
+                probe.style.color = `var(--${name})`;
+                document.body.append(probe);
+                this.styles.set(name, getComputedStyle(probe).color);
+                probe.remove();
+            }
+            return this.styles.get(name);
+        }
+
+        line(x1, y1, x2, y2, colour, dashes = [], wide = 1) {
+            const { to } = this;
+            to.strokeStyle = this.colour(colour);
+            to.lineWidth = wide;
+            to.setLineDash(dashes);
+            to.beginPath();
+            to.moveTo(x1, y1);
+            to.lineTo(x2, y2);
+            to.stroke();
+            to.setLineDash([]);
+        }
+
+        arrow(x1, x2, y, colour, dashes = []) {
+            const { to } = this;
+            const way = x2 > x1 ? -1 : 1;
+            this.line(x1, y, x2, y, colour, dashes, 1.5);
+            to.fillStyle = this.colour(colour);
+            to.beginPath();
+            to.moveTo(x2, y);
+            to.lineTo(x2 + way * 8, y - 4);
+            to.lineTo(x2 + way * 8, y + 4);
+            to.fill();
+        }
+
+        /** A text over whatever is drawn there, cut to a width. */
+        label(text, x, y, colour, most, align = "center") {
+            const { to } = this;
+            let shown = text;
+            while (shown.length > 1 && to.measureText(shown).width > most) {
+                shown = `${shown.slice(0, -2)}…`;
+            }
+            const wide = to.measureText(shown).width;
+            const from = align === "center" ? x - wide / 2 : x;
+            to.fillStyle = this.colour("paper");
+            to.fillRect(from - 3, y - 8, wide + 6, 16);
+            to.fillStyle = this.colour(colour);
+            to.fillText(shown, from, y);
+        }
+    }
+
+    const between = (pen, from, to, y, text, colour, dashes) => {
+        pen.arrow(from, to, y, colour, dashes);
+        pen.label(text, (from + to) / 2, y, colour, Math.abs(to - from) - 26);
+    };
+
+    /** How each kind of row is drawn. */
+    const drawRow = (pen, lanes, row, y) => {
+        const { line } = row;
+        const host = lanes.ofChannel(line.channel);
+        const keepalive = line.message?.command === 0x3b ? [4, 4] : [];
+        const noise = row.noise ? [2, 5] : null;
+        const drawers = {
+            host: () => between(pen, host, lanes.key, y, row.says, row.noise ? "faint" : "host", noise ?? []),
+            key: () => between(pen, lanes.key, host, y, row.says, "key", keepalive),
+            caller: () => between(pen, lanes.caller, lanes.key, y, row.says, "caller", noise ?? []),
+            need: () => between(pen, lanes.key, lanes.caller, y, row.says, "need", [4, 4]),
+            time: () => pen.line(lanes.places[0], y, lanes.caller, y, "line", [1, 4]),
+            fault: () => pen.label(row.says, lanes.places[0] + 8, y, "fault", pen.width - lanes.places[0] - 20, "left"),
+        };
+        const other = () => pen.label(row.says, lanes.places[0] + 8, y, "faint", pen.width - lanes.places[0] - 20, "left");
+        (drawers[row.kind] ?? other)();
+        if (!lanes.isNarrow && line.moment !== undefined) {
+            pen.label(`${line.moment} ms`, 10, y, "faint", 90, "left");
+        }
+    };
+
+    const drawTransaction = (pen, lanes, row, y) => {
+        const host = lanes.ofChannel(row.transaction.channel);
+        pen.line(host, y, lanes.key, y, "host", [], 3);
+        pen.label(row.says, (host + lanes.key) / 2, y, "ink", Math.abs(lanes.key - host) - 10);
+        if (!lanes.isNarrow) {
+            pen.label(`${row.line.moment} ms`, 10, y, "faint", 90, "left");
+        }
+    };
+
+    const drawHeads = (pen, lanes) => {
+        pen.to.fillStyle = pen.colour("raised");
+        pen.to.fillRect(0, 0, pen.width, HEAD);
+        pen.line(0, HEAD, pen.width, HEAD, "line");
+        const most = lanes.places.length > 1 ? lanes.places[1] - lanes.places[0] - 8 : 200;
+        lanes.names.forEach((name, at) => {
+            const x = Math.min(lanes.places[at], pen.width - 28);
+            pen.to.fillStyle = pen.colour("ink");
+            pen.to.textAlign = "center";
+            pen.to.fillText(name, x, HEAD / 2, most);
+            pen.to.textAlign = "start";
+        });
+    };
+
+    /** Draws the rows from `first` on, as far as the canvas reaches, the first one's top at `top`. */
+    const draw = (canvas, { rows, first, top, rowHeight, channels, chosen }) => {
+        const pen = new Pen(canvas);
+        const lanes = placeLifelines(channels, pen.width);
+        const last = Math.min(rows.length, first + Math.ceil(pen.height / rowHeight) + 1);
+        for (const place of lanes.places) {
+            pen.line(place, HEAD, place, pen.height, "line");
+        }
+        for (let at = first; at < last; at += 1) {
+            const y = HEAD + top + (at - first) * rowHeight;
+            if (at === chosen || rows[at].differs) {
+                pen.to.fillStyle = pen.colour(rows[at].differs ? "fault-paper" : "chosen");
+                pen.to.fillRect(0, y, pen.width, rowHeight);
+            }
+            (rows[at].transaction ? drawTransaction : drawRow)(pen, lanes, rows[at], y + rowHeight / 2);
+        }
+        drawHeads(pen, lanes);
+    };
+
+    globalThis.hidlogDrawing = { draw, HEAD };
+})();

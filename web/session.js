@@ -1,0 +1,202 @@
+// A log as a session: its lines, the messages that its packets carry, and the transactions that these make. It sets
+// `globalThis.hidlogSession`.
+"use strict";
+
+(() => {
+    const { fromHex, showMessage, nameMessage, COMMANDS, REQUESTS } = globalThis.hidlogDecode;
+    const CBOR = 0x10;
+    const CANCEL = 0x11;
+    const KEEPALIVE = 0x3b;
+    const MOST_BYTES = 7609;
+    const BROADCAST = "ffffffff";
+
+    const KINDS = {
+        ">": "host", "<": "key", t: "tick", p: "presence", k: "new key", s: "signature", "#": "remark", "=": "count",
+    };
+
+    /** The fields of a line that the core has read, so that it is one of the grammar. */
+    const readLine = (text, number) => {
+        const kind = KINDS[text[0]] ?? "empty";
+        const line = { number, text, kind, at: null, channel: null, says: "", message: null, transaction: null };
+        const fields = text.split(" ");
+        if (kind === "host" || kind === "key") {
+            const packet = fields[fields.length - 1].toLowerCase();
+            line.at = kind === "host" ? fields[1] : null;
+            line.channel = packet.slice(0, 8);
+            line.packet = fromHex(packet);
+        } else if (kind === "remark") {
+            const need = /^# (need|signed) (.*)/.exec(text);
+            line.kind = need ? "need" : kind;
+            line.says = need ? need[0].slice(2) : text.slice(1).trim();
+        } else if (kind === "count") {
+            line.says = text.slice(1).trim();
+        } else if (kind !== "empty") {
+            line.at = fields[1];
+            line.says = { t: "time passes", p: fields[2] }[text[0]] ?? (fields[2] === "no" ? "no" : "yes");
+        }
+        return line;
+    };
+
+    const sized = (length) => (length === 1 ? ", 1 byte" : `, ${length} bytes`);
+
+    /** How many packets a message of this length takes. */
+    const packetCount = (length) => 1 + Math.ceil(Math.max(0, length - 57) / 59);
+
+    /** Collects the messages of one direction, a channel each. */
+    class Collector {
+        constructor(fromHost) {
+            this.fromHost = fromHost;
+            this.open = new Map();
+        }
+
+        /** Adds a packet's line. A message is whole once it has its length. */
+        add(line) {
+            const { packet, channel } = line;
+            if (packet[4] >= 128) {
+                this.begin(line, packet[4] - 128, packet[5] * 256 + packet[6]);
+                return;
+            }
+            const message = this.open.get(channel);
+            line.says = `packet ${packet[4] + 2}`;
+            if (message && packet[4] === message.next) {
+                message.next += 1;
+                this.append(message, line, packet.subarray(5));
+            }
+        }
+
+        begin(line, command, length) {
+            const message = { command, length, bytes: new Uint8Array(0), next: 0, lines: [], fromHost: this.fromHost };
+            line.says = `${COMMANDS[command] ?? `command ${command}`}${sized(length)}`;
+            line.begins = true;
+            message.isWhole = false;
+            if (command !== CANCEL && length <= MOST_BYTES) {
+                this.open.set(line.channel, message);
+            }
+            this.append(message, line, line.packet.subarray(7));
+        }
+
+        append(message, line, part) {
+            const bytes = new Uint8Array(Math.min(message.length, message.bytes.length + part.length));
+            bytes.set(message.bytes);
+            bytes.set(part.subarray(0, bytes.length - message.bytes.length), message.bytes.length);
+            message.bytes = bytes;
+            message.lines.push(line);
+            line.message = message;
+            if (bytes.length === message.length) {
+                message.isWhole = true;
+                line.ends = true;
+                this.open.delete(line.channel);
+            }
+        }
+    }
+
+    /** Joins lines to transactions: a host's message on a channel, all up to its answer, and what the caller did meanwhile. */
+    class Transactions {
+        constructor() {
+            this.all = [];
+            this.byChannel = new Map();
+            this.latest = null;
+        }
+
+        add(line) {
+            const current = line.kind === "host" || line.kind === "key" ? this.ofPacket(line) : this.latest;
+            if (!current || line.kind === "remark" || line.kind === "count" || line.kind === "empty") {
+                return;
+            }
+            line.transaction = current;
+            current.lines.push(line);
+            if (line.ends && line.kind === "key" && line.message.command !== KEEPALIVE) {
+                this.finish(line.channel, current, line.message);
+            }
+        }
+
+        ofPacket(line) {
+            const current = this.byChannel.get(line.channel);
+            const isNew = line.kind === "host" && line.begins && !(current && line.message.command === CANCEL);
+            if (isNew) {
+                return this.begin(line);
+            }
+            return current ?? null;
+        }
+
+        begin(line) {
+            const begun = {
+                place: this.all.length, channel: line.channel, lines: [], asks: line.message, answer: null, at: line.at,
+            };
+            this.all.push(begun);
+            this.byChannel.set(line.channel, begun);
+            this.latest = begun;
+            return begun;
+        }
+
+        finish(channel, transaction, answer) {
+            transaction.answer = answer;
+            answer.request = REQUESTS[transaction.asks.bytes[0]];
+            this.byChannel.delete(channel);
+            this.latest = this.latest === transaction ? null : this.latest;
+        }
+    }
+
+    /** The latest moment that is named so far, for lines that name none. */
+    const setMoments = (lines) => {
+        let latest = "0";
+        for (const line of lines) {
+            latest = line.at !== null && BigInt(line.at) > BigInt(latest) ? line.at : latest;
+            line.moment = latest;
+        }
+    };
+
+    /** A short text of what a line says, once its message is known. */
+    const summary = (line) => {
+        const { message } = line;
+        if (!message) {
+            return line.says;
+        }
+        if (!message.isWhole) {
+            return `${line.says} (not whole)`;
+        }
+        if (line.begins) {
+            return nameMessage(message) + (message.command === KEEPALIVE ? "" : sized(message.length));
+        }
+        return `${nameMessage(message)}, ${line.says} of ${packetCount(message.length)}`;
+    };
+
+    const title = (transaction) => {
+        const asked = nameMessage(transaction.asks);
+        return transaction.answer ? `${asked} → ${nameMessage(transaction.answer)}` : `${asked} → no answer`;
+    };
+
+    /** Reads the lines of a log that the core found without fault. */
+    const readSession = (text) => {
+        const texts = text.split("\n");
+        if (texts[texts.length - 1] === "") {
+            texts.pop();
+        }
+        const lines = texts.map((it, place) => readLine(it, place + 1));
+        const collectors = { host: new Collector(true), key: new Collector(false) };
+        const transactions = new Transactions();
+        for (const line of lines) {
+            collectors[line.kind]?.add(line);
+            transactions.add(line);
+        }
+        setMoments(lines);
+        for (const line of lines) {
+            line.summary = summary(line);
+        }
+        const channels = [...new Set(lines.filter((it) => it.channel).map((it) => it.channel))];
+        return { lines, transactions: transactions.all, channels };
+    };
+
+    /** The message of a line as a text of many lines. */
+    const detail = (line) => {
+        const { message } = line;
+        if (!message) {
+            return line.says;
+        }
+        const name = `${nameMessage(message)}, ${message.bytes.length} of ${message.length} bytes`;
+        const body = message.isWhole && (message.command !== CBOR || message.bytes.length) ? showMessage(message) : "";
+        return body ? `${name}\n${body}` : name;
+    };
+
+    globalThis.hidlogSession = { readSession, detail, title, BROADCAST };
+})();

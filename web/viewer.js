@@ -1,0 +1,480 @@
+// The page: opens a log, plays it on the core, and shows its lines.
+"use strict";
+
+(() => {
+    const ROW = 26;
+    const MOST_BYTES = 32 * 1024 * 1024;
+    const MOST_LINES = 500000;
+    const CALLER_KINDS = ["presence", "new key", "signature"];
+    const ARROWS = { host: "→", key: "←", caller: "⇠", need: "?", time: "·", remark: "#", fault: "!" };
+    const { readSession, detail, title } = globalThis.hidlogSession;
+    const { draw, HEAD } = globalThis.hidlogDrawing;
+    const at = (id) => document.getElementById(id);
+    const decoder = new TextDecoder();
+
+    const state = {
+        core: null, name: "", snapshot: new Uint8Array(0), snapshotName: "", bytes: null, fault: null, texts: {}, sessions: {}, view: "recorded",
+        rows: [], chosen: -1, unfolded: new Set(), difference: null, isDrawn: false,
+    };
+
+    const tell = (text, isFault = false) => {
+        at("notice").textContent = text;
+        at("notice").className = isFault ? "fault" : "";
+    };
+
+    const inMegabytes = (bytes) => `${(bytes / 1024 / 1024).toFixed(1)} MB`;
+
+    /** The bytes of the first lines of a log. */
+    const firstLines = (bytes, count) => {
+        let [end, found] = [0, 0];
+        while (found < count && end < bytes.length) {
+            found += bytes[end] === 10 ? 1 : 0;
+            end += 1;
+        }
+        return bytes.subarray(0, end);
+    };
+
+    // ---- what is shown
+
+    const kindOf = (line) => {
+        if (CALLER_KINDS.includes(line.kind)) {
+            return "caller";
+        }
+        return { tick: "time", count: "remark", empty: "remark" }[line.kind] ?? line.kind;
+    };
+
+    const rowOfLine = (line) => {
+        const says = CALLER_KINDS.includes(line.kind) ? `${line.kind}: ${line.says}` : line.summary;
+        return { line, kind: line.isFault ? "fault" : kindOf(line), says, noise: line.went !== undefined, differs: false };
+    };
+
+    const rowOfTransaction = (transaction) => {
+        const says = `${title(transaction)}  (${transaction.lines.length} lines)`;
+        return { line: transaction.lines[0], transaction, kind: "host", says, noise: false, differs: false };
+    };
+
+    const isSought = (row, words, channel) => {
+        if (channel && row.line.channel !== channel && row.line.transaction?.channel !== channel) {
+            return false;
+        }
+        const text = () => `${row.line.text} ${row.says} ${detail(row.line)}`.toLowerCase();
+        return !words || text().includes(words);
+    };
+
+    /** The rows of the view, folded, sought and of the channel that is chosen. */
+    const makeRows = (session) => {
+        const words = at("search").value.trim().toLowerCase();
+        const channel = at("channel").value;
+        const isFolded = at("fold").checked;
+        const begun = new Set();
+        const rows = [];
+        for (const line of session.lines) {
+            const { transaction } = line;
+            if (isFolded && transaction && !begun.has(transaction)) {
+                begun.add(transaction);
+                rows.push(rowOfTransaction(transaction));
+            }
+            if (!isFolded || !transaction || state.unfolded.has(transaction.place)) {
+                rows.push(rowOfLine(line));
+            }
+        }
+        return words || channel ? rows.filter((row) => isSought(row, words, channel)) : rows;
+    };
+
+    const markDifference = () => {
+        for (const row of state.rows) {
+            row.differs = state.view === "recorded" && row.line.number === state.difference?.line && !row.transaction;
+        }
+    };
+
+    const cell = (text, className = "") => {
+        const span = document.createElement("span");
+        span.textContent = text;
+        span.className = className;
+        return span;
+    };
+
+    const makeRow = (row, place) => {
+        const made = document.createElement("div");
+        const classes = { transaction: row.transaction, noise: row.noise, differs: row.differs, fault: row.kind === "fault" };
+        made.className = ["row", ...Object.keys(classes).filter((name) => classes[name])].join(" ");
+        made.style.transform = `translateY(${place * ROW}px)`;
+        made.setAttribute("role", "option");
+        made.setAttribute("aria-selected", String(place === state.chosen));
+        made.dataset.place = place;
+        const { line } = row;
+        const folded = state.unfolded.has(row.transaction?.place) ? "▾" : "▸";
+        const sign = row.transaction ? folded : ARROWS[row.kind] ?? "";
+        const kind = `kind-${row.kind}`;
+        made.append(cell(line.number), cell(line.moment ?? ""), cell(sign, kind), cell(line.channel ?? ""),
+            cell(row.says, `says ${kind}`));
+        return made;
+    };
+
+    const render = () => {
+        const scroller = at("scroller");
+        const first = Math.max(0, Math.floor(scroller.scrollTop / ROW));
+        const last = Math.min(state.rows.length, first + Math.ceil(scroller.clientHeight / ROW) + 1);
+        at("space").replaceChildren(...state.rows.slice(first, last).map((row, place) => makeRow(row, first + place)));
+        at("drawing").hidden = !state.isDrawn || !state.bytes;
+        if (state.isDrawn && state.bytes) {
+            draw(at("drawing"), {
+                rows: state.rows, first, top: first * ROW - scroller.scrollTop, rowHeight: ROW,
+                channels: state.sessions[state.view].channels, chosen: state.chosen,
+            });
+        }
+    };
+
+    const showDetail = () => {
+        const row = state.rows[state.chosen];
+        at("detail").hidden = !row;
+        if (!row) {
+            return;
+        }
+        const { line } = row;
+        at("detail-title").textContent = row.transaction ? row.says : `Line ${line.number}`;
+        const shown = row.transaction ? [row.transaction.asks, row.transaction.answer].filter(Boolean) : null;
+        const text = shown ? shown.map((message) => detail({ message })).join("\n\n") : detail(line);
+        const went = line.went ? `Noise: it changes nothing but the time.\nIt was: ${line.went}\n\n` : "";
+        const raw = cell(`\n\n${shown ? row.transaction.lines.map((it) => it.text).join("\n") : line.text}`, "raw");
+        at("detail-text").replaceChildren(went + differenceText(line) + text, raw);
+    };
+
+    const differenceText = (line) => {
+        const { difference } = state;
+        if (state.view !== "recorded" || difference?.line !== line.number) {
+            return "";
+        }
+        return `${difference.says}\nThe log has: ${difference.has}\nThe key sends: ${difference.sends}\n\n`;
+    };
+
+    const choose = (place) => {
+        state.chosen = Math.max(0, Math.min(place, state.rows.length - 1));
+        const scroller = at("scroller");
+        const top = state.chosen * ROW;
+        if (top < scroller.scrollTop) {
+            scroller.scrollTop = top;
+        } else if (top + ROW > scroller.scrollTop + scroller.clientHeight) {
+            scroller.scrollTop = top + ROW - scroller.clientHeight;
+        }
+        showDetail();
+        render();
+    };
+
+    const refresh = () => {
+        if (!state.bytes) {
+            return;
+        }
+        const chosen = state.rows[state.chosen]?.line;
+        state.rows = makeRows(state.sessions[state.view]);
+        markDifference();
+        state.chosen = chosen ? state.rows.findIndex((row) => row.line === chosen && !row.transaction) : -1;
+        at("space").style.height = `${state.rows.length * ROW + (state.isDrawn ? HEAD : 0)}px`;
+        at("count").textContent = `${state.rows.length} of ${state.sessions[state.view].lines.length} lines`;
+        showDetail();
+        render();
+    };
+
+    // ---- the log, played
+
+    /** The quiet log's session: in the place of noise stand lines that say what went. */
+    const quietSession = (text, recorded) => {
+        const session = readSession(text);
+        const inputs = recorded.lines.filter((line) => !["key", "count", "need"].includes(line.kind) || line.text[0] === "#");
+        session.lines.forEach((line, place) => {
+            const before = inputs[place];
+            if (before && before.text !== line.text) {
+                Object.assign(line, { went: before.text, kind: before.kind, channel: before.channel, message: before.message,
+                    summary: before.summary, says: before.says });
+            }
+        });
+        return session;
+    };
+
+    const sessionOf = (view) => {
+        if (view !== "recorded" && !state.texts[view]) {
+            const command = view === "quiet" ? "quiet" : "replay";
+            state.texts[view] = state.core.run(command, state.bytes, state.snapshot).text;
+        }
+        const text = decoder.decode(state.texts[view]);
+        return view === "quiet" ? quietSession(text, state.sessions.recorded) : readSession(text);
+    };
+
+    const countNoise = () => {
+        const count = state.sessions.quiet.lines.filter((line) => line.went).length;
+        tell(count ? `${count} inputs are noise, and ticks stand in their place.` : "No input is noise.");
+    };
+
+    const setView = (view) => {
+        state.view = view;
+        at("view").value = view;
+        state.sessions[view] ??= sessionOf(view);
+        state.unfolded.clear();
+        const { channels } = state.sessions[view];
+        at("channel").replaceChildren(new Option("All channels", ""), ...channels.map((it) => new Option(it, it)));
+        at("scroller").scrollTop = 0;
+        state.chosen = -1;
+        if (view === "quiet") {
+            countNoise();
+        }
+        refresh();
+    };
+
+    const faultyLine = (outcome) => {
+        const rest = state.bytes.subarray(firstLines(state.bytes, outcome.line - 1).length);
+        const end = Math.min(rest.indexOf(10) < 0 ? rest.length : rest.indexOf(10), 200);
+        return {
+            number: outcome.line, text: decoder.decode(rest.subarray(0, end)), kind: "remark", isFault: true, at: null,
+            channel: null, message: null, transaction: null, says: globalThis.hidlog.faultText(outcome),
+            summary: globalThis.hidlog.faultText(outcome),
+        };
+    };
+
+    /** Words for what came of playing the log. */
+    const describe = (outcome) => {
+        if (outcome.status === 2) {
+            tell(`The snapshot was refused (${outcome.fault}).`, true);
+        } else if (outcome.status === 1) {
+            const text = globalThis.hidlog.faultText(outcome);
+            const word = outcome.line === 1 ? "This is no session log" : "The log is shown up to its faulty line";
+            tell(`${word}: ${text}.`, true);
+        } else {
+            const from = state.snapshotName ? `, on the credentials of ${state.snapshotName}` : "";
+            tell(`${state.name}: ${state.sessions.recorded.lines.length} lines, no fault${from}.`);
+        }
+    };
+
+    const hasAnswers = () => state.sessions.recorded.lines.some((line) => line.kind === "key");
+
+    const play = () => {
+        const outcome = state.core.run("replay", state.bytes, state.snapshot);
+        const sound = outcome.status === 1 ? firstLines(state.bytes, Math.max(0, outcome.line - 1)) : state.bytes;
+        state.fault = outcome.status === 1 ? outcome : null;
+        state.texts = { recorded: firstLines(sound, MOST_LINES), replayed: outcome.text };
+        state.sessions = {};
+        state.difference = null;
+        state.sessions.recorded = sessionOf("recorded");
+        if (state.fault) {
+            state.sessions.recorded.lines.push(faultyLine(outcome));
+        }
+        enable(true);
+        setView("recorded");
+        describe(outcome);
+        if (!outcome.status && !hasAnswers() && state.sessions.recorded.lines.length) {
+            setView("replayed");
+            tell(`${state.name} has inputs alone: what the key sends is shown with them.`);
+        }
+    };
+
+    const enable = (isOpen) => {
+        for (const id of ["view", "check", "download", "search", "channel", "fold"]) {
+            at(id).disabled = !isOpen;
+        }
+        at("empty").hidden = isOpen;
+        at("empty").style.display = isOpen ? "none" : "";
+    };
+
+    const openBytes = (name, bytes) => {
+        if (!bytes.length) {
+            tell(`${name} is empty: a log has a line at least.`, true);
+            return;
+        }
+        // A snapshot begins as a CBOR map of two members, which no line of a log does.
+        if (bytes[0] === 0xa2) {
+            Object.assign(state, { snapshot: bytes, snapshotName: name });
+            tell(`Logs are played from the credentials of ${name} now.`);
+            if (state.bytes) {
+                play();
+            }
+            return;
+        }
+        Object.assign(state, { name, bytes });
+        play();
+    };
+
+    const openFile = async (file) => {
+        if (file.size > MOST_BYTES) {
+            tell(`${file.name} has ${inMegabytes(file.size)}: the page takes logs of up to ${inMegabytes(MOST_BYTES)}.`, true);
+            return;
+        }
+        try {
+            openBytes(file.name, new Uint8Array(await file.arrayBuffer()));
+        } catch (error) {
+            tell(`${file.name} could not be opened: ${error.message}`, true);
+        }
+    };
+
+    const packetOf = (session, inputLine, packet) => {
+        const from = session.lines.findIndex((line) => line.number === inputLine);
+        const isInput = (line) => line.at !== null && line.kind !== "key";
+        const next = session.lines.findIndex((line, place) => place > from && isInput(line));
+        const sent = session.lines.slice(from + 1, next < 0 ? undefined : next).filter((line) => line.kind === "key");
+        return sent[packet - 1];
+    };
+
+    /** What the key sends in the place where the log differs: an input has the same place among those of the replay. */
+    const sentInstead = ({ line, packet }) => {
+        const isInput = (it) => it.at !== null && it.kind !== "key";
+        const place = state.sessions.recorded.lines.filter((it) => isInput(it) && it.number <= line).length;
+        state.sessions.replayed ??= sessionOf("replayed");
+        const input = state.sessions.replayed.lines.filter(isInput)[place - 1];
+        return input && packetOf(state.sessions.replayed, input.number, packet);
+    };
+
+    const check = () => {
+        const outcome = state.core.run("check", state.bytes, state.snapshot);
+        if (outcome.status === 0) {
+            tell(`The key sends just this: ${decoder.decode(outcome.text).trim()}.`);
+            return;
+        }
+        const says = globalThis.hidlog.faultText(outcome);
+        tell(`${state.name}: ${says}.`, true);
+        if (outcome.fault !== 3) {
+            return;
+        }
+        setView("recorded");
+        tell(`${state.name}: ${says}.`, true);
+        const found = packetOf(state.sessions.recorded, outcome.line, outcome.packet);
+        const sent = sentInstead(outcome);
+        state.difference = { line: found?.number ?? outcome.line, says, has: found?.text ?? "nothing", sends: sent?.text ?? "nothing" };
+        at("fold").checked = false;
+        at("search").value = "";
+        refresh();
+        choose(state.rows.findIndex((row) => row.line.number === state.difference.line));
+    };
+
+    const download = () => {
+        const link = document.createElement("a");
+        const bytes = state.view === "recorded" ? state.bytes : state.texts[state.view];
+        link.href = URL.createObjectURL(new Blob([bytes], { type: "text/plain" }));
+        link.download = state.view === "recorded" ? state.name : `${state.view}_${state.name}`;
+        link.click();
+        URL.revokeObjectURL(link.href);
+    };
+
+    // ---- hands
+
+    const setDrawn = (isDrawn) => {
+        state.isDrawn = isDrawn;
+        at("table-tab").setAttribute("aria-selected", String(!isDrawn));
+        at("drawing-tab").setAttribute("aria-selected", String(isDrawn));
+        at("rows-pane").classList.toggle("drawn", isDrawn);
+        at("space").style.marginTop = isDrawn ? `${HEAD}px` : "0";
+        refresh();
+    };
+
+    const toggleFold = (place) => {
+        const transaction = state.rows[place]?.transaction;
+        if (transaction) {
+            const { unfolded } = state;
+            unfolded[unfolded.has(transaction.place) ? "delete" : "add"](transaction.place);
+            refresh();
+            choose(place);
+        }
+    };
+
+    const setTheme = () => {
+        const isDark = getComputedStyle(document.body).backgroundColor === "rgb(20, 23, 28)";
+        document.documentElement.dataset.theme = isDark ? "light" : "dark";
+        render();
+    };
+
+    const nextView = () => {
+        const views = ["recorded", "replayed", "quiet"];
+        setView(views[(views.indexOf(state.view) + 1) % views.length]);
+    };
+
+    const KEYS = {
+        ArrowDown: () => choose(state.chosen + 1),
+        ArrowUp: () => choose(state.chosen - 1),
+        PageDown: () => choose(state.chosen + Math.floor(at("scroller").clientHeight / ROW)),
+        PageUp: () => choose(state.chosen - Math.floor(at("scroller").clientHeight / ROW)),
+        Home: () => choose(0),
+        End: () => choose(state.rows.length - 1),
+        Enter: () => toggleFold(state.chosen),
+        "/": () => at("search").focus(),
+        c: check,
+        v: nextView,
+        t: () => setDrawn(!state.isDrawn),
+        d: download,
+    };
+
+    const onKey = (event) => {
+        const isField = ["INPUT", "SELECT"].includes(event.target.tagName) && event.target.type !== "checkbox";
+        const isButton = event.target.tagName === "BUTTON" && event.key === "Enter";
+        if (event.key === "Escape") {
+            at("scroller").focus();
+        }
+        if (!state.bytes || isField || isButton || event.ctrlKey || event.metaKey || event.altKey || !KEYS[event.key]) {
+            return;
+        }
+        event.preventDefault();
+        KEYS[event.key]();
+    };
+
+    const onDrop = (event) => {
+        event.preventDefault();
+        at("main").classList.remove("dropping");
+        const file = event.dataTransfer.files[0];
+        if (file) {
+            openFile(file);
+        }
+    };
+
+    const onPaste = (event) => {
+        if (event.target.type !== "search") {
+            openBytes("pasted.log", new TextEncoder().encode(event.clipboardData.getData("text")));
+        }
+    };
+
+    const openExample = () => {
+        openBytes("registration.log", globalThis.hidlog.fromBase64(globalThis.HIDLOG_EXAMPLE));
+        choose(state.rows.findIndex((row) => row.says.includes("makeCredential")));
+    };
+
+    const listen = () => {
+        at("file").addEventListener("change", () => at("file").files[0] && openFile(at("file").files[0]));
+        at("example").addEventListener("click", openExample);
+        at("view").addEventListener("change", () => setView(at("view").value));
+        at("check").addEventListener("click", check);
+        at("download").addEventListener("click", download);
+        at("theme").addEventListener("click", setTheme);
+        at("search").addEventListener("input", refresh);
+        at("channel").addEventListener("change", refresh);
+        at("fold").addEventListener("change", refresh);
+        at("table-tab").addEventListener("click", () => setDrawn(false));
+        at("drawing-tab").addEventListener("click", () => setDrawn(true));
+        at("scroller").addEventListener("scroll", () => requestAnimationFrame(render));
+        at("space").addEventListener("click", (event) => {
+            const place = Number(event.target.closest(".row")?.dataset.place ?? -1);
+            choose(place);
+            toggleFold(place);
+        });
+        document.addEventListener("keydown", onKey);
+        document.addEventListener("paste", onPaste);
+        document.addEventListener("dragover", (event) => {
+            event.preventDefault();
+            at("main").classList.add("dropping");
+        });
+        document.addEventListener("dragleave", () => at("main").classList.remove("dropping"));
+        document.addEventListener("drop", onDrop);
+        globalThis.addEventListener("resize", render);
+    };
+
+    const start = async () => {
+        listen();
+        try {
+            state.core = await globalThis.hidlog.load();
+        } catch (error) {
+            tell(`This browser has no 64-bit WebAssembly (Chromium 133 and Firefox 134 have it): ${error.message}`, true);
+            return;
+        }
+        if (location.hash.startsWith("#registration")) {
+            openExample();
+            setDrawn(location.hash.endsWith("drawing"));
+        }
+        document.documentElement.dataset.ready = "yes";
+    };
+
+    start();
+})();
