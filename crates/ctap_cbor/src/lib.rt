@@ -9,18 +9,31 @@
 //! - [`decode_value`] and [`encode_value`] read and write a [`Value`], an owned tree.
 //! - [`laws`] has what holds of the encoding itself, as that no encoding begins another.
 //!
+//! An example, which the gate runs (`src/page.rt`):
+//!
 //! ```text
-//! let canonical = check(message).result.is_ok();
-//! let mut cursor = Cursor::new(message); //          {1: "usb", 2: [true]}
-//! let head = cursor.item(1)?; //                     Item::Map(2)
-//! let first = cursor.key(None)?; //                  Item::Int(1), by its bytes too
-//! cursor.skip(2)?; //                                "usb"
-//! let second = cursor.key(Some(first.bytes))?; //    has to stand above the first
+//! // {1: "usb", 2: [true]}
+//! let message = b"\xa2\x01\x63usb\x02\x81\xf5".as_slice();
+//! assert!(rt; check(message).result.is_ok());
+//!
+//! let mut cursor = Cursor::new(message);
+//! assert_eq!(rt; cursor.item(1)?, Item::Map(2));
+//! let first = cursor.key(None)?;
+//! cursor.skip(2)?;
+//! cursor.key(Some(first.bytes))?; // has to stand above the first
+//! cursor.skip(2)?;
+//! cursor.end()?;
+//!
+//! let mut buffer = [0; 2];
 //! let mut sink = Sink::new(&mut buffer);
 //! sink.array(1);
-//! sink.flag(true); //                                [true]
-//! let value = decode_value(alloc, message)?;
-//! encode_value(&value, &mut bytes)?; //              appends the message again
+//! sink.flag(true);
+//! assert_eq!(rt; buffer, [0x81, 0xf5]);
+//!
+//! let value = decode_value(rt.alloc(), message)?;
+//! let mut copy = Vec::new(rt.alloc());
+//! encode_value(&value, &mut copy)?;
+//! assert!(rt; copy.as_slice() == message);
 //! ```
 //!
 //! Only `decode_value` and `encode_value` take memory: the first as items come, the second as its vector grows. Nesting
@@ -41,6 +54,8 @@ mod fault;
 mod head;
 mod item;
 pub mod laws;
+#[cfg(test)]
+mod page;
 mod sink;
 #[cfg(test)]
 mod tests;

@@ -1,5 +1,18 @@
 //! Text logs of CTAPHID sessions: lines are read, their inputs are stepped on a session, and each line
 //! is written again with the packets that the session sent for it (docs/LOG_FORMAT.md).
+//!
+//! An example, which the gate runs (`src/page.rt`):
+//!
+//! ```text
+//! let mut session = Session::<8>::bare([0; 16], 0);
+//! let mut reader = SliceIn::new(b"# 5 ms pass\nt 5\n");
+//! let mut text = [0; 256];
+//! let mut writer = SliceOut::new(&mut text);
+//! let meters = replay(&mut reader, &mut writer, &mut session);
+//! assert!(rt; meters.is_ok_and(|meters| meters.requests == 0));
+//! let log = b"# 5 ms pass\nt 5\n= held 0 rows 0 pending 0 requests 0 bytes 0 steps 0\n";
+//! assert!(rt; writer.written() == log.as_slice());
+//! ```
 #![tactic(auto)]
 
 #[cfg(test)]
@@ -13,6 +26,8 @@ mod lines;
 #[cfg(test)]
 mod live_tests;
 mod living;
+#[cfg(test)]
+mod page;
 mod playing;
 #[cfg(test)]
 mod quiet_tests;
