@@ -25,7 +25,7 @@ from fido2.hid.base import CtapHidConnection
 TOP = os.path.join(os.path.dirname(os.path.abspath(__file__)), "..", "..")
 PROGRAM = os.environ.get("HIDLOG") or os.path.join(TOP, "hidlog")
 CURVE = ec.SECP256R1()
-# How many private keys the curve has, less one.
+# The private keys of the curve are the numbers from 1 to this one.
 KEYS = 0xFFFFFFFF00000000FFFFFFFFFFFFFFFFBCE6FAADA7179E84F3B9CAC2FC632550
 # The key sends a KEEPALIVE so often while it waits.
 KEEPALIVE_MS = 100

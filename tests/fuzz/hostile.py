@@ -5,6 +5,7 @@ damaged, given moments and written as lines, and the lines may be damaged again.
 """
 
 import random
+import re
 
 BROADCAST = 0xFFFFFFFF
 PING, MSG, LOCK, INIT, WINK, CBOR, CANCEL = 0x81, 0x83, 0x84, 0x86, 0x88, 0x90, 0x91
@@ -369,5 +370,10 @@ def hostile_log(seed, number):
 
 
 def hostile_snapshot(seed, number, snapshot):
-    """A snapshot, damaged."""
-    return Maker(f"{seed}/{number}/snapshot").damaged(snapshot)
+    """A snapshot, damaged, or with its small counters at their end."""
+    maker = Maker(f"{seed}/{number}/snapshot")
+    if maker.often(0.5):
+        return maker.damaged(snapshot)
+    # Counters stand after key 7, which follows whether the credential is discoverable.
+    end = maker.one_of(b"\xff\xff\xff\xff", b"\xff\xff\xff\xfe")
+    return re.sub(rb"(\x06[\xf4\xf5]\x07)[\x00-\x17]", lambda found: found[1] + b"\x1a" + end, snapshot)
