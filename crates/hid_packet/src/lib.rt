@@ -5,6 +5,7 @@
 //!
 //! ```text
 //! let mut outbox = Outbox::new();
+//! written_packets_are_the_fewest(); // so there is room
 //! outbox.put_message(1, command::PING, b"hello");
 //! for packet in outbox {
 //!     match packet.view() {

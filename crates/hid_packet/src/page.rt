@@ -1,10 +1,12 @@
 //! The example of the crate's page.
 
+use crate::laws::written_packets_are_the_fewest;
 use crate::{Outbox, View, command};
 
 #[test]
 fn the_page(rt: HostRuntime) {
     let mut outbox = Outbox::new();
+    written_packets_are_the_fewest(); // so there is room
     outbox.put_message(1, command::PING, b"hello");
     for packet in outbox {
         match packet.view() {

@@ -23,6 +23,9 @@ need_lines presence = codes "# need presence" ∷ []
 need_lines key = codes "# need key" ∷ []
 need_lines (sign id signed) = map signed_line (pieces_of signed) ++ signature_line id ∷ []
 
--- whether a comment is one of these lines
+-- whether a comment says what is needed, and whether it is one of these lines
+abbrev pub says_need : List ℕ → Bool
+says_need line = starts_with ◌==◌ line (codes "# need ")
+
 abbrev pub tells_need : List ℕ → Bool
-tells_need line = starts_with ◌==◌ line (codes "# need ") || starts_with ◌==◌ line (codes "# signed ")
+tells_need line = says_need line || starts_with ◌==◌ line (codes "# signed ")

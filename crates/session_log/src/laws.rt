@@ -1,7 +1,8 @@
 //! Laws over the definitions alone: each function's contract is one, and its body is empty.
-ghost use Rattle.std.specs.Prelude.{◌≡◌, ◌↔◌, ℕ, List, [], ◌∷◌, length, sum_by, Some, None};
+ghost use Rattle.std.specs.Prelude.{◌≡◌, ◌≤◌, ◌↔◌, ℕ, List, [], ◌∷◌, ◌++◌, length, flat_map, sum_by, All, true, false, Some, None};
 ghost use Rattle.session_log.specs.declared.line.Line.{Line as AnyLine};
 ghost use Rattle.authn_core.specs.Turn.{Start};
+ghost use Rattle.authn_core.specs.Views.{Needed};
 ghost use Rattle.token_session.specs.declared.input.Timed.{Timed as OneInput};
 ghost use Rattle.token_session.specs.Law.{onto};
 ghost use Rattle.token_session.specs.Noise.{Quiet};
@@ -11,6 +12,7 @@ ghost use Rattle.session_log.specs.Groups.{IsFirstDifference, found_groups, inpu
 ghost use Rattle.session_log.specs.Inputs.{inputs};
 ghost use Rattle.session_log.specs.Lines.{lines};
 ghost use Rattle.session_log.specs.Log.{fault_of, playing};
+ghost use Rattle.session_log.specs.Needs.{need_lines, pieces_of, says_need};
 ghost use Rattle.session_log.specs.Said.{said};
 ghost use Rattle.session_log.specs.Session.{histories, quiet_history};
 ghost use Rattle.session_log.specs.declared.fault.LogFault.TheVariants.{Differs};
@@ -67,4 +69,13 @@ pub fn a_difference_is_the_first()
         → fault_of (check_history start) (playing (check_history start) (begun h) bytes) ≡ Some (Differs line packet)
         → IsFirstDifference (found_groups (lines bytes))
         ([] ∷ sent_groups (histories start) h (inputs (lines bytes))) (0 ∷ input_lines 1 (lines bytes)) line packet }
+{}
+
+/// Of the lines that tell what is needed just the last begins with `# need `. The bytes to sign are cut into pieces of at
+/// most 96, which joined are those bytes.
+pub fn what_is_needed_is_said_once()
+    ensures last { (n : Needed) → (before : List (List ℕ)) × (last : List ℕ) × (need_lines n ≡ before ++ last ∷ [])
+        × (says_need last ≡ true) × All (λ line. says_need line ≡ false) before }
+    ensures joined { (bytes : List ℕ) → flat_map (λ piece. piece) (pieces_of bytes) ≡ bytes }
+    ensures short { (bytes : List ℕ) → All (λ piece. length piece ≤ 96) (pieces_of bytes) }
 {}

@@ -4,7 +4,7 @@ ghost use Rattle.std.specs.Io.KnownBytes.{Appends};
 ghost use Rattle.hex.specs.Hex.{encode_lower};
 ghost use Rattle.authn_core.specs.Needs.{IsNeed};
 ghost use Rattle.authn_core.specs.Views.{needed};
-ghost use Rattle.session_log.specs.declared.text.TheConstants.{LONGEST, PIECE};
+ghost use Rattle.session_log.specs.declared.text.TheConstants.{LONGEST, PIECE, SENT_LINE};
 ghost use Rattle.session_log.specs.Needs.{need_lines, pieces_of, signature_line, signed_line};
 ghost use Rattle.session_log.specs.Sent.{FitsMeters};
 ghost use Rattle.session_log.specs.Text.{ArePackets, IsPacket, ended, sent_text, tick_text, meters_line, same_line};
@@ -18,9 +18,12 @@ use hid_packet::{Outbox, Packet};
 use itoa::Buffer;
 use token_session::Meters;
 
-/// The most bytes that are written for one line: the line with its line feed, 130 packets' lines, and 504 bytes
-/// of what is needed, which is a signature of 196 bytes.
-const LONGEST: usize = 255 + 1 + 130 * 131 + 504;
+/// The bytes of a packet's line.
+const SENT_LINE: usize = 131;
+
+/// The most bytes that are written for one line: the line with its line feed, 130 packets' lines, and what is needed,
+/// which takes most where 196 bytes are to sign: three lines of them, and that of the credential.
+const LONGEST: usize = 255 + 1 + 130 * SENT_LINE + 504;
 
 /// The most bytes to sign in one line.
 const PIECE: usize = 96;
@@ -39,9 +42,9 @@ fn push_line(text: &mut Text, line: &[u8])
 
 /// Appends the line of a packet that was sent.
 fn push_packet(text: &mut Text, packet: Packet)
-    requires { length text.old.items + 131 ≤ LONGEST }
+    requires { length text.old.items + SENT_LINE ≤ LONGEST }
     ensures text { text.new.items ≡ text.old.items ++ sent_text packet.0 }
-    ensures short { length text.new.items ≤ length text.old.items + 131 }
+    ensures short { length text.new.items ≤ length text.old.items + SENT_LINE }
     ensures packet { IsPacket packet.0 }
 {
     let mut digits = [0; 128];
@@ -53,9 +56,9 @@ fn push_packet(text: &mut Text, packet: Packet)
 
 /// Appends the lines of the packets that were sent, and empties the outbox.
 fn push_packets(text: &mut Text, outbox: &mut Outbox)
-    requires { length text.old.items + 131 * length outbox.old ≤ LONGEST }
+    requires { length text.old.items + SENT_LINE * length outbox.old ≤ LONGEST }
     ensures text { text.new.items ≡ text.old.items ++ flat_map sent_text outbox.old }
-    ensures short { length text.new.items ≤ length text.old.items + 131 * length outbox.old }
+    ensures short { length text.new.items ≤ length text.old.items + SENT_LINE * length outbox.old }
     ensures empty { outbox.new ≡ [] }
     ensures packets { ArePackets outbox.old }
 {

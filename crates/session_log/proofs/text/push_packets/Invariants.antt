@@ -1,12 +1,13 @@
 use Rattle.std.proofs.Common.{◌≡◌, ◌≤◌, ◌+◌, ◌*◌, ℕ, List, ◌++◌, length, flat_map}
 use Rattle.session_log.specs.Text.{ArePackets, sent_text}
+use Rattle.session_log.specs.declared.text.TheConstants.{SENT_LINE}
 use Rattle.session_log.proofs.text.push_packets.Given as goal
 
 -- what was appended and what is left are the packets
 abbrev pub invariant-loop-packet : goal.invariant-loop-packet
 invariant-loop-packet l =
     record {
-      room : length l.text.items + 131 * length l.outbox ≤ length l.fn.text.items + 131 * length l.fn.outbox;
+      room : length l.text.items + SENT_LINE * length l.outbox ≤ length l.fn.text.items + SENT_LINE * length l.fn.outbox;
       done : (first : List (List ℕ)) × (l.fn.outbox ≡ first ++ l.outbox) × ArePackets first × (l.text.items ≡ l.fn.text.items ++ flat_map sent_text first);
     }
 
