@@ -5,7 +5,7 @@
     result.raise_for_fault()
     print(result.text.decode())
 
-The log is the state: to hand the key one more input, put its line behind the log and call again. `Live` does that, a line at a time.
+The log is the state: to hand the key one more input, put its line behind the log and call again, as in_process.py does.
 crates/hidlog_c/build.sh makes the library out/libhidlog.so; the variable HIDLOG_LIBRARY names another place of it.
 """
 
@@ -87,3 +87,8 @@ def check(log: bytes, snapshot: Optional[bytes] = None) -> Result:
 def quiet(log: bytes, snapshot: Optional[bytes] = None) -> Result:
     """The log with ticks in the place of noise."""
     return _run("quiet", log, snapshot)
+
+
+def live(log: bytes, snapshot: Optional[bytes] = None) -> Result:
+    """The log again, with the packets that the key sends, and after each input what the key needs."""
+    return _run("live", log, snapshot)

@@ -1,7 +1,7 @@
 #!/usr/bin/env bash
-# Makes wasm.js anew: proves crates/hidlog_c and builds it as a WebAssembly module, and puts that into a script, since a page that
-# was opened from a file can fetch nothing. The gate takes no crate of the kind wasm64, so a repository in crates/hidlog_c/out names
-# the same source as one.
+# Makes wasm.js anew: proves crates/hidlog_c and builds it as a WebAssembly module, and puts that into a script,
+# since a page that was opened from a file can fetch nothing. The gate takes no crate of the kind wasm64, so a
+# repository in crates/hidlog_c/out names the same source as one.
 set -euo pipefail
 top=$(cd "$(dirname "${BASH_SOURCE[0]}")/.." && pwd)
 room=$top/crates/hidlog_c/out/wasm

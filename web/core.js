@@ -1,5 +1,6 @@
-// The proved core as WebAssembly: the commands of crates/hidlog_c over bytes. A classic script, so that a page that was opened from
-// a file can use it; as a module it is imported for its effect. It sets `globalThis.hidlog`.
+// The proved core as WebAssembly: the commands of crates/hidlog_c over bytes. A classic script, so that a page
+// that was opened from a file can use it; as a module it is imported for its effect. It sets
+// `globalThis.hidlog`.
 "use strict";
 
 (() => {
@@ -80,11 +81,15 @@
         }
     }
 
-    /** The core, once its module is compiled. */
-    const load = async () => {
-        const module = await WebAssembly.compile(fromBase64(globalThis.HIDLOG_WASM));
-        return new Core((await WebAssembly.instantiate(module, {})).exports);
+    const make = async () => {
+        const { instance } = await WebAssembly.instantiate(fromBase64(globalThis.HIDLOG_WASM), {});
+        return new Core(instance.exports);
     };
+
+    let made = null;
+
+    /** The core. It keeps nothing between two calls, so one serves all. */
+    const load = () => (made ??= make());
 
     globalThis.hidlog = { load, faultText, fromBase64 };
 })();

@@ -1,5 +1,5 @@
-// CTAP2 over CTAPHID to the core: an authenticator whose session is a log. To hand it one more input, its line is put behind the
-// log, and the whole log is played again; what is new at its end is the answer.
+// CTAP2 over CTAPHID to the core: an authenticator whose session is a log. To hand it one more input, its line
+// is put behind the log, and the whole log is played again; what is new at its end is the answer.
 import "./wasm.js";
 import "./core.js";
 import "./decode.js";
@@ -11,6 +11,7 @@ const CANCEL = 0x11;
 const KEEPALIVE = 0x3b;
 const BROADCAST = "ffffffff";
 const KEEPALIVE_MS = 100;
+const decoder = new TextDecoder();
 const ES256 = { name: "ECDSA", namedCurve: "P-256" };
 
 /** An answer of the authenticator other than success. */
@@ -58,17 +59,29 @@ const needOf = (lines) => {
 const messageOf = (packets, channel) => {
     let message = null;
     for (const packet of packets.filter((it) => it.startsWith(channel))) {
-        const bytes = fromHex(packet);
-        if (bytes[4] >= 128 && bytes[4] - 128 !== KEEPALIVE) {
-            message = { command: bytes[4] - 128, length: bytes[5] * 256 + bytes[6], bytes: [...bytes.subarray(7)] };
-        } else if (bytes[4] < 128) {
-            message?.bytes.push(...bytes.subarray(5));
+        const kind = parseInt(packet.slice(8, 10), 16);
+        if (kind >= 128 && kind - 128 !== KEEPALIVE) {
+            const wanted = 2 * parseInt(packet.slice(10, 14), 16);
+            message = { command: kind - 128, digits: packet.slice(14), wanted };
+        } else if (kind < 128 && message) {
+            message.digits += packet.slice(10);
         }
     }
-    if (!message || message.bytes.length < message.length) {
+    if (!message || message.digits.length < message.wanted) {
         return null;
     }
-    return { command: message.command, bytes: Uint8Array.from(message.bytes.slice(0, message.length)) };
+    return { command: message.command, bytes: fromHex(message.digits.slice(0, message.wanted)) };
+};
+
+/** A log, and lines behind it, all of them ASCII. */
+const longer = (log, lines) => {
+    const more = `${lines.join("\n")}\n`;
+    const bytes = new Uint8Array(log.length + more.length);
+    bytes.set(log);
+    for (let at = 0; at < more.length; at += 1) {
+        bytes[log.length + at] = more.charCodeAt(at);
+    }
+    return bytes;
 };
 
 export class Authenticator {
@@ -79,23 +92,27 @@ export class Authenticator {
      * @param clock gives the moment in whole milliseconds, and is told how many have passed where the user is awaited
      */
     constructor(core, { snapshot = new Uint8Array(0), keys = new Map(), clock }) {
-        Object.assign(this, { core, snapshot, keys, clock, text: "", meters: "", channel: null });
+        Object.assign(this, { core, snapshot, keys, clock, log: new Uint8Array(0), meters: "", channel: null });
     }
 
-    /** Plays the log with more lines behind it, and gives the packets that are sent for them and what is needed then. */
+    /** Plays the log with more lines behind it. Gives the packets that are sent for them, and what is needed then. */
     play(inputs) {
-        const log = new TextEncoder().encode(`${this.text}${inputs.join("\n")}\n`);
-        const outcome = this.core.run("live", log, this.snapshot);
+        const outcome = this.core.run("live", longer(this.log, inputs), this.snapshot);
         if (outcome.status !== 0) {
             throw new Error(globalThis.hidlog.faultText(outcome));
         }
-        const text = new TextDecoder().decode(outcome.text);
+        const text = decoder.decode(outcome.text.subarray(this.log.length));
         const end = text.lastIndexOf("= ");
-        const lines = text.slice(this.text.length, end).split("\n").filter(Boolean);
-        this.text = text.slice(0, end);
         this.meters = text.slice(end);
+        this.log = outcome.text.subarray(0, outcome.text.length - this.meters.length);
+        const lines = text.slice(0, end).split("\n").filter(Boolean);
         const packets = lines.filter((line) => line[0] === "<").map((line) => line.slice(2));
         return { packets, need: needOf(lines) };
+    }
+
+    /** The recording: a log that `hidlog check` passes. */
+    recording() {
+        return decoder.decode(this.log) + this.meters;
     }
 
     send(channel, command, bytes) {
@@ -139,7 +156,10 @@ export class Authenticator {
         }
     }
 
-    /** The answer to what is needed, as the packets that are sent for it. `ask` gives the user's word, or null to cancel, or a promise of it. */
+    /**
+     * Serves what is needed, and gives what is sent for that. `ask` gives the user's word, or null to cancel, or a promise
+     * of these.
+     */
     async serve(need, ask) {
         if (need.word === "key") {
             return this.play([await this.makeKey()]);

@@ -1,4 +1,5 @@
-// What the bytes of a session say: CBOR items, the maps of CTAP2, authenticator data. It sets `globalThis.hidlogDecode`.
+// What the bytes of a session say: CBOR items, the maps of CTAP2, authenticator data. It sets
+// `globalThis.hidlogDecode`.
 "use strict";
 
 (() => {
@@ -35,8 +36,27 @@
             "maxCredentialCountInList", "maxCredentialIdLength", "transports", "algorithms"],
     };
 
-    const toHex = (bytes) => Array.from(bytes, (b) => b.toString(16).padStart(2, "0")).join("");
-    const fromHex = (text) => Uint8Array.from(text.match(/../g) ?? [], (pair) => parseInt(pair, 16));
+    const PAIRS = Array.from({ length: 256 }, (_, byte) => byte.toString(16).padStart(2, "0"));
+
+    const toHex = (bytes) => {
+        let text = "";
+        for (const byte of bytes) {
+            text += PAIRS[byte];
+        }
+        return text;
+    };
+
+    /** The number that a hexadecimal digit is, by its character code. */
+    const digitOf = (code) => (code < 58 ? code - 48 : (code | 32) - 87);
+
+    const fromHex = (text) => {
+        const bytes = new Uint8Array(text.length >> 1);
+        for (let at = 0; at < bytes.length; at += 1) {
+            bytes[at] = digitOf(text.charCodeAt(2 * at)) * 16 + digitOf(text.charCodeAt(2 * at + 1));
+        }
+        return bytes;
+    };
+
     const byteName = (table, byte) => table[byte] ?? `0x${byte.toString(16).padStart(2, "0")}`;
 
     /** A reader of CBOR items of definite length. What it can't read throws. */
@@ -113,35 +133,45 @@
         return { value: reader.item(), used: reader.at };
     };
 
-    /** The head of an item: its major type, and its argument in as few bytes as hold it. */
-    const writeHead = (major, argument) => {
+    /** Puts the head of an item: its major type, and its argument in as few bytes as hold it. */
+    const putHead = (to, major, argument) => {
         if (argument < 24) {
-            return [(major << 5) | argument];
+            to.push((major << 5) | argument);
+            return;
         }
         const size = [1, 2, 4].find((it) => argument < 2 ** (8 * it));
-        const bytes = Array.from({ length: size }, (_, at) => Math.floor(argument / 2 ** (8 * (size - 1 - at))) % 256);
-        return [(major << 5) | (23 + { 1: 1, 2: 2, 4: 3 }[size]), ...bytes];
+        to.push((major << 5) | (23 + { 1: 1, 2: 2, 4: 3 }[size]));
+        for (let left = size - 1; left >= 0; left -= 1) {
+            to.push(Math.floor(argument / 2 ** (8 * left)) % 256);
+        }
     };
 
-    /** The bytes of an item. The members of a map are written in the order in which it has them. */
-    const writeCbor = (value) => {
+    const putBytes = (to, major, bytes) => {
+        putHead(to, major, bytes.length);
+        bytes.forEach((byte) => to.push(byte));
+    };
+
+    /** Puts the bytes of an item. The members of a map are put in the order in which it has them. */
+    const putItem = (to, value) => {
         if (typeof value === "boolean") {
-            return [value ? 0xf5 : 0xf4];
+            to.push(value ? 0xf5 : 0xf4);
+        } else if (typeof value === "number") {
+            putHead(to, value < 0 ? 1 : 0, value < 0 ? -1 - value : value);
+        } else if (typeof value === "string") {
+            putBytes(to, 3, new TextEncoder().encode(value));
+        } else if (value instanceof Uint8Array) {
+            putBytes(to, 2, value);
+        } else {
+            const items = Array.isArray(value) ? value : Array.from(value).flat(1);
+            putHead(to, Array.isArray(value) ? 4 : 5, value.size ?? value.length);
+            items.forEach((item) => putItem(to, item));
         }
-        if (typeof value === "number") {
-            return value < 0 ? writeHead(1, -1 - value) : writeHead(0, value);
-        }
-        if (typeof value === "string") {
-            const bytes = new TextEncoder().encode(value);
-            return [...writeHead(3, bytes.length), ...bytes];
-        }
-        if (value instanceof Uint8Array) {
-            return [...writeHead(2, value.length), ...value];
-        }
-        if (Array.isArray(value)) {
-            return [...writeHead(4, value.length), ...value.flatMap(writeCbor)];
-        }
-        return [...writeHead(5, value.size), ...Array.from(value).flat().flatMap(writeCbor)];
+    };
+
+    const writeCbor = (value) => {
+        const bytes = [];
+        putItem(bytes, value);
+        return bytes;
     };
 
     const pad = (depth) => "  ".repeat(depth);
@@ -155,7 +185,8 @@
             const members = Array.from(value, ([key, inner]) => {
                 const name = names[key] ? ` (${names[key]})` : "";
                 const text = showItem(inner, depth + 1);
-                return `${pad(depth + 1)}${showItem(key)}${name}: ${text}${authDataLines(names[key], inner, depth + 2)}`;
+                const fields = authDataLines(names[key], inner, depth + 2);
+                return `${pad(depth + 1)}${showItem(key)}${name}: ${text}${fields}`;
             });
             return members.length ? `{\n${members.join(",\n")}\n${pad(depth)}}` : "{}";
         }

@@ -1,5 +1,5 @@
-// The rows that are in sight as a sequence drawing: a lifeline for each channel of the hosts, one for the key and one for its
-// caller. It sets `globalThis.hidlogDrawing`.
+// The rows that are in sight as a sequence drawing: a lifeline for each channel of the hosts, one for the key
+// and one for its caller. It sets `globalThis.hidlogDrawing`.
 "use strict";
 
 (() => {
@@ -14,7 +14,8 @@
         const step = (width - left - 40) / Math.max(1, names.length - 1);
         const places = names.map((_, at) => left + at * step);
         const ofChannel = (channel) => places[Math.max(0, Math.min(own.indexOf(channel), own.length - 1))];
-        return { names, places, ofChannel, key: places[own.length], caller: places[own.length + 1], isNarrow: width < 700 };
+        const [key, caller] = places.slice(own.length);
+        return { names, places, ofChannel, key, caller, isNarrow: width < 700 };
     };
 
     /** A pen over a canvas, in the page's colours. */
@@ -95,16 +96,17 @@
         const host = lanes.ofChannel(line.channel);
         const keepalive = line.message?.command === 0x3b ? [4, 4] : [];
         const noise = row.noise ? [2, 5] : null;
+        const left = lanes.places[0] + 8;
+        const remark = (colour) => pen.label(row.says, left, y, colour, pen.width - left - 12, "left");
         const drawers = {
             host: () => between(pen, host, lanes.key, y, row.says, row.noise ? "faint" : "host", noise ?? []),
             key: () => between(pen, lanes.key, host, y, row.says, "key", keepalive),
             caller: () => between(pen, lanes.caller, lanes.key, y, row.says, "caller", noise ?? []),
             need: () => between(pen, lanes.key, lanes.caller, y, row.says, "need", [4, 4]),
             time: () => pen.line(lanes.places[0], y, lanes.caller, y, "line", [1, 4]),
-            fault: () => pen.label(row.says, lanes.places[0] + 8, y, "fault", pen.width - lanes.places[0] - 20, "left"),
+            fault: () => remark("fault"),
         };
-        const other = () => pen.label(row.says, lanes.places[0] + 8, y, "faint", pen.width - lanes.places[0] - 20, "left");
-        (drawers[row.kind] ?? other)();
+        (drawers[row.kind] ?? (() => remark("faint")))();
         if (!lanes.isNarrow && line.moment !== undefined) {
             pen.label(`${line.moment} ms`, 10, y, "faint", 90, "left");
         }

@@ -1,10 +1,11 @@
-// A security key in the page, for tests of pages that sign in: `create` and `get` have the shapes of navigator.credentials, and
-// the errors are those that WebAuthn Level 2 names. The key is the proved core; its session is a log, which replays exactly.
+// A security key in the page, for tests of pages that sign in: `create` and `get` have the shapes of
+// navigator.credentials, and the errors are those that WebAuthn Level 2 names. The key is the proved core; its session is
+// a log, which replays exactly.
 //
 //     import { install } from "./security_key.js";
 //     const key = await install({ presence: "granted" });   // navigator.credentials is the key now
 //     ..                                                    // the page under test registers and signs in
-//     key.log();                                            // the recording, for `hidlog check` and the page of web/index.html
+//     key.log();                                            // the recording, for `hidlog check` and index.html
 //     key.uninstall();
 import { Authenticator, CtapError } from "./ctap.js";
 
@@ -18,7 +19,9 @@ const ES256 = -7;
 const RS256 = -257;
 
 const bytesOf = (source) =>
-    ArrayBuffer.isView(source) ? new Uint8Array(source.buffer, source.byteOffset, source.byteLength) : new Uint8Array(source);
+    ArrayBuffer.isView(source)
+        ? new Uint8Array(source.buffer, source.byteOffset, source.byteLength)
+        : new Uint8Array(source);
 
 const bufferOf = (bytes) => bytes.buffer.slice(bytes.byteOffset, bytes.byteOffset + bytes.byteLength);
 
@@ -41,8 +44,10 @@ const checkRpId = (id) => {
     return rpId;
 };
 
-const clientDataOf = (type, challenge) =>
-    utf8(JSON.stringify({ type, challenge: base64url(bytesOf(challenge)), origin: location.origin, crossOrigin: false }));
+const clientDataOf = (type, challenge) => {
+    const digits = base64url(bytesOf(challenge));
+    return utf8(JSON.stringify({ type, challenge: digits, origin: location.origin, crossOrigin: false }));
+};
 
 const hashOf = async (bytes) => new Uint8Array(await crypto.subtle.digest("SHA-256", bytes));
 
@@ -113,12 +118,12 @@ export class SecurityKey {
     /**
      * @param core what `hidlog.load()` gave
      * @param options
-     *   presence: what the user does: "granted", "denied", "timeout", "click" (two buttons in the page), or a function that gives
-     *     one of the first three words, or a promise of it; may be changed at any time
+     *   presence: what the user does: "granted", "denied", "timeout", "click" (two buttons in the page), or a function
+     *     that gives one of the first three words, or a promise of it; may be changed at any time
      *   delay: milliseconds until the user does it
      *   choose: picks one of the accounts of a sign-in without an allow list, by its place among them
-     *   clock: gives the moment of the next input; by default milliseconds since the key was made. Where the user is awaited it is
-     *     told how many have passed, so that a clock of a test can take just these
+     *   clock: gives the moment of the next input; by default milliseconds since the key was made. Where the user is
+     *     awaited it is told how many have passed, so that a clock of a test can take just these
      *   snapshot, keys: credentials to begin with, and their private keys by the digits of their ids
      */
     constructor(core, options = {}) {
@@ -131,7 +136,7 @@ export class SecurityKey {
 
     /** The recording: a log that `hidlog check` passes. */
     log() {
-        return this.authenticator.text + this.authenticator.meters;
+        return this.authenticator.recording();
     }
 
     /** Puts the key in the place of navigator.credentials. */
@@ -168,7 +173,8 @@ export class SecurityKey {
         const waits = [];
         const until = (promise, why) => waits.push(promise.then((word) => ({ word, why })));
         const timer = new AbortController();
-        until(new Promise((done) => signal?.addEventListener("abort", () => done(null), { signal: timer.signal })), "abort");
+        const aborted = (done) => signal?.addEventListener("abort", () => done(null), { signal: timer.signal });
+        until(new Promise(aborted), "abort");
         until(later(timeout, null, timer.signal), "timeout");
         until(later(this.delay, null, timer.signal).then(() => this.#word(text, timer.signal)), "user");
         const { word, why } = await Promise.race(waits);
@@ -189,8 +195,9 @@ export class SecurityKey {
         const ended = { why: "user" };
         const { signal } = options;
         const timeout = options.publicKey.timeout ?? DEFAULT_TIMEOUT;
+        const ask = () => this.#askUser(text, { signal, timeout }, ended);
         try {
-            return readCbor(await this.authenticator.request(bytes, () => this.#askUser(text, { signal, timeout }, ended))).value;
+            return readCbor(await this.authenticator.request(bytes, ask)).value;
         } catch (error) {
             if (!(error instanceof CtapError)) {
                 throw error;
@@ -198,15 +205,16 @@ export class SecurityKey {
             if (ended.why === "abort") {
                 throw signal.reason;
             }
-            return refuse(error.status === CREDENTIAL_EXCLUDED ? "InvalidStateError" : "NotAllowedError", error.message);
+            const isExcluded = error.status === CREDENTIAL_EXCLUDED;
+            return refuse(isExcluded ? "InvalidStateError" : "NotAllowedError", error.message);
         }
     }
 
     /** As navigator.credentials.create of WebAuthn Level 2. */
     async create(options) {
         options.signal?.throwIfAborted();
-        const { rp, user, challenge, pubKeyCredParams, authenticatorSelection: wanted = {}, excludeCredentials, extensions } =
-            options.publicKey;
+        const { rp, user, challenge, pubKeyCredParams, excludeCredentials, extensions } = options.publicKey;
+        const wanted = options.publicKey.authenticatorSelection ?? {};
         const userId = bytesOf(user.id).slice();
         if (userId.length < 1 || userId.length > 64) {
             throw new TypeError("user.id has to have 1 to 64 bytes");

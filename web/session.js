@@ -90,7 +90,7 @@
         }
     }
 
-    /** Joins lines to transactions: a host's message on a channel, all up to its answer, and what the caller did meanwhile. */
+    /** Joins lines to transactions: a host's message, all up to its answer, and what the caller did meanwhile. */
     class Transactions {
         constructor() {
             this.all = [];
@@ -121,7 +121,7 @@
 
         begin(line) {
             const begun = {
-                place: this.all.length, channel: line.channel, lines: [], asks: line.message, answer: null, at: line.at,
+                place: this.all.length, channel: line.channel, lines: [], asks: line.message, answer: null,
             };
             this.all.push(begun);
             this.byChannel.set(line.channel, begun);

@@ -13,8 +13,8 @@
     const decoder = new TextDecoder();
 
     const state = {
-        core: null, name: "", snapshot: new Uint8Array(0), snapshotName: "", bytes: null, fault: null, texts: {}, sessions: {}, view: "recorded",
-        rows: [], chosen: -1, unfolded: new Set(), difference: null, isDrawn: false,
+        core: null, name: "", bytes: null, snapshot: new Uint8Array(0), snapshotName: "", fault: null, difference: null,
+        texts: {}, sessions: {}, view: "recorded", rows: [], chosen: -1, unfolded: new Set(), isDrawn: false,
     };
 
     const tell = (text, isFault = false) => {
@@ -45,7 +45,8 @@
 
     const rowOfLine = (line) => {
         const says = CALLER_KINDS.includes(line.kind) ? `${line.kind}: ${line.says}` : line.summary;
-        return { line, kind: line.isFault ? "fault" : kindOf(line), says, noise: line.went !== undefined, differs: false };
+        const kind = line.isFault ? "fault" : kindOf(line);
+        return { line, kind, says, noise: line.went !== undefined, differs: false };
     };
 
     const rowOfTransaction = (transaction) => {
@@ -96,7 +97,8 @@
 
     const makeRow = (row, place) => {
         const made = document.createElement("div");
-        const classes = { transaction: row.transaction, noise: row.noise, differs: row.differs, fault: row.kind === "fault" };
+        const { transaction, noise, differs } = row;
+        const classes = { transaction, noise, differs, fault: row.kind === "fault" };
         made.className = ["row", ...Object.keys(classes).filter((name) => classes[name])].join(" ");
         made.style.transform = `translateY(${place * ROW}px)`;
         made.setAttribute("role", "option");
@@ -180,12 +182,12 @@
     /** The quiet log's session: in the place of noise stand lines that say what went. */
     const quietSession = (text, recorded) => {
         const session = readSession(text);
-        const inputs = recorded.lines.filter((line) => !["key", "count", "need"].includes(line.kind) || line.text[0] === "#");
+        const inputs = recorded.lines.filter((line) => !["key", "count"].includes(line.kind));
         session.lines.forEach((line, place) => {
             const before = inputs[place];
             if (before && before.text !== line.text) {
-                Object.assign(line, { went: before.text, kind: before.kind, channel: before.channel, message: before.message,
-                    summary: before.summary, says: before.says });
+                const { kind, channel, message, summary, says } = before;
+                Object.assign(line, { went: before.text, kind, channel, message, summary, says });
             }
         });
         return session;
@@ -294,7 +296,8 @@
 
     const openFile = async (file) => {
         if (file.size > MOST_BYTES) {
-            tell(`${file.name} has ${inMegabytes(file.size)}: the page takes logs of up to ${inMegabytes(MOST_BYTES)}.`, true);
+            const most = inMegabytes(MOST_BYTES);
+            tell(`${file.name} has ${inMegabytes(file.size)}: the page takes logs of up to ${most}.`, true);
             return;
         }
         try {
@@ -312,7 +315,7 @@
         return sent[packet - 1];
     };
 
-    /** What the key sends in the place where the log differs: an input has the same place among those of the replay. */
+    /** What the key sends where the log differs: an input has the same place among those of the replay. */
     const sentInstead = ({ line, packet }) => {
         const isInput = (it) => it.at !== null && it.kind !== "key";
         const place = state.sessions.recorded.lines.filter((it) => isInput(it) && it.number <= line).length;
@@ -336,7 +339,8 @@
         tell(`${state.name}: ${says}.`, true);
         const found = packetOf(state.sessions.recorded, outcome.line, outcome.packet);
         const sent = sentInstead(outcome);
-        state.difference = { line: found?.number ?? outcome.line, says, has: found?.text ?? "nothing", sends: sent?.text ?? "nothing" };
+        const [has, sends] = [found?.text ?? "nothing", sent?.text ?? "nothing"];
+        state.difference = { line: found?.number ?? outcome.line, says, has, sends };
         at("fold").checked = false;
         at("search").value = "";
         refresh();
@@ -405,7 +409,8 @@
         if (event.key === "Escape") {
             at("scroller").focus();
         }
-        if (!state.bytes || isField || isButton || event.ctrlKey || event.metaKey || event.altKey || !KEYS[event.key]) {
+        const isOther = event.ctrlKey || event.metaKey || event.altKey || !KEYS[event.key];
+        if (!state.bytes || isField || isButton || isOther) {
             return;
         }
         event.preventDefault();
@@ -466,7 +471,8 @@
         try {
             state.core = await globalThis.hidlog.load();
         } catch (error) {
-            tell(`This browser has no 64-bit WebAssembly (Chromium 133 and Firefox 134 have it): ${error.message}`, true);
+            const who = "Chromium 133 and Firefox 134 have it";
+            tell(`This browser has no 64-bit WebAssembly (${who}): ${error.message}`, true);
             return;
         }
         if (location.hash.startsWith("#registration")) {

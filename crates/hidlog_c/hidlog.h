@@ -1,12 +1,14 @@
-/* Session logs of a security key: the commands of `hidlog` as functions over bytes (docs/LOG_FORMAT.md). Link with libhidlog_c.a.
+/* Session logs of a security key: the commands of `hidlog` as functions over bytes (docs/LOG_FORMAT.md). Link with
+ * libhidlog_c.a, which crates/hidlog_c/build.sh makes.
  *
- * Each function reads a whole log and a snapshot (0 bytes of it: no credentials), and writes what the command writes to the front
- * of `out`, at most `room` bytes. What came of it stands in *outcome. The log is the state: nothing is kept between two calls,
- * nothing is allocated, and calls in several threads don't meet. To hand the key one more input, put its line behind the log and
- * call again.
+ * Each function reads a whole log and a snapshot (0 bytes of it: no credentials), and writes what the command writes to
+ * the front of `out`, at most `room` bytes. What came of it stands in *outcome. The log is the state: nothing is kept
+ * between two calls, nothing is allocated, and calls in several threads don't meet. To hand the key one more input, put
+ * its line behind the log and call again.
  *
- * No pointer may be null, also where the length beside it is 0, and *outcome and the buffer overlap nothing else. Where the buffer
- * is too small, it is full, and the fault is 5; no byte past it is touched. Where the snapshot is refused nothing is written. */
+ * No pointer may be null, also where the length beside it is 0, and *outcome and the buffer overlap nothing else. Where
+ * the buffer is too small, it is full, and the fault is 5; no byte past it is touched. Where the snapshot is refused
+ * nothing is written. */
 #ifndef HIDLOG_H
 #define HIDLOG_H
 
@@ -46,21 +48,21 @@ struct hidlog_outcome {
 };
 
 /* Writes the log again, with the packets that the key sends. */
-void hidlog_replay(const uint8_t *log, size_t log_len, const uint8_t *snapshot, size_t snapshot_len, uint8_t *out, size_t room,
-                   struct hidlog_outcome *outcome);
+void hidlog_replay(const uint8_t *log, size_t log_len, const uint8_t *snapshot, size_t snapshot_len, uint8_t *out,
+                   size_t room, struct hidlog_outcome *outcome);
 
-/* Does the same, and writes after the packets of each input line what the key needs now: comments of which just one, the last, begins
- * with "# need ". */
-void hidlog_live(const uint8_t *log, size_t log_len, const uint8_t *snapshot, size_t snapshot_len, uint8_t *out, size_t room,
-                 struct hidlog_outcome *outcome);
+/* Does the same, and writes after the packets of each input line what the key needs now: comments of which just one,
+ * the last, begins with "# need ". */
+void hidlog_live(const uint8_t *log, size_t log_len, const uint8_t *snapshot, size_t snapshot_len, uint8_t *out,
+                 size_t room, struct hidlog_outcome *outcome);
 
 /* Compares the log's packets with what the key sends, and writes how many inputs and packets were the same. */
-void hidlog_check(const uint8_t *log, size_t log_len, const uint8_t *snapshot, size_t snapshot_len, uint8_t *out, size_t room,
-                  struct hidlog_outcome *outcome);
+void hidlog_check(const uint8_t *log, size_t log_len, const uint8_t *snapshot, size_t snapshot_len, uint8_t *out,
+                  size_t room, struct hidlog_outcome *outcome);
 
 /* Writes the log with ticks in the place of noise. */
-void hidlog_quiet(const uint8_t *log, size_t log_len, const uint8_t *snapshot, size_t snapshot_len, uint8_t *out, size_t room,
-                  struct hidlog_outcome *outcome);
+void hidlog_quiet(const uint8_t *log, size_t log_len, const uint8_t *snapshot, size_t snapshot_len, uint8_t *out,
+                  size_t room, struct hidlog_outcome *outcome);
 
 #ifdef __cplusplus
 }

@@ -1,6 +1,7 @@
 /* Runs the commands of libhidlog_c.a from C: commands FOLDER, the folder of the worked logs. */
 #include "hidlog.h"
 
+#include <inttypes.h>
 #include <stdio.h>
 #include <stdlib.h>
 #include <string.h>
@@ -14,11 +15,18 @@ static struct hidlog_outcome outcome;
 static const char *folder;
 static int failures;
 
+/* Whether the outcome is this one. */
+static int is(uint32_t status, uint32_t fault, uint64_t line, uint64_t packet, uint64_t written)
+{
+    return outcome.status == status && outcome.fault == fault && outcome.line == line && outcome.packet == packet
+        && outcome.written == written;
+}
+
 static void expect(int holds, const char *what)
 {
     if (!holds) {
-        fprintf(stderr, "FAILED: %s (status %u, fault %u, line %llu, packet %llu, written %llu)\n", what, outcome.status, outcome.fault,
-                (unsigned long long)outcome.line, (unsigned long long)outcome.packet, (unsigned long long)outcome.written);
+        fprintf(stderr, "FAILED: %s (status %u, fault %u, line %" PRIu64 ", packet %" PRIu64 ", written %" PRIu64 ")\n",
+                what, outcome.status, outcome.fault, outcome.line, outcome.packet, outcome.written);
         failures++;
     }
 }
@@ -55,13 +63,27 @@ static void test_worked_log(const char *name, const char *from)
     expect(outcome.status == HIDLOG_DONE && !memcmp(out, "same ", 5), name);
 }
 
+/* What the key needs is told after each input, and what was written is its own replay. */
+static void test_live(void)
+{
+    size_t size = read_file("registration.log", log_bytes);
+    run(hidlog_live, size, 0, ROOM - 1);
+    expect(outcome.status == HIDLOG_DONE, "a registration with what is needed");
+    out[outcome.written] = 0;
+    expect(strstr((char *)out, "\n# need presence\n") && strstr((char *)out, "\n# need key\n"), "what is needed");
+    size = outcome.written;
+    memcpy(log_bytes, out, size);
+    run(hidlog_replay, size, 0, ROOM - 1);
+    expect(outcome.status == HIDLOG_DONE && outcome.written == size && !memcmp(out, log_bytes, size), "replayed");
+}
+
 /* Each room that is too small gives the fault and the text's beginning. */
 static void test_small_rooms(void)
 {
     size_t size = read_file("registration.log", log_bytes);
     for (size_t room = 0; room < size; room++) {
         expect(run(hidlog_replay, size, 0, room), "the byte behind the buffer is left alone");
-        expect(outcome.status == HIDLOG_FAULT && outcome.fault == HIDLOG_WRITE && outcome.written == room, "a full buffer is the write fault");
+        expect(is(HIDLOG_FAULT, HIDLOG_WRITE, 0, 0, room), "a full buffer is the write fault");
         expect(!memcmp(out, log_bytes, room), "the text's beginning was written");
     }
     expect(run(hidlog_replay, size, 0, size) && outcome.status == HIDLOG_DONE, "a room that is just enough");
@@ -72,12 +94,12 @@ static void test_faults(void)
     const char bad[] = "t 1\nt 2\nt x\n";
     memcpy(log_bytes, bad, sizeof bad - 1);
     run(hidlog_replay, sizeof bad - 1, 0, ROOM - 1);
-    expect(outcome.status == HIDLOG_FAULT && outcome.fault == HIDLOG_BAD_LINE && outcome.line == 3 && outcome.written == 8, "a bad line");
+    expect(is(HIDLOG_FAULT, HIDLOG_BAD_LINE, 3, 0, 8), "a bad line");
     memset(log_bytes, '#', 256);
     run(hidlog_quiet, 256, 0, ROOM - 1);
-    expect(outcome.fault == HIDLOG_TOO_LONG && outcome.line == 1 && outcome.written == 0, "a line of 256 bytes");
+    expect(is(HIDLOG_FAULT, HIDLOG_TOO_LONG, 1, 0, 0), "a line of 256 bytes");
     run(hidlog_quiet, 0, 0, 0);
-    expect(outcome.status == HIDLOG_DONE && outcome.written == 0, "an empty log");
+    expect(is(HIDLOG_DONE, 0, 0, 0, 0), "an empty log");
 }
 
 /* A digit of an answer is changed: the check names the line of the input and the packet. */
@@ -87,7 +109,7 @@ static void test_difference(void)
     char *answer = strstr((char *)log_bytes, "< 00000001bb0001");
     answer[20] = '1';
     run(hidlog_check, size, 0, ROOM - 1);
-    expect(outcome.fault == HIDLOG_DIFFERS && outcome.line == 5 && outcome.packet == 1 && outcome.written == 0, "a packet that differs");
+    expect(is(HIDLOG_FAULT, HIDLOG_DIFFERS, 5, 1, 0), "a packet that differs");
 }
 
 static void test_snapshots(void)
@@ -96,7 +118,7 @@ static void test_snapshots(void)
     run(hidlog_check, size, 0, ROOM - 1);
     expect(outcome.fault == HIDLOG_DIFFERS, "a sign-in without its credential");
     expect(run(hidlog_check, size, begins - 1, 64), "a snapshot that ends early");
-    expect(outcome.status == HIDLOG_REFUSED && outcome.fault == HIDLOG_NOT_SNAPSHOT && outcome.written == 0, "a snapshot that ends early");
+    expect(is(HIDLOG_REFUSED, HIDLOG_NOT_SNAPSHOT, 0, 0, 0), "a snapshot that ends early");
     expect(out[0] == CANARY, "nothing is written where the snapshot is refused");
 }
 
@@ -111,6 +133,7 @@ int main(int count, char **words)
     for (size_t at = 0; at < sizeof logs / sizeof *logs; at++)
         test_worked_log(logs[at], NULL);
     test_worked_log("sign_in_again.log", "example_com.snapshot");
+    test_live();
     test_small_rooms();
     test_faults();
     test_difference();

@@ -1,4 +1,5 @@
-// What the pages of tests share: a list of tests, run in turn, whose results are posted to the server that started the browser.
+// What the pages of tests share: a list of tests, run in turn, whose results are posted to the server that
+// started the browser.
 
 export const results = { tests: [], figures: [], logs: {} };
 

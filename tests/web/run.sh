@@ -1,6 +1,7 @@
 #!/usr/bin/env bash
-# Runs the tests of web/ in each browser that is there: the page that shows sessions, and the key in a page, whose recordings then
-# pass `hidlog check`, of the program that the variable HIDLOG names or of ./hidlog. Says what is missing. With the words `chromium` or `firefox` that browser alone is run.
+# Runs the tests of web/ in each browser that is there: the page that shows sessions, and the key in a page,
+# whose recordings then pass `hidlog check`, of the program that the variable HIDLOG names or of ./hidlog. Says
+# what is missing. With the words `chromium` or `firefox` that browser alone is run.
 set -euo pipefail
 top=$(cd "$(dirname "${BASH_SOURCE[0]}")/../.." && pwd)
 here=$top/tests/web

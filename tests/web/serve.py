@@ -1,9 +1,9 @@
 #!/usr/bin/env python3
 """Runs a page of tests in a browser: serve.py FOLDER PAGE BROWSER WORD..
 
-Serves the repository's files on 127.0.0.1 alone, with the relying party under /rp/, starts the browser with the page's address
-behind the words, and waits for what the page posts to /done. Logs that the page recorded are written to FOLDER. It ends with 0 where
-all tests of the page passed.
+Serves the repository's files on 127.0.0.1 alone, with the relying party under /rp/, starts the browser with the page's
+address behind the words, and waits for what the page posts to /done. Logs that the page recorded are written to FOLDER.
+It ends with 0 where all tests of the page passed.
 """
 
 import json
@@ -19,6 +19,20 @@ from relying_party import RelyingParty
 
 TOP = os.path.abspath(os.path.join(os.path.dirname(__file__), "..", ".."))
 SECONDS = 120
+
+
+def processor_seconds(session):
+    """The processor time so far of all processes of a session, as Linux counts it."""
+    ticks = 0
+    for name in filter(str.isdigit, os.listdir("/proc")):
+        try:
+            with open(f"/proc/{name}/stat", encoding="ascii", errors="replace") as file:
+                fields = file.read().rpartition(")")[2].split()
+        except OSError:
+            continue
+        if fields[3] == str(session):
+            ticks += int(fields[11]) + int(fields[12])
+    return ticks / os.sysconf("SC_CLK_TCK")
 
 
 class Handler(SimpleHTTPRequestHandler):
@@ -44,6 +58,8 @@ class Handler(SimpleHTTPRequestHandler):
         if self.path == "/done":
             self.server.results = given
             self.server.is_done.set()
+        elif self.path == "/processor":
+            answer = {"seconds": processor_seconds(self.server.browser)}
         else:
             try:
                 answer = getattr(self.server.relying_party, self.path.removeprefix("/rp/"))(**given)
@@ -64,6 +80,7 @@ def run_browser(words, url, server):
         started = subprocess.Popen(
             [*filled, url], stdout=subprocess.DEVNULL, stderr=subprocess.DEVNULL, start_new_session=True
         )
+        server.browser = started.pid
         server.is_done.wait(SECONDS)
         os.killpg(started.pid, signal.SIGTERM)
         started.wait()

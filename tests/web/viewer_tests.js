@@ -15,7 +15,10 @@ const drop = (name, bytes) => {
     page().document.dispatchEvent(new (page().DragEvent)("drop", { dataTransfer: transfer, cancelable: true }));
 };
 
-const press = (key) => page().document.dispatchEvent(new (page().KeyboardEvent)("keydown", { key, bubbles: true, cancelable: true }));
+const press = (key) => {
+    const event = new (page().KeyboardEvent)("keydown", { key, bubbles: true, cancelable: true });
+    page().document.dispatchEvent(event);
+};
 
 const choose = (id, value) => {
     at(id).value = value;
@@ -28,9 +31,10 @@ const encode = (text) => new TextEncoder().encode(text);
 
 /** Loads the page anew, and drops a file on it. */
 const open = async (name, bytes) => {
-    page().document.documentElement.dataset.ready = "";
-    page().location.reload();
-    await until(() => page().document.documentElement?.dataset.ready === "yes", "the page");
+    const loaded = new Promise((done) => frame.addEventListener("load", done, { once: true }));
+    frame.src = "../../web/index.html";
+    await loaded;
+    await until(() => page().document.documentElement.dataset.ready === "yes", "the page");
     if (bytes) {
         drop(name, bytes);
         await until(() => notice() !== "", "a word on the file");
@@ -63,7 +67,8 @@ const folds = async () => {
     await open("registration.log", await fetched("registration.log"));
     const lines = rows().length;
     at("fold").click();
-    expect(rows().length < lines && texts().some((text) => text.includes("CBOR makeCredential → CBOR OK")), "folded");
+    expect(rows().length < lines, "fewer rows");
+    expect(texts().some((text) => text.includes("CBOR makeCredential → CBOR OK")), "folded");
     const place = texts().findIndex((text) => text.includes("makeCredential"));
     rows()[place].click();
     expect(texts().some((text) => text.includes("presence: granted")), "unfolded");
@@ -137,7 +142,8 @@ const scrollsSmoothly = async () => {
             await new Promise((done) => page().requestAnimationFrame(() => page().requestAnimationFrame(done)));
         }
         const each = (performance.now() - from) / steps;
-        results.figures.push(`10,000 lines, ${mode.slice(0, -4)}: ${each.toFixed(1)} ms for each of ${steps} jumps of two frames`);
+        const name = mode.slice(0, -4);
+        results.figures.push(`10,000 lines, ${name}: ${each.toFixed(1)} ms for each of ${steps} jumps of two frames`);
         expect(each < 60, "a jump takes long");
     }
     results.figures.push(`10,000 lines opened in ${opened.toFixed(0)} ms, the page's own load with it`);

@@ -14,8 +14,8 @@ use token_session::Session;
 
 /// A command on a log.
 pub trait Command {
-    /// What it does: of a session that began with these credentials, the bytes that were read, the text that was written, and
-    /// how it ended.
+    /// What it does: of a session that began with these credentials, the bytes that were read, the text that
+    /// was written, and how it ended.
     ghost Does: { List AnyRow → List ℕ → List ℕ → Ending → Type 0 };
 
     /// Plays the log on the session. The target stays over its buffer.
@@ -97,8 +97,8 @@ impl Command for Quiet {
     }
 }
 
-/// Runs a command on a session with the credentials of the snapshot, or with none where the snapshot is empty. What it
-/// writes goes to the front of `out`.
+/// Runs a command on a session with the credentials of the snapshot, or with none where the snapshot is empty.
+/// What it writes goes to the front of `out`.
 pub fn run<C: Command>(log: &[u8], snapshot: &[u8], out: &mut [u8]) -> Outcome
     ensures { Answers C.Does log.now snapshot.now (out.old, out.new) result }
 {

@@ -4,9 +4,9 @@ ghost use Rattle.std.specs.Io.KnownBytes.{WriteAppends};
 
 use session_log::{Failed, Target};
 
-/// A target over the caller's buffer, filled from its front. What it has taken begins with the name of the borrow, so that
-/// whoever hands it to a call that only appends knows afterwards that it still fills the same buffer; and once a call of it
-/// failed the buffer is full. `SliceOut` promises neither through such a call.
+/// A target over the caller's buffer, filled from its front. What it has taken begins with the name of the
+/// borrow, so that whoever hands it to a call that only appends knows afterwards that it still fills the same
+/// buffer; and once a call of it failed the buffer is full. `SliceOut` promises neither through such a call.
 #[derive(Drop)]
 pub struct Lent<'a> {
     buffer: &'a mut [u8],

@@ -1,6 +1,6 @@
-//! The commands on session logs as functions of C: a log and a snapshot in, a text and an outcome out (hidlog.h). The log is
-//! the state: nothing is kept between two calls, and nothing is allocated. The same source makes the WebAssembly module of
-//! the web page (web/build.sh).
+//! The commands on session logs as functions of C: a log and a snapshot in, a text and an outcome out
+//! (hidlog.h). The log is the state: nothing is kept between two calls, and nothing is allocated. The same
+//! source makes the WebAssembly module of the web page (web/build.sh).
 #![tactic(auto)]
 
 mod commands;
@@ -13,8 +13,8 @@ ghost use Rattle.hidlog_c.specs.Commands.{Answers, Checks, Lives, Quiets, Replay
 use crate::commands::{Check, Live, Quiet, Replay, run};
 use crate::outcome::Outcome;
 
-/// Replays the log on a session with the credentials of the snapshot, or with none where the snapshot is empty. What a
-/// replay writes goes to the front of `out`.
+/// Replays the log on a session with the credentials of the snapshot, or with none where the snapshot is empty.
+/// What a replay writes goes to the front of `out`.
 #[unsafe(no_mangle)]
 pub extern "C" fn hidlog_replay(log: &[u8], snapshot: &[u8], out: &mut [u8], outcome: &mut Outcome)
     ensures { Answers Replays log.now snapshot.now (out.old, out.new) outcome.new }
@@ -22,7 +22,8 @@ pub extern "C" fn hidlog_replay(log: &[u8], snapshot: &[u8], out: &mut [u8], out
     *outcome = run::<Replay>(log, snapshot, out);
 }
 
-/// Replays the log, and says after the packets of each input line what the session needs. Both go to the front of `out`.
+/// Replays the log, and says after the packets of each input line what the session needs. Both go to the front
+/// of `out`.
 #[unsafe(no_mangle)]
 pub extern "C" fn hidlog_live(log: &[u8], snapshot: &[u8], out: &mut [u8], outcome: &mut Outcome)
     ensures { Answers Lives log.now snapshot.now (out.old, out.new) outcome.new }

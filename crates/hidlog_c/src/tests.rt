@@ -1,6 +1,6 @@
 //! Each export on logs whose texts follow from docs/LOG_FORMAT.md.
 use crate::outcome::Outcome;
-use crate::{hidlog_check, hidlog_quiet, hidlog_replay};
+use crate::{hidlog_check, hidlog_live, hidlog_quiet, hidlog_replay};
 
 const TICK: &[u8] = b"t 5\n";
 
@@ -45,6 +45,17 @@ fn a_tick_is_checked_and_made_quiet(rt: HostRuntime) {
     hidlog_quiet(TICK, &[], &mut out, &mut outcome);
     assert!(rt; is_outcome(&outcome, 0, 0, 0, TICK.len()));
     assert!(rt; out.starts_with(TICK));
+}
+
+#[test]
+fn nothing_is_needed_after_a_tick(rt: HostRuntime) {
+    let mut out = [7; 80];
+    let mut outcome = unset();
+    hidlog_live(TICK, &[], &mut out, &mut outcome);
+    let text: &[u8] =
+        b"t 5\n# need nothing\n= held 0 rows 0 pending 0 requests 0 bytes 0 steps 0\n";
+    assert!(rt; is_outcome(&outcome, 0, 0, 0, text.len()));
+    assert!(rt; out.starts_with(text));
 }
 
 #[test]
