@@ -285,6 +285,8 @@ fn files_of_the_system(rt: HostRuntime) {
         ("--load", "/", b"", unread),
         ("--save", "no-such-folder/snapshot", meters, unwritten),
         ("--save", "/", meters, unwritten),
+        // A device that is always full, or no device.
+        ("--save", "/dev/full", meters, unwritten),
     ] {
         let (mut out, mut told) = ([0; 256], [0; 256]);
         let mut writer = SliceOut::new(&mut out);

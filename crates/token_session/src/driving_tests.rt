@@ -56,6 +56,18 @@ fn drives_that_stop(rt: HostRuntime) {
     let full = drive(&mut session, &[init(), ping()], &mut sent);
     assert_eq!(rt; full, Err(DriveFault::Full { done: 1 }));
     assert_eq!(rt; sent.len(), 1);
+    let mut rest = ArrayVec::<Sent, 130>::new();
+    assert_eq!(rt; drive(&mut session, &[ping()], &mut rest), Ok(held(0)));
+
+    // Both are what an unbroken run sends.
+    let mut session = Session::<4>::bare([0; 16], 0);
+    let mut whole = ArrayVec::<Sent, 132>::new();
+    assert_eq!(rt;
+        drive(&mut session, &[init(), ping()], &mut whole),
+        Ok(held(0))
+    );
+    let broken = sent.iter().chain(rest.iter()).map(|sent| sent.packet);
+    assert!(rt; broken.eq(whole.iter().map(|sent| sent.packet)));
 }
 
 #[test]
