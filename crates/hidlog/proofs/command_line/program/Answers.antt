@@ -6,7 +6,7 @@ use Rattle.hidlog.proofs.command_line.program.Goals as goal
 
 pub returns : goal.returns
 returns c =
-    let alone : App = on_top (λ top. record top { subcommand_required = true }) (new_app (codes "hidlog")) in
+    let alone : App = on_top (λ top. record top { has_version = true; subcommand_required = true }) (new_app (codes "hidlog")) in
     let replay = command (codes "replay") (path_option (codes "load") ∷ path_option (codes "save") ∷ []) in
     let live = command (codes "live") (path_option (codes "load") ∷ path_option (codes "save") ∷ []) in
     let check = command (codes "check") (path_option (codes "load") ∷ []) in
