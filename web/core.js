@@ -4,10 +4,8 @@
 "use strict";
 
 (() => {
-    const WASM_PAGE = 65536;
     const OUTCOME_BYTES = 32;
     const WRITE_FAULT = 5;
-    const MOST_MEMORY = 768 * 1024 * 1024;
 
     const fromBase64 = (text) => Uint8Array.from(atob(text), (c) => c.charCodeAt(0));
 
@@ -24,35 +22,30 @@
             `line ${line}: longer than 255 bytes`,
             `line ${line}: differs at packet ${packet}`,
             `line ${line}: reading failed`,
-            "writing failed",
+            "what is written is too long",
             "too many lines",
             `line ${line}: no memory`,
         ];
         return texts[fault];
     };
 
-    /** The module's exports, over a memory that grows as a log needs it. */
+    /** The module's exports. Its memory doesn't grow. */
     class Core {
         constructor(exports) {
             this.exports = exports;
             this.base = aligned(Number(exports.__heap_base.value));
+            this.end = exports.memory.buffer.byteLength;
         }
 
-        /** Makes the memory at least so many bytes long. */
-        reserve(bytes) {
-            const memory = this.exports.memory;
-            const missing = bytes - memory.buffer.byteLength;
-            if (missing > 0) {
-                memory.grow(BigInt(Math.ceil(missing / WASM_PAGE)));
-            }
-        }
-
-        /** One call of a command, with room for so many bytes. */
-        call(command, log, snapshot, room) {
+        /** One call of a command, with room for at most so many bytes. */
+        call(command, log, snapshot, wanted) {
             const logAt = this.base + OUTCOME_BYTES;
             const snapshotAt = aligned(logAt + log.length);
             const outAt = aligned(snapshotAt + snapshot.length);
-            this.reserve(outAt + room);
+            const room = Math.min(wanted, this.end - outAt);
+            if (room < 0) {
+                throw new Error("the log is too long");
+            }
             const bytes = new Uint8Array(this.exports.memory.buffer);
             bytes.set(log, logAt);
             bytes.set(snapshot, snapshotAt);
@@ -69,11 +62,11 @@
             };
         }
 
-        /** Runs a command. Where the room was too small, it is run again with more. */
+        /** Runs a command. Where the room was too small, it is run again with more, as far as the memory goes. */
         run(command, log, snapshot = new Uint8Array(0)) {
-            let room = 2 * log.length + 4096;
+            let room = 2 * log.length + Math.min(6 * log.length, 1024 * 1024) + 8192;
             let outcome = this.call(command, log, snapshot, room);
-            while (outcome.fault === WRITE_FAULT && outcome.status === 1 && room < MOST_MEMORY) {
+            while (outcome.fault === WRITE_FAULT && outcome.status === 1 && room < this.end) {
                 room *= 4;
                 outcome = this.call(command, log, snapshot, room);
             }

@@ -92,17 +92,20 @@ export class Authenticator {
      * @param clock gives the moment in whole milliseconds, and is told how many have passed where the user is awaited
      */
     constructor(core, { snapshot = new Uint8Array(0), keys = new Map(), clock }) {
-        Object.assign(this, { core, snapshot, keys, clock, log: new Uint8Array(0), meters: "", channel: null });
+        const nothing = new Uint8Array(0);
+        Object.assign(this, { core, snapshot, keys, clock, inputs: nothing, log: nothing, meters: "", channel: null });
     }
 
     /** Plays the log with more lines behind it. Gives the packets that are sent for them, and what is needed then. */
     play(inputs) {
-        const outcome = this.core.run("live", longer(this.log, inputs), this.snapshot);
+        const played = longer(this.inputs, inputs);
+        const outcome = this.core.run("live", played, this.snapshot);
         if (outcome.status !== 0) {
             throw new Error(globalThis.hidlog.faultText(outcome));
         }
         const text = decoder.decode(outcome.text.subarray(this.log.length));
         const end = text.lastIndexOf("= ");
+        this.inputs = played;
         this.meters = text.slice(end);
         this.log = outcome.text.subarray(0, outcome.text.length - this.meters.length);
         const lines = text.slice(0, end).split("\n").filter(Boolean);
@@ -157,8 +160,8 @@ export class Authenticator {
     }
 
     /**
-     * Serves what is needed, and gives what is sent for that. `ask` gives the user's word, or null to cancel, or a promise
-     * of these.
+     * Serves what is needed, and gives what is sent for that. `ask` gives the user's word, null to cancel, or a
+     * promise of these.
      */
     async serve(need, ask) {
         if (need.word === "key") {

@@ -31,7 +31,7 @@
             this.to.scale(scale, scale);
             this.to.font = "12px ui-monospace, 'DejaVu Sans Mono', monospace";
             this.to.textBaseline = "middle";
-            Object.assign(this, { width, height, styles: new Map() });
+            Object.assign(this, { width, height, styles: new Map(), behind: "paper" });
         }
 
         colour(name) {
@@ -78,16 +78,27 @@
             }
             const wide = to.measureText(shown).width;
             const from = align === "center" ? x - wide / 2 : x;
-            to.fillStyle = this.colour("paper");
+            to.fillStyle = this.colour(this.behind);
             to.fillRect(from - 3, y - 8, wide + 6, 16);
             to.fillStyle = this.colour(colour);
             to.fillText(shown, from, y);
         }
     }
 
+    /** The colour behind a row. */
+    const behindRow = (row, isChosen) => {
+        if (row.differs) {
+            return "fault-paper";
+        }
+        return isChosen ? "chosen" : "paper";
+    };
+
+    /** What a row says, in fewer words. */
+    const brief = (says) => says.replaceAll("CBOR ", "").replace("user presence needed", "presence");
+
     const between = (pen, from, to, y, text, colour, dashes) => {
         pen.arrow(from, to, y, colour, dashes);
-        pen.label(text, (from + to) / 2, y, colour, Math.abs(to - from) - 26);
+        pen.label(brief(text), (from + to) / 2, y, colour, Math.abs(to - from) - 26);
     };
 
     /** How each kind of row is drawn. */
@@ -115,7 +126,7 @@
     const drawTransaction = (pen, lanes, row, y) => {
         const host = lanes.ofChannel(row.transaction.channel);
         pen.line(host, y, lanes.key, y, "host", [], 3);
-        pen.label(row.says, (host + lanes.key) / 2, y, "ink", Math.abs(lanes.key - host) - 10);
+        pen.label(brief(row.says), (host + lanes.key) / 2, y, "ink", Math.abs(lanes.key - host) - 10);
         if (!lanes.isNarrow) {
             pen.label(`${row.line.moment} ms`, 10, y, "faint", 90, "left");
         }
@@ -145,8 +156,9 @@
         }
         for (let at = first; at < last; at += 1) {
             const y = HEAD + top + (at - first) * rowHeight;
-            if (at === chosen || rows[at].differs) {
-                pen.to.fillStyle = pen.colour(rows[at].differs ? "fault-paper" : "chosen");
+            pen.behind = behindRow(rows[at], at === chosen);
+            if (pen.behind !== "paper") {
+                pen.to.fillStyle = pen.colour(pen.behind);
                 pen.to.fillRect(0, y, pen.width, rowHeight);
             }
             (rows[at].transaction ? drawTransaction : drawRow)(pen, lanes, rows[at], y + rowHeight / 2);

@@ -1,6 +1,6 @@
 // A security key in the page, for tests of pages that sign in: `create` and `get` have the shapes of
-// navigator.credentials, and the errors are those that WebAuthn Level 2 names. The key is the proved core; its session is
-// a log, which replays exactly.
+// navigator.credentials, and the errors are those that WebAuthn Level 2 names. The key is the proved core; its session
+// is a log, which replays exactly.
 //
 //     import { install } from "./security_key.js";
 //     const key = await install({ presence: "granted" });   // navigator.credentials is the key now

@@ -13,7 +13,7 @@
     const decoder = new TextDecoder();
 
     const state = {
-        core: null, name: "", bytes: null, snapshot: new Uint8Array(0), snapshotName: "", fault: null, difference: null,
+        core: null, name: "", bytes: null, snapshot: new Uint8Array(0), snapshotName: "", difference: null,
         texts: {}, sessions: {}, view: "recorded", rows: [], chosen: -1, unfolded: new Set(), isDrawn: false,
     };
 
@@ -198,7 +198,7 @@
             const command = view === "quiet" ? "quiet" : "replay";
             state.texts[view] = state.core.run(command, state.bytes, state.snapshot).text;
         }
-        const text = decoder.decode(state.texts[view]);
+        const text = decoder.decode(firstLines(state.texts[view], MOST_LINES));
         return view === "quiet" ? quietSession(text, state.sessions.recorded) : readSession(text);
     };
 
@@ -238,11 +238,13 @@
             tell(`The snapshot was refused (${outcome.fault}).`, true);
         } else if (outcome.status === 1) {
             const text = globalThis.hidlog.faultText(outcome);
-            const word = outcome.line === 1 ? "This is no session log" : "The log is shown up to its faulty line";
-            tell(`${word}: ${text}.`, true);
+            const words = { 0: "Not all can be played", 1: "This is no session log" };
+            tell(`${words[outcome.line] ?? "The log is shown up to its faulty line"}: ${text}.`, true);
         } else {
             const from = state.snapshotName ? `, on the credentials of ${state.snapshotName}` : "";
-            tell(`${state.name}: ${state.sessions.recorded.lines.length} lines, no fault${from}.`);
+            const count = state.sessions.recorded.lines.length;
+            const only = count === MOST_LINES ? `, of which the first ${MOST_LINES} lines are shown` : "";
+            tell(`${state.name}: ${only ? "a long log" : `${count} lines`}, no fault${from}${only}.`);
         }
     };
 
@@ -250,13 +252,13 @@
 
     const play = () => {
         const outcome = state.core.run("replay", state.bytes, state.snapshot);
-        const sound = outcome.status === 1 ? firstLines(state.bytes, Math.max(0, outcome.line - 1)) : state.bytes;
-        state.fault = outcome.status === 1 ? outcome : null;
-        state.texts = { recorded: firstLines(sound, MOST_LINES), replayed: outcome.text };
+        const isFaulty = outcome.status === 1 && outcome.line > 0;
+        const sound = isFaulty ? firstLines(state.bytes, outcome.line - 1) : state.bytes;
+        state.texts = { recorded: sound, replayed: outcome.text };
         state.sessions = {};
         state.difference = null;
         state.sessions.recorded = sessionOf("recorded");
-        if (state.fault) {
+        if (isFaulty) {
             state.sessions.recorded.lines.push(faultyLine(outcome));
         }
         enable(true);

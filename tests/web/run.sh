@@ -30,7 +30,23 @@ run_pages() {
         mkdir -p "$room/$browser"
         "$python" "$here/serve.py" "$room/$browser" "$page" "$@" || failed=1
     done
+    if [ "$browser" = chromium ]; then
+        open_from_file
+        "$python" "$here/virtual_authenticator.py" || true
+    fi
     check_logs "$room/$browser"
+}
+
+# The page is opened as a file, with no server.
+open_from_file() {
+    local words=(--headless=new --no-sandbox "--user-data-dir=$room/profile" --virtual-time-budget=5000 --dump-dom)
+    chromium "${words[@]}" "file://$top/web/index.html#registration" >"$room/page" 2>/dev/null
+    if grep -q 'CBOR makeCredential, packet 2 of 2' "$room/page"; then
+        echo "ok  the page from a file"
+    else
+        echo "FAILED  the page from a file"
+        failed=1
+    fi
 }
 
 # The recordings are logs that replay exactly.

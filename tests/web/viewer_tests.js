@@ -149,6 +149,18 @@ const scrollsSmoothly = async () => {
     results.figures.push(`10,000 lines opened in ${opened.toFixed(0)} ms, the page's own load with it`);
 };
 
+/** 30 MB of packets on a channel that was never given out. */
+const opensALongLog = async () => {
+    const line = `> 0 000000ff910000${"0".repeat(114)}\n`;
+    const bytes = encode(line.repeat(Math.floor((30 * 1024 * 1024) / line.length)));
+    const begun = performance.now();
+    await open("long.log", bytes);
+    expect(/^long\.log (has inputs alone|: \d+ lines)/.test(notice()), notice());
+    choose("view", "quiet");
+    expect(/ inputs are noise/.test(notice()), notice());
+    results.figures.push(`30 MB opened and made quiet in ${((performance.now() - begun) / 1000).toFixed(1)} s`);
+};
+
 const loaded = Object.fromEntries(LOGS.map((name) => [`examples/${name}.log`, showsALog(name)]));
 
 run({
@@ -161,4 +173,5 @@ run({
     "quiet shows what went": cutsNoise,
     "faulty, empty and huge files": saysWhatIsFaulty,
     "10,000 lines": scrollsSmoothly,
+    "30 MB": opensALongLog,
 });
