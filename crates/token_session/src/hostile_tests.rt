@@ -3,7 +3,7 @@
 use crate::counter_tests::with_counter;
 use crate::registration_tests::{ask, get_assertion, join, keepalive, make_credential};
 use crate::tests::{INIT, error, greeting, pad, refused, step, two_channels};
-use crate::{Input, Session};
+use crate::{Input, Meters, Session};
 use arrayvec::ArrayVec;
 use authn_core::{Need, NewKey, Presence, Signature};
 use hid_packet::command::CBOR;
@@ -77,6 +77,37 @@ fn a_registration_cut_short(rt: HostRuntime) {
             assert_eq!(rt; session.meters().steps, 99);
         }
     }
+}
+
+#[test]
+fn large_heads_long_keys_and_deep_values(rt: HostRuntime) {
+    let mut session = two_channels(&rt);
+    let head = join(&[b"\x01\xbb", &[0xff; 8]]);
+    ask(&rt, &mut session, 0, &head, refused(0x12));
+    assert_eq!(rt; session.meters().steps, 10);
+
+    let mut session = two_channels(&rt);
+    let key = join(&[b"\x01\xa2\x00\x00\x59\x01\x00", &[0; 256], b"\x00"]);
+    ask(&rt, &mut session, 0, &key, refused(0x14));
+    let meters = Meters {
+        held: 234,
+        rows: 0,
+        pending: 0,
+        requests: 1,
+        bytes: 263,
+        steps: 1046,
+    };
+    assert_eq!(rt; session.meters(), meters);
+
+    // A registration with one more member: of four levels, and of five.
+    let plain = make_credential();
+    let [1, 0xa5, members @ ..] = plain.as_slice() else {
+        panic!(rt; "it has five members");
+    };
+    let four = join(&[b"\x01\xa6", members, b"\x18\x40\x81\x81\x80"]);
+    ask(&rt, &mut two_channels(&rt), 0, &four, keepalive(2));
+    let five = join(&[b"\x01\xa6", members, b"\x18\x40\x81\x81\x81\x80"]);
+    ask(&rt, &mut two_channels(&rt), 0, &five, refused(0x12));
 }
 
 /// Each byte of the request is changed to each other value, with a new session for each.
