@@ -9,6 +9,58 @@ use std::rt::Env;
 
 const METERS: &[u8] = b"= held 0 rows 0 pending 0 requests 0 bytes 0 steps 0\n";
 
+/// What `hidlog --help` writes.
+const HELP: &str = "\
+Replays text logs of CTAPHID sessions on a FIDO2 security key
+
+Usage: hidlog <COMMAND>
+
+Commands:
+  replay  Replays the log on standard input: writes it with the packets that the key sends, and what it counted
+  live    Replays the log line by line as it comes, and says what the key needs after each input
+  check   Compares the packets that the log names as sent with those that the key sends
+  quiet   Writes the log's inputs, with a tick in place of each that is noise
+  show    Writes what the log's lines say, line by line
+  help    Print this message or the help of the given subcommand(s)
+
+Options:
+  -h, --help     Print help
+  -V, --version  Print version
+";
+
+/// What is wrong with an option that isn't one.
+const REFUSAL: &str = "\
+error: unexpected argument '--what' found
+
+Usage: hidlog <COMMAND>
+
+For more information, try '--help'.
+";
+
+/// What `hidlog replay --help` writes.
+const REPLAY_HELP: &str = "\
+Replays the log on standard input: writes it with the packets that the key sends, and what it counted
+
+Usage: hidlog replay [OPTIONS]
+
+Options:
+      --load <F>  Starts with the credentials of the snapshot F, and not with none
+      --save <F>  Writes a snapshot of the credentials to F, unless the log has a fault
+  -h, --help      Print help
+";
+
+/// What `hidlog live --help` writes.
+const LIVE_HELP: &str = "\
+Replays the log line by line as it comes, and says what the key needs after each input
+
+Usage: hidlog live [OPTIONS]
+
+Options:
+      --load <F>  Starts with the credentials of the snapshot F, and not with none
+      --save <F>  Writes a snapshot of the credentials to F, unless the log has a fault
+  -h, --help      Print help
+";
+
 /// A reader that fails.
 #[derive(Drop)]
 struct Broken;
@@ -126,56 +178,12 @@ fn words_end_with_a_status(rt: HostRuntime) {
 
 #[test]
 fn help_and_refusals_are_whole(rt: HostRuntime) {
-    let help = "\
-Replays text logs of CTAPHID sessions on a FIDO2 security key
-
-Usage: hidlog <COMMAND>
-
-Commands:
-  replay  Replays the log on standard input: writes it with the packets that the key sends, and what it counted
-  live    Replays the log line by line as it comes, and says what the key needs after each input
-  check   Compares the packets that the log names as sent with those that the key sends
-  quiet   Writes the log's inputs, with a tick in place of each that is noise
-  show    Writes what the log's lines say, line by line
-  help    Print this message or the help of the given subcommand(s)
-
-Options:
-  -h, --help     Print help
-  -V, --version  Print version
-";
-    let refusal = "\
-error: unexpected argument '--what' found
-
-Usage: hidlog <COMMAND>
-
-For more information, try '--help'.
-";
-    let options = "\
-Replays the log on standard input: writes it with the packets that the key sends, and what it counted
-
-Usage: hidlog replay [OPTIONS]
-
-Options:
-      --load <F>  Starts with the credentials of the snapshot F, and not with none
-      --save <F>  Writes a snapshot of the credentials to F, unless the log has a fault
-  -h, --help      Print help
-";
-    let live = "\
-Replays the log line by line as it comes, and says what the key needs after each input
-
-Usage: hidlog live [OPTIONS]
-
-Options:
-      --load <F>  Starts with the credentials of the snapshot F, and not with none
-      --save <F>  Writes a snapshot of the credentials to F, unless the log has a fault
-  -h, --help      Print help
-";
     for (words, output, faults) in [
-        (["hidlog", "--help"].as_slice(), help, ""),
+        (["hidlog", "--help"].as_slice(), HELP, ""),
         (["hidlog", "--version"].as_slice(), "hidlog 0.1.0\n", ""),
-        (["hidlog", "live", "--help"].as_slice(), live, ""),
-        (["hidlog", "replay", "--help"].as_slice(), options, ""),
-        (["hidlog", "--what"].as_slice(), "", refusal),
+        (["hidlog", "live", "--help"].as_slice(), LIVE_HELP, ""),
+        (["hidlog", "replay", "--help"].as_slice(), REPLAY_HELP, ""),
+        (["hidlog", "--what"].as_slice(), "", REFUSAL),
     ] {
         let (mut out, mut told) = ([0; 1024], [0; 1024]);
         let mut writer = SliceOut::new(&mut out);
