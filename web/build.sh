@@ -11,12 +11,14 @@ else
     trap 'rm -rf "$room"' EXIT
 fi
 mkdir -p "$room/crates/hidlog_c"
+"$top/crates/hidlog_c/build.sh"
 for crate in "$top"/crates/*; do
     name=${crate##*/}
     if [ "$name" != hidlog_c ]; then
         rm -rf "$room/crates/$name"
-        # Links in place of copies, where the file system has them.
+        # Links in place of copies, where the file system has them. What is proved of a library is in out/rlib.
         cp -al "$crate" "$room/crates/$name" 2>/dev/null || { rm -rf "$room/crates/$name"; cp -a "$crate" "$room/crates/"; }
+        rm -rf "$room/crates/$name/out/incremental"
     fi
 done
 for part in src specs proofs; do
@@ -27,5 +29,6 @@ sed 's/^hidlog_c staticlib:/hidlog_c wasm64 memory=134217728 stack=524288:/' "$t
 echo "web: proving and building the module, which takes minutes from nothing" >&2
 (cd "$room/crates/hidlog_c" && rt lib) >"$room/log" 2>&1 || { tail -20 "$room/log" >&2; exit 3; }
 tail -1 "$room/log" >&2
-python3 "$top/web/embed.py" "$room/crates/hidlog_c/out/hidlog_c.wasm" "$top/examples/registration.log" >"$room/wasm.js"
+module=$room/crates/hidlog_c/out/hidlog_c.wasm
+python3 "$top/web/embed.py" "$module" "$top/examples/registration.log" "$("$top/web/source_hash.sh")" >"$room/wasm.js"
 cp "$room/wasm.js" "$top/web/wasm.js"

@@ -275,6 +275,6 @@
     };
 
     globalThis.hidlogDecode = {
-        toHex, fromHex, readCbor, writeCbor, showItem, showMessage, nameMessage, COMMANDS, REQUESTS, STATUSES,
+        toHex, fromHex, readCbor, writeCbor, showMessage, nameMessage, COMMANDS, REQUESTS, STATUSES,
     };
 })();

@@ -3,13 +3,14 @@
 "use strict";
 
 (() => {
+    const { BROADCAST } = globalThis.hidlogSession;
     const HEAD = 28;
     const MOST_CHANNELS = 6;
 
     /** Places the lifelines in a width. Channels past the last place share it. */
     const placeLifelines = (channels, width) => {
         const own = channels.slice(0, MOST_CHANNELS);
-        const names = [...own.map((it) => (it === "ffffffff" ? "broadcast" : `host ${it}`)), "key", "caller"];
+        const names = [...own.map((it) => (it === BROADCAST ? "broadcast" : `host ${it}`)), "key", "caller"];
         const left = width < 700 ? 44 : 120;
         const step = (width - left - 40) / Math.max(1, names.length - 1);
         const places = names.map((_, at) => left + at * step);

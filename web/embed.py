@@ -1,4 +1,4 @@
-"""Writes a script that holds the WebAssembly module and the example log: embed.py MODULE LOG."""
+"""Writes a script that holds the WebAssembly module and the example log: embed.py MODULE LOG HASH."""
 
 import base64
 import sys
@@ -17,8 +17,9 @@ def put(name, path):
 
 
 def main():
-    module, log = sys.argv[1:]
+    module, log, source = sys.argv[1:]
     print("// Made by build.sh, in base64: crates/hidlog_c as a WebAssembly module, and examples/registration.log.")
+    print(f"// The source's hash (source_hash.sh): {source}")
     put("HIDLOG_WASM", module)
     put("HIDLOG_EXAMPLE", log)
 

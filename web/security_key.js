@@ -114,6 +114,7 @@ const credentialOf = (id, responseType, response, extensions) => {
 
 export class SecurityKey {
     #replaced = null;
+    #isBusy = false;
 
     /**
      * @param core what `hidlog.load()` gave
@@ -196,6 +197,10 @@ export class SecurityKey {
         const { signal } = options;
         const timeout = options.publicKey.timeout ?? DEFAULT_TIMEOUT;
         const ask = () => this.#askUser(text, { signal, timeout }, ended);
+        if (this.#isBusy) {
+            refuse("NotAllowedError", "another request waits for the user");
+        }
+        this.#isBusy = true;
         try {
             return readCbor(await this.authenticator.request(bytes, ask)).value;
         } catch (error) {
@@ -207,6 +212,8 @@ export class SecurityKey {
             }
             const isExcluded = error.status === CREDENTIAL_EXCLUDED;
             return refuse(isExcluded ? "InvalidStateError" : "NotAllowedError", error.message);
+        } finally {
+            this.#isBusy = false;
         }
     }
 

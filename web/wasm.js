@@ -1,4 +1,5 @@
 // Made by build.sh, in base64: crates/hidlog_c as a WebAssembly module, and examples/registration.log.
+// The source's hash (source_hash.sh): 7e2e3dada90e37745fd63a885b5d0feced466496242f0892b5dce9ef5a3264e1
 globalThis.HIDLOG_WASM = [
     "AGFzbQEAAAABgQETYAABf2AAAGADfn5+AGADfn5/AGACfn4Bf2ADfn5+AX9gBH5+f34AYAN+fn4BfmAEfn5+fgBgBn5+fn5+fgBgAn5+AGAEfn",
     "5+fgF/YAF+AGAFfn9/fn4AYAh/f39/f39/fwF/YAV+fn5+fgBgA35/fgBgAX4Bf2AHfn5+fn5+fgADMzIAAQECAwMEBQYCAgcCCAkCCggCAgIL",

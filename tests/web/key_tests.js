@@ -118,6 +118,15 @@ const canBeAborted = async (key) => {
     await isRefused(register({ user: "ann" }, { signal: AbortSignal.abort() }), "AbortError");
 };
 
+const servesOneAtATime = async (key) => {
+    key.delay = 150;
+    const first = register({ user: "ann" });
+    await wait(50);
+    const options = { challenge: new Uint8Array(32), rpId: "localhost" };
+    await isRefused(navigator.credentials.get({ publicKey: options }), "NotAllowedError");
+    await first;
+};
+
 const asksByAClick = async (key) => {
     key.presence = "click";
     const registering = register({ user: "ann" });
@@ -199,6 +208,7 @@ run({
     "a user who denies, and one who does nothing": withKey("denied.log", mayBeDenied),
     "a user who comes late, and too late": withKey("late.log", comesLate),
     "requests that are aborted": withKey("aborted.log", canBeAborted),
+    "a request while another waits": withKey("one_at_a_time.log", servesOneAtATime),
     "presence by a click": withKey("click.log", asksByAClick),
     "what the key can't do": withKey("refused.log", refusesWhatItCannot),
     "how long it takes": isFast,

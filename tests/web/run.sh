@@ -63,6 +63,10 @@ check_logs() {
     done
 }
 
+if ! grep -q "$("$top/web/source_hash.sh")" "$top/web/wasm.js"; then
+    echo "FAILED  web/wasm.js is older than the crates: run web/build.sh"
+    failed=1
+fi
 wanted=${1:-all}
 if [ "$wanted" != firefox ]; then
     if command -v chromium >/dev/null; then
