@@ -4,7 +4,7 @@
  * Each function reads a whole log and a snapshot (0 bytes of it: no credentials), and writes what the command writes to
  * the front of `out`, at most `room` bytes. What came of it stands in *outcome. The log is the state: nothing is kept
  * between two calls, nothing is allocated, and calls in several threads don't meet. To hand the key one more input, put
- * its line behind the log and call again.
+ * its line after the log and call again.
  *
  * No pointer may be null, also where the length beside it is 0, and *outcome and the buffer overlap nothing else. Where
  * the buffer is too small, it is full, and the fault is 5; no byte past it is touched. Where the snapshot is refused

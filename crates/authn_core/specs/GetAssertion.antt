@@ -24,7 +24,7 @@ find_named rp rows (id ∷ others) = option_or (find (is_named rp id) rows) (fin
 abbrev pub applicable : List Row → (rp : List ℕ) → (given : Bool) → (allow : List (List ℕ)) → List Row
 applicable rows rp given allow = if given then option_to_list (find_named rp rows allow) else listed rp rows
 
--- the number of applicable rows, where it is told: without an allow list, and where there is more than one
+-- the number of applicable rows, where the answer has it: without an allow list, and where there is more than one
 abbrev pub told : (given : Bool) → ℕ → Option ℕ
 told given n = if nat_lt 1 n then (if given then None else Some n) else None
 

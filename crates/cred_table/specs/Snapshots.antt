@@ -1,5 +1,5 @@
 -- Snapshots: the rows of a table as one data item in canonical CBOR, {1: version, 2: [row, ..]}, in order of making.
--- Version 2 has the users' names, version 1 hasn't; `named` tells which it is.
+-- Version 2 has the users' names, version 1 hasn't; `named` says which it is.
 use Rattle.std.specs.Prelude.{◌≡◌, ℕ, ◌^◌, ◌<◌, ◌≤◌, pos, Bool, true, false, ◌||◌, if◌then◌else◌, IsTrue, List, [], ◌∷◌, ◌++◌, length, Result, Ok, Err}
 use Rattle.std.specs.List.{AllByRecursion, list_any}
 use Rattle.std.specs.Str.{IsUtf8}

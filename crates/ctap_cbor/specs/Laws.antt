@@ -47,7 +47,7 @@ EncodedIsDecoded = (t : Tree) (b : List ℕ) → IsCanonical t b → ((u : Tree)
 abbrev pub RefusedHasNoText : Type 0
 RefusedHasNoText = (t : Tree) (kind : Kind) → refusal 4 t ≡ Some kind → (b : List ℕ) → IsCanonical t b → ⊥
 
--- of bytes, the function that tells what they are tells it
+-- of bytes, the function that says what they are says it
 pub record BytesTell : Type 0 where
   pub told : (b : List ℕ) → AreBytes b → IsOutcome b (outcome_of b)
   pub only : (b : List ℕ) (o : Outcome) → AreBytes b → IsOutcome b o → outcome_of b ≡ o
@@ -63,7 +63,7 @@ pub record TellsNone (b : List ℕ) (s : ℕ) (new : Reading) : Type 0 where
   pub bytes_stay : new.bytes ≡ b
   pub steps_are : new.steps ≡ counted s (check_steps b)
 
--- Reading these bytes whole tells what they are, whatever was counted before, and takes the steps of checking them.
+-- Reading these bytes whole gives what they are, whatever was counted before, and takes the steps of checking them.
 pub record WholeReadings (b : List ℕ) : Type 0 where
   pub passed : (t : Tree) (s : ℕ) (middle new : Reading) → Passes 4 t (at_front b s) middle → Ends middle new → TellsTree b s t new
   pub stopped : (s : ℕ) (new : Reading) (at : ℕ) (kind : Kind) → Halts 4 (at_front b s) new at kind → TellsNone b s new

@@ -43,6 +43,6 @@ pairs_of vs = pairs (map pair_of vs)
 abbrev pub IsScalarOf : Part → Tree → Type 0
 IsScalarOf part t = (s : Scalar) → part ≡ One s → Fits s → t ≡ Plain s
 
--- Of a refusal by a decoder: it is what the text tells, or want of memory, which is at 0.
+-- Of a refusal by a decoder: it is what the text says, or refused memory, which is at 0.
 abbrev pub UnlessMemory : Fault → Type 0 → Type 0
 UnlessMemory f p = (f.kind ≢ Memory → p) × (f.kind ≡ Memory → f.at ≡ 0)

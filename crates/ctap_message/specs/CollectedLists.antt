@@ -41,7 +41,7 @@ listing_told ts = (all_entries (map_by_name descriptor_types) ts, ((descriptors_
 abbrev pub shown_listing : Listing → Bool × (Bool × Bool)
 shown_listing x = (x.typed, (x.is_whole, x.given))
 
--- what is told of a list, and its entries once more, which a walk over it has
+-- what is said of a list, and its entries once more, which a walk over it has
 abbrev pub list_told : Tree → Bool × (DescriptorList × Trees)
 list_told t = (array_of (map_by_name descriptor_types) t, (descriptors_in (Some t), entries_of (Some t)))
 

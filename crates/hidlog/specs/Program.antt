@@ -12,15 +12,15 @@ use Rattle.session_log.specs.Streams.{IsTaken, IsBroken}
 abbrev pub IsGiven : {F : Type 0} → (F → Option (List ℕ)) → (F → ℕ) → (F × F) → List ℕ → Type 0
 IsGiven taken failed target text = IsTaken taken failed target text ⊎ IsBroken taken failed target text
 
--- what is told where memory is wanting
+-- the text where memory is refused
 abbrev pub no_memory : List ℕ
 no_memory = codes "hidlog: no memory" ++ 10 ∷ []
 
--- what is told of an argument that is no text
+-- the text for an argument that is no text
 abbrev pub not_text : List ℕ
 not_text = codes "hidlog: an argument is not UTF-8" ++ 10 ∷ []
 
--- what is told of a snapshot that can't be read, is refused, or can't be written
+-- the texts for a snapshot that can't be read, is refused, or can't be written
 abbrev pub cannot_read : List ℕ
 cannot_read = codes "hidlog: cannot read snapshot" ++ 10 ∷ []
 
@@ -39,12 +39,12 @@ is_help DisplayHelp = true
 is_help DisplayVersion = true
 is_help _ = false
 
--- Memory was wanting, and that was told.
+-- Memory was refused, and that was written.
 abbrev pub LacksMemory : {O F : Type 0} → (F → Option (List ℕ)) → (F → ℕ) → Status → (O × O) → (F × F) → Type 0
 LacksMemory told untold status output faults =
     (status ≡ Err 2) × (output.1 ≡ output.0) × IsGiven told untold faults no_memory
 
--- What is wrong with the words was told.
+-- What is wrong with the words was written.
 abbrev pub Refuses : {O F : Type 0} → (F → Option (List ℕ)) → (F → ℕ) → Status → (O × O) → (F × F) → Type 0
 Refuses told untold status output faults =
     (status ≡ Err 2) × (output.1 ≡ output.0) × ((text : List ℕ) × IsGiven told untold faults text)

@@ -72,7 +72,7 @@ where
     }
 }
 
-/// Replays the log and tells what the key needs, and saves the credentials that the session has after it.
+/// Replays the log and says what the key needs, and saves the credentials that the session has after it.
 fn live_log<D, S, O, E>(
     files: &mut D,
     alloc: Global,

@@ -168,7 +168,7 @@ fn credentials_are_kept_between_runs(rt: HostRuntime) -> Result<(), Fail> {
     Ok(())
 }
 
-/// What the key needs of its caller is told, and the credentials are kept as a replay keeps them.
+/// What the key needs of its caller is said, and the credentials are kept as a replay keeps them.
 #[test]
 fn a_live_sign_in(rt: HostRuntime) -> Result<(), Fail> {
     let alloc = rt.alloc();

@@ -13,7 +13,7 @@ use Rattle.session_log.specs.Session.{sessions, histories}
 use Rattle.session_log.specs.Text.{same_line}
 use Rattle.session_log.specs.World.{Course, World}
 
--- what the lines so far came to: where the inputs led; how many lines there were; the line of the last input (0 before any),
+-- what the lines so far led to: where the inputs led; how many lines there were; the line of the last input (0 before any),
 -- how many of its packets were found, and those that are due; and how many inputs and packets were the same
 pub record Compared (S : Type 0) : Type 0 where
   pub session : S
