@@ -5,6 +5,8 @@
 ghost use Rattle.std.specs.Prelude.{◌≤◌};
 
 use crate::walk::{Place, Walk, is_packet};
+use authn_core::Config;
+use cred_table::{Store, load};
 use session_log::{LogFault, SliceIn, ToWrite, check, live, quiet, replay};
 use std::alloc::{AllocError, Global};
 use token_session::Session;
@@ -202,13 +204,35 @@ pub fn is_worked<const C: usize>(alloc: Global, log: &[u8]) -> bool
         && is_lived::<C>(alloc, log) == Some(true)
 }
 
+/// A session with the credentials of the snapshot, or with none where it is empty.
+fn restarted(snapshot: &[u8]) -> Session<64> {
+    let mut rows = Store::new();
+    let _ = load(snapshot, &mut rows);
+    Session::new(Config { aaguid: [0; 16] }, rows, 0)
+}
+
 /// Whether a log that was recorded live, with what was needed, is what the session sends and needs: replayed, compared and
 /// played live.
-pub fn is_recorded<const C: usize>(alloc: Global, log: &[u8]) -> bool
-    requires some { 1 ≤ C }
-    requires few { C ≤ 256 }
-{
-    replayed::<C>(alloc, log).is_some_and(|text| text.as_slice() == log)
-        && lived::<C>(alloc, log).is_some_and(|text| text.as_slice() == log)
-        && is_same::<C>(alloc, log) == Ok(true)
+pub fn is_recorded(alloc: Global, snapshot: &[u8], log: &[u8]) -> bool {
+    let (mut sent, mut lived, mut same) = (Vec::new(alloc), Vec::new(alloc), Vec::new(alloc));
+    replay(
+        &mut SliceIn::new(log),
+        &mut ToWrite::new(&mut sent),
+        &mut restarted(snapshot),
+    )
+    .is_ok()
+        && live(
+            &mut SliceIn::new(log),
+            &mut ToWrite::new(&mut lived),
+            &mut restarted(snapshot),
+        )
+        .is_ok()
+        && check(
+            &mut SliceIn::new(log),
+            &mut ToWrite::new(&mut same),
+            &mut restarted(snapshot),
+        )
+        .is_ok()
+        && sent.as_slice() == log
+        && lived.as_slice() == log
 }
