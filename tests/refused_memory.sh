@@ -4,8 +4,7 @@
 # Needs rt and Python 3. Status 0: a refusal changes nothing but the answer. 1: it does.
 #
 # A test that is refused memory may end with that as its error, and with nothing else. Tests of `.._after_refused_memory`
-# make the same call again and have to pass. In cred_table a test takes either answer, and checks what it left, unless its
-# name ends with `_at_once`.
+# make the same call again and have to pass.
 set -u
 cd "$(dirname "$0")/.."
 work=$(mktemp -d)
@@ -35,10 +34,7 @@ for name in runs:
         if result == "ok":
             continue
         refusals += 1
-        if crate == "cred_table":
-            expected = test.endswith("_at_once")
-        else:
-            expected = not test.endswith("_after_refused_memory") and REFUSED.search(text)
+        expected = not test.endswith("_after_refused_memory") and REFUSED.search(text)
         if not expected:
             wrong.append(f"{crate}, allocation {number}: {test}")
 for line in wrong:
