@@ -27,11 +27,11 @@ fn canonical(mut rest: &[u8]) -> u64 {
             break;
         }
         let len = rest[0] as usize + 256 * rest[1] as usize;
-        let behind = rest.split_at(2).1;
-        if behind.len() < len {
+        let beyond = rest.split_at(2).1;
+        if beyond.len() < len {
             break;
         }
-        let (message, next) = behind.split_at(len);
+        let (message, next) = beyond.split_at(len);
         if check(message).result.is_ok() {
             count = count.saturating_add(1);
         }

@@ -1,7 +1,7 @@
 #!/usr/bin/env python3
 """Writes 1,000 varied makeCredential and getAssertion requests as canonical CBOR, without the command byte.
 
-Each stands behind its length, two bytes, low first. The first byte of the output is how often the program shall
+Each comes after its length, two bytes, low first. The first byte of the output is how often the program shall
 check them all: the first argument. The second argument, if given, is a file for a table of the lengths.
 """
 import random

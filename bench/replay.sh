@@ -14,7 +14,7 @@ mkdir -p "$work"
 program=$here/../crates/hidlog/out/hidlog
 gcc -O2 -march=x86-64-v2 -o "$work/replay_c" "$here/replay_c.c"
 
-# A log of so many lines of a kind, behind the INIT that gives channel 1.
+# A log of so many lines of a kind, after the INIT that gives channel 1.
 log() {
     python3 - "$1" "$2" <<'PYTHON'
 import sys

@@ -1,5 +1,5 @@
 #!/usr/bin/env bash
-# Counts the instructions of `ctap_message::read_request` and, on the bytes behind the command byte alone, of
+# Counts the instructions of `ctap_message::read_request` and, on the bytes after the command byte alone, of
 # `ctap_cbor::check`, by callgrind: for a makeCredential of 91 bytes, a getAssertion of 50 and one with an allowList of 64
 # descriptors. Goal: at most three times `check`, since a request is checked and then read. Needs rt, valgrind and Python 3.
 #
@@ -16,7 +16,7 @@ for crate in ctap_cbor ctap_message; do
 done
 printf 'ctap_cbor: byteorder thiserror\nctap_message: ctap_cbor arrayvec\nrequests_bench: ctap_cbor ctap_message\n' > "$work/crates.txt"
 cat > "$work/crates/requests_bench/src/main.rt" <<'PROGRAM'
-//! Reads the message of standard input behind two bytes, so many rounds as the first says: by `read_request` where the second
+//! Reads the message of standard input after two bytes, so many rounds as the first says: by `read_request` where the second
 //! is 0, else by `check`. Tells the steps of all rounds.
 #![tactic(auto)]
 
@@ -28,7 +28,7 @@ use std::io::Read;
 fn steps_of(is_check: bool, message: &[u8]) -> u64 {
     if is_check {
         match message.split_first() {
-            Some((_, behind)) => check(behind).steps,
+            Some((_, parameters)) => check(parameters).steps,
             None => 0,
         }
     } else {

@@ -18,7 +18,7 @@ PING, INIT, WINK, CBOR, ERROR = 0x81, 0x86, 0x88, 0x90, 0xBF
 
 
 class Key:
-    """A key behind a pipe. Moments are milliseconds since its start, as the caller counts them."""
+    """A key at the other end of a pipe. Moments are milliseconds since its start, as the caller counts them."""
 
     def __init__(self, command):
         self.process = subprocess.Popen(command, stdin=subprocess.PIPE, stdout=subprocess.PIPE)
@@ -27,7 +27,7 @@ class Key:
     def play(self, line):
         """Hands the key an input line; the packets that it sends for it."""
         self.asked += 1
-        # The comment comes back behind the line's packets, so it tells where they end.
+        # The comment comes back after the line's packets, so it tells where they end.
         mark = f"# {self.asked}"
         self.process.stdin.write(f"{line}\n{mark}\n".encode())
         self.process.stdin.flush()

@@ -19,7 +19,7 @@ import sys
 
 
 def blocks_of(text):
-    """The lines of a log, each input line or remark with the `<` lines after it."""
+    """The lines of a log, each input line or comment with the `<` lines after it."""
     blocks = []
     for line in text.splitlines(keepends=True):
         if blocks and line.startswith(b"<"):

@@ -5,7 +5,7 @@
     result.raise_for_fault()
     print(result.text.decode())
 
-The log is the state: to hand the key one more input, put its line behind the log and call again, as in_process.py does.
+The log is the state: to hand the key one more input, put its line after the log and call again, as in_process.py does.
 crates/hidlog_c/build.sh makes the library out/libhidlog.so; the variable HIDLOG_LIBRARY names another place of it.
 """
 

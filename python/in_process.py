@@ -96,7 +96,7 @@ class SecurityKey(CtapHidConnection):
         self._play("s", signature)
 
     def _play(self, *fields: str, after: int = 1) -> None:
-        """Puts an input line behind the log, plays the whole log, and reads what is new at its end."""
+        """Puts an input line after the log, plays the whole log, and reads what is new at its end."""
         self.moment += after
         line = " ".join([fields[0], str(self.moment), *fields[1:]])
         before = len(self.log)

@@ -35,6 +35,12 @@
             this.exports = exports;
             this.base = aligned(Number(exports.__heap_base.value));
             this.end = exports.memory.buffer.byteLength;
+            this.bytes = new Uint8Array(exports.memory.buffer);
+            this.outcome = new DataView(exports.memory.buffer, this.base, OUTCOME_BYTES);
+        }
+
+        number(at) {
+            return Number(this.outcome.getBigUint64(at, true));
         }
 
         /** One call of a command, with room for at most so many bytes. */
@@ -46,19 +52,18 @@
             if (room < 0) {
                 throw new Error("the log is too long");
             }
-            const bytes = new Uint8Array(this.exports.memory.buffer);
-            bytes.set(log, logAt);
-            bytes.set(snapshot, snapshotAt);
-            const numbers = [logAt, log.length, snapshotAt, snapshot.length, outAt, room, this.base];
-            this.exports[`hidlog_${command}`](...numbers.map(BigInt));
-            const outcome = new DataView(this.exports.memory.buffer, this.base, OUTCOME_BYTES);
-            const long = (at) => Number(outcome.getBigUint64(at, true));
+            this.bytes.set(log, logAt);
+            this.bytes.set(snapshot, snapshotAt);
+            this.exports[`hidlog_${command}`](
+                BigInt(logAt), BigInt(log.length), BigInt(snapshotAt), BigInt(snapshot.length),
+                BigInt(outAt), BigInt(room), BigInt(this.base),
+            );
             return {
-                status: outcome.getUint32(0, true),
-                fault: outcome.getUint32(4, true),
-                line: long(8),
-                packet: long(16),
-                text: bytes.slice(outAt, outAt + long(24)),
+                status: this.outcome.getUint32(0, true),
+                fault: this.outcome.getUint32(4, true),
+                line: this.number(8),
+                packet: this.number(16),
+                text: this.bytes.slice(outAt, outAt + this.number(24)),
             };
         }
 

@@ -1,5 +1,5 @@
 // CTAP2 over CTAPHID to the core: an authenticator whose session is a log. To hand it one more input, its line
-// is put behind the log, and the whole log is played again; what is new at its end is the answer.
+// is put after the log, and the whole log is played again; what is new at its end is the answer.
 import "./wasm.js";
 import "./core.js";
 import "./decode.js";
@@ -10,8 +10,11 @@ const CBOR = 0x10;
 const CANCEL = 0x11;
 const KEEPALIVE = 0x3b;
 const BROADCAST = "ffffffff";
+// The first channel that the key gives out: no other host speaks to it.
+const CHANNEL = "00000001";
 const KEEPALIVE_MS = 100;
 const decoder = new TextDecoder();
+const encoder = new TextEncoder();
 const ES256 = { name: "ECDSA", namedCurve: "P-256" };
 
 /** An answer of the authenticator other than success. */
@@ -47,18 +50,35 @@ export const derOf = (raw) => {
     return Uint8Array.from([0x30, both.length, ...both]);
 };
 
-/** What the last lines of a log ask of the caller. */
-const needOf = (lines) => {
-    const [, word, id] = /^# need (\w+) ?(\w*)/.exec(lines.findLast((line) => line.startsWith("# need ")) ?? "") ?? [];
-    const last = lines.findLastIndex((line) => line[0] === "<" || !line.startsWith("#"));
-    const signed = lines.slice(last + 1).filter((line) => line.startsWith("# signed ")).map((line) => line.slice(9));
-    return { word, id, bytes: fromHex(signed.join("")) };
+/**
+ * What new lines of a log say: the packets that were sent, whether the user was asked, and what is needed of the caller
+ * at their end.
+ */
+const readLines = (lines) => {
+    const packets = [];
+    let need = "";
+    let signed = "";
+    let isAsked = false;
+    for (const line of lines) {
+        if (line.startsWith("< ")) {
+            packets.push(line.slice(2));
+        } else if (line.startsWith("# need ")) {
+            need = line.slice(7);
+            isAsked ||= need === "presence";
+        } else if (line.startsWith("# signed ")) {
+            signed += line.slice(9);
+        } else {
+            signed = "";
+        }
+    }
+    const [word, id] = need.split(" ");
+    return { packets, isAsked, need: { word, id, bytes: fromHex(signed) } };
 };
 
-/** The message that packets of a channel carry, its KEEPALIVEs left out, or null where it isn't whole. */
-const messageOf = (packets, channel) => {
+/** The message that packets of the channel carry, its KEEPALIVEs left out, or null where it isn't whole. */
+const messageOf = (packets) => {
     let message = null;
-    for (const packet of packets.filter((it) => it.startsWith(channel))) {
+    for (const packet of packets.filter((it) => it.startsWith(CHANNEL))) {
         const kind = parseInt(packet.slice(8, 10), 16);
         if (kind >= 128 && kind - 128 !== KEEPALIVE) {
             const wanted = 2 * parseInt(packet.slice(10, 14), 16);
@@ -73,14 +93,12 @@ const messageOf = (packets, channel) => {
     return { command: message.command, bytes: fromHex(message.digits.slice(0, message.wanted)) };
 };
 
-/** A log, and lines behind it, all of them ASCII. */
+/** A log, and lines after it, all of them ASCII. */
 const longer = (log, lines) => {
     const more = `${lines.join("\n")}\n`;
     const bytes = new Uint8Array(log.length + more.length);
     bytes.set(log);
-    for (let at = 0; at < more.length; at += 1) {
-        bytes[log.length + at] = more.charCodeAt(at);
-    }
+    encoder.encodeInto(more, bytes.subarray(log.length));
     return bytes;
 };
 
@@ -93,10 +111,10 @@ export class Authenticator {
      */
     constructor(core, { snapshot = new Uint8Array(0), keys = new Map(), clock }) {
         const nothing = new Uint8Array(0);
-        Object.assign(this, { core, snapshot, keys, clock, inputs: nothing, log: nothing, meters: "", channel: null });
+        Object.assign(this, { core, snapshot, keys, clock, inputs: nothing, log: nothing, meters: "" });
     }
 
-    /** Plays the log with more lines behind it. Gives the packets that are sent for them, and what is needed then. */
+    /** Plays the log with more lines after it, and gives what `readLines` reads in what is written for them. */
     play(inputs) {
         const played = longer(this.inputs, inputs);
         const outcome = this.core.run("live", played, this.snapshot);
@@ -108,9 +126,7 @@ export class Authenticator {
         this.inputs = played;
         this.meters = text.slice(end);
         this.log = outcome.text.subarray(0, outcome.text.length - this.meters.length);
-        const lines = text.slice(0, end).split("\n").filter(Boolean);
-        const packets = lines.filter((line) => line[0] === "<").map((line) => line.slice(2));
-        return { packets, need: needOf(lines) };
+        return readLines(text.slice(0, end).trimEnd().split("\n"));
     }
 
     /** The recording: a log that `hidlog check` passes. */
@@ -118,17 +134,34 @@ export class Authenticator {
         return decoder.decode(this.log) + this.meters;
     }
 
-    send(channel, command, bytes) {
-        return this.play(packetsOf(channel, command, bytes).map((packet) => `> ${this.clock()} ${packet}`));
+    /** The lines of a message's packets. */
+    linesOf(channel, command, bytes) {
+        return packetsOf(channel, command, bytes).map((packet) => `> ${this.clock()} ${packet}`);
     }
 
-    /** Asks for a channel, once. */
-    open() {
-        if (this.channel === null) {
-            const nonce = crypto.getRandomValues(new Uint8Array(8));
-            const { packets } = this.send(BROADCAST, INIT, nonce);
-            this.channel = toHex(messageOf(packets, BROADCAST).bytes.subarray(8, 12));
+    /** The lines of a request, after an INIT where no channel was asked for yet. */
+    requestLines(bytes) {
+        const nonce = new Uint8Array(8);
+        const opening = this.inputs.length ? [] : this.linesOf(BROADCAST, INIT, crypto.getRandomValues(nonce));
+        return [...opening, ...this.linesOf(CHANNEL, CBOR, bytes)];
+    }
+
+    /**
+     * Plays a request. Where the user's word is known before, it comes along, which saves a call, unless the user isn't
+     * asked at all.
+     */
+    begin(bytes, word) {
+        const lines = this.requestLines(bytes);
+        if (!word) {
+            return this.play(lines);
         }
+        const { inputs, log, meters } = this;
+        const step = this.play([...lines, `p ${this.clock()} ${word}`]);
+        if (step.isAsked) {
+            return step;
+        }
+        Object.assign(this, { inputs, log, meters });
+        return this.play(lines);
     }
 
     /** A new key pair: its line, once its private key is kept. */
@@ -160,8 +193,8 @@ export class Authenticator {
     }
 
     /**
-     * Serves what is needed, and gives what is sent for that. `ask` gives the user's word, null to cancel, or a
-     * promise of these.
+     * Serves what is needed, and gives what is sent for that. `ask` gives a promise of the user's word, or of null to
+     * cancel.
      */
     async serve(need, ask) {
         if (need.word === "key") {
@@ -170,22 +203,23 @@ export class Authenticator {
         if (need.word === "signature") {
             return this.play([await this.sign(need)]);
         }
-        const asked = ask();
-        const word = typeof asked === "string" ? asked : await this.awaitPresence(asked);
+        const word = await this.awaitPresence(ask());
         if (word === null) {
-            return this.send(this.channel, CANCEL, new Uint8Array(0));
+            return this.play(this.linesOf(CHANNEL, CANCEL, new Uint8Array(0)));
         }
         return this.play([`p ${this.clock()} ${word}`]);
     }
 
-    /** Sends a request of CTAP2, and gives the answer's bytes behind its status. */
-    async request(bytes, ask) {
-        this.open();
-        let step = this.send(this.channel, CBOR, bytes);
-        let answer = messageOf(step.packets, this.channel);
+    /**
+     * Sends a request of CTAP2, and gives the answer's bytes after its status. `word` is what the user does, where that
+     * is known before they are asked.
+     */
+    async request(bytes, ask, word) {
+        let step = this.begin(bytes, word);
+        let answer = messageOf(step.packets);
         while (!answer && step.need.word !== "nothing") {
             step = await this.serve(step.need, ask);
-            answer = messageOf(step.packets, this.channel);
+            answer = messageOf(step.packets);
         }
         if (answer?.command !== CBOR) {
             throw new Error("the authenticator did not answer");

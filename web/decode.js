@@ -59,6 +59,9 @@
 
     const byteName = (table, byte) => table[byte] ?? `0x${byte.toString(16).padStart(2, "0")}`;
 
+    const decoder = new TextDecoder("utf-8", { fatal: true });
+    const encoder = new TextEncoder();
+
     /** A reader of CBOR items of definite length. What it can't read throws. */
     class CborReader {
         constructor(bytes) {
@@ -66,12 +69,19 @@
             this.at = 0;
         }
 
-        take(count) {
-            if (this.at + count > this.bytes.length) {
+        /** Where the next bytes begin, which are passed over. */
+        skip(count) {
+            const from = this.at;
+            if (from + count > this.bytes.length) {
                 throw new Error(`the item ends early, at byte ${this.bytes.length}`);
             }
-            this.at += count;
-            return this.bytes.subarray(this.at - count, this.at);
+            this.at = from + count;
+            return from;
+        }
+
+        take(count) {
+            const from = this.skip(count);
+            return this.bytes.subarray(from, this.at);
         }
 
         argument(info) {
@@ -81,13 +91,17 @@
             if (info > 27) {
                 throw new Error(`additional information ${info} at byte ${this.at - 1}`);
             }
+            if (info === 24) {
+                return this.bytes[this.skip(1)];
+            }
             const number = this.take(1 << (info - 24)).reduce((sum, b) => sum * 256n + BigInt(b), 0n);
             return number <= Number.MAX_SAFE_INTEGER ? Number(number) : number;
         }
 
         item(depth = 0) {
-            const head = this.take(1)[0];
-            const [major, info] = [head >> 5, head & 31];
+            const head = this.bytes[this.skip(1)];
+            const major = head >> 5;
+            const info = head & 31;
             if (depth > 8) {
                 throw new Error(`too deep at byte ${this.at - 1}`);
             }
@@ -95,20 +109,22 @@
                 return this.simple(info);
             }
             const argument = this.argument(info);
-            const readers = [
-                () => argument,
-                () => -1n - BigInt(argument),
-                () => this.take(Number(argument)),
-                () => new TextDecoder("utf-8", { fatal: true }).decode(this.take(Number(argument))),
-                () => this.list(Number(argument), () => this.item(depth + 1)),
-                () => new Map(this.list(Number(argument), () => [this.item(depth + 1), this.item(depth + 1)])),
-            ];
-            if (!readers[major]) {
-                throw new Error(`a tag at byte ${this.at - 1}`);
+            switch (major) {
+                case 0:
+                    return argument;
+                case 1:
+                    return typeof argument === "bigint" ? -1n - argument : -1 - argument;
+                case 2:
+                    return this.take(Number(argument));
+                case 3:
+                    return decoder.decode(this.take(Number(argument)));
+                case 4:
+                    return this.list(Number(argument), () => this.item(depth + 1));
+                case 5:
+                    return new Map(this.list(Number(argument), () => [this.item(depth + 1), this.item(depth + 1)]));
+                default:
+                    throw new Error(`a tag at byte ${this.at - 1}`);
             }
-            const value = readers[major]();
-            const isShort = typeof value === "bigint" && Number.isSafeInteger(Number(value));
-            return isShort ? Number(value) : value;
         }
 
         list(count, read) {
@@ -139,16 +155,18 @@
             to.push((major << 5) | argument);
             return;
         }
-        const size = [1, 2, 4].find((it) => argument < 2 ** (8 * it));
-        to.push((major << 5) | (23 + { 1: 1, 2: 2, 4: 3 }[size]));
-        for (let left = size - 1; left >= 0; left -= 1) {
+        const power = [0, 1, 2].find((it) => argument < 2 ** (8 << it));
+        to.push((major << 5) | (24 + power));
+        for (let left = (1 << power) - 1; left >= 0; left -= 1) {
             to.push(Math.floor(argument / 2 ** (8 * left)) % 256);
         }
     };
 
     const putBytes = (to, major, bytes) => {
         putHead(to, major, bytes.length);
-        bytes.forEach((byte) => to.push(byte));
+        for (const byte of bytes) {
+            to.push(byte);
+        }
     };
 
     /** Puts the bytes of an item. The members of a map are put in the order in which it has them. */
@@ -158,25 +176,31 @@
         } else if (typeof value === "number") {
             putHead(to, value < 0 ? 1 : 0, value < 0 ? -1 - value : value);
         } else if (typeof value === "string") {
-            putBytes(to, 3, new TextEncoder().encode(value));
+            putBytes(to, 3, encoder.encode(value));
         } else if (value instanceof Uint8Array) {
             putBytes(to, 2, value);
+        } else if (value instanceof Map) {
+            putHead(to, 5, value.size);
+            value.forEach((inner, key) => {
+                putItem(to, key);
+                putItem(to, inner);
+            });
         } else {
-            const items = Array.isArray(value) ? value : Array.from(value).flat(1);
-            putHead(to, Array.isArray(value) ? 4 : 5, value.size ?? value.length);
-            items.forEach((item) => putItem(to, item));
+            putHead(to, 4, value.length);
+            value.forEach((item) => putItem(to, item));
         }
     };
 
-    const writeCbor = (value) => {
-        const bytes = [];
+    /** The bytes of an item, after others. */
+    const writeCbor = (value, first = []) => {
+        const bytes = [...first];
         putItem(bytes, value);
-        return bytes;
+        return new Uint8Array(bytes);
     };
 
     const pad = (depth) => "  ".repeat(depth);
 
-    /** An item in diagnostic notation, a member a line; members of a known map are named behind their numbers. */
+    /** An item in diagnostic notation, a member a line; members of a known map are named after their numbers. */
     const showItem = (value, depth = 0, names = []) => {
         if (value instanceof Uint8Array) {
             return `h'${toHex(value)}'`;
@@ -236,7 +260,7 @@
         try {
             const { value, used } = readCbor(bytes.subarray(1));
             const names = KEYS[fromHost ? name : `${request} answer`];
-            const rest = used + 1 < bytes.length ? `\n${bytes.length - used - 1} bytes behind it` : "";
+            const rest = used + 1 < bytes.length ? `\n${bytes.length - used - 1} bytes after it` : "";
             return `${name} ${showItem(value, 0, names)}${rest}`;
         } catch (error) {
             return `${name}, not CBOR: ${error.message}`;

@@ -109,16 +109,16 @@
         const keepalive = line.message?.command === 0x3b ? [4, 4] : [];
         const noise = row.noise ? [2, 5] : null;
         const left = lanes.places[0] + 8;
-        const remark = (colour) => pen.label(row.says, left, y, colour, pen.width - left - 12, "left");
+        const comment = (colour) => pen.label(row.says, left, y, colour, pen.width - left - 12, "left");
         const drawers = {
             host: () => between(pen, host, lanes.key, y, row.says, row.noise ? "faint" : "host", noise ?? []),
             key: () => between(pen, lanes.key, host, y, row.says, "key", keepalive),
             caller: () => between(pen, lanes.caller, lanes.key, y, row.says, "caller", noise ?? []),
             need: () => between(pen, lanes.key, lanes.caller, y, row.says, "need", [4, 4]),
             time: () => pen.line(lanes.places[0], y, lanes.caller, y, "line", [1, 4]),
-            fault: () => remark("fault"),
+            fault: () => comment("fault"),
         };
-        (drawers[row.kind] ?? (() => remark("faint")))();
+        (drawers[row.kind] ?? (() => comment("faint")))();
         if (!lanes.isNarrow && line.moment !== undefined) {
             pen.label(`${line.moment} ms`, 10, y, "faint", 90, "left");
         }

@@ -32,7 +32,9 @@ const refuse = (name, text) => {
     throw new DOMException(text, name);
 };
 
-const utf8 = (text) => new TextEncoder().encode(text);
+const encoder = new TextEncoder();
+
+const utf8 = (text) => encoder.encode(text);
 
 /** The RP's id, which has to be the page's domain or one above it. */
 const checkRpId = (id) => {
@@ -58,7 +60,7 @@ const descriptorsOf = (list) =>
 /** The map of a request: the members that are there, by their numbers. */
 const requestOf = (command, members) => {
     const present = members.map((value, at) => [at + 1, value]).filter(([, value]) => value !== undefined);
-    return Uint8Array.from([command, ...writeCbor(new Map(present))]);
+    return writeCbor(new Map(present), [command]);
 };
 
 const filled = (list) => (list.length ? list : undefined);
@@ -91,22 +93,21 @@ const buffersToText = (value) => (value instanceof ArrayBuffer ? base64url(new U
 
 /** An object of a type that pages can't make, with these members of its own. */
 const made = (type, members) => {
-    const object = Object.create(globalThis[type]?.prototype ?? Object.prototype);
-    for (const [name, value] of Object.entries(members)) {
-        Object.defineProperty(object, name, { value, enumerable: true });
-    }
-    return object;
+    const prototype = globalThis[type]?.prototype ?? Object.prototype;
+    return { __proto__: prototype, ...members };
 };
 
 const credentialOf = (id, responseType, response, extensions) => {
     const shared = {
         id: base64url(id), rawId: bufferOf(id), type: "public-key", authenticatorAttachment: "cross-platform",
     };
-    const fields = Object.entries(response).filter(([, value]) => typeof value !== "function" && value !== null);
-    const toJSON = () => ({
-        ...shared, rawId: shared.id, clientExtensionResults: extensions,
-        response: Object.fromEntries(fields.map(([name, value]) => [name, buffersToText(value)])),
-    });
+    const toJSON = () => {
+        const fields = Object.entries(response).filter(([, value]) => typeof value !== "function" && value !== null);
+        return {
+            ...shared, rawId: shared.id, clientExtensionResults: extensions,
+            response: Object.fromEntries(fields.map(([name, value]) => [name, buffersToText(value)])),
+        };
+    };
     return made("PublicKeyCredential", {
         ...shared, response: made(responseType, response), getClientExtensionResults: () => extensions, toJSON,
     });
@@ -163,10 +164,10 @@ export class SecurityKey {
         }
     }
 
-    /** What the user does when asked, at once or as a promise. */
-    #askUser(text, options, ended) {
+    /** What the user does, where that is known before they are asked. */
+    #knownWord() {
         const isPlain = typeof this.presence === "string" && this.presence !== "click";
-        return isPlain && !this.delay ? this.presence : this.#awaitUser(text, options, ended);
+        return isPlain && !this.delay ? this.presence : null;
     }
 
     /** What the user does in time, or null where the request ends before that. */
@@ -191,18 +192,19 @@ export class SecurityKey {
         return this.presence === "click" ? clicked(text, signal) : this.presence;
     }
 
-    /** A request to the authenticator, its refusals as the errors that WebAuthn names. */
+    /** A request to the authenticator, its refusals as the errors that WebAuthn names. No text: the user isn't asked. */
     async #request(bytes, text, options) {
         const ended = { why: "user" };
         const { signal } = options;
         const timeout = options.publicKey.timeout ?? DEFAULT_TIMEOUT;
-        const ask = () => this.#askUser(text, { signal, timeout }, ended);
+        const ask = () => this.#awaitUser(text, { signal, timeout }, ended);
+        const word = text && this.#knownWord();
         if (this.#isBusy) {
             refuse("NotAllowedError", "another request waits for the user");
         }
         this.#isBusy = true;
         try {
-            return readCbor(await this.authenticator.request(bytes, ask)).value;
+            return readCbor(await this.authenticator.request(bytes, ask, word)).value;
         } catch (error) {
             if (!(error instanceof CtapError)) {
                 throw error;
@@ -301,7 +303,7 @@ const registered = (answer, clientData, extensions) => {
     const attestation = new Map([["fmt", answer.get(1)], ["attStmt", answer.get(3)], ["authData", authData]]);
     return credentialOf(authData.slice(55, 55 + idLength), "AuthenticatorAttestationResponse", {
         clientDataJSON: bufferOf(clientData),
-        attestationObject: bufferOf(Uint8Array.from(writeCbor(attestation))),
+        attestationObject: writeCbor(attestation).buffer,
         getAuthenticatorData: () => bufferOf(authData),
         getPublicKey: () => bufferOf(publicKeyOf(authData)),
         getPublicKeyAlgorithm: () => ES256,

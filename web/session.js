@@ -11,7 +11,7 @@
     const BROADCAST = "ffffffff";
 
     const KINDS = {
-        ">": "host", "<": "key", t: "tick", p: "presence", k: "new key", s: "signature", "#": "remark", "=": "count",
+        ">": "host", "<": "key", t: "tick", p: "presence", k: "new key", s: "signature", "#": "comment", "=": "count",
     };
 
     /** The fields of a line that the core has read, so that it is one of the grammar. */
@@ -24,7 +24,7 @@
             line.at = kind === "host" ? fields[1] : null;
             line.channel = packet.slice(0, 8);
             line.packet = fromHex(packet);
-        } else if (kind === "remark") {
+        } else if (kind === "comment") {
             const need = /^# (need|signed) (.*)/.exec(text);
             line.kind = need ? "need" : kind;
             line.says = need ? need[0].slice(2) : text.slice(1).trim();
@@ -100,7 +100,7 @@
 
         add(line) {
             const current = line.kind === "host" || line.kind === "key" ? this.ofPacket(line) : this.latest;
-            if (!current || line.kind === "remark" || line.kind === "count" || line.kind === "empty") {
+            if (!current || line.kind === "comment" || line.kind === "count" || line.kind === "empty") {
                 return;
             }
             line.transaction = current;

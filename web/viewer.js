@@ -6,7 +6,7 @@
     const MOST_BYTES = 32 * 1024 * 1024;
     const MOST_LINES = 500000;
     const CALLER_KINDS = ["presence", "new key", "signature"];
-    const ARROWS = { host: "→", key: "←", caller: "⇠", need: "?", time: "·", remark: "#", fault: "!" };
+    const ARROWS = { host: "→", key: "←", caller: "⇠", need: "?", time: "·", comment: "#", fault: "!" };
     const { readSession, detail, title } = globalThis.hidlogSession;
     const { draw, HEAD } = globalThis.hidlogDrawing;
     const at = (id) => document.getElementById(id);
@@ -40,7 +40,7 @@
         if (CALLER_KINDS.includes(line.kind)) {
             return "caller";
         }
-        return { tick: "time", count: "remark", empty: "remark" }[line.kind] ?? line.kind;
+        return { tick: "time", count: "comment", empty: "comment" }[line.kind] ?? line.kind;
     };
 
     const rowOfLine = (line) => {
@@ -226,7 +226,7 @@
         const rest = state.bytes.subarray(firstLines(state.bytes, outcome.line - 1).length);
         const end = Math.min(rest.indexOf(10) < 0 ? rest.length : rest.indexOf(10), 200);
         return {
-            number: outcome.line, text: decoder.decode(rest.subarray(0, end)), kind: "remark", isFault: true, at: null,
+            number: outcome.line, text: decoder.decode(rest.subarray(0, end)), kind: "comment", isFault: true, at: null,
             channel: null, message: null, transaction: null, says: globalThis.hidlog.faultText(outcome),
             summary: globalThis.hidlog.faultText(outcome),
         };

@@ -45,7 +45,7 @@ static size_t read_file(const char *name, uint8_t *to)
     return size;
 }
 
-/* Runs a command into a buffer with so much room, and says whether the byte behind it was left alone. */
+/* Runs a command into a buffer with so much room, and says whether the byte after it was left alone. */
 static int run(command *it, size_t log_len, size_t snapshot_len, size_t room)
 {
     memset(out, CANARY, sizeof out);
@@ -82,7 +82,7 @@ static void test_small_rooms(void)
 {
     size_t size = read_file("registration.log", log_bytes);
     for (size_t room = 0; room < size; room++) {
-        expect(run(hidlog_replay, size, 0, room), "the byte behind the buffer is left alone");
+        expect(run(hidlog_replay, size, 0, room), "the byte after the buffer is left alone");
         expect(is(HIDLOG_FAULT, HIDLOG_WRITE, 0, 0, room), "a full buffer is the write fault");
         expect(!memcmp(out, log_bytes, room), "the text's beginning was written");
     }

@@ -309,7 +309,7 @@ class Maker:
         return self.one_of(
             b"",
             b"#",
-            b"# a remark",
+            b"# a comment",
             b"#" + self.some_bytes(self.chance.randrange(255)).replace(b"\n", b" "),
             b"#".ljust(255, b"#"),
             b"# need presence",

@@ -14,7 +14,7 @@ RULES = {
     "status": "a log ends with 0, or with 1 where it has a fault",
     "fault": "the fault named is the log's first, in the documented words; without one nothing is said",
     "lines before": "what was written before a fault is what the lines before it make",
-    "lines": "the input lines and remarks are written again",
+    "lines": "the input lines and comments are written again",
     "packets": "at most 130 packets answer an input, and none comes before the first",
     "counts": "the last line has the session's counts, within their bounds",
     "check": "check finds what was replayed the same, and counts it right",

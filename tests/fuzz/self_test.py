@@ -27,7 +27,7 @@ def good_log():
     events += [("k", f"{bytes(32).hex()} {bytes(32).hex()} {bytes(32).hex()}"), ("s", "00")]
     events += packets_of(1, CBOR, bytes([GET]) + encode({1: "a.example", 2: bytes(32)}))
     events += [("p", "granted"), ("s", "01")]
-    lines = [b"# A remark"]
+    lines = [b"# A comment"]
     for number, (kind, *fields) in enumerate(events):
         fields = [it.hex() if kind == ">" else it for it in fields]
         lines.append(" ".join([kind, str(100 * number), *fields]).encode())
@@ -148,7 +148,7 @@ CASES = [
     ("needs", GOOD, "live", 1, replaced(b"# need key\n", b"# need key\n# need key\n")),
     ("needs", GOOD, "live", 1, replaced(b"# need presence", b"# need patience")),
     ("needs", GOOD, "live", 1, replaced(b"# need signature 0", b"# need signature ")),
-    ("needs", GOOD, "live", 1, replaced(b"# A remark\n", b"# A remark\n# need nothing\n")),
+    ("needs", GOOD, "live", 1, replaced(b"# A comment\n", b"# A comment\n# need nothing\n")),
     ("live again", GOOD, "replay", 4, without_line(b"# need")),
     ("live again", GOOD, "live", 2, without_line(b"# need")),
     ("show", GOOD, "show", 1, without_line(b"2 > ")),

@@ -2,7 +2,7 @@
 """Runs a page of tests in a browser: serve.py FOLDER PAGE BROWSER WORD..
 
 Serves the repository's files on 127.0.0.1 alone, with the relying party under /rp/, starts the browser with the page's
-address behind the words, and waits for what the page posts to /done. Logs that the page recorded are written to FOLDER.
+address after the words, and waits for what the page posts to /done. Logs that the page recorded are written to FOLDER.
 It ends with 0 where all tests of the page passed.
 """
 

@@ -152,9 +152,9 @@ all_new h rows id (t ∷ ts) e b =
         absurd (omega arith)
 
 -- The step: the texts of a longer history.
-one_text : (h : List Mark) (rows rows' : List Row) (m : Mark) (before behind : Option Job) (ts : List Text) →
-    rows' ≡ marked m rows → no_two same_id rows ≡ true → RisesTo rows before rows' behind → AllBounded h rows ts → all_differ ts ≡ true →
-    AllBounded (m ∷ h) rows' (option_to_list (text_of h (raised_by before behind) behind) ++ ts) × (all_differ (option_to_list (text_of h (raised_by before behind) behind) ++ ts) ≡ true)
+one_text : (h : List Mark) (rows rows' : List Row) (m : Mark) (before now : Option Job) (ts : List Text) →
+    rows' ≡ marked m rows → no_two same_id rows ≡ true → RisesTo rows before rows' now → AllBounded h rows ts → all_differ ts ≡ true →
+    AllBounded (m ∷ h) rows' (option_to_list (text_of h (raised_by before now) now) ++ ts) × (all_differ (option_to_list (text_of h (raised_by before now) now) ++ ts) ≡ true)
 one_text h rows rows' m before None ts e l r b d =
     let P : List Row → Type 0 = λ x. AllBounded (m ∷ h) x ts in (subst P (sym e) (all_more_bounded h rows m ts b), d)
 one_text h rows rows' m before (Some w) ts e l r b d = go (task_raises before w.task) refl

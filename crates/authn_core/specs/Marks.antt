@@ -92,7 +92,7 @@ raised_by before None = None
 raised_by before (Some w) = task_raises before w.task
 
 abbrev pub mark : Option Job → Event → Option Job → Mark
-mark before e behind = record { made = made_by before e; raises = raised_by before behind; resets = is_reset before e }
+mark before e now = record { made = made_by before e; raises = raised_by before now; resets = is_reset before e }
 
 -- A history of events with their moments, newest first.
 pub record Step : Type 0 where

@@ -63,6 +63,7 @@ abbrev pub answers : List Row → Option Waiting → List ℕ → Turned
 answers rows pending bytes =
     record { state = record { rows = rows; pending = pending; work = None }; answer = Answered bytes }
 
+-- An answer that is a status alone: a refusal, or OK.
 abbrev pub refuses : List Row → Option Waiting → ℕ → Turned
 refuses rows pending code = answers rows pending (refusal code)
 

@@ -13,8 +13,8 @@ none_before clash [] row after h = refl
 none_before clash (r ∷ rows) row after h =
     let h2 = and_parts (not (list_any (clash r) (rows ++ row ∷ after))) (no_two clash (rows ++ row ∷ after)) h in
     let none = sym (list_any-append (clash r) rows (row ∷ after)) ∙ not-true (list_any (clash r) (rows ++ row ∷ after)) h2.0 in
-    let behind = (or_parts (list_any (clash r) rows) (clash r row || list_any (clash r) after) none).1 in
-    or_from (clash r row) (list_any (λ r. clash r row) rows) (or_parts (clash r row) (list_any (clash r) after) behind).0 (none_before clash rows row after h2.1)
+    let beyond = (or_parts (list_any (clash r) rows) (clash r row || list_any (clash r) after) none).1 in
+    or_from (clash r row) (list_any (λ r. clash r row) rows) (or_parts (clash r row) (list_any (clash r) after) beyond).0 (none_before clash rows row after h2.1)
 
 any_same : (p q : Row → Bool) → ((r : Row) → p r ≡ q r) → (rows : List Row) → list_any p rows ≡ list_any q rows
 any_same p q h [] = refl

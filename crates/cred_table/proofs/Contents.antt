@@ -142,12 +142,12 @@ record Behind (named : Bool) (rows : List Row) (entries : Trees) (rest : List �
   lawful : AreLawful others
   spelled : rest ≡ texts others
 
-behind_rows : (apart : Apart) → (named : Bool) (rows : List Row) (entries : Trees) (rest : List ℕ) → AllByRecursion (IsRow named) rows → AreLawful entries → length rows ≤ count entries → texts entries ≡ rows_text named rows ++ rest → Behind named rows entries rest
-behind_rows apart named [] entries rest typed lawful few e = record { others = entries; is = refl; lawful = lawful; spelled = sym e }
-behind_rows apart named (row ∷ rows) no_trees rest typed lawful few e = absurd (omega arith)
-behind_rows apart named (row ∷ rows) (tree t ts) rest typed lawful few e =
+after_rows : (apart : Apart) → (named : Bool) (rows : List Row) (entries : Trees) (rest : List ℕ) → AllByRecursion (IsRow named) rows → AreLawful entries → length rows ≤ count entries → texts entries ≡ rows_text named rows ++ rest → Behind named rows entries rest
+after_rows apart named [] entries rest typed lawful few e = record { others = entries; is = refl; lawful = lawful; spelled = sym e }
+after_rows apart named (row ∷ rows) no_trees rest typed lawful few e = absurd (omega arith)
+after_rows apart named (row ∷ rows) (tree t ts) rest typed lawful few e =
     let same = trees_same apart.trees t (row_tree named row) (texts ts) (rows_text named rows ++ rest) lawful.0 (row_lawful named row typed.0) (e ∙ append_assoc (row_text named row) (rows_text named rows) rest) in
-    let b = behind_rows apart named rows ts rest typed.1 lawful.1 (omega arith) same.1 in
+    let b = after_rows apart named rows ts rest typed.1 lawful.1 (omega arith) same.1 in
     record {
       others = b.others;
       is = ap (λ x. tree x ts) same.0 ∙ ap (tree (row_tree named row)) b.is;
@@ -174,7 +174,7 @@ one_left (tree t ts) lt = record { entry = t; after = ts; is = refl }
 
 all_load : (apart : Apart) → (named : Bool) (room n : ℕ) (b : List ℕ) (a c : Reading) (rows : List Row) → Lawful room rows → HasEntries named n b (rest_of a) → TakesRows named n a c rows → IsSnapshot named room rows b
 all_load apart named room n b a c rows lawful h k =
-    let d = behind_rows apart named rows h.entries (rest_of c) k.typed h.lawful (omega (arith, h.number, k.number)) (sym h.spelled ∙ k.spelled) in
+    let d = after_rows apart named rows h.entries (rest_of c) k.typed h.lawful (omega (arith, h.number, k.number)) (sym h.spelled ∙ k.spelled) in
     let none = none_left d.others (omega (arith, ap count d.is, count_then named rows d.others, h.number, k.number)) in
     record {
       typed = k.typed;
@@ -184,7 +184,7 @@ all_load apart named room n b a c rows lawful h k =
 
 broken_at : (apart : Apart) → (named : Bool) (room n place : ℕ) (b : List ℕ) (a : Reading) → HasEntries named n b (rest_of a) → n ≤ room → BreaksOff named room n place a → Refuses room b (RowBroken place)
 broken_at apart named room n place b a h few k =
-    let d = behind_rows apart named k.rows h.entries (rest_of k.between) k.takes.typed h.lawful (omega (arith, h.number, k.takes.number, k.fewer)) (sym h.spelled ∙ k.takes.spelled) in
+    let d = after_rows apart named k.rows h.entries (rest_of k.between) k.takes.typed h.lawful (omega (arith, h.number, k.takes.number, k.fewer)) (sym h.spelled ∙ k.takes.spelled) in
     let l = one_left d.others (omega (arith, ap count d.is, count_then named k.rows d.others, h.number, k.takes.number, k.fewer)) in (
       named,
       h.entries,

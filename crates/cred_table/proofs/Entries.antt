@@ -40,100 +40,100 @@ abbrev pub number_part : ℕ → Part
 number_part n = One (Int (pos n))
 
 -- what stands after each member
-abbrev pub behind_counter : Bool → Row → List ℕ → List ℕ
-behind_counter named row rest = name_text named row.name.bytes ++ rest
+abbrev pub beyond_counter : Bool → Row → List ℕ → List ℕ
+beyond_counter named row rest = name_text named row.name.bytes ++ rest
 
-abbrev pub behind_flag : Bool → Row → List ℕ → List ℕ
-behind_flag named row rest = member_text 7 (number_part row.counter) ++ behind_counter named row rest
+abbrev pub beyond_flag : Bool → Row → List ℕ → List ℕ
+beyond_flag named row rest = member_text 7 (number_part row.counter) ++ beyond_counter named row rest
 
-abbrev pub behind_user : Bool → Row → List ℕ → List ℕ
-behind_user named row rest = member_text 6 (flag_part row.discoverable) ++ behind_flag named row rest
+abbrev pub after_user : Bool → Row → List ℕ → List ℕ
+after_user named row rest = member_text 6 (flag_part row.discoverable) ++ beyond_flag named row rest
 
-abbrev pub behind_y : Bool → Row → List ℕ → List ℕ
-behind_y named row rest = member_text 5 (bytes_part row.user.items) ++ behind_user named row rest
+abbrev pub beyond_y : Bool → Row → List ℕ → List ℕ
+beyond_y named row rest = member_text 5 (bytes_part row.user.items) ++ after_user named row rest
 
-abbrev pub behind_x : Bool → Row → List ℕ → List ℕ
-behind_x named row rest = member_text 4 (bytes_part row.y) ++ behind_y named row rest
+abbrev pub beyond_x : Bool → Row → List ℕ → List ℕ
+beyond_x named row rest = member_text 4 (bytes_part row.y) ++ beyond_y named row rest
 
-abbrev pub behind_id : Bool → Row → List ℕ → List ℕ
-behind_id named row rest = member_text 3 (bytes_part row.x) ++ behind_x named row rest
+abbrev pub beyond_id : Bool → Row → List ℕ → List ℕ
+beyond_id named row rest = member_text 3 (bytes_part row.x) ++ beyond_x named row rest
 
-abbrev pub behind_rp : Bool → Row → List ℕ → List ℕ
-behind_rp named row rest = member_text 2 (bytes_part row.id) ++ behind_id named row rest
+abbrev pub beyond_rp : Bool → Row → List ℕ → List ℕ
+beyond_rp named row rest = member_text 2 (bytes_part row.id) ++ beyond_id named row rest
 
-abbrev pub behind_head : Bool → Row → List ℕ → List ℕ
-behind_head named row rest = member_text 1 (bytes_part row.rp) ++ behind_rp named row rest
+abbrev pub beyond_head : Bool → Row → List ℕ → List ℕ
+beyond_head named row rest = member_text 1 (bytes_part row.rp) ++ beyond_rp named row rest
 
-row_front : (named : Bool) (row : Row) (rest : List ℕ) → row_text named row ++ rest ≡ head 5 (members_of named) ++ behind_head named row rest
+row_front : (named : Bool) (row : Row) (rest : List ℕ) → row_text named row ++ rest ≡ head 5 (members_of named) ++ beyond_head named row rest
 row_front true row rest = simp append_assoc refl
 row_front false row rest = simp append_assoc refl
 
 abbrev pub RowStands : Bool → Reading → Reading → (Bool → Row → List ℕ → List ℕ) → Type 0
 RowStands named start here tail = Stands (IsRow named) (row_text named) start here (tail named)
 
-begun : {named : Bool} {a : Reading} → RowStands named a a (λ named row rest. head 5 (members_of named) ++ behind_head named row rest)
+begun : {named : Bool} {a : Reading} → RowStands named a a (λ named row rest. head 5 (members_of named) ++ beyond_head named row rest)
 begun {named} = record { stands = λ row rest is e. e ∙ row_front named row rest }
 
 -- the head, by the number of members
 abbrev pub HeadRead : ℕ → Reading → Reading → Option (Unit {0}) → Type 0
 HeadRead n a b r = Reads {V = Unit {0}} (λ _. ⊤) (λ _. head 5 n) a b r
 
-pub head_then : {named : Bool} {n : ℕ} {a b : Reading} → n ≡ members_of named → HeadRead n a b (Some tt) → RowStands named a b behind_head
-head_then {named} e r = next {W = Unit {0}} (λ _. ⊤) (λ _. head 5 (members_of named)) (λ _. tt) (behind_head named) (λ v is. tt) begun (rw e at r)
+pub head_then : {named : Bool} {n : ℕ} {a b : Reading} → n ≡ members_of named → HeadRead n a b (Some tt) → RowStands named a b beyond_head
+head_then {named} e r = next {W = Unit {0}} (λ _. ⊤) (λ _. head 5 (members_of named)) (λ _. tt) (beyond_head named) (λ v is. tt) begun (rw e at r)
 
 pub no_head : {named : Bool} {n : ℕ} {a b : Reading} → n ≡ members_of named → HeadRead n a b None → Reads (IsRow named) (row_text named) a b None
-no_head {named} e r = missed {W = Unit {0}} (λ _. ⊤) (λ _. head 5 (members_of named)) (λ _. tt) (behind_head named) (λ v is. tt) begun (rw e at r)
+no_head {named} e r = missed {W = Unit {0}} (λ _. ⊤) (λ _. head 5 (members_of named)) (λ _. tt) (beyond_head named) (λ v is. tt) begun (rw e at r)
 
-pub rp_then : {named : Bool} {start a b : Reading} {w : List ℕ} → RowStands named start a behind_head → ReadsMember {W = List ℕ} IsHash bytes_part 1 a b (Some w) → RowStands named start b behind_rp
-rp_then {named} s r = next {W = List ℕ} IsHash (λ w. member_text 1 (bytes_part w)) (λ row. row.rp) (behind_rp named) (λ row is. is.rp) s r
+pub rp_then : {named : Bool} {start a b : Reading} {w : List ℕ} → RowStands named start a beyond_head → ReadsMember {W = List ℕ} IsHash bytes_part 1 a b (Some w) → RowStands named start b beyond_rp
+rp_then {named} s r = next {W = List ℕ} IsHash (λ w. member_text 1 (bytes_part w)) (λ row. row.rp) (beyond_rp named) (λ row is. is.rp) s r
 
-pub no_rp : {named : Bool} {start a b : Reading} → RowStands named start a behind_head → ReadsMember {W = List ℕ} IsHash bytes_part 1 a b None → Reads (IsRow named) (row_text named) start b None
-no_rp {named} s r = missed {W = List ℕ} IsHash (λ w. member_text 1 (bytes_part w)) (λ row. row.rp) (behind_rp named) (λ row is. is.rp) s r
+pub no_rp : {named : Bool} {start a b : Reading} → RowStands named start a beyond_head → ReadsMember {W = List ℕ} IsHash bytes_part 1 a b None → Reads (IsRow named) (row_text named) start b None
+no_rp {named} s r = missed {W = List ℕ} IsHash (λ w. member_text 1 (bytes_part w)) (λ row. row.rp) (beyond_rp named) (λ row is. is.rp) s r
 
-pub id_then : {named : Bool} {start a b : Reading} {w : List ℕ} → RowStands named start a behind_rp → ReadsMember {W = List ℕ} IsHash bytes_part 2 a b (Some w) → RowStands named start b behind_id
-id_then {named} s r = next {W = List ℕ} IsHash (λ w. member_text 2 (bytes_part w)) (λ row. row.id) (behind_id named) (λ row is. is.id) s r
+pub id_then : {named : Bool} {start a b : Reading} {w : List ℕ} → RowStands named start a beyond_rp → ReadsMember {W = List ℕ} IsHash bytes_part 2 a b (Some w) → RowStands named start b beyond_id
+id_then {named} s r = next {W = List ℕ} IsHash (λ w. member_text 2 (bytes_part w)) (λ row. row.id) (beyond_id named) (λ row is. is.id) s r
 
-pub no_id : {named : Bool} {start a b : Reading} → RowStands named start a behind_rp → ReadsMember {W = List ℕ} IsHash bytes_part 2 a b None → Reads (IsRow named) (row_text named) start b None
-no_id {named} s r = missed {W = List ℕ} IsHash (λ w. member_text 2 (bytes_part w)) (λ row. row.id) (behind_id named) (λ row is. is.id) s r
+pub no_id : {named : Bool} {start a b : Reading} → RowStands named start a beyond_rp → ReadsMember {W = List ℕ} IsHash bytes_part 2 a b None → Reads (IsRow named) (row_text named) start b None
+no_id {named} s r = missed {W = List ℕ} IsHash (λ w. member_text 2 (bytes_part w)) (λ row. row.id) (beyond_id named) (λ row is. is.id) s r
 
-pub x_then : {named : Bool} {start a b : Reading} {w : List ℕ} → RowStands named start a behind_id → ReadsMember {W = List ℕ} IsHash bytes_part 3 a b (Some w) → RowStands named start b behind_x
-x_then {named} s r = next {W = List ℕ} IsHash (λ w. member_text 3 (bytes_part w)) (λ row. row.x) (behind_x named) (λ row is. is.x) s r
+pub x_then : {named : Bool} {start a b : Reading} {w : List ℕ} → RowStands named start a beyond_id → ReadsMember {W = List ℕ} IsHash bytes_part 3 a b (Some w) → RowStands named start b beyond_x
+x_then {named} s r = next {W = List ℕ} IsHash (λ w. member_text 3 (bytes_part w)) (λ row. row.x) (beyond_x named) (λ row is. is.x) s r
 
-pub no_x : {named : Bool} {start a b : Reading} → RowStands named start a behind_id → ReadsMember {W = List ℕ} IsHash bytes_part 3 a b None → Reads (IsRow named) (row_text named) start b None
-no_x {named} s r = missed {W = List ℕ} IsHash (λ w. member_text 3 (bytes_part w)) (λ row. row.x) (behind_x named) (λ row is. is.x) s r
+pub no_x : {named : Bool} {start a b : Reading} → RowStands named start a beyond_id → ReadsMember {W = List ℕ} IsHash bytes_part 3 a b None → Reads (IsRow named) (row_text named) start b None
+no_x {named} s r = missed {W = List ℕ} IsHash (λ w. member_text 3 (bytes_part w)) (λ row. row.x) (beyond_x named) (λ row is. is.x) s r
 
-pub y_then : {named : Bool} {start a b : Reading} {w : List ℕ} → RowStands named start a behind_x → ReadsMember {W = List ℕ} IsHash bytes_part 4 a b (Some w) → RowStands named start b behind_y
-y_then {named} s r = next {W = List ℕ} IsHash (λ w. member_text 4 (bytes_part w)) (λ row. row.y) (behind_y named) (λ row is. is.y) s r
+pub y_then : {named : Bool} {start a b : Reading} {w : List ℕ} → RowStands named start a beyond_x → ReadsMember {W = List ℕ} IsHash bytes_part 4 a b (Some w) → RowStands named start b beyond_y
+y_then {named} s r = next {W = List ℕ} IsHash (λ w. member_text 4 (bytes_part w)) (λ row. row.y) (beyond_y named) (λ row is. is.y) s r
 
-pub no_y : {named : Bool} {start a b : Reading} → RowStands named start a behind_x → ReadsMember {W = List ℕ} IsHash bytes_part 4 a b None → Reads (IsRow named) (row_text named) start b None
-no_y {named} s r = missed {W = List ℕ} IsHash (λ w. member_text 4 (bytes_part w)) (λ row. row.y) (behind_y named) (λ row is. is.y) s r
+pub no_y : {named : Bool} {start a b : Reading} → RowStands named start a beyond_x → ReadsMember {W = List ℕ} IsHash bytes_part 4 a b None → Reads (IsRow named) (row_text named) start b None
+no_y {named} s r = missed {W = List ℕ} IsHash (λ w. member_text 4 (bytes_part w)) (λ row. row.y) (beyond_y named) (λ row is. is.y) s r
 
-pub user_then : {named : Bool} {start a b : Reading} {w : List ℕ} → RowStands named start a behind_y → ReadsMember {W = List ℕ} IsShort bytes_part 5 a b (Some w) → RowStands named start b behind_user
-user_then {named} s r = next {W = List ℕ} IsShort (λ w. member_text 5 (bytes_part w)) (λ row. row.user.items) (behind_user named) (λ row is. is.user) s r
+pub user_then : {named : Bool} {start a b : Reading} {w : List ℕ} → RowStands named start a beyond_y → ReadsMember {W = List ℕ} IsShort bytes_part 5 a b (Some w) → RowStands named start b after_user
+user_then {named} s r = next {W = List ℕ} IsShort (λ w. member_text 5 (bytes_part w)) (λ row. row.user.items) (after_user named) (λ row is. is.user) s r
 
-pub no_user : {named : Bool} {start a b : Reading} → RowStands named start a behind_y → ReadsMember {W = List ℕ} IsShort bytes_part 5 a b None → Reads (IsRow named) (row_text named) start b None
-no_user {named} s r = missed {W = List ℕ} IsShort (λ w. member_text 5 (bytes_part w)) (λ row. row.user.items) (behind_user named) (λ row is. is.user) s r
+pub no_user : {named : Bool} {start a b : Reading} → RowStands named start a beyond_y → ReadsMember {W = List ℕ} IsShort bytes_part 5 a b None → Reads (IsRow named) (row_text named) start b None
+no_user {named} s r = missed {W = List ℕ} IsShort (λ w. member_text 5 (bytes_part w)) (λ row. row.user.items) (after_user named) (λ row is. is.user) s r
 
-pub flag_then : {named : Bool} {start a b : Reading} {w : Bool} → RowStands named start a behind_user → ReadsMember {W = Bool} (λ _. ⊤) flag_part 6 a b (Some w) → RowStands named start b behind_flag
-flag_then {named} s r = next {W = Bool} (λ _. ⊤) (λ w. member_text 6 (flag_part w)) (λ row. row.discoverable) (behind_flag named) (λ row is. tt) s r
+pub flag_then : {named : Bool} {start a b : Reading} {w : Bool} → RowStands named start a after_user → ReadsMember {W = Bool} (λ _. ⊤) flag_part 6 a b (Some w) → RowStands named start b beyond_flag
+flag_then {named} s r = next {W = Bool} (λ _. ⊤) (λ w. member_text 6 (flag_part w)) (λ row. row.discoverable) (beyond_flag named) (λ row is. tt) s r
 
-pub no_flag : {named : Bool} {start a b : Reading} → RowStands named start a behind_user → ReadsMember {W = Bool} (λ _. ⊤) flag_part 6 a b None → Reads (IsRow named) (row_text named) start b None
-no_flag {named} s r = missed {W = Bool} (λ _. ⊤) (λ w. member_text 6 (flag_part w)) (λ row. row.discoverable) (behind_flag named) (λ row is. tt) s r
+pub no_flag : {named : Bool} {start a b : Reading} → RowStands named start a after_user → ReadsMember {W = Bool} (λ _. ⊤) flag_part 6 a b None → Reads (IsRow named) (row_text named) start b None
+no_flag {named} s r = missed {W = Bool} (λ _. ⊤) (λ w. member_text 6 (flag_part w)) (λ row. row.discoverable) (beyond_flag named) (λ row is. tt) s r
 
-pub counter_then : {named : Bool} {start a b : Reading} {w : ℕ} → RowStands named start a behind_flag → ReadsMember {W = ℕ} (λ n. n < 2 ^ 32) number_part 7 a b (Some w) → RowStands named start b behind_counter
-counter_then {named} s r = next {W = ℕ} (λ n. n < 2 ^ 32) (λ w. member_text 7 (number_part w)) (λ row. row.counter) (behind_counter named) (λ row is. is.counter) s r
+pub counter_then : {named : Bool} {start a b : Reading} {w : ℕ} → RowStands named start a beyond_flag → ReadsMember {W = ℕ} (λ n. n < 2 ^ 32) number_part 7 a b (Some w) → RowStands named start b beyond_counter
+counter_then {named} s r = next {W = ℕ} (λ n. n < 2 ^ 32) (λ w. member_text 7 (number_part w)) (λ row. row.counter) (beyond_counter named) (λ row is. is.counter) s r
 
-pub no_counter : {named : Bool} {start a b : Reading} → RowStands named start a behind_flag → ReadsMember {W = ℕ} (λ n. n < 2 ^ 32) number_part 7 a b None → Reads (IsRow named) (row_text named) start b None
-no_counter {named} s r = missed {W = ℕ} (λ n. n < 2 ^ 32) (λ w. member_text 7 (number_part w)) (λ row. row.counter) (behind_counter named) (λ row is. is.counter) s r
+pub no_counter : {named : Bool} {start a b : Reading} → RowStands named start a beyond_flag → ReadsMember {W = ℕ} (λ n. n < 2 ^ 32) number_part 7 a b None → Reads (IsRow named) (row_text named) start b None
+no_counter {named} s r = missed {W = ℕ} (λ n. n < 2 ^ 32) (λ w. member_text 7 (number_part w)) (λ row. row.counter) (beyond_counter named) (λ row is. is.counter) s r
 
-abbrev behind_name : Bool → Row → List ℕ → List ℕ
-behind_name named row rest = rest
+abbrev beyond_name : Bool → Row → List ℕ → List ℕ
+beyond_name named row rest = rest
 
-name_then : {named : Bool} {start a b : Reading} {w : List ℕ} → RowStands named start a behind_counter → Reads (IsName named) (name_text named) a b (Some w) → RowStands named start b behind_name
-name_then {named} s r = next {W = List ℕ} (IsName named) (name_text named) (λ row. row.name.bytes) (behind_name named) (λ row is. is.name) s r
+name_then : {named : Bool} {start a b : Reading} {w : List ℕ} → RowStands named start a beyond_counter → Reads (IsName named) (name_text named) a b (Some w) → RowStands named start b beyond_name
+name_then {named} s r = next {W = List ℕ} (IsName named) (name_text named) (λ row. row.name.bytes) (beyond_name named) (λ row is. is.name) s r
 
-pub no_name : {named : Bool} {start a b : Reading} → RowStands named start a behind_counter → Reads (IsName named) (name_text named) a b None → Reads (IsRow named) (row_text named) start b None
-no_name {named} s r = missed {W = List ℕ} (IsName named) (name_text named) (λ row. row.name.bytes) (behind_name named) (λ row is. is.name) s r
+pub no_name : {named : Bool} {start a b : Reading} → RowStands named start a beyond_counter → Reads (IsName named) (name_text named) a b None → Reads (IsRow named) (row_text named) start b None
+no_name {named} s r = missed {W = List ℕ} (IsName named) (name_text named) (λ row. row.name.bytes) (beyond_name named) (λ row is. is.name) s r
 
 -- all parts were read, and made into a row
 pub row_read : {named : Bool} {n : ℕ} {c0 c1 c2 c3 c4 c5 c6 c7 c8 c9 : Reading} (row : Row) → n ≡ members_of named →
@@ -145,7 +145,7 @@ pub row_read : {named : Bool} {n : ℕ} {c0 c1 c2 c3 c4 c5 c6 c7 c8 c9 : Reading
 row_read {named} {n} {c0} {c1} {c2} {c3} {c4} {c5} {c6} {c7} {c8} {c9} row e h rp id x y user flag counter name =
     let stands = name_then (counter_then (flag_then (user_then (y_then (x_then (id_then (rp_then (head_then e h) rp) id) x) y) user) flag) counter) name in
     let T = λ (k : ℕ) (p : Part) (r : List ℕ). member_text k p ++ r in
-    let spelled : rest_of c0 ≡ head 5 (members_of named) ++ behind_head named row (rest_of c9) =
+    let spelled : rest_of c0 ≡ head 5 (members_of named) ++ beyond_head named row (rest_of c9) =
     h.took.1 ∙ ap (λ k. head 5 k ++ rest_of c1) e ∙ ap (λ r. head 5 (members_of named) ++ r)
     (rp.took.1 ∙ ap (T 1 (bytes_part row.rp)) (id.took.1 ∙ ap (T 2 (bytes_part row.id)) (x.took.1 ∙ ap (T 3 (bytes_part row.x)) (y.took.1 ∙ ap (T 4 (bytes_part row.y))
     (user.took.1 ∙ ap (T 5 (bytes_part row.user.items)) (flag.took.1 ∙ ap (T 6 (flag_part row.discoverable)) (counter.took.1 ∙ ap (T 7 (number_part row.counter)) name.took.1))))))) in
@@ -159,40 +159,40 @@ row_read {named} {n} {c0} {c1} {c2} {c3} {c4} {c5} {c6} {c7} {c8} {c9} row e h r
 abbrev pub IsHeads : Bool × ℕ → Type 0
 IsHeads h = h.1 < 2 ^ 64
 
-abbrev pub behind_version : Bool × ℕ → List ℕ → List ℕ
-behind_version h rest = member_text 2 (OpensArray h.1) ++ rest
+abbrev pub beyond_version : Bool × ℕ → List ℕ → List ℕ
+beyond_version h rest = member_text 2 (OpensArray h.1) ++ rest
 
-abbrev pub behind_map : Bool × ℕ → List ℕ → List ℕ
-behind_map h rest = member_text 1 (number_part (version h.0)) ++ behind_version h rest
+abbrev pub beyond_map : Bool × ℕ → List ℕ → List ℕ
+beyond_map h rest = member_text 1 (number_part (version h.0)) ++ beyond_version h rest
 
 abbrev pub HeadsStand : Reading → Reading → (Bool × ℕ → List ℕ → List ℕ) → Type 0
 HeadsStand start here tail = Stands IsHeads heads_text start here tail
 
-heads_front : (h : Bool × ℕ) (rest : List ℕ) → heads_text h ++ rest ≡ head 5 2 ++ behind_map h rest
+heads_front : (h : Bool × ℕ) (rest : List ℕ) → heads_text h ++ rest ≡ head 5 2 ++ beyond_map h rest
 heads_front h rest = simp append_assoc refl
 
-heads_begun : {a : Reading} → HeadsStand a a (λ h rest. head 5 2 ++ behind_map h rest)
+heads_begun : {a : Reading} → HeadsStand a a (λ h rest. head 5 2 ++ beyond_map h rest)
 heads_begun = record { stands = λ h rest is e. e ∙ heads_front h rest }
 
-pub map_then : {a b : Reading} → HeadRead 2 a b (Some tt) → HeadsStand a b behind_map
-map_then r = next {W = Unit {0}} (λ _. ⊤) (λ _. head 5 2) (λ _. tt) behind_map (λ v is. tt) heads_begun r
+pub map_then : {a b : Reading} → HeadRead 2 a b (Some tt) → HeadsStand a b beyond_map
+map_then r = next {W = Unit {0}} (λ _. ⊤) (λ _. head 5 2) (λ _. tt) beyond_map (λ v is. tt) heads_begun r
 
 pub no_map : {a b : Reading} → HeadRead 2 a b None → Reads IsHeads heads_text a b None
-no_map r = missed {W = Unit {0}} (λ _. ⊤) (λ _. head 5 2) (λ _. tt) behind_map (λ v is. tt) heads_begun r
+no_map r = missed {W = Unit {0}} (λ _. ⊤) (λ _. head 5 2) (λ _. tt) beyond_map (λ v is. tt) heads_begun r
 
 abbrev pub version_part : Bool → Part
 version_part named = number_part (version named)
 
-pub version_then : {start a b : Reading} {w : Bool} → HeadsStand start a behind_map → ReadsMember {W = Bool} (λ _. ⊤) version_part 1 a b (Some w) → HeadsStand start b behind_version
-version_then s r = next {W = Bool} (λ _. ⊤) (λ w. member_text 1 (version_part w)) (λ h. h.0) behind_version (λ h is. tt) s r
+pub version_then : {start a b : Reading} {w : Bool} → HeadsStand start a beyond_map → ReadsMember {W = Bool} (λ _. ⊤) version_part 1 a b (Some w) → HeadsStand start b beyond_version
+version_then s r = next {W = Bool} (λ _. ⊤) (λ w. member_text 1 (version_part w)) (λ h. h.0) beyond_version (λ h is. tt) s r
 
-pub no_version : {start a b : Reading} → HeadsStand start a behind_map → ReadsMember {W = Bool} (λ _. ⊤) version_part 1 a b None → Reads IsHeads heads_text start b None
-no_version s r = missed {W = Bool} (λ _. ⊤) (λ w. member_text 1 (version_part w)) (λ h. h.0) behind_version (λ h is. tt) s r
+pub no_version : {start a b : Reading} → HeadsStand start a beyond_map → ReadsMember {W = Bool} (λ _. ⊤) version_part 1 a b None → Reads IsHeads heads_text start b None
+no_version s r = missed {W = Bool} (λ _. ⊤) (λ w. member_text 1 (version_part w)) (λ h. h.0) beyond_version (λ h is. tt) s r
 
-count_then : {start a b : Reading} {w : ℕ} → HeadsStand start a behind_version → ReadsMember {W = ℕ} (λ n. n < 2 ^ 64) OpensArray 2 a b (Some w) → HeadsStand start b (λ h rest. rest)
+count_then : {start a b : Reading} {w : ℕ} → HeadsStand start a beyond_version → ReadsMember {W = ℕ} (λ n. n < 2 ^ 64) OpensArray 2 a b (Some w) → HeadsStand start b (λ h rest. rest)
 count_then s r = next {W = ℕ} (λ n. n < 2 ^ 64) (λ w. member_text 2 (OpensArray w)) (λ h. h.1) (λ h rest. rest) (λ h is. is) s r
 
-pub no_count : {start a b : Reading} → HeadsStand start a behind_version → ReadsMember {W = ℕ} (λ n. n < 2 ^ 64) OpensArray 2 a b None → Reads IsHeads heads_text start b None
+pub no_count : {start a b : Reading} → HeadsStand start a beyond_version → ReadsMember {W = ℕ} (λ n. n < 2 ^ 64) OpensArray 2 a b None → Reads IsHeads heads_text start b None
 no_count s r = missed {W = ℕ} (λ n. n < 2 ^ 64) (λ w. member_text 2 (OpensArray w)) (λ h. h.1) (λ h rest. rest) (λ h is. is) s r
 
 pub heads_read : {c0 c1 c2 c3 : Reading} (named : Bool) (count : ℕ) → HeadRead 2 c0 c1 (Some tt) → ReadsMember {W = Bool} (λ _. ⊤) version_part 1 c1 c2 (Some named) → ReadsMember {W = ℕ} (λ n. n < 2 ^ 64) OpensArray 2 c2 c3 (Some count) →

@@ -10,7 +10,7 @@ use Rattle.cred_table.specs.declared.fault.SnapshotFault.TheVariants.{NotSnapsho
 use Rattle.cred_table.specs.Rows.{has_id, replaces, Lawful}
 use Rattle.cred_table.specs.Snapshots.{number, version, IsRow, row_tree, rows_then, snapshot_of, Holds, clashes, FirstBroken}
 use Rattle.cred_table.specs.Laws.{SameRows, SnapshotsAreOne, RefusedIsNone, OneRefusal}
-use Rattle.cred_table.proofs.RowTrees.{pairs_in, first_of_pairs, behind_first, bytes_in, flag_in}
+use Rattle.cred_table.proofs.RowTrees.{pairs_in, first_of_pairs, beyond_first, bytes_in, flag_in}
 use Rattle.ctap_cbor.specs.Laws.{NoneBeginsAnother}
 use Rattle.cred_table.proofs.Contents.{trees_same, count_then}
 use Rattle.cred_table.proofs.Clashing.{free_before}
@@ -34,7 +34,7 @@ pub holds_same : (none : NoneBeginsAnother) → (named other : Bool) (es fs : Tr
 holds_same none named other es fs text p q =
     let same = (trees_same none (snapshot_of named es) (snapshot_of other fs) [] [] p.enc.lawful q.enc.lawful (ap (λ x. x ++ []) (sym p.enc.spelled ∙ q.enc.spelled))).0 in (
       version_same named other (ap (λ t. number_in (first_of_pairs (pairs_in t))) same),
-      ap (λ t. entries_in (first_of_pairs (behind_first (pairs_in t)))) same,
+      ap (λ t. entries_in (first_of_pairs (beyond_first (pairs_in t)))) same,
     )
 
 abbrev first_in : Trees → Tree
@@ -110,9 +110,9 @@ any_told named p q h (r ∷ rows) = rw (h r, any_told named p q h rows) refl
 -- a row clashes alike with rows of the same trees
 clashes_alike : (named : Bool) (row : Row) (rows others : List Row) → rows_then named rows no_trees ≡ rows_then named others no_trees → clashes row rows ≡ clashes row others
 clashes_alike named row rows others e =
-    let by_id = λ (t : Tree). bytes_eq (bytes_in (first_of_pairs (behind_first (pairs_in t)))) row.id in
-    let fourth = λ (t : Tree). behind_first (behind_first (behind_first (behind_first (pairs_in t)))) in
-    let by_user = λ (t : Tree). row.discoverable && ((flag_in (first_of_pairs (behind_first (fourth t))) && bytes_eq (bytes_in (first_of_pairs (pairs_in t))) row.rp) && bytes_eq (bytes_in (first_of_pairs (fourth t))) row.user.items) in
+    let by_id = λ (t : Tree). bytes_eq (bytes_in (first_of_pairs (beyond_first (pairs_in t)))) row.id in
+    let fourth = λ (t : Tree). beyond_first (beyond_first (beyond_first (beyond_first (pairs_in t)))) in
+    let by_user = λ (t : Tree). row.discoverable && ((flag_in (first_of_pairs (beyond_first (fourth t))) && bytes_eq (bytes_in (first_of_pairs (pairs_in t))) row.rp) && bytes_eq (bytes_in (first_of_pairs (fourth t))) row.user.items) in
     let ids : list_any (has_id row.id) rows ≡ list_any (has_id row.id) others = any_told named (has_id row.id) by_id (λ r. refl) rows ∙ ap (any_in by_id) e ∙ sym (any_told named (has_id row.id) by_id (λ r. refl) others) in
     let users : list_any (replaces row) rows ≡ list_any (replaces row) others = any_told named (replaces row) by_user (λ r. refl) rows ∙ ap (any_in by_user) e ∙ sym (any_told named (replaces row) by_user (λ r. refl) others) in
     ap (λ b. b || list_any (replaces row) rows) ids ∙ ap (λ b. list_any (has_id row.id) others || b) users

@@ -100,9 +100,9 @@ abbrev pub first_of_pairs : Pairs → Tree
 first_of_pairs no_pairs = Plain Null
 first_of_pairs (pair k v ps) = v
 
-abbrev pub behind_first : Pairs → Pairs
-behind_first no_pairs = no_pairs
-behind_first (pair k v ps) = ps
+abbrev pub beyond_first : Pairs → Pairs
+beyond_first no_pairs = no_pairs
+beyond_first (pair k v ps) = ps
 
 abbrev pub bytes_in : Tree → List ℕ
 bytes_in (Plain (Bytes s)) = s
@@ -122,8 +122,8 @@ clashes_of : Tree → List Row → Bool
 unfolding clashes_by
 clashes_of t rows =
     let ps = pairs_in t in
-    let fourth = behind_first (behind_first (behind_first (behind_first ps))) in
-    clashes_by (bytes_in (first_of_pairs (behind_first ps))) (bytes_in (first_of_pairs ps)) (bytes_in (first_of_pairs fourth)) (flag_in (first_of_pairs (behind_first fourth))) rows
+    let fourth = beyond_first (beyond_first (beyond_first (beyond_first ps))) in
+    clashes_by (bytes_in (first_of_pairs (beyond_first ps))) (bytes_in (first_of_pairs ps)) (bytes_in (first_of_pairs fourth)) (flag_in (first_of_pairs (beyond_first fourth))) rows
 
 clashes_told : (named : Bool) (row : Row) (rows : List Row) → clashes row rows ≡ clashes_of (row_tree named row) rows
 unfolding clashes_by clashes_of

@@ -107,12 +107,12 @@ halt_again (o ∷ os) zero kind rest h = absurd h
 halt_again (InArray total done ∷ os) (suc room) kind rest h =
     let left : ℕ = total - count done - 1 in
     let e : total ≡ count done + suc left = omega (arith, h.0) in
-    let behind : List ℕ = fronts os ++ rest in
-    ap (parse (suc room)) (append_assoc (head 4 total ++ texts done) (fronts os) rest ∙ append_assoc (head 4 total) (texts done) behind)
-    ∙ parse_array room total (texts done ++ behind) h.0.0
+    let beyond : List ℕ = fronts os ++ rest in
+    ap (parse (suc room)) (append_assoc (head 4 total ++ texts done) (fronts os) rest ∙ append_assoc (head 4 total) (texts done) beyond)
+    ∙ parse_array room total (texts done ++ beyond) h.0.0
     ∙ ap (array_of total) (
-    ap (λ n. items (parse room) n (texts done ++ behind)) e
-    ∙ items_again done room (suc left) behind h.0.2 h.0.3
+    ap (λ n. items (parse room) n (texts done ++ beyond)) e
+    ∙ items_again done room (suc left) beyond h.0.2 h.0.3
     ∙ ap (λ p. all_before done (then_items p (items (parse room) left))) (halt_again os room kind rest h.2)
     ∙ all_broke done os kind rest)
 halt_again (AtKey total done ∷ []) (suc room) kind rest h =
@@ -131,16 +131,16 @@ halt_again (AtValue total done (Map ps) ∷ os) (suc room) kind rest h = absurd 
 halt_again (AtValue total done (Plain s) ∷ os) (suc room) kind rest h =
     let left : ℕ = total - count_pairs done - 1 in
     let e : total ≡ count_pairs done + suc left = omega (arith, h.0) in
-    let behind : List ℕ = fronts os ++ rest in
+    let beyond : List ℕ = fronts os ++ rest in
     ap (parse (suc room)) (
     append_assoc (head 5 total ++ (pair_texts done ++ scalar_text s)) (fronts os) rest
-    ∙ append_assoc (head 5 total) (pair_texts done ++ scalar_text s) behind
-    ∙ ap (λ x. head 5 total ++ x) (append_assoc (pair_texts done) (scalar_text s) behind))
-    ∙ parse_map room total (pair_texts done ++ (scalar_text s ++ behind)) h.0.0
+    ∙ append_assoc (head 5 total) (pair_texts done ++ scalar_text s) beyond
+    ∙ ap (λ x. head 5 total ++ x) (append_assoc (pair_texts done) (scalar_text s) beyond))
+    ∙ parse_map room total (pair_texts done ++ (scalar_text s ++ beyond)) h.0.0
     ∙ ap (map_of total) (
-    ap (λ n. pairs (parse room) room n None (pair_texts done ++ (scalar_text s ++ behind))) e
-    ∙ pairs_again done room (suc left) None (scalar_text s ++ behind) h.0.2 h.0.3 h.0.4
+    ap (λ n. pairs (parse room) room n None (pair_texts done ++ (scalar_text s ++ beyond))) e
+    ∙ pairs_again done room (suc left) None (scalar_text s ++ beyond) h.0.2 h.0.3 h.0.4
     ∙ ap (pairs_before done) (
-    pairs_more (parse room) room left (last_key None done) s behind h.0.6 h.0.5 h.0.7
+    pairs_more (parse room) room left (last_key None done) s beyond h.0.6 h.0.5 h.0.7
     ∙ ap (λ p. then_pairs (Plain s) p (pairs (parse room) room left (Some (scalar_text s)))) (halt_again os room kind rest h.2))
     ∙ all_bad_value done (Plain s) os kind rest)

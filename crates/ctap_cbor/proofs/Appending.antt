@@ -23,7 +23,7 @@ spliced old new bytes part k same size len is room =
     let inside : old.len ≤ length old.buffer.now = old.within in
     let fits : old.len + length bytes ≤ length old.buffer.now = omega arith in
     let filled : length part ≡ k = ap length same ∙ sym size in
-    let behind_is : length (drop old.len old.buffer.now) ≡ length old.buffer.now - old.len = length-drop old.len old.buffer.now in
+    let beyond_is : length (drop old.len old.buffer.now) ≡ length old.buffer.now - old.len = length-drop old.len old.buffer.now in
     let middle : length (take k (drop old.len old.buffer.now)) ≡ k = length-take-le k (drop old.len old.buffer.now) (omega arith) in
     let kept : length new.buffer.now ≡ length old.buffer.now = ap length is ∙ same_len_mid old.len k old.buffer.now part (filled ∙ sym middle) in
     appended old new bytes len kept fits

@@ -21,7 +21,7 @@ use Rattle.ctap_cbor.specs.Faults.{Due, AnItem, AKey, is_key, is_above, first_of
 pub record Reads (room : ℕ) (due : Due) (bytes : List ℕ) (i : Part) (rest : List ℕ) : Type 0 where
   pub parts : bytes ≡ item_text i ++ rest
   pub suits : Suits room due i
-  pub bytes_behind : AreBytes rest
+  pub bytes_beyond : AreBytes rest
 
 -- ---- tests in a row
 
@@ -61,7 +61,7 @@ above_to (Some before) key h = ap is_lt h
 
 accepts : (room : ℕ) (due : Due) (i : Part) (first : ℕ) (after rest : List ℕ) → item_text i ++ rest ≡ first ∷ after → NonePass (faults room due first after) → item_of (major first) first after ≡ i → drop (item_len first after) (first ∷ after) ≡ rest → read room due (item_text i ++ rest) ≡ Ok (i, rest)
 unfolding read
-accepts room due i first after rest e none item behind = ap (read room due) e ∙ rw (none_from (faults room due first after) none, item, behind) refl
+accepts room due i first after rest e none item beyond = ap (read room due) e ∙ rw (none_from (faults room due first after) none, item, beyond) refl
 
 -- A head of a known major type, and the bytes of a string where it has one.
 item_again : (room : ℕ) (due : Due) (m n : ℕ) (i : Part) (str rest : List ℕ) → item_text i ≡ head m n ++ str → n < 2 ^ 64
@@ -79,10 +79,10 @@ item_again room due m n i str rest text lt counted known key deep utf8 above ite
     let e : item_text i ++ rest ≡ first ∷ after = ap (λ x. x ++ rest) text ∙ append_assoc (head m n) str rest ∙ a.2 in
     let more : string_len first after ≡ length str = rw (b.major_is, b.argument_is) counted in
     let len : item_len first after ≡ suc (argument_len (info first) + length str) = omega (arith, more) in
-    let behind : drop (item_len first after) (first ∷ after) ≡ rest =
-    rw len (sym (drop-drop (length str) (argument_len (info first)) after) ∙ ap (drop (length str)) b.behind_is ∙ drop_at str rest (length str) refl) in
-    let front : take (item_len first after) (first ∷ after) ≡ item_text i = front_is (item_len first after) (first ∷ after) (item_text i) rest (sym e) behind in
-    let string : take (string_len first after) (drop (argument_len (info first)) after) ≡ str = rw (more, b.behind_is) (take_at str rest (length str) refl) in
+    let beyond : drop (item_len first after) (first ∷ after) ≡ rest =
+    rw len (sym (drop-drop (length str) (argument_len (info first)) after) ∙ ap (drop (length str)) b.beyond_is ∙ drop_at str rest (length str) refl) in
+    let front : take (item_len first after) (first ∷ after) ≡ item_text i = front_is (item_len first after) (first ∷ after) (item_text i) rest (sym e) beyond in
+    let string : take (string_len first after) (drop (argument_len (info first)) after) ≡ str = rw (more, b.beyond_is) (take_at str rest (length str) refl) in
     let none : NonePass (faults room due first after) = (
       lt-leb 28 (info first) b.info_known,
       (
@@ -96,7 +96,7 @@ item_again room due m n i str rest text lt counted known key deep utf8 above ite
               (
                 le-ltb (argument first after) (least_argument (info first)) (rw b.argument_is b.shortest),
                 (
-                  le-ltb (length (drop (argument_len (info first)) after)) (string_len first after) (omega (arith, more, ap length b.behind_is, length-append str rest)),
+                  le-ltb (length (drop (argument_len (info first)) after)) (string_len first after) (omega (arith, more, ap length b.beyond_is, length-append str rest)),
                   (
                     rw (string, b.major_is) utf8,
                     (
@@ -111,7 +111,7 @@ item_again room due m n i str rest text lt counted known key deep utf8 above ite
         ),
       ),
     ) in
-    accepts room due i first after rest e none (ap (λ k. item_of k first after) b.major_is ∙ item first after b.argument_is b.behind_is) behind
+    accepts room due i first after rest e none (ap (λ k. item_of k first after) b.major_is ∙ item first after b.argument_is b.beyond_is) beyond
 
 -- integers and strings, as an item and as a key
 plain_again : (room : ℕ) (due : Due) (s : Scalar) (rest : List ℕ) → Fits s → IsKey (Plain s) → is_above due (scalar_text s) ≡ true → read room due (scalar_text s ++ rest) ≡ Ok (One s, rest)
@@ -162,9 +162,9 @@ item_parts m first after str i fits e known len least str-is text =
     let al : ℕ = argument_len (info first) in
     let k : ℕ = string_len first after in
     let ends : item_len first after ≡ suc (al + k) = omega arith in
-    let behind : drop k (drop al after) ≡ drop (item_len first after) (first ∷ after) = rw ends (drop-drop k al after) in (
+    let beyond : drop k (drop al after) ≡ drop (item_len first after) (first ∷ after) = rw ends (drop-drop k al after) in (
       ap (λ x. first ∷ x) (sym (take-append-drop al after)) ∙ ap (λ x. x ++ drop al after) (h.0 ∙ ap (λ x. head x (argument first after)) e)
-          ∙ ap (λ x. head m (argument first after) ++ x) (sym (take-append-drop k (drop al after)) ∙ ap (λ x. x ++ drop k (drop al after)) (sym str-is) ∙ ap (λ x. str ++ x) behind)
+          ∙ ap (λ x. head m (argument first after) ++ x) (sym (take-append-drop k (drop al after)) ∙ ap (λ x. x ++ drop k (drop al after)) (sym str-is) ∙ ap (λ x. str ++ x) beyond)
           ∙ sym (append_assoc (head m (argument first after)) str (drop (item_len first after) (first ∷ after)))
           ∙ ap (λ x. x ++ drop (item_len first after) (first ∷ after)) (sym text),
       h.1,
@@ -196,7 +196,7 @@ plain_reads : (m room : ℕ) (due : Due) (first : ℕ) (after str : List ℕ) (s
 plain_reads m room due first after str s z e str-is text fit key above =
     let p = item_parts m first after str (One s) z.fits e z.known z.len z.least str-is text in
     let front = front_is (item_len first after) (first ∷ after) (scalar_text s) (drop (item_len first after) (first ∷ after)) p.0 refl in
-    record { parts = p.0; suits = plain_suits room due s (fit p.1) key (ap (is_above due) (sym front) ∙ above); bytes_behind = rest_fits first after z }
+    record { parts = p.0; suits = plain_suits room due s (fit p.1) key (ap (is_above due) (sym front) ∙ above); bytes_beyond = rest_fits first after z }
 
 simple_reads : (room : ℕ) (due : Due) (first i : ℕ) (after : List ℕ) → Sized first after → first ≡ 224 + i → i ≡ info first → (is_key due && true) ≡ false → (nat_le 20 i && nat_le i 22) ≡ true → string_len first after ≡ 0
     → Reads room due (first ∷ after) (One (if nat_eq i 20 then Flag false else if nat_eq i 21 then Flag true else Null)) (drop (item_len first after) (first ∷ after))
@@ -215,7 +215,7 @@ simple_reads room AnItem first i after z e i-is key range none =
     record {
       parts = rw (len, e) (at (λ j. (224 + j) ∷ after ≡ scalar_text (if nat_eq j 20 then Flag false else if nat_eq j 21 then Flag true else Null) ++ after) refl refl refl);
       suits = at (λ j. Fits (if nat_eq j 20 then Flag false else if nat_eq j 21 then Flag true else Null)) tt tt tt;
-      bytes_behind = rest_fits first after z;
+      bytes_beyond = rest_fits first after z;
     }
 
 by_major : (m : ℕ) (room : ℕ) (due : Due) (first : ℕ) (after : List ℕ) → Sized first after → major first ≡ m
@@ -241,10 +241,10 @@ by_major (suc (suc (suc zero))) room due first after z e known key deep whole ut
     plain_reads 3 room due first after (string_at first after) (Text (string_at first after)) z e (rw k refl) (rw n refl) (λ h. (rw n h, IsUtf8-from_is_utf8 (string_at first after) ok)) tt above
 by_major (suc (suc (suc (suc zero)))) room due first after z e known key deep whole utf8 above =
     let p = item_parts 4 first after [] (OpensArray (argument first after)) z.fits e z.known z.len z.least (rw e refl) (sym (append-nil (head 4 (argument first after)))) in
-    record { parts = p.0; suits = (nests room due key deep, p.1); bytes_behind = rest_fits first after z }
+    record { parts = p.0; suits = (nests room due key deep, p.1); bytes_beyond = rest_fits first after z }
 by_major (suc (suc (suc (suc (suc zero))))) room due first after z e known key deep whole utf8 above =
     let p = item_parts 5 first after [] (OpensMap (argument first after)) z.fits e z.known z.len z.least (rw e refl) (sym (append-nil (head 5 (argument first after)))) in
-    record { parts = p.0; suits = (nests room due key deep, p.1); bytes_behind = rest_fits first after z }
+    record { parts = p.0; suits = (nests room due key deep, p.1); bytes_beyond = rest_fits first after z }
 by_major (suc (suc (suc (suc (suc (suc zero)))))) room due first after z e known key deep whole utf8 above = absurd cc
 by_major (suc (suc (suc (suc (suc (suc (suc zero))))))) room due first after z e known key deep whole utf8 above =
     simple_reads room due first (info first) after z (omega arith) refl key (not-false (nat_le 20 (info first) && nat_le (info first) 22) known) (rw e refl)

@@ -10,7 +10,7 @@ use Rattle.ctap_cbor.specs.Parts.{Part, One, OpensArray, OpensMap, unless, read}
 use Rattle.ctap_cbor.specs.Reading.{Reading, rest_of, advance, compared, Refuses, GivesKey}
 use Rattle.ctap_cbor.specs.Views.{end_steps_of}
 use Rattle.ctap_cbor.proofs.Items.{Reads, read_sound, read_again, read_fault, fault_read, front_is, above_from}
-use Rattle.ctap_cbor.proofs.Taking.{InOrder, kind_among, in_order_steps, rest_behind, read_len}
+use Rattle.ctap_cbor.proofs.Taking.{InOrder, kind_among, in_order_steps, rest_beyond, read_len}
 
 order_last : (ts : List (Bool × Kind)) (k : Kind) → first_of (ts ++ (false, k) ∷ []) ≡ None → first_of (ts ++ (true, k) ∷ []) ≡ Some k
 order_last [] k e = refl
@@ -82,7 +82,7 @@ part_key old new last rest (One s) n m e h le cost moved above =
       bytes_is = front;
       takes = record {
         suits = (h.suits.0, h.suits.1, above_from last (scalar_text s) (ap (is_above (AKey last)) (sym front) ∙ above));
-        spelled = sym e ∙ h.parts ∙ ap (λ x. scalar_text s ++ x) (ap (drop n) e ∙ sym (rest_behind old new n (n + m) moved));
+        spelled = sym e ∙ h.parts ∙ ap (λ x. scalar_text s ++ x) (ap (drop n) e ∙ sym (rest_beyond old new n (n + m) moved));
         moved = moved ∙ ap (λ x. advance old x (n + m)) len ∙ ap (advance old (length (scalar_text s))) sum;
       };
     }

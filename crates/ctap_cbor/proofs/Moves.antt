@@ -212,5 +212,5 @@ value_halts room n a b c at kind t h =
           ∙ ap (λ x. head 5 n ++ x) (h.passes.spelled ∙ ap (λ x. pair_texts ps ++ x) (k.spelled ∙ ap (λ x. scalar_text s ++ x) hh.spelled) ∙ sym (append_assoc (pair_texts ps) (scalar_text s) (fronts hh.os ++ hh.tail)))
           ∙ sym (append_assoc (head 5 n) (pair_texts ps ++ scalar_text s) (fronts hh.os ++ hh.tail)) ∙ sym (append_assoc (head 5 n ++ (pair_texts ps ++ scalar_text s)) (fronts hh.os) hh.tail);
       place = omega (arith, len, hh.place, ap (λ (r : Reading). r.place) k.moved, ap (λ (r : Reading). r.place) h.passes.moved, ap (λ (r : Reading). r.place) t.moved);
-      moved = moves a h.behind c _ _ _ _ _ _ (moves a h.between h.behind _ _ _ _ _ _ (moves a b h.between _ _ _ _ _ _ t.moved h.passes.moved refl refl) k.moved refl refl) hh.moved (omega (arith, len)) (omega (arith, len, one));
+      moved = moves a h.at_value c _ _ _ _ _ _ (moves a h.between h.at_value _ _ _ _ _ _ (moves a b h.between _ _ _ _ _ _ t.moved h.passes.moved refl refl) k.moved refl refl) hh.moved (omega (arith, len)) (omega (arith, len, one));
     }

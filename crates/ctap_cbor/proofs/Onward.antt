@@ -18,7 +18,7 @@ items_onward room n a b (Err f) h = both a h.between b (moved a h.between _ _ h.
 halts_onward : (room n : ℕ) (a b : Reading) (at : ℕ) (kind : Kind) → HaltsInPairs room n a b at kind → MovesOn a b
 halts_onward room n a b at kind (inl h) = both a h.between b (moved a h.between _ _ h.passes.moved) (moved h.between b _ _ h.refuses.moved)
 halts_onward room n a b at kind (inr h) =
-    both a h.behind b (both a h.between h.behind (moved a h.between _ _ h.passes.moved) (moved h.between h.behind _ _ h.takes.moved)) (moved h.behind b _ _ h.halts.moved)
+    both a h.at_value b (both a h.between h.at_value (moved a h.between _ _ h.passes.moved) (moved h.between h.at_value _ _ h.takes.moved)) (moved h.at_value b _ _ h.halts.moved)
 
 pub pairs_onward : (room n : ℕ) (a b : Reading) (r : Result (Unit {0}) Fault) → MatchResult r (λ _. PassesSomePairs room n a b) (λ f. HaltsInPairs room n a b f.at f.kind) → MovesOn a b
 pairs_onward room n a b (Ok u) h = moved a b _ _ h.2.moved

@@ -68,7 +68,7 @@ pub given_more : (room n : ℕ) (ps : Pairs) (u : Tree) (last : Option (List ℕ
 given_more room n ps u last a b c d part bytes h k p = subst (λ x. PassesPairs room (n + 1) (push_pair ps (Plain k.key) u) (Some x) a d) (sym k.bytes_is) (pairs_more room n ps u last a b c d k.key h k.takes p)
 
 pub value_stops : (room n i : ℕ) (ps : Pairs) (last : Option (List ℕ)) (a b c d : Reading) (part : Part) (bytes : List ℕ) (at : ℕ) (kind : Kind) → i < n → PassesPairs room i ps last a b → GivesKey last b c part bytes → Halts room c d at kind → HaltsInPairs room n a d at kind
-value_stops room n i ps last a b c d part bytes at kind lt h k p = inr (record { before = i; last = last; fewer = lt; between = b; behind = c; key = k.key; done = ps; passes = h; takes = k.takes; halts = p })
+value_stops room n i ps last a b c d part bytes at kind lt h k p = inr (record { before = i; last = last; fewer = lt; between = b; at_value = c; key = k.key; done = ps; passes = h; takes = k.takes; halts = p })
 
 pub key_stops : (room n i : ℕ) (ps : Pairs) (last : Option (List ℕ)) (a b c : Reading) (at : ℕ) (kind : Kind) → i < n → PassesPairs room i ps last a b → Refuses 0 (AKey last) b c at kind → HaltsInPairs room n a c at kind
 key_stops room n i ps last a b c at kind lt h k = inl (record { before = i; last = last; fewer = lt; between = b; done = ps; passes = h; refuses = k })

@@ -55,15 +55,15 @@ pair_sound room n last bytes rest s v (Walked ps left) k ok flat e h = ((k.1, k.
 pair_sound room n last bytes rest s v (BadKey done kind left) k ok flat e h = ((k.1, k.2, h.0), (k.0, ok, h.1), omega arith, regroup bytes (scalar_text s) (text v) rest (pair_texts done) left e h.3, h.4, omega arith)
 pair_sound room n last bytes rest s v (BadValue done key os kind left) k ok flat e h = ((k.1, k.2, h.0), (k.0, ok, h.1), omega arith, regroup bytes (scalar_text s) (text v) rest (pair_texts done) (text key ++ (fronts os ++ left)) e h.3, h.4, omega arith, h.6, h.7, h.8)
 
-then_pairs_sound : (room n : ℕ) (last : Option (List ℕ)) (bytes behind : List ℕ) (s : Scalar) (p : Parse) (go : List ℕ → Walk) → Key last s → bytes ≡ scalar_text s ++ behind → IsParse room behind p → ((rest : List ℕ) → AreBytes rest → IsWalk room n (Some (scalar_text s)) rest (go rest)) → IsWalk room (suc n) last bytes (then_pairs (Plain s) p go)
-then_pairs_sound room n last bytes behind s (Done v rest) go k e h rec = pair_sound room n last bytes rest s v (go rest) k h.0 h.1 (e ∙ ap (λ x. scalar_text s ++ x) h.2) (rec rest h.3)
-then_pairs_sound room n last bytes behind s (Halt os kind rest) go k e h rec = (tt, tt, omega arith, e ∙ ap (λ x. scalar_text s ++ x) h.1, h.0, omega arith, k.1, k.0, k.2)
+then_pairs_sound : (room n : ℕ) (last : Option (List ℕ)) (bytes beyond : List ℕ) (s : Scalar) (p : Parse) (go : List ℕ → Walk) → Key last s → bytes ≡ scalar_text s ++ beyond → IsParse room beyond p → ((rest : List ℕ) → AreBytes rest → IsWalk room n (Some (scalar_text s)) rest (go rest)) → IsWalk room (suc n) last bytes (then_pairs (Plain s) p go)
+then_pairs_sound room n last bytes beyond s (Done v rest) go k e h rec = pair_sound room n last bytes rest s v (go rest) k h.0 h.1 (e ∙ ap (λ x. scalar_text s ++ x) h.2) (rec rest h.3)
+then_pairs_sound room n last bytes beyond s (Halt os kind rest) go k e h rec = (tt, tt, omega arith, e ∙ ap (λ x. scalar_text s ++ x) h.1, h.0, omega arith, k.1, k.0, k.2)
 
 then_value_sound : (room n : ℕ) (last : Option (List ℕ)) (bytes : List ℕ) (sub : List ℕ → Parse) (r : Result (Part × List ℕ) Kind) (go : List ℕ → List ℕ → Walk) → read room (AKey last) bytes ≡ r → AreBytes bytes → ((bs : List ℕ) → AreBytes bs → IsParse room bs (sub bs)) → ((key rest : List ℕ) → AreBytes rest → IsWalk room n (Some key) rest (go key rest)) → IsWalk room (suc n) last bytes (then_value sub bytes r go)
 then_value_sound room n last bytes sub (Err kind) go e fits inside rec = (tt, tt, omega arith, refl, fault_read room (AKey last) bytes kind e, omega arith)
 then_value_sound room n last bytes sub (Ok (One s, rest)) go e fits inside rec =
     let h = read_sound room (AKey last) bytes (One s) rest fits e in
-    then_pairs_sound room n last bytes rest s (sub rest) (go (scalar_text s)) h.suits h.parts (inside rest h.bytes_behind) (rec (scalar_text s))
+    then_pairs_sound room n last bytes rest s (sub rest) (go (scalar_text s)) h.suits h.parts (inside rest h.bytes_beyond) (rec (scalar_text s))
 then_value_sound room n last bytes sub (Ok (OpensArray m, rest)) go e fits inside rec = absurd (read_sound room (AKey last) bytes (OpensArray m) rest fits e).suits.0
 then_value_sound room n last bytes sub (Ok (OpensMap m, rest)) go e fits inside rec = absurd (read_sound room (AKey last) bytes (OpensMap m) rest fits e).suits.0
 
@@ -85,19 +85,19 @@ inside_sound : (room : ℕ) (bytes : List ℕ) (sub : List ℕ → Parse) (r : R
 inside_sound room bytes sub (Err kind) e fits inside = (fault_read (suc room) AnItem bytes kind e, refl)
 inside_sound room bytes sub (Ok (One s, rest)) e fits inside =
     let h = read_sound (suc room) AnItem bytes (One s) rest fits e in
-    (h.suits, omega arith, h.parts, h.bytes_behind)
+    (h.suits, omega arith, h.parts, h.bytes_beyond)
 inside_sound room bytes sub (Ok (OpensArray n, rest)) e fits inside =
     let h = read_sound (suc room) AnItem bytes (OpensArray n) rest fits e in
-    array_sound room n bytes rest (items sub n rest) h.suits.1 h.parts (items_sound room n sub inside rest h.bytes_behind)
+    array_sound room n bytes rest (items sub n rest) h.suits.1 h.parts (items_sound room n sub inside rest h.bytes_beyond)
 inside_sound room bytes sub (Ok (OpensMap n, rest)) e fits inside =
     let h = read_sound (suc room) AnItem bytes (OpensMap n) rest fits e in
-    map_sound room n bytes rest (pairs sub room n None rest) h.suits.1 h.parts (pairs_sound room n None sub inside rest h.bytes_behind)
+    map_sound room n bytes rest (pairs sub room n None rest) h.suits.1 h.parts (pairs_sound room n None sub inside rest h.bytes_beyond)
 
 innermost_sound : (bytes : List ℕ) (sub : List ℕ → Parse) (r : Result (Part × List ℕ) Kind) → read 0 AnItem bytes ≡ r → AreBytes bytes → IsParse 0 bytes (then_inside sub 0 bytes r)
 innermost_sound bytes sub (Err kind) e fits = (fault_read 0 AnItem bytes kind e, refl)
 innermost_sound bytes sub (Ok (One s, rest)) e fits =
     let h = read_sound 0 AnItem bytes (One s) rest fits e in
-    (h.suits, omega arith, h.parts, h.bytes_behind)
+    (h.suits, omega arith, h.parts, h.bytes_beyond)
 innermost_sound bytes sub (Ok (OpensArray n, rest)) e fits =
     let h = read_sound 0 AnItem bytes (OpensArray n) rest fits e in
     let no : 0 < 0 = h.suits.0 in

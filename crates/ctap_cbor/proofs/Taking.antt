@@ -16,8 +16,8 @@ all_bytes [] h = tt
 all_bytes (b ∷ bs) h = (h 0, all_bytes bs (λ i. h (suc i)))
 
 -- the rest after what was passed
-pub rest_behind : (old new : Reading) (n s : ℕ) → new ≡ advance old n s → rest_of new ≡ drop n (rest_of old)
-rest_behind old new n s e = ap rest_of e ∙ sym (drop-drop n old.place old.bytes)
+pub rest_beyond : (old new : Reading) (n s : ℕ) → new ≡ advance old n s → rest_of new ≡ drop n (rest_of old)
+rest_beyond old new n s e = ap rest_of e ∙ sym (drop-drop n old.place old.bytes)
 
 -- the length of what was read
 pub read_len : (rest text : List ℕ) (n : ℕ) → rest ≡ text ++ drop n rest → n ≤ length rest → n ≡ length text
@@ -30,7 +30,7 @@ item_taken_at room old new i n fits e le moved =
     let same : n + 0 ≡ length (item_text i) = omega arith in
     record {
       suits = h.suits;
-      spelled = h.parts ∙ ap (λ x. item_text i ++ x) (sym (rest_behind old new n (n + 0) moved));
+      spelled = h.parts ∙ ap (λ x. item_text i ++ x) (sym (rest_beyond old new n (n + 0) moved));
       moved = moved ∙ ap (λ x. advance old x (n + 0)) len ∙ ap (advance old (length (item_text i))) same;
     }
 
@@ -81,4 +81,4 @@ item_refused room old new at rest kind n end e h end-is moved place =
 
 pub read_taken : (room : ℕ) (old new : Reading) (rest : List ℕ) (i : Part) (n : ℕ) → rest ≡ rest_of old → read room AnItem rest ≡ Ok (i, drop n rest) → new ≡ advance old n (n + 0) → read room AnItem (rest_of old) ≡ Ok (i, rest_of new)
 read_taken room old new rest i n e h moved =
-    subst (λ x. read room AnItem x ≡ Ok (i, drop n x)) e h ∙ ap (λ x. Ok (i, x)) (sym (rest_behind old new n (n + 0) moved))
+    subst (λ x. read room AnItem x ≡ Ok (i, drop n x)) e h ∙ ap (λ x. Ok (i, x)) (sym (rest_beyond old new n (n + 0) moved))

@@ -198,8 +198,8 @@ array_written room n vs old middle new some len fits e w =
       appended = w.appended ∙ ap (λ x. x ++ texts ts) (e ∙ ap (λ m. old ++ head 4 m) number) ∙ append_assoc old (head 4 (count ts)) (texts ts);
     }
 
-pub array_gives_up : (room n : ℕ) (vs : List Value) (old middle new : List ℕ) (kind : Kind) → (room ≡ 0 → ⊥) → middle ≡ old ++ head 4 n → FailsWith kind (refusal_all (room - 1) (trees_of vs)) middle new → FailsWith kind (refusal room (Array (trees_of vs))) old new
-array_gives_up room n vs old middle new kind some e g = (
+pub array_fails : (room n : ℕ) (vs : List Value) (old middle new : List ℕ) (kind : Kind) → (room ≡ 0 → ⊥) → middle ≡ old ++ head 4 n → FailsWith kind (refusal_all (room - 1) (trees_of vs)) middle new → FailsWith kind (refusal room (Array (trees_of vs))) old new
+array_fails room n vs old middle new kind some e g = (
   λ differs. ap (λ b. if b then Some TooDeep else refusal_all (room - 1) (trees_of vs)) (ne_eqb room 0 some) ∙ g.0 differs,
   goes_on old middle new (head 4 n, e) g.1,
 )
@@ -215,8 +215,8 @@ map_written room n vs old middle new some len fits e w =
       appended = w.appended ∙ ap (λ x. x ++ pair_texts ps) (e ∙ ap (λ m. old ++ head 5 m) number) ∙ append_assoc old (head 5 (count_pairs ps)) (pair_texts ps);
     }
 
-pub map_gives_up : (room n : ℕ) (vs : List (Value × Value)) (old middle new : List ℕ) (kind : Kind) → (room ≡ 0 → ⊥) → middle ≡ old ++ head 5 n → FailsWith kind (refusal_pairs (room - 1) None (pairs_of vs)) middle new → FailsWith kind (refusal room (Map (pairs_of vs))) old new
-map_gives_up room n vs old middle new kind some e g = (
+pub map_fails : (room n : ℕ) (vs : List (Value × Value)) (old middle new : List ℕ) (kind : Kind) → (room ≡ 0 → ⊥) → middle ≡ old ++ head 5 n → FailsWith kind (refusal_pairs (room - 1) None (pairs_of vs)) middle new → FailsWith kind (refusal room (Map (pairs_of vs))) old new
+map_fails room n vs old middle new kind some e g = (
   λ differs. ap (λ b. if b then Some TooDeep else refusal_pairs (room - 1) None (pairs_of vs)) (ne_eqb room 0 some) ∙ g.0 differs,
   goes_on old middle new (head 5 n, e) g.1,
 )
@@ -249,8 +249,8 @@ value_short_here room vs i v last start a b c d lt is h e le short = value_short
 pub front_short : (c : ℕ) (old head rest : List ℕ) → IsShort c old head → IsShort c old (head ++ rest)
 front_short c old head rest short = omega (arith, length-append head rest)
 
-pub behind_short : (c d : ℕ) (old middle head rest : List ℕ) → middle ≡ old ++ head → c ≤ d → IsShort d middle rest → IsShort c old (head ++ rest)
-behind_short c d old middle head rest e le short = omega (arith, ap length e, length-append old head, length-append head rest)
+pub short_beyond : (c d : ℕ) (old middle head rest : List ℕ) → middle ≡ old ++ head → c ≤ d → IsShort d middle rest → IsShort c old (head ++ rest)
+short_beyond c d old middle head rest e le short = omega (arith, ap length e, length-append old head, length-append head rest)
 
 pub array_short : (c n : ℕ) (vs : List Value) (old : List ℕ) → n ≡ length vs → IsShort c old (head 4 n ++ texts (trees_of vs)) → IsShort c old (text (Array (trees_of vs)))
 array_short c n vs old e short = subst (λ m. IsShort c old (head 4 m ++ texts (trees_of vs))) (e ∙ sym (count_trees vs)) short

@@ -65,11 +65,11 @@ first_faults room due first =
 unfoldable pub body_faults : ℕ → List ℕ → List (Bool × Kind)
 body_faults first rest =
     let i = info first in
-    let behind = drop (argument_len i) rest in
+    let content = drop (argument_len i) rest in
     (nat_lt (length rest) (argument_len i), Truncated)
     ∷ (nat_lt (argument first rest) (least_argument i), NotShortest)
-    ∷ (nat_lt (length behind) (string_len first rest), Truncated)
-    ∷ (nat_eq (major first) 3 && not (is_utf8 (take (string_len first rest) behind)), NotUtf8)
+    ∷ (nat_lt (length content) (string_len first rest), Truncated)
+    ∷ (nat_eq (major first) 3 && not (is_utf8 (take (string_len first rest) content)), NotUtf8)
     ∷ []
 
 -- and the fault of a key's order

@@ -125,12 +125,12 @@ pub record HaltsAtValue (room n : ℕ) (old new : Reading) (at : ℕ) (kind : Ki
   pub last : Option (List ℕ)
   pub fewer : before < n
   pub between : Reading
-  pub behind : Reading
+  pub at_value : Reading
   pub key : Scalar
   pub done : Pairs
   pub passes : PassesPairs room before done last old between
-  pub takes : TakesKey last between behind key
-  pub halts : Halts room behind new at kind
+  pub takes : TakesKey last between at_value key
+  pub halts : Halts room at_value new at kind
 
 abbrev pub PassesSomePairs : ℕ → ℕ → Reading → Reading → Type 0
 PassesSomePairs room n old new = (ps : Pairs) × (last : Option (List ℕ)) × PassesPairs room n ps last old new

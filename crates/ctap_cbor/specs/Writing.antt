@@ -10,8 +10,8 @@ abbrev pub contents : Sink → List ℕ
 contents s = take s.len s.buffer.now
 
 -- what the buffer holds after that
-abbrev pub behind : Sink → List ℕ
-behind s = drop s.len s.buffer.now
+abbrev pub spare : Sink → List ℕ
+spare s = drop s.len s.buffer.now
 
 -- how long a scalar's text is
 abbrev pub scalar_len : Scalar → ℕ
@@ -31,7 +31,7 @@ pub record Appends (old new : Sink) (bytes : List ℕ) (len : ℕ) : Type 0 wher
   pub grows : contents new ≡ contents old ++ bytes
   pub len_is : length (contents new) ≡ length (contents old) + len
   pub room_is : room_of old ≡ room_of new + len
-  pub keeps : behind new ≡ drop len (behind old)
+  pub keeps : spare new ≡ drop len (spare old)
 
 -- the sink writes into this buffer, so what is written in the end is found in it
 abbrev pub IsOver : MutBor (List ℕ) → Sink → Type 0

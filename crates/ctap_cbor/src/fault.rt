@@ -34,7 +34,7 @@ pub enum Kind {
     #[error("not a type of this profile")]
     Unsupported = 8,
     /// Bytes after the item.
-    #[error("bytes behind the item")]
+    #[error("bytes after the item")]
     Trailing = 9,
     /// No memory. Neither [`check`](crate::check) nor a [`Cursor`](crate::Cursor) gives it.
     #[error("no memory")]

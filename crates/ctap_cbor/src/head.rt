@@ -71,11 +71,11 @@ fn find_rest<'a>(first: u8, rest: &'a [u8]) -> Result<(Item<'a>, usize), (Kind, 
     if major != 2 && major != 3 {
         return Ok((without_string(major, info, argument), 1 + len));
     }
-    let behind = &rest[len..];
-    if (behind.len() as u64) < argument {
+    let content = &rest[len..];
+    if (content.len() as u64) < argument {
         return Err((Kind::Truncated, 1 + rest.len()));
     }
-    let string = &behind[..argument as usize];
+    let string = &content[..argument as usize];
     if major == 2 {
         return Ok((Item::Bytes(string), 1 + len + string.len()));
     }

@@ -18,12 +18,12 @@ pub struct Sink<'a> {
 }
 
 impl<'a> Sink<'a> {
-    ghost use Rattle.ctap_cbor.specs.Writing.{contents, behind, room_of, scalar_len, Appends, IsOver, SameBuffer};
+    ghost use Rattle.ctap_cbor.specs.Writing.{contents, spare, room_of, scalar_len, Appends, IsOver, SameBuffer};
 
     /// A sink over the whole buffer, with nothing written.
     pub fn new(buffer: &'a mut [u8]) -> Self
         ensures empty { contents result ≡ [] }
-        ensures behind { behind result ≡ buffer.old }
+        ensures spare { spare result ≡ buffer.old }
         ensures room { room_of result ≡ length buffer.old }
         ensures same { IsOver buffer.entry result }
     {

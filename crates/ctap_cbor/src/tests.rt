@@ -234,7 +234,7 @@ fn collects_members_and_entries(rt: HostRuntime) -> Result<(), Fail> {
 
 /// After a fault the cursor stands after what counts as passed.
 #[test]
-fn stands_behind_faults(rt: HostRuntime) {
+fn stands_after_faults(rt: HostRuntime) {
     let rows: [(&[u8], usize); 5] = [
         (b"\x82\x62\x61", 3),
         (b"\x82\x1c\x00", 2),

@@ -11,22 +11,22 @@ twice_bounded : (n s : ℕ) (b : Bool) → s ≤ 2 * n + 1 → (if b then 2 * s 
 twice_bounded n s true h = omega arith
 twice_bounded n s false h = omega arith
 
-reading_bounded : CheckStepsAreBounded → (behind : List ℕ) → reading_steps behind ≤ 4 * length behind + 2
-reading_bounded law behind = twice_bounded (length behind) (check_steps behind) (is_some (canonical_tree behind)) (law behind)
+reading_bounded : CheckStepsAreBounded → (parameters : List ℕ) → reading_steps parameters ≤ 4 * length parameters + 2
+reading_bounded law parameters = twice_bounded (length parameters) (check_steps parameters) (is_some (canonical_tree parameters)) (law parameters)
 
-command_bounded : CheckStepsAreBounded → (c : Command) (behind : List ℕ) → command_steps c behind ≤ 4 * length behind + 2
-command_bounded law MakeCredential behind = reading_bounded law behind
-command_bounded law GetAssertion behind = reading_bounded law behind
-command_bounded law GetInfo behind = omega arith
-command_bounded law Reset behind = omega arith
-command_bounded law GetNextAssertion behind = omega arith
-command_bounded law Selection behind = omega arith
+command_bounded : CheckStepsAreBounded → (c : Command) (parameters : List ℕ) → command_steps c parameters ≤ 4 * length parameters + 2
+command_bounded law MakeCredential parameters = reading_bounded law parameters
+command_bounded law GetAssertion parameters = reading_bounded law parameters
+command_bounded law GetInfo parameters = omega arith
+command_bounded law Reset parameters = omega arith
+command_bounded law GetNextAssertion parameters = omega arith
+command_bounded law Selection parameters = omega arith
 
-served_bounded : CheckStepsAreBounded → (o : Option Command) (behind : List ℕ) → served_steps o behind ≤ 4 * length behind + 2
-served_bounded law None behind = omega arith
-served_bounded law (Some c) behind = command_bounded law c behind
+served_bounded : CheckStepsAreBounded → (o : Option Command) (parameters : List ℕ) → served_steps o parameters ≤ 4 * length parameters + 2
+served_bounded law None parameters = omega arith
+served_bounded law (Some c) parameters = command_bounded law c parameters
 
 pub steps_bounded : CheckStepsAreBounded → (message : List ℕ) → steps_of message ≤ 4 * (length message - 1) + 2
 unfolding steps_of
 steps_bounded law [] = omega arith
-steps_bounded law (byte ∷ behind) = omega (arith, served_bounded law (named_command byte) behind)
+steps_bounded law (byte ∷ parameters) = omega (arith, served_bounded law (named_command byte) parameters)

@@ -21,18 +21,18 @@ use Rattle.ctap_message.specs.Members.{has_entries, entries_of}
 use Rattle.ctap_message.specs.Descriptors.{Descriptor, descriptor_in, named_id, in_front, ids_of}
 use Rattle.ctap_message.specs.Walks.{Reads, map_told}
 use Rattle.ctap_message.specs.CollectedLists.{descriptor_told}
-use Rattle.ctap_message.specs.DescriptorWalk.{DescriptorWalk, IsWhole, list_steps, entry_steps, behind_first, NextId, Left, Walks, Gives, IsList, IsWalk}
+use Rattle.ctap_message.specs.DescriptorWalk.{DescriptorWalk, IsWhole, list_steps, entry_steps, after_first, NextId, Left, Walks, Gives, IsList, IsWalk}
 
 -- as many ids are left as there were
 abbrev pub Sofar : Reading → ℕ → Reading → ℕ → Type 0
-Sofar r n s m = (ts : Trees) → Left r n ts → (us : Trees) × (more : ℕ) × Walks r s m ts us more × (ids_of ts ≡ ids_of us) × (behind_first ts ≡ behind_first us)
+Sofar r n s m = (ts : Trees) → Left r n ts → (us : Trees) × (more : ℕ) × Walks r s m ts us more × (ids_of ts ≡ ids_of us) × (after_first ts ≡ after_first us)
 
 pub sofar_none : (r : Reading) (n : ℕ) → Sofar r n r n
 sofar_none r n = λ ts h. (ts, 0, record { left = h; same = refl; cost = omega arith; steps = omega arith }, refl, refl)
 
 Onward : Reading → Reading → ℕ → Trees → Trees → Descriptor → Type 0
 Onward r s m ts us d =
-    (vs : Trees) × (more : ℕ) × Walks r s m ts vs more × (ids_of us ≡ in_front (named_id d) (ids_of vs)) × (behind_first us ≡ (if is_some (named_id d) then vs else behind_first vs))
+    (vs : Trees) × (more : ℕ) × Walks r s m ts vs more × (ids_of us ≡ in_front (named_id d) (ids_of vs)) × (after_first us ≡ (if is_some (named_id d) then vs else after_first vs))
 
 onward : OneTreePasses → (r s s' : Reading) (m : ℕ) (ts us : Trees) (more : ℕ) (d : Bool × Descriptor) → Walks r s m ts us more → 0 < m → Reads (map_told descriptor_told) 3 d s s' → Onward r s' (m - 1) ts us d.1
 unfolding Onward
@@ -52,7 +52,7 @@ onward law r s s' m ts (tree u us) more d h lt k =
         steps = omega (arith, h.steps, ap (λ (r : Reading). r.steps) p.moved, len, later);
       },
       ap (λ t. in_front (named_id (descriptor_in (Some t))) (ids_of us)) (sym only.0) ∙ ap (λ x. in_front (named_id x.1) (ids_of us)) (sym k.2),
-      ap (λ t. if is_some (named_id (descriptor_in (Some t))) then us else behind_first us) (sym only.0) ∙ ap (λ x. if is_some (named_id x.1) then us else behind_first us) (sym k.2),
+      ap (λ t. if is_some (named_id (descriptor_in (Some t))) then us else after_first us) (sym only.0) ∙ ap (λ x. if is_some (named_id x.1) then us else after_first us) (sym k.2),
     )
 
 pub entry_never : NothingHalts → (r s s' : Reading) (m : ℕ) (ts us : Trees) (more : ℕ) (at : ℕ) (kind : Kind) → Walks r s m ts us more → 0 < m → Halts 3 s s' at kind → ⊥
@@ -64,7 +64,7 @@ unfolding Onward
 sofar_more law r s s' n m d h lt k e = λ ts l.
     let g = h ts l in
     let o = onward law r s s' m ts g.0 g.1 d g.2 lt k in
-    (o.0, o.1, o.2, g.3 ∙ o.3 ∙ ap (λ x. in_front x (ids_of o.0)) e, g.4 ∙ o.4 ∙ ap (λ x. if is_some x then o.0 else behind_first o.0) e)
+    (o.0, o.1, o.2, g.3 ∙ o.3 ∙ ap (λ x. in_front x (ids_of o.0)) e, g.4 ∙ o.4 ∙ ap (λ x. if is_some x then o.0 else after_first o.0) e)
 
 pub gives_some : OneTreePasses → (r s s' : Reading) (n m : ℕ) (d : Bool × Descriptor) (id : Option (List ℕ)) → Sofar r n s m → 0 < m → Reads (map_told descriptor_told) 3 d s s' → id ≡ named_id d.1 → is_some id ≡ true → Gives r n s' (m - 1) id
 unfolding Onward
@@ -76,7 +76,7 @@ gives_some law r s s' n m d id h lt k e there = λ ts l.
       o.2,
       g.3 ∙ o.3 ∙ ap (λ x. in_front x (ids_of o.0)) (sym e),
       λ (none : id ≡ None). absurd (let f : true ≡ false = sym there ∙ ap is_some none in cc),
-      sym (g.4 ∙ o.4 ∙ ap (λ b. if b then o.0 else behind_first o.0) (ap is_some (sym e) ∙ there)),
+      sym (g.4 ∙ o.4 ∙ ap (λ b. if b then o.0 else after_first o.0) (ap is_some (sym e) ∙ there)),
     )
 
 empty : (us : Trees) → count us ≡ 0 → us ≡ no_trees
@@ -87,7 +87,7 @@ pub gives_none : (r s : Reading) (n m : ℕ) → Sofar r n s m → m ≡ 0 → G
 gives_none r s n m h e = λ ts l.
     let g = h ts l in
     let none : g.0 ≡ no_trees = empty g.0 (g.2.left.number ∙ e) in
-    (g.0, g.1, g.2, g.3, λ _. none, none ∙ sym (g.4 ∙ ap behind_first none))
+    (g.0, g.1, g.2, g.3, λ _. none, none ∙ sym (g.4 ∙ ap after_first none))
 
 pub copied_some : (o : Option (Bor (List ℕ))) → is_some (option_copied o) ≡ is_some o
 copied_some None = refl
@@ -114,7 +114,7 @@ left_found law r n ts h = ap (λ m. items_at 3 m (rest_of r)) (sym h.number) ∙
 -- what looking for an id makes of a walk
 abbrev Moves : Reading → ℕ → Bool → Reading → ℕ → Option (List ℕ) → Type 0
 Moves r n given s m id =
-    IsWalk (walk_at s m) given × (entries_in s ≡ entries_in r) × (ids_of (left_at r n) ≡ in_front id (ids_of (left_at s m))) × (id ≡ None → left_at s m ≡ no_trees) × (left_at s m ≡ behind_first (left_at r n))
+    IsWalk (walk_at s m) given × (entries_in s ≡ entries_in r) × (ids_of (left_at r n) ≡ in_front id (ids_of (left_at s m))) × (id ≡ None → left_at s m ≡ no_trees) × (left_at s m ≡ after_first (left_at r n))
 
 moves : ItemsAreFound → (r s : Reading) (n m : ℕ) (given : Bool) (id : Option (List ℕ)) → IsWalk (walk_at r n) given → Gives r n s m id → Moves r n given s m id
 moves law r s n m given id w g =

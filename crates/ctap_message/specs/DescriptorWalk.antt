@@ -42,15 +42,15 @@ abbrev pub walked : DescriptorWalk → ℕ
 walked w = min (list_steps (list_of w) - entry_steps (left_of w)) 18446744073709551615
 
 -- the entries after the first one that names an id
-abbrev pub behind_first : Trees → Trees
-behind_first no_trees = no_trees
-behind_first (tree t ts) = if is_some (named_id (descriptor_in (Some t))) then ts else behind_first ts
+abbrev pub after_first : Trees → Trees
+after_first no_trees = no_trees
+after_first (tree t ts) = if is_some (named_id (descriptor_in (Some t))) then ts else after_first ts
 
 -- what a call of `next` gives: the next id of an entry of type `public-key`, or nothing once no entry is left
 pub record NextId (old : DescriptorWalk) (id : Option (Bor (List ℕ))) (new : DescriptorWalk) : Type 0 where
   pub first : YieldsFirstBy {A = Bor (List ℕ)} (λ x. x.now) (λ (w : DescriptorWalk). ids_of (left_of w)) old id new
   pub same : list_of new ≡ list_of old
-  pub left : left_of new ≡ behind_first (left_of old)
+  pub left : left_of new ≡ after_first (left_of old)
   pub ended : id ≡ None → left_of new ≡ no_trees
 
 -- ---- the cursor after a walk
@@ -72,7 +72,7 @@ pub record Walks (r s : Reading) (n : ℕ) (ts us : Trees) (more : ℕ) : Type 0
 -- what looking for the next id gives
 abbrev pub Gives : Reading → ℕ → Reading → ℕ → Option (List ℕ) → Type 0
 Gives r n s m id =
-    (ts : Trees) → Left r n ts → (us : Trees) × (more : ℕ) × Walks r s m ts us more × (ids_of ts ≡ in_front id (ids_of us)) × (id ≡ None → us ≡ no_trees) × (us ≡ behind_first ts)
+    (ts : Trees) → Left r n ts → (us : Trees) × (more : ℕ) × Walks r s m ts us more × (ids_of ts ≡ in_front id (ids_of us)) × (id ≡ None → us ≡ no_trees) × (us ≡ after_first ts)
 
 -- the bytes of a list with entries, as they stand in a request
 pub record IsList (l : List ℕ) (ts : Trees) : Type 0 where

@@ -23,46 +23,46 @@ named_command byte =
 -- What takes no parameters (CTAP 2.1, sections 6.3, 6.4, 6.6 and 6.9) asks by its command byte alone. That bytes which stand there
 -- are a wrong length is this project's choice.
 abbrev pub alone : List ℕ → Asked → Result Asked ℕ
-alone behind asked = if_all_hold (check (length behind == 0) INVALID_LENGTH ∷ []) asked
+alone parameters asked = if_all_hold (check (length parameters == 0) INVALID_LENGTH ∷ []) asked
 
 -- what a command asks with these bytes after it
 abbrev pub request_of : Command → List ℕ → Result Asked ℕ
-request_of served.MakeCredential behind = make_request (canonical_tree behind)
-request_of served.GetAssertion behind = assertion_request (canonical_tree behind)
-request_of served.GetInfo behind = alone behind asks.GetInfo
-request_of served.Reset behind = alone behind asks.Reset
-request_of served.GetNextAssertion behind = alone behind asks.GetNextAssertion
-request_of served.Selection behind = alone behind asks.Selection
+request_of served.MakeCredential parameters = make_request (canonical_tree parameters)
+request_of served.GetAssertion parameters = assertion_request (canonical_tree parameters)
+request_of served.GetInfo parameters = alone parameters asks.GetInfo
+request_of served.Reset parameters = alone parameters asks.Reset
+request_of served.GetNextAssertion parameters = alone parameters asks.GetNextAssertion
+request_of served.Selection parameters = alone parameters asks.Selection
 
 abbrev pub served_request : Option Command → List ℕ → Result Asked ℕ
-served_request None behind = Err INVALID_COMMAND
-served_request (Some c) behind = request_of c behind
+served_request None parameters = Err INVALID_COMMAND
+served_request (Some c) parameters = request_of c parameters
 
 -- What a message asks (CTAP 2.1, section 8, "Message Encoding"): its first byte names the command, and the command's
 -- parameters stand after it. A message without a command byte has a wrong length.
 unfoldable pub read_of : List ℕ → Result Asked ℕ
 read_of [] = Err INVALID_LENGTH
-read_of (byte ∷ behind) = served_request (named_command byte) behind
+read_of (byte ∷ parameters) = served_request (named_command byte) parameters
 
 -- The steps of reading parameters: those of checking them, and as many again where they are canonical, for they are walked once
 -- more.
 abbrev pub reading_steps : List ℕ → ℕ
-reading_steps behind = if is_some (canonical_tree behind) then 2 * check_steps behind else check_steps behind
+reading_steps parameters = if is_some (canonical_tree parameters) then 2 * check_steps parameters else check_steps parameters
 
 -- The steps of reading what stands after a command byte: none where nothing may stand there.
 abbrev pub command_steps : Command → List ℕ → ℕ
-command_steps served.MakeCredential behind = reading_steps behind
-command_steps served.GetAssertion behind = reading_steps behind
-command_steps c behind = 0
+command_steps served.MakeCredential parameters = reading_steps parameters
+command_steps served.GetAssertion parameters = reading_steps parameters
+command_steps c parameters = 0
 
 abbrev pub served_steps : Option Command → List ℕ → ℕ
-served_steps None behind = 0
-served_steps (Some c) behind = command_steps c behind
+served_steps None parameters = 0
+served_steps (Some c) parameters = command_steps c parameters
 
 -- The steps of reading a message.
 unfoldable pub steps_of : List ℕ → ℕ
 steps_of [] = 0
-steps_of (byte ∷ behind) = served_steps (named_command byte) behind
+steps_of (byte ∷ parameters) = served_steps (named_command byte) parameters
 
 -- a count of steps stops at 2^64-1
 abbrev pub LARGEST : ℕ

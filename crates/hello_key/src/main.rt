@@ -3,7 +3,7 @@
 
 use authn_core::{NewKey, Presence, Signature};
 use hid_packet::command::{CBOR, INIT, PING};
-use hid_packet::{Fragments, Outbox};
+use hid_packet::{BROADCAST, Fragments, Outbox};
 use std::io;
 use token_session::{Input, Session};
 
@@ -32,11 +32,7 @@ fn send(rt: &HostRuntime, key: &mut Session<8>, message: Fragments) -> io::Resul
 
 fn main(rt: HostRuntime) -> io::Result<()> {
     let mut key = Session::bare([0; 16], 0);
-    send(
-        &rt,
-        &mut key,
-        Fragments::new(0xffff_ffff, INIT, b"nonce..."),
-    )?;
+    send(&rt, &mut key, Fragments::new(BROADCAST, INIT, b"nonce..."))?;
     send(&rt, &mut key, Fragments::new(1, PING, b"hello"))?;
     send(&rt, &mut key, Fragments::new(1, CBOR, REGISTRATION))?;
     step(&rt, &mut key, Input::Presence(Presence::Granted))?;

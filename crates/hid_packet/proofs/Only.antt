@@ -24,11 +24,11 @@ module _ (packet : List ℕ) (whole : IsPacket packet) where
   unfolding is_initialization command message_length initialization_data
   split_initialization begins =
       let kind : get_or packet 4 0 ≡ get_or packet 4 0 - 128 + 128 = grind (arith, nat_tests) in
-      let behind : drop 2 (drop 5 packet) ≡ take 57 (drop 7 packet) =
+      let beyond : drop 2 (drop 5 packet) ≡ take 57 (drop 7 packet) =
       drop-drop 2 5 packet ∙ sym (take_all 57 (drop 7 packet) (omega (arith, length-drop 7 packet))) in
       let rest : drop 5 packet ≡ big_bytes 2 (big_number 2 (drop 5 packet)) ++ take 57 (drop 7 packet) =
       sym (take-append-drop 2 (drop 5 packet))
-      ∙ ap₂ ◌++◌ (sym (bytes_of_number 2 (drop 5 packet) (omega (arith, length-drop 5 packet)) (bytes-drop 5 packet whole.1))) behind in
+      ∙ ap₂ ◌++◌ (sym (bytes_of_number 2 (drop 5 packet) (omega (arith, length-drop 5 packet)) (bytes-drop 5 packet whole.1))) beyond in
       split_header ∙ ap₂ (λ n (r : List ℕ). big_bytes 4 (channel packet) ++ n ∷ r) kind rest
 
   split_continuation : packet ≡ big_bytes 4 (channel packet) ++ sequence packet ∷ continuation_data packet

@@ -17,9 +17,9 @@ whole_padded bytes fits all = (
 whole_initialization : (cid cmd len : ℕ) (part : List ℕ) → cmd < 128 → length part ≤ 57 → AreBytes part → IsPacket (initialization_packet cid cmd len part)
 unfolding initialization_packet
 whole_initialization cid cmd len part low fits all =
-    let behind : AreBytes ((cmd + 128) ∷ (big_bytes 2 len ++ part)) =
+    let beyond : AreBytes ((cmd + 128) ∷ (big_bytes 2 len ++ part)) =
     (omega arith, bytes-append (big_bytes 2 len) part (bytes-big_bytes 2 len) all) in
-    whole_padded _ (omega arith) (bytes-append (big_bytes 4 cid) ((cmd + 128) ∷ (big_bytes 2 len ++ part)) (bytes-big_bytes 4 cid) behind)
+    whole_padded _ (omega arith) (bytes-append (big_bytes 4 cid) ((cmd + 128) ∷ (big_bytes 2 len ++ part)) (bytes-big_bytes 4 cid) beyond)
 
 whole_continuation : (cid number : ℕ) (part : List ℕ) → number < 128 → length part ≤ 59 → AreBytes part → IsPacket (continuation_packet cid number part)
 unfolding continuation_packet

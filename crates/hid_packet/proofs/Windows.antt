@@ -22,5 +22,5 @@ module _ {X : Type 0} (size first n : ℕ) (xs : List X) (in_range : first < siz
       let tail = length-drop first xs in
       get_or-take n _ i d below ∙ elim (wraps_once size (first + i) (omega arith)) [
         | inl before ↦ get_or_append_left _ _ d i (omega arith) ∙ get_or-drop first xs i d ∙ ap (λ j. get_or xs j d) (omega arith)
-        | inr behind ↦ get_or-append_right _ _ (size - first) i d (omega arith) (omega arith) ∙ get_or-take first xs _ d (omega arith) ∙ ap (λ j. get_or xs j d) (omega arith)
+        | inr beyond ↦ get_or-append_right _ _ (size - first) i d (omega arith) (omega arith) ∙ get_or-take first xs _ d (omega arith) ∙ ap (λ j. get_or xs j d) (omega arith)
       ]

@@ -41,13 +41,13 @@ is_help _ = false
 
 -- Memory was refused, and that was written.
 abbrev pub LacksMemory : {O F : Type 0} → (F → Option (List ℕ)) → (F → ℕ) → Status → (O × O) → (F × F) → Type 0
-LacksMemory told untold status output faults =
-    (status ≡ Err 2) × (output.1 ≡ output.0) × IsGiven told untold faults no_memory
+LacksMemory said unsaid status output faults =
+    (status ≡ Err 2) × (output.1 ≡ output.0) × IsGiven said unsaid faults no_memory
 
 -- What is wrong with the words was written.
 abbrev pub Refuses : {O F : Type 0} → (F → Option (List ℕ)) → (F → ℕ) → Status → (O × O) → (F × F) → Type 0
-Refuses told untold status output faults =
-    (status ≡ Err 2) × (output.1 ≡ output.0) × ((text : List ℕ) × IsGiven told untold faults text)
+Refuses said unsaid status output faults =
+    (status ≡ Err 2) × (output.1 ≡ output.0) × ((text : List ℕ) × IsGiven said unsaid faults text)
 
 -- Help was written.
 abbrev pub Helps : {O F : Type 0} → (O → Option (List ℕ)) → (O → ℕ) → Status → (O × O) → (F × F) → Type 0
@@ -57,6 +57,6 @@ Helps taken failed status output faults = (faults.1 ≡ faults.0) × ((text : Li
 -- An answer of clap's was given, of this kind, or there was no memory for it.
 abbrev pub Explains : {O F : Type 0} → ErrorKind → (O → Option (List ℕ)) → (O → ℕ) → (F → Option (List ℕ)) → (F → ℕ)
     → Status → (O × O) → (F × F) → Type 0
-Explains kind taken failed told untold status output faults =
-    LacksMemory told untold status output faults
-    ⊎ ((kind ≢ OutOfMemory) × MatchBool (is_help kind) (Helps taken failed status output faults) (Refuses told untold status output faults))
+Explains kind taken failed said unsaid status output faults =
+    LacksMemory said unsaid status output faults
+    ⊎ ((kind ≢ OutOfMemory) × MatchBool (is_help kind) (Helps taken failed status output faults) (Refuses said unsaid status output faults))

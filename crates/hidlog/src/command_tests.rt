@@ -93,7 +93,7 @@ fn logs_are_made_quiet_and_shown(rt: HostRuntime) -> Result<(), Fail> {
 }
 
 #[test]
-fn what_is_needed_is_told(rt: HostRuntime) {
+fn what_is_needed_is_said(rt: HostRuntime) {
     let live = "# idle\nt 7\n# need nothing\n";
     let end = "= held 0 rows 0 pending 0 requests 0 bytes 0 steps 0\n";
     let fault = "hidlog: line 4: not a log line\n";

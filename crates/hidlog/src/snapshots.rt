@@ -4,7 +4,8 @@ ghost use Rattle.cred_table.specs.declared.row.Row.{Row as AnyRow};
 ghost use Rattle.token_session.specs.Meters.{StandsAfter};
 ghost use Rattle.hidlog.specs.CommandLine.{path_of};
 ghost use Rattle.hidlog.specs.Program.{refused};
-ghost use Rattle.hidlog.specs.Saved.{FailsToOpen, Opens, Saves, start_with};
+ghost use Rattle.session_log.specs.Command.{start_with};
+ghost use Rattle.hidlog.specs.Saved.{FailsToOpen, Opens, Saves};
 
 use crate::files::Files;
 use crate::process::{no_memory, tell};

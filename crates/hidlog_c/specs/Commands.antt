@@ -10,7 +10,8 @@ use Rattle.session_log.specs.Ending.{Ending, ending_of, read_fails, write_fails}
 use Rattle.session_log.specs.Replay.{Makes}
 use Rattle.session_log.specs.Session.{history, live_history, quiet_history}
 use Rattle.hidlog_c.specs.declared.outcome.Outcome.{Outcome}
-use Rattle.hidlog_c.specs.Begin.{Opens, start_with}
+use Rattle.session_log.specs.Command.{start_with}
+use Rattle.hidlog_c.specs.Begin.{Opens}
 use Rattle.hidlog_c.specs.Numbers.{outcome_of, refused}
 
 -- The log was replayed from the start with these credentials: so many bytes of it were read, and this text was written.

@@ -1,9 +1,9 @@
 //! The commands, from a log to the buffer.
+ghost use Rattle.session_log.specs.Command.{start_with};
 ghost use Rattle.std.specs.Prelude.{◌≡◌, [], List, ℕ, take, Option};
 ghost use Rattle.cred_table.specs.declared.row.Row.{Row as AnyRow};
 ghost use Rattle.token_session.specs.Meters.{StandsAfter};
 ghost use Rattle.session_log.specs.Ending.{Ending};
-ghost use Rattle.hidlog_c.specs.Begin.{start_with};
 ghost use Rattle.hidlog_c.specs.Commands.{Answers, Checks, IsWritten, Lives, Quiets, Replays};
 
 use crate::lent::Lent;

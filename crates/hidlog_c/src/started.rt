@@ -3,7 +3,8 @@ ghost use Rattle.std.specs.Prelude.{◌≡◌, ◌≢◌, [], List, IfOk, IfErr}
 ghost use Rattle.cred_table.specs.declared.row.Row.{Row as AnyRow};
 ghost use Rattle.cred_table.specs.Snapshots.{Refuses};
 ghost use Rattle.token_session.specs.Meters.{StandsAfter};
-ghost use Rattle.hidlog_c.specs.Begin.{Opens, start_with};
+ghost use Rattle.session_log.specs.Command.{start_with};
+ghost use Rattle.hidlog_c.specs.Begin.{Opens};
 
 use authn_core::Config;
 use cred_table::{SnapshotFault, Store, Table, load};

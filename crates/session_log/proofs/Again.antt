@@ -9,7 +9,7 @@ use Rattle.token_session.specs.declared.input.Meters.{Meters}
 use Rattle.session_log.specs.declared.line.Line.{Line}
 use Rattle.session_log.specs.declared.line.Line.TheVariants.{Sent, Count}
 use Rattle.session_log.specs.Lines.{lines}
-use Rattle.session_log.specs.Log.{Played, behind, played, playing, log_of, log, last_text, fault_by, text_of, text_by, after, after_by}
+use Rattle.session_log.specs.Log.{Played, prefixed, played, playing, log_of, log, last_text, fault_by, text_of, text_by, after, after_by}
 use Rattle.session_log.specs.Said.{said}
 use Rattle.session_log.specs.Sent.{SendsPackets, AllSend, FitsMeters}
 use Rattle.session_log.specs.Text.{IsPacket, ArePackets, ended, sent_text, meters_line}
@@ -17,7 +17,7 @@ use Rattle.session_log.specs.World.{World}
 use Rattle.session_log.proofs.Feeds.{feedless, AreLines, feedless-append, AreLines-append, lines_joined, lines_are_lines, decimal_feedless, hex_feedless}
 use Rattle.session_log.proofs.Spelled.{count_rest, spelled_is_read}
 use Rattle.session_log.proofs.Sound.{IsSound, sound_line, sound_first}
-use Rattle.session_log.proofs.Through.{played_sound, behind_twice, said_fault, log_is}
+use Rattle.session_log.proofs.Through.{played_sound, prefixed_twice, said_fault, log_is}
 
 -- A world in which no line is faulty but for its text. What was sent and counted in an earlier run is dropped, and at the end
 -- stand the meters.
@@ -77,10 +77,10 @@ faultless w counts is n s None h = absurd (h refl)
 faultless w counts is n s (Some l) h = is.stops s l
 
 pub sound_step : {S : Type 0} (w : World S) (counts : S → Meters) → IsLogging w counts → (m : ℕ) (s : S) (line : List ℕ) (more : List (List ℕ)) (l : Option Line) → m < 2 ^ 32 → IsSound line → said line ≡ l
-    → played w m s (line ∷ more) ≡ behind (text_by w s line l) (played w (m + 1) (after_by w s l) more)
+    → played w m s (line ∷ more) ≡ prefixed (text_by w s line l) (played w (m + 1) (after_by w s l) more)
 sound_step w counts is m s line more l few sound e =
     played_sound w m s line more (said_fault w m s line few sound.short ∙ faultless w counts is m s (said line) sound.says)
-    ∙ ap (λ (o : Option Line). behind (text_by w s line o) (played w (m + 1) (after_by w s o) more)) e
+    ∙ ap (λ (o : Option Line). prefixed (text_by w s line o) (played w (m + 1) (after_by w s o) more)) e
 
 pub sents_again : {S : Type 0} (w : World S) (counts : S → Meters) → IsLogging w counts → (m : ℕ) (s : S) (packets rest : List (List ℕ)) → ArePackets packets → m + length packets ≤ 2 ^ 32
     → played w m s (map sent_line packets ++ rest) ≡ played w (m + length packets) s rest
@@ -89,7 +89,7 @@ sents_again w counts is m s (packet ∷ more) rest h few =
     let next : m + 1 + length more ≡ m + suc (length more) = omega arith in
     let sent : Packet = record { 0 = packet } in
     sound_step w counts is m s (sent_line packet) (map sent_line more ++ rest) (Some (Sent sent)) (omega (arith, few)) (sent_sound packet h.0) (sent_said packet h.0)
-    ∙ (λ i. behind (is.drops_sent s (sent_line packet) sent i) (played w (m + 1) (is.stays_at_sent s sent i) (map sent_line more ++ rest)))
+    ∙ (λ i. prefixed (is.drops_sent s (sent_line packet) sent i) (played w (m + 1) (is.stays_at_sent s sent i) (map sent_line more ++ rest)))
     ∙ sents_again w counts is (m + 1) s more rest h.1 (omega (arith, few, next))
     ∙ ap (λ (k : ℕ). played w k s rest) next
 
@@ -98,14 +98,14 @@ pub record GivesAgain {S : Type 0} (v w : World S) (wrote : S → List ℕ → O
   pub texts : (s : S) (line : List ℕ) (l : Option Line) → text_by v s line l ≡ flat_map ended (wrote s line l)
   pub are : (s : S) (line : List ℕ) (l : Option Line) → feedless line ≡ true → SendsPackets v s l → AreLines (wrote s line l)
   pub again : (m : ℕ) (s : S) (line : List ℕ) (l : Option Line) (rest : List (List ℕ)) → IsSound line → said line ≡ l → SendsPackets v s l → m + length (wrote s line l) ≤ 2 ^ 32
-      → played w m s (wrote s line l ++ rest) ≡ behind (text_by v s line l) (played w (m + length (wrote s line l)) (after_by v s l) rest)
+      → played w m s (wrote s line l ++ rest) ≡ prefixed (text_by v s line l) (played w (m + length (wrote s line l)) (after_by v s l) rest)
 
 abbrev written : {S : Type 0} (v : World S) → (S → List ℕ → Option Line → List (List ℕ)) → S → List (List ℕ) → List (List ℕ)
 written v wrote s [] = []
 written v wrote s (line ∷ more) = wrote s line (said line) ++ written v wrote (after v s line) more
 
 lines_again : {S : Type 0} (v w : World S) (wrote : S → List ℕ → Option Line → List (List ℕ)) → GivesAgain v w wrote → (n m : ℕ) (s : S) (ls rest : List (List ℕ)) → (played v n s ls).fault ≡ None → AllSend v s ls → m + length (written v wrote s ls) ≤ 2 ^ 32
-    → played w m s (written v wrote s ls ++ rest) ≡ behind (played v n s ls).text (played w (m + length (written v wrote s ls)) (played v n s ls).state rest)
+    → played w m s (written v wrote s ls ++ rest) ≡ prefixed (played v n s ls).text (played w (m + length (written v wrote s ls)) (played v n s ls).state rest)
 lines_again v w wrote g n m s [] rest h sends few = ap (λ (k : ℕ). played w k s rest) (add_zero m)
 lines_again {S} v w wrote g n m s (line ∷ more) rest h sends few =
     let t = after v s line in
@@ -119,9 +119,9 @@ lines_again {S} v w wrote g n m s (line ∷ more) rest h sends few =
     let final = played w (m + length first + length others) (played v (n + 1) t more).state rest in
     ap (played w m s) (append_assoc first others rest)
     ∙ g.again m s line (said line) (others ++ rest) (sound_line v n s line sound) refl sends.0 (omega (arith, few, both))
-    ∙ ap (behind (text_of v s line)) (lines_again v w wrote g (n + 1) (m + length first) t more rest later sends.1 (omega (arith, few, both)))
-    ∙ behind_twice (text_of v s line) (played v (n + 1) t more).text final
-    ∙ λ i. behind (sym step i).text (played w (count i) (sym step i).state rest)
+    ∙ ap (prefixed (text_of v s line)) (lines_again v w wrote g (n + 1) (m + length first) t more rest later sends.1 (omega (arith, few, both)))
+    ∙ prefixed_twice (text_of v s line) (played v (n + 1) t more).text final
+    ∙ λ i. prefixed (sym step i).text (played w (count i) (sym step i).state rest)
 
 written_text : {S : Type 0} (v w : World S) (wrote : S → List ℕ → Option Line → List (List ℕ)) → GivesAgain v w wrote → (n : ℕ) (s : S) (ls : List (List ℕ)) → (played v n s ls).fault ≡ None → (played v n s ls).text ≡ flat_map ended (written v wrote s ls)
 written_text v w wrote g n s [] h = refl
@@ -189,7 +189,7 @@ log_again {S} v w counts wrote writes gives g s bytes h sends fits few =
     let end : Played S = record { text = []; fault = None; state = p.state } in
     let ends : played w (1 + length first) p.state (last ∷ []) ≡ end =
     sound_step w counts gives (1 + length first) p.state last [] (Some Count) (omega (arith, room)) sound (count_rest (counts_of m))
-    ∙ (λ i. behind (gives.drops_count p.state last i) (record { text = []; fault = None; state = gives.stays_at_count p.state i })) in
-    let plays : playing w s (log v s bytes) ≡ behind p.text end =
-    ap (played w 1 s) cut ∙ lines_again v w wrote g 1 1 s (lines bytes) (last ∷ []) h sends (omega (arith, room)) ∙ ap (behind p.text) ends in
+    ∙ (λ i. prefixed (gives.drops_count p.state last i) (record { text = []; fault = None; state = gives.stays_at_count p.state i })) in
+    let plays : playing w s (log v s bytes) ≡ prefixed p.text end =
+    ap (played w 1 s) cut ∙ lines_again v w wrote g 1 1 s (lines bytes) (last ∷ []) h sends (omega (arith, room)) ∙ ap (prefixed p.text) ends in
     ap (log_of w) plays ∙ ap (λ (t : List ℕ). t ++ last_text w p.state) (append-nil p.text) ∙ ap (λ (t : List ℕ). p.text ++ t) (gives.ends p.state) ∙ sym whole

@@ -41,10 +41,10 @@ pieces_some (x ∷ xs) = go (pieces_some xs) (is_feed x) refl
     go more false e = (x ∷ more.0, more.1, slice_split-cons_no is_feed x xs e ∙ ap (onto_first x) more.2)
 
 -- lines before pieces
-pub lines_behind : (done : List (List ℕ)) (p : List ℕ) (ps : List (List ℕ)) → lines_of_pieces (done ++ p ∷ ps) ≡ done ++ lines_of_pieces (p ∷ ps)
-lines_behind [] p ps = refl
-lines_behind (d ∷ []) p ps = refl
-lines_behind (d ∷ e ∷ ds) p ps = ap (λ (l : List (List ℕ)). d ∷ l) (lines_behind (e ∷ ds) p ps)
+pub lines_beyond : (done : List (List ℕ)) (p : List ℕ) (ps : List (List ℕ)) → lines_of_pieces (done ++ p ∷ ps) ≡ done ++ lines_of_pieces (p ∷ ps)
+lines_beyond [] p ps = refl
+lines_beyond (d ∷ []) p ps = refl
+lines_beyond (d ∷ e ∷ ds) p ps = ap (λ (l : List (List ℕ)). d ∷ l) (lines_beyond (e ∷ ds) p ps)
 
 pub front_of : (done : List (List ℕ)) (p : List ℕ) → all_but_last (done ++ p ∷ []) ≡ done
 front_of [] p = refl
@@ -63,7 +63,7 @@ line_in_front w end e =
     let some = pieces_some rest in
     let cut : pieces w ≡ take end w ∷ pieces rest = ap pieces (sym (take-append-drop (end + 1) w)) ∙ first_piece w end rest e in
     ap lines_of_pieces (cut ∙ ap (λ (ps : List (List ℕ)). take end w ∷ ps) some.2)
-    ∙ lines_behind (take end w ∷ []) some.0 some.1 ∙ ap (λ (ps : List (List ℕ)). take end w ∷ lines_of_pieces ps) (sym some.2)
+    ∙ lines_beyond (take end w ∷ []) some.0 some.1 ∙ ap (λ (ps : List (List ℕ)). take end w ∷ lines_of_pieces ps) (sym some.2)
 
 not_zero : (n : ℕ) → (suc n == 0) ≡ false
 not_zero n = grind (arith, nat_tests)

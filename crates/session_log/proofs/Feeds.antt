@@ -8,7 +8,7 @@ use Rattle.std.specs.Str.Parse.{AllDigits}
 use Rattle.hex.specs.Hex.{is_hex_digit}
 use Rattle.session_log.specs.Lines.{is_feed, pieces, lines_of_pieces, lines}
 use Rattle.session_log.specs.Text.{ended}
-use Rattle.session_log.proofs.Cutting.{pieces_some, lines_behind}
+use Rattle.session_log.proofs.Cutting.{pieces_some, lines_beyond}
 use Rattle.std.proofs.lemmas.Bool.{eqb-true}
 
 abbrev pub feedless : List ℕ → Bool
@@ -50,7 +50,7 @@ pieces_joined (line ∷ more) h =
     ap pieces (append_assoc line (10 ∷ []) (flat_map ended more)) ∙ cut_line line (flat_map ended more) h.0 ∙ ap (λ (ps : List (List ℕ)). line ∷ ps) (pieces_joined more h.1)
 
 pub lines_joined : (ls : List (List ℕ)) → AreLines ls → lines (flat_map ended ls) ≡ ls
-lines_joined ls h = ap lines_of_pieces (pieces_joined ls h) ∙ lines_behind ls [] [] ∙ append-nil ls
+lines_joined ls h = ap lines_of_pieces (pieces_joined ls h) ∙ lines_beyond ls [] [] ∙ append-nil ls
 
 -- the lines of any bytes have no line feed
 

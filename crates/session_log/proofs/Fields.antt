@@ -40,10 +40,10 @@ pub hex_no_space : (digits : List ℕ) → AllPass is_hex_digit digits → NoSpa
 hex_no_space [] h = tt
 hex_no_space (c ∷ cs) h = (hex_digit_no_space c (h 0 0 (omega arith)), hex_no_space cs (λ k d l. h (suc k) d (omega arith)))
 
-space_behind : (front rest : List ℕ) → NoSpace front → position_or_len is_space (front ++ 32 ∷ rest) ≡ length front
-space_behind [] rest h = refl
-space_behind (c ∷ cs) rest h =
-    ap (λ (b : Bool). cond (not b) (1 + position_or_len is_space (cs ++ 32 ∷ rest)) 0) h.0 ∙ ap (λ (n : ℕ). 1 + n) (space_behind cs rest h.1) ∙ one_more
+space_after : (front rest : List ℕ) → NoSpace front → position_or_len is_space (front ++ 32 ∷ rest) ≡ length front
+space_after [] rest h = refl
+space_after (c ∷ cs) rest h =
+    ap (λ (b : Bool). cond (not b) (1 + position_or_len is_space (cs ++ 32 ∷ rest)) 0) h.0 ∙ ap (λ (n : ℕ). 1 + n) (space_after cs rest h.1) ∙ one_more
   where
     one_more : 1 + length cs ≡ suc (length cs)
     one_more = omega arith
@@ -52,7 +52,7 @@ space_behind (c ∷ cs) rest h =
 pub parted : (front rest : List ℕ) → NoSpace front → first_field (front ++ 32 ∷ rest) ≡ Some (front, rest)
 parted front rest h =
     let all = front ++ 32 ∷ rest in
-    let at : position_or_len is_space all ≡ length front = space_behind front rest h in
+    let at : position_or_len is_space all ≡ length front = space_after front rest h in
     let inside : length front < length all = omega (arith, length-append front (32 ∷ rest)) in
     let found : position is_space all ≡ Some (length front) =
     ap (λ (k : ℕ). cond (nat_lt k (length all)) (Some k) None) at ∙ ap (λ (b : Bool). cond b (Some (length front)) None) (lt-ltb (length front) (length all) inside) in

@@ -5,7 +5,7 @@ use Rattle.token_session.specs.declared.input.Timed.{Timed}
 use Rattle.token_session.specs.declared.input.Meters.{Meters}
 use Rattle.token_session.specs.History.{judged}
 use Rattle.token_session.specs.Meters.{SessionState, StandsAfter, session_of}
-use Rattle.token_session.proofs.Metering.{stands_longer, machine_behind}
+use Rattle.token_session.proofs.Metering.{stands_longer, machine_after}
 use Rattle.token_session.proofs.Noise.{noise_is_named}
 use Rattle.token_session.proofs.Runs.{step_sends}
 use Rattle.session_log.specs.declared.fault.LogFault.{LogFault}
@@ -33,7 +33,7 @@ moved start s h Comment r = r
 moved start s h Count r = r
 
 wrote : (start : Start) (s : SessionState) (h : List Timed) (line : List ℕ) (l : Line) → StandsAfter s start h → writes_again sessions s line l ≡ writes_again (histories start) h line l
-wrote start s h line (Input timed) r = ap (λ (ps : List (List ℕ)). ended line ++ flat_map sent_text ps) (step_sends s.machine start h timed (machine_behind s start h r))
+wrote start s h line (Input timed) r = ap (λ (ps : List (List ℕ)). ended line ++ flat_map sent_text ps) (step_sends s.machine start h timed (machine_after s start h r))
 wrote start s h line (Sent packet) r = refl
 wrote start s h line Comment r = refl
 wrote start s h line Count r = refl
@@ -58,7 +58,7 @@ replays_history left left' taken taken' s t r m start h stands =
 -- Made quiet.
 
 noised : (start : Start) (s : SessionState) (h : List Timed) (line : List ℕ) (l : Line) → StandsAfter s start h → quiet_machine.writes s line l ≡ (quiet_history start).writes h line l
-noised start s h line (Input timed) r = ap (λ (b : Bool). ended (cond b (tick_text timed.at) line)) (noise_is_named s.machine start h timed (machine_behind s start h r))
+noised start s h line (Input timed) r = ap (λ (b : Bool). ended (cond b (tick_text timed.at) line)) (noise_is_named s.machine start h timed (machine_after s start h r))
 noised start s h line (Sent packet) r = refl
 noised start s h line Comment r = refl
 noised start s h line Count r = refl
@@ -75,14 +75,14 @@ quiet_follows start = record {
 
 -- With what is needed.
 
-needed_behind : (start : Start) (s : SessionState) (h : List Timed) → StandsAfter s start h → session_needs s ≡ history_needs start h
+needed_after : (start : Start) (s : SessionState) (h : List Timed) → StandsAfter s start h → session_needs s ≡ history_needs start h
 unfolding session_of named
-needed_behind start s h r = ap session_needs r
+needed_after start s h r = ap session_needs r
 
 told : (start : Start) (s : SessionState) (h : List Timed) (line : List ℕ) (l : Line) → StandsAfter s start h → live_machine.writes s line l ≡ (live_history start).writes h line l
 told start s h line (Input timed) r =
-    let sends = step_sends s.machine start h timed (machine_behind s start h r) in
-    let needs = needed_behind start (sessions.turned s timed) (timed ∷ h) (stands_longer s start h timed r) in
+    let sends = step_sends s.machine start h timed (machine_after s start h r) in
+    let needs = needed_after start (sessions.turned s timed) (timed ∷ h) (stands_longer s start h timed r) in
     λ i. ended line ++ flat_map sent_text (sends i) ++ flat_map ended (need_lines (needs i))
 told start s h line (Sent packet) r = refl
 told start s h line Comment r = refl
@@ -132,7 +132,7 @@ same_stops start c d Count r = refl
 
 same_moves : (start : Start) (c : Compared SessionState) (d : Compared (List Timed)) (l : Line) → IsBeside start c d → IsBeside start (moves_compared sessions c l) (moves_compared (histories start) d l)
 same_moves start c d (Input timed) r =
-    let sends = step_sends c.session.machine start d.session timed (machine_behind c.session start d.session r.0) in (
+    let sends = step_sends c.session.machine start d.session timed (machine_after c.session start d.session r.0) in (
       stands_longer c.session start d.session timed r.0,
       ap (λ (z : Compared (List Timed)). moves_compared (histories start) z (Input timed)) r.1
           ∙ ap (λ (due : List (List ℕ)). record (moves_compared (histories start) (onto_history d.session c) (Input timed)) { due = due }) (sym sends),

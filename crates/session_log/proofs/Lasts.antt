@@ -16,9 +16,9 @@ length-all_but_last : {A : Type 0} (x : A) (xs : List A) → length (all_but_las
 length-all_but_last x [] = refl
 length-all_but_last x (y ∷ ys) = ap suc (length-all_but_last y ys)
 
-behind_some : (done : List (List ℕ)) (x y : List ℕ) (more : List (List ℕ)) → length done + 1 ≤ length (all_but_last (done ++ x ∷ y ∷ more))
-behind_some [] x y more = omega (arith, length-all_but_last x (y ∷ more))
-behind_some (d ∷ ds) x y more = omega (arith, length-all_but_last d (ds ++ x ∷ y ∷ more), length-append ds (x ∷ y ∷ more))
+after_some : (done : List (List ℕ)) (x y : List ℕ) (more : List (List ℕ)) → length done + 1 ≤ length (all_but_last (done ++ x ∷ y ∷ more))
+after_some [] x y more = omega (arith, length-all_but_last x (y ∷ more))
+after_some (d ∷ ds) x y more = omega (arith, length-all_but_last d (ds ++ x ∷ y ∷ more), length-append ds (x ∷ y ∷ more))
 
 -- line n is one of the whole lines
 whole_count : {S : Type 0} (world : World S) (s0 : S) (read text : List ℕ) (s : S) (n : ℕ) (w : List ℕ) (end : ℕ) → Through world s0 read text s n → HasLine n w end → n ≤ length (whole_lines (read ++ w))
@@ -27,7 +27,7 @@ whole_count world s0 read text s n w end t has =
     let rest = pieces_some (drop (end + 1) w) in
     let cut : pieces w ≡ line ∷ rest.0 ∷ rest.1 = ap pieces (sym (take-append-drop (end + 1) w)) ∙ first_piece w end (drop (end + 1) w) has.feed ∙ ap (λ (l : List (List ℕ)). line ∷ l) rest.2 in
     let is : whole_lines (read ++ w) ≡ all_but_last (t.done ++ line ∷ rest.0 ∷ rest.1) = ap all_but_last (t.cut w ∙ ap (λ (l : List (List ℕ)). t.done ++ l) cut) in
-    omega (arith, t.count, ap length is, behind_some t.done line rest.0 rest.1)
+    omega (arith, t.count, ap length is, after_some t.done line rest.0 rest.1)
 
 -- the lines that were played stand before the window
 near : {S : Type 0} (world : World S) (s0 : S) (read text : List ℕ) (s : S) (n : ℕ) (w : List ℕ) → Through world s0 read text s n → length w ≤ 256 → IsNear world s0 (read ++ w) n

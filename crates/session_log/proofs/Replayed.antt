@@ -3,7 +3,7 @@ use Rattle.std.proofs.Common.{◌≡◌, ℕ, suc, ◌+◌, ◌≤◌, ◌^◌, 
 use Rattle.std.proofs.lemmas.List.{length-map}
 use Rattle.session_log.specs.declared.line.Line.{Line}
 use Rattle.session_log.specs.declared.line.Line.TheVariants.{Input, Sent, Comment, Count}
-use Rattle.session_log.specs.Log.{behind, played, text_by, after_by}
+use Rattle.session_log.specs.Log.{prefixed, played, text_by, after_by}
 use Rattle.session_log.specs.Said.{said}
 use Rattle.session_log.specs.Sent.{SendsPackets}
 use Rattle.session_log.specs.Text.{ended}
@@ -44,7 +44,7 @@ line_are course s line (Some Comment) h sends = (h, tt)
 line_are course s line (Some (Input timed)) h sends = (h, sents_are (course.sends s timed) sends)
 
 line_again : {S : Type 0} (course : Course S) (m : ℕ) (s : S) (line : List ℕ) (l : Option Line) (rest : List (List ℕ)) → IsSound line → said line ≡ l → SendsPackets (replaying course) s l → m + length (lines_by course s line l) ≤ 2 ^ 32
-    → played (replaying course) m s (lines_by course s line l ++ rest) ≡ behind (text_by (replaying course) s line l) (played (replaying course) (m + length (lines_by course s line l)) (after_by (replaying course) s l) rest)
+    → played (replaying course) m s (lines_by course s line l ++ rest) ≡ prefixed (text_by (replaying course) s line l) (played (replaying course) (m + length (lines_by course s line l)) (after_by (replaying course) s l) rest)
 line_again course m s line None rest sound e h few = absurd (sound.says e)
 line_again course m s line (Some Count) rest sound e h few = ap (λ (k : ℕ). played (replaying course) k s rest) (add_zero m)
 line_again course m s line (Some (Sent packet)) rest sound e h few = ap (λ (k : ℕ). played (replaying course) k s rest) (add_zero m)
@@ -54,7 +54,7 @@ line_again course m s line (Some (Input timed)) rest sound e h few =
     let same : length (map sent_line packets) ≡ length packets = simp length-map refl in
     let next : m + 1 + length packets ≡ m + suc (length (map sent_line packets)) = omega (arith, same) in
     sound_step (replaying course) course.counts (replay_logs course) m s line (map sent_line packets ++ rest) (Some (Input timed)) (omega (arith, few)) sound e
-    ∙ ap (behind (text_by (replaying course) s line (Some (Input timed))))
+    ∙ ap (prefixed (text_by (replaying course) s line (Some (Input timed))))
     (sents_again (replaying course) course.counts (replay_logs course) (m + 1) (course.turned s timed) packets rest h (omega (arith, few, next)) ∙ ap (λ (k : ℕ). played (replaying course) k (course.turned s timed) rest) next)
 
 pub replay_again : {S : Type 0} (course : Course S) → GivesAgain (replaying course) (replaying course) (lines_by course)

@@ -265,13 +265,13 @@ comment_spelled first rest l h e = subst (Spells (first ∷ rest)) (some_is Comm
 count_spelled : (first : ℕ) (rest : List ℕ) (l : Line) → (first == 61) ≡ true → Some Count ≡ Some l → Spells (first ∷ rest) l
 count_spelled first rest l h e = subst (Spells (first ∷ rest)) (some_is Count l e) (rest, ap (λ (x : ℕ). x ∷ rest) (eqb-true first 61 h))
 
-one_byte : (first : ℕ) (l : Line) (remark count : Bool) → (first == 35) ≡ remark → (first == 61) ≡ count → cond remark (Some Comment) (cond count (Some Count) None) ≡ Some l → Spells (first ∷ []) l
+one_byte : (first : ℕ) (l : Line) (comment count : Bool) → (first == 35) ≡ comment → (first == 61) ≡ count → cond comment (Some Comment) (cond count (Some Count) None) ≡ Some l → Spells (first ∷ []) l
 one_byte first l true count r c e = comment_spelled first [] l r e
 one_byte first l false true r c e = count_spelled first [] l c e
 one_byte first l false false r c e = cc
 
-more_bytes : (first second : ℕ) (fields : List ℕ) (l : Line) (remark count space : Bool) → (first == 35) ≡ remark → (first == 61) ≡ count → (second == 32) ≡ space
-    → cond remark (Some Comment) (cond count (Some Count) (cond space (said_by first fields) None)) ≡ Some l → Spells (first ∷ second ∷ fields) l
+more_bytes : (first second : ℕ) (fields : List ℕ) (l : Line) (comment count space : Bool) → (first == 35) ≡ comment → (first == 61) ≡ count → (second == 32) ≡ space
+    → cond comment (Some Comment) (cond count (Some Count) (cond space (said_by first fields) None)) ≡ Some l → Spells (first ∷ second ∷ fields) l
 more_bytes first second fields l true count space r c s e = comment_spelled first (second ∷ fields) l r e
 more_bytes first second fields l false true space r c s e = count_spelled first (second ∷ fields) l c e
 more_bytes first second fields l false false true r c s e =

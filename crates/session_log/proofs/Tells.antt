@@ -8,7 +8,7 @@ use Rattle.authn_core.specs.Needs.{IsNeed}
 use Rattle.authn_core.specs.Views.{Needed, nothing, presence, key, sign}
 use Rattle.session_log.specs.declared.line.Line.TheVariants.{Comment}
 use Rattle.session_log.specs.Lines.{is_feed}
-use Rattle.session_log.specs.Needs.{need_lines, pieces_of, signature_line, signed_line, tells_need}
+use Rattle.session_log.specs.Needs.{need_lines, pieces_of, signature_line, signed_line, is_need_line}
 use Rattle.session_log.specs.Said.{said}
 use Rattle.session_log.proofs.Feeds.{feedless, AreLines, both, joined, feedless-append}
 use Rattle.session_log.proofs.Sound.{IsSound}
@@ -35,7 +35,7 @@ pub record IsTold (line : List ℕ) : Type 0 where
   pub feedless : feedless line ≡ true
   pub sound : IsSound line
   pub said : said line ≡ Some Comment
-  pub tells : tells_need line ≡ true
+  pub tells : is_need_line line ≡ true
 
 abbrev pub AreTold : List (List ℕ) → Type 0
 AreTold [] = Unit {0}
@@ -45,7 +45,7 @@ AreTold-append : (xs ys : List (List ℕ)) → AreTold xs → AreTold ys → Are
 AreTold-append [] ys h k = k
 AreTold-append (x ∷ xs) ys h k = (h.0, AreTold-append xs ys h.1 k)
 
-told : (line : List ℕ) → feedless line ≡ true → length line < 256 → said line ≡ Some Comment → tells_need line ≡ true → IsTold line
+told : (line : List ℕ) → feedless line ≡ true → length line < 256 → said line ≡ Some Comment → is_need_line line ≡ true → IsTold line
 told line whole short is tells = record { feedless = whole; sound = record { short = short; says = λ e. cc (sym e ∙ is) }; said = is; tells = tells }
 
 signed_told : (bytes : List ℕ) → length bytes ≤ 96 → IsTold (signed_line bytes)

@@ -6,35 +6,35 @@ use Rattle.session_log.specs.declared.fault.LogFault.TheVariants.{TooLong, TooMa
 use Rattle.session_log.specs.Said.{said}
 use Rattle.session_log.specs.World.{World}
 use Rattle.session_log.specs.Lines.{is_feed, pieces, all_but_last, last_of, lines_of_pieces, lines, whole_lines, last_piece}
-use Rattle.session_log.specs.Log.{Played, behind, played, playing, log_of, log, first_fault, fault_of, fault_by, fault_at, text_of, last_text, after}
+use Rattle.session_log.specs.Log.{Played, prefixed, played, playing, log_of, log, first_fault, fault_of, fault_by, fault_at, text_of, last_text, after}
 use Rattle.session_log.specs.Sent.{SendsPackets, AllSend}
 use Rattle.session_log.specs.Window.{IsUnfinished}
 use Rattle.session_log.specs.Replay.{IsRefused, IsUnread, IsUnwritten, IsPlayed}
-use Rattle.session_log.proofs.Cutting.{first_piece, one_piece, pieces_some, lines_behind, front_of, last_is}
+use Rattle.session_log.proofs.Cutting.{first_piece, one_piece, pieces_some, lines_beyond, front_of, last_is}
 
 -- The bytes read are whole lines, none of them faulty: this text was written for them, and the session stands at s before line n.
 pub record Through {S : Type 0} (world : World S) (s0 : S) (read text : List ℕ) (s : S) (n : ℕ) : Type 0 where
   pub done : List (List ℕ)
   pub cut : (tail : List ℕ) → pieces (read ++ tail) ≡ done ++ pieces tail
   pub count : n ≡ length done + 1
-  pub plays : (more : List (List ℕ)) → played world 1 s0 (done ++ more) ≡ behind text (played world n s more)
+  pub plays : (more : List (List ℕ)) → played world 1 s0 (done ++ more) ≡ prefixed text (played world n s more)
   pub sends : (more : List (List ℕ)) → AllSend world s more → AllSend world s0 (done ++ more)
 
 pub through_none : {S : Type 0} (world : World S) (s : S) → Through world s [] [] s 1
 through_none world s = record { done = []; cut = λ tail. refl; count = refl; plays = λ more. refl; sends = λ more h. h }
 
 -- a line that isn't faulty is played
-pub played_sound : {S : Type 0} (world : World S) (n : ℕ) (s : S) (line : List ℕ) (more : List (List ℕ)) → fault_at world n s line ≡ None → played world n s (line ∷ more) ≡ behind (text_of world s line) (played world (n + 1) (after world s line) more)
+pub played_sound : {S : Type 0} (world : World S) (n : ℕ) (s : S) (line : List ℕ) (more : List (List ℕ)) → fault_at world n s line ≡ None → played world n s (line ∷ more) ≡ prefixed (text_of world s line) (played world (n + 1) (after world s line) more)
 played_sound world n s line more e =
-    ap (λ (o : Option LogFault). cond (is_some o) (record { text = []; fault = o; state = s }) (behind (text_of world s line) (played world (n + 1) (after world s line) more))) e
+    ap (λ (o : Option LogFault). cond (is_some o) (record { text = []; fault = o; state = s }) (prefixed (text_of world s line) (played world (n + 1) (after world s line) more))) e
 
 -- a faulty one ends the log
 pub played_faulty : {S : Type 0} (world : World S) (n : ℕ) (s : S) (line : List ℕ) (more : List (List ℕ)) (f : LogFault) → fault_at world n s line ≡ Some f → played world n s (line ∷ more) ≡ record { text = []; fault = Some f; state = s }
 played_faulty world n s line more f e =
-    ap (λ (o : Option LogFault). cond (is_some o) (record { text = []; fault = o; state = s }) (behind (text_of world s line) (played world (n + 1) (after world s line) more))) e
+    ap (λ (o : Option LogFault). cond (is_some o) (record { text = []; fault = o; state = s }) (prefixed (text_of world s line) (played world (n + 1) (after world s line) more))) e
 
-pub behind_twice : {S : Type 0} (a b : List ℕ) (p : Played S) → behind a (behind b p) ≡ behind (a ++ b) p
-behind_twice a b p = λ i. record { text = sym (append_assoc a b p.text) i; fault = p.fault; state = p.state }
+pub prefixed_twice : {S : Type 0} (a b : List ℕ) (p : Played S) → prefixed a (prefixed b p) ≡ prefixed (a ++ b) p
+prefixed_twice a b p = λ i. record { text = sym (append_assoc a b p.text) i; fault = p.fault; state = p.state }
 
 pub through_line : {S : Type 0} (world : World S) (s0 : S) (read text : List ℕ) (s : S) (n : ℕ) (w : List ℕ) (end : ℕ) → Through world s0 read text s n → position is_feed w ≡ Some end → fault_at world n s (take end w) ≡ None → SendsPackets world s (said (take end w))
     → Through world s0 (read ++ take (end + 1) w) (text ++ text_of world s (take end w)) (after world s (take end w)) (n + 1)
@@ -45,7 +45,7 @@ through_line world s0 read text s n w end t feed sound packets =
       done = t.done ++ line ∷ [];
       cut = λ tail. ap pieces (append_assoc read front tail) ∙ t.cut (front ++ tail) ∙ ap (λ (l : List (List ℕ)). t.done ++ l) (first_piece w end tail feed) ∙ sym (append_assoc t.done (line ∷ []) (pieces tail));
       count = omega (arith, t.count, length-append t.done (line ∷ []));
-      plays = λ more. ap (played world 1 s0) (append_assoc t.done (line ∷ []) more) ∙ t.plays (line ∷ more) ∙ ap (behind text) (played_sound world n s line more sound) ∙ behind_twice text (text_of world s line) (played world (n + 1) (after world s line) more);
+      plays = λ more. ap (played world 1 s0) (append_assoc t.done (line ∷ []) more) ∙ t.plays (line ∷ more) ∙ ap (prefixed text) (played_sound world n s line more sound) ∙ prefixed_twice text (text_of world s line) (played world (n + 1) (after world s line) more);
       sends = λ more h. subst (AllSend world s0) (sym (append_assoc t.done (line ∷ []) more)) (t.sends (line ∷ more) (packets, h));
     }
 
@@ -53,9 +53,9 @@ through_line world s0 read text s n w end t feed sound packets =
 pub lines_are : {S : Type 0} (world : World S) (s0 : S) (read text : List ℕ) (s : S) (n : ℕ) (w : List ℕ) → (t : Through world s0 read text s n) → lines (read ++ w) ≡ t.done ++ lines w
 lines_are world s0 read text s n w t =
     let some = pieces_some w in
-    ap lines_of_pieces (t.cut w ∙ ap (λ (l : List (List ℕ)). t.done ++ l) some.2) ∙ lines_behind t.done some.0 some.1 ∙ ap (λ (l : List (List ℕ)). t.done ++ lines_of_pieces l) (sym some.2)
+    ap lines_of_pieces (t.cut w ∙ ap (λ (l : List (List ℕ)). t.done ++ l) some.2) ∙ lines_beyond t.done some.0 some.1 ∙ ap (λ (l : List (List ℕ)). t.done ++ lines_of_pieces l) (sym some.2)
 
-pub playing_is : {S : Type 0} (world : World S) (s0 : S) (read text : List ℕ) (s : S) (n : ℕ) (w : List ℕ) → Through world s0 read text s n → playing world s0 (read ++ w) ≡ behind text (played world n s (lines w))
+pub playing_is : {S : Type 0} (world : World S) (s0 : S) (read text : List ℕ) (s : S) (n : ℕ) (w : List ℕ) → Through world s0 read text s n → playing world s0 (read ++ w) ≡ prefixed text (played world n s (lines w))
 playing_is world s0 read text s n w t = ap (played world 1 s0) (lines_are world s0 read text s n w t) ∙ t.plays (lines w)
 
 -- the fault of a line is the first, and what is wrong after the last line is where no line is faulty
@@ -75,8 +75,8 @@ first_is_last {S} world s0 s bytes text o p is =
 pub refused : {S : Type 0} (world : World S) (s0 : S) (read text : List ℕ) (s : S) (n : ℕ) (w : List ℕ) (line : List ℕ) (more : List (List ℕ)) (f : LogFault) → Through world s0 read text s n → lines w ≡ line ∷ more → fault_at world n s line ≡ Some f
     → IsRefused world s0 s (read ++ w) text f
 refused {S} world s0 read text s n w line more f t e bad =
-    let is : playing world s0 (read ++ w) ≡ behind text (record { text = []; fault = Some f; state = s }) =
-    playing_is world s0 read text s n w t ∙ ap (λ (ls : List (List ℕ)). behind text (played world n s ls)) e ∙ ap (behind text) (played_faulty world n s line more f bad) in
+    let is : playing world s0 (read ++ w) ≡ prefixed text (record { text = []; fault = Some f; state = s }) =
+    playing_is world s0 read text s n w t ∙ ap (λ (ls : List (List ℕ)). prefixed text (played world n s ls)) e ∙ ap (prefixed text) (played_faulty world n s line more f bad) in
     record {
       faulty = ap (fault_of world) is ∙ first_is_line (world.lacks s) f;
       written = sym (ap (λ (p : Played S). p.text) is ∙ append-nil text);
@@ -89,7 +89,7 @@ unread {S} world s0 read text s n w t u =
     let cut : pieces (read ++ w) ≡ t.done ++ w ∷ [] = t.cut w ∙ ap (λ (l : List (List ℕ)). t.done ++ l) (one_piece w u.no_feed) in
     let whole : whole_lines (read ++ w) ≡ t.done = ap all_but_last cut ∙ front_of t.done w in
     let last : last_piece (read ++ w) ≡ w = ap last_of cut ∙ last_is t.done w in
-    let is : played world 1 s0 (whole_lines (read ++ w)) ≡ behind text (played world n s []) = ap (played world 1 s0) (whole ∙ sym (append-nil t.done)) ∙ t.plays [] in
+    let is : played world 1 s0 (whole_lines (read ++ w)) ≡ prefixed text (played world n s []) = ap (played world 1 s0) (whole ∙ sym (append-nil t.done)) ∙ t.plays [] in
     record {
       faultless = ap (λ (p : Played S). p.fault) is;
       written = sym (ap (λ (p : Played S). p.text) is ∙ append-nil text);
@@ -103,11 +103,11 @@ unread {S} world s0 read text s n w t u =
 pub unwritten : {S : Type 0} (world : World S) (s0 : S) (read text : List ℕ) (s : S) (n : ℕ) (w : List ℕ) (line : List ℕ) (more : List (List ℕ)) (front rest : List ℕ) → Through world s0 read text s n → lines w ≡ line ∷ more → fault_at world n s line ≡ None
     → text_of world s line ≡ front ++ rest → 0 < length rest → IsUnwritten world s0 (after world s line) (read ++ w) (text ++ front)
 unwritten {S} world s0 read text s n w line more front rest t e sound broken missing =
-    let is : played world 1 s0 t.done ≡ behind text (played world n s []) = ap (played world 1 s0) (sym (append-nil t.done)) ∙ t.plays [] in
+    let is : played world 1 s0 t.done ≡ prefixed text (played world n s []) = ap (played world 1 s0) (sym (append-nil t.done)) ∙ t.plays [] in
     let stood : (played world 1 s0 t.done).state ≡ s = ap (λ (p : Played S). p.state) is in
     let others = played world (n + 1) (after world s line) more in
-    let all : playing world s0 (read ++ w) ≡ behind text (behind (text_of world s line) others) =
-    playing_is world s0 read text s n w t ∙ ap (λ (ls : List (List ℕ)). behind text (played world n s ls)) e ∙ ap (behind text) (played_sound world n s line more sound) in
+    let all : playing world s0 (read ++ w) ≡ prefixed text (prefixed (text_of world s line) others) =
+    playing_is world s0 read text s n w t ∙ ap (λ (ls : List (List ℕ)). prefixed text (played world n s ls)) e ∙ ap (prefixed text) (played_sound world n s line more sound) in
     let tail = cond (is_none others.fault) (last_text world others.state) [] in
     record {
       first = t.done;
@@ -155,8 +155,8 @@ unwritten_end {S} world s0 s bytes text front rest p broken missing =
 -- the last line was played
 pub played_last : {S : Type 0} (world : World S) (s0 : S) (read text : List ℕ) (s : S) (n : ℕ) (w : List ℕ) → Through world s0 read text s n → lines w ≡ w ∷ [] → fault_at world n s w ≡ None → SendsPackets world s (said w) → IsPlayed world s0 (after world s w) (read ++ w) (text ++ text_of world s w)
 played_last {S} world s0 read text s n w t e sound packets =
-    let is : playing world s0 (read ++ w) ≡ behind text (behind (text_of world s w) (played world (n + 1) (after world s w) [])) =
-    playing_is world s0 read text s n w t ∙ ap (λ (ls : List (List ℕ)). behind text (played world n s ls)) e ∙ ap (behind text) (played_sound world n s w [] sound) in
+    let is : playing world s0 (read ++ w) ≡ prefixed text (prefixed (text_of world s w) (played world (n + 1) (after world s w) [])) =
+    playing_is world s0 read text s n w t ∙ ap (λ (ls : List (List ℕ)). prefixed text (played world n s ls)) e ∙ ap (prefixed text) (played_sound world n s w [] sound) in
     record {
       sends = subst (AllSend world s0) (sym (lines_are world s0 read text s n w t ∙ ap (λ (ls : List (List ℕ)). t.done ++ ls) e)) (t.sends (w ∷ []) (packets, tt));
       faultless = ap (λ (p : Played S). p.fault) is;
@@ -167,7 +167,7 @@ played_last {S} world s0 read text s n w t e sound packets =
 -- nothing was left to play
 pub played_none : {S : Type 0} (world : World S) (s0 : S) (read text : List ℕ) (s : S) (n : ℕ) → Through world s0 read text s n → IsPlayed world s0 s (read ++ []) text
 played_none {S} world s0 read text s n t =
-    let is : playing world s0 (read ++ []) ≡ behind text (played world n s []) = playing_is world s0 read text s n [] t in
+    let is : playing world s0 (read ++ []) ≡ prefixed text (played world n s []) = playing_is world s0 read text s n [] t in
     record {
       sends = subst (AllSend world s0) (sym (lines_are world s0 read text s n [] t)) (t.sends [] tt);
       faultless = ap (λ (p : Played S). p.fault) is;

@@ -1,6 +1,8 @@
 -- What the commands of the program answer.
 use Rattle.std.specs.Prelude.{◌≡◌, ℕ, Bool, List, [], Option, OnOk, Result, Ok, Err, replicate}
+use Rattle.authn_core.specs.Bare.{bare_rows}
 use Rattle.authn_core.specs.Turn.{Start}
+use Rattle.cred_table.specs.declared.row.Row.{Row}
 use Rattle.token_session.specs.declared.input.Meters.{Meters}
 use Rattle.token_session.specs.declared.input.Timed.{Timed}
 use Rattle.token_session.specs.Meters.{SessionState, StandsAfter}
@@ -16,6 +18,10 @@ use Rattle.session_log.specs.World.{World}
 -- which is there
 abbrev pub program_start : Start
 program_start = record { aaguid = replicate 16 0; moment = 0; room = 64; rows = [] }
+
+-- the same, with these credentials
+abbrev pub start_with : List Row → Start
+start_with rows = record program_start { rows = bare_rows rows }
 
 abbrev pub Status : Type 0
 Status = Result (Unit {0}) ℕ

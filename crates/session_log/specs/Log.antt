@@ -41,15 +41,15 @@ pub record Played (S : Type 0) : Type 0 where
   pub fault : Option LogFault
   pub state : S
 
-abbrev pub behind : {S : Type 0} → List ℕ → Played S → Played S
-behind text p = record { text = text ++ p.text; fault = p.fault; state = p.state }
+abbrev pub prefixed : {S : Type 0} → List ℕ → Played S → Played S
+prefixed text p = record { text = text ++ p.text; fault = p.fault; state = p.state }
 
 -- the lines from line n on
 abbrev pub played : {S : Type 0} → World S → ℕ → S → List (List ℕ) → Played S
 played world n s [] = record { text = []; fault = None; state = s }
 played world n s (line ∷ more) =
     if is_some (fault_at world n s line) then record { text = []; fault = fault_at world n s line; state = s }
-    else behind (text_of world s line) (played world (n + 1) (after world s line) more)
+    else prefixed (text_of world s line) (played world (n + 1) (after world s line) more)
 
 -- all lines of the bytes
 abbrev pub playing : {S : Type 0} → World S → S → List ℕ → Played S

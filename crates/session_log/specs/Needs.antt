@@ -1,4 +1,4 @@
--- The lines that tell what is needed (docs/LOG_FORMAT.md).
+-- The lines that say what is needed (docs/LOG_FORMAT.md).
 use Rattle.std.specs.Prelude.{ℕ, ◌+◌, ◌/◌, ◌==◌, ◌||◌, Bool, List, [], ◌∷◌, ◌++◌, length, map, codes}
 use Rattle.std.specs.List.{starts_with}
 use Rattle.std.specs.Simd.{first_chunks}
@@ -27,5 +27,5 @@ need_lines (sign id signed) = map signed_line (pieces_of signed) ++ signature_li
 abbrev pub says_need : List ℕ → Bool
 says_need line = starts_with ◌==◌ line (codes "# need ")
 
-abbrev pub tells_need : List ℕ → Bool
-tells_need line = says_need line || starts_with ◌==◌ line (codes "# signed ")
+abbrev pub is_need_line : List ℕ → Bool
+is_need_line line = says_need line || starts_with ◌==◌ line (codes "# signed ")

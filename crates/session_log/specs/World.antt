@@ -7,7 +7,7 @@ use Rattle.session_log.specs.declared.line.Line.{Line}
 use Rattle.session_log.specs.declared.line.Line.TheVariants.{Input, Sent, Comment, Count}
 use Rattle.authn_core.specs.Views.{Needed}
 use Rattle.authn_core.specs.Needs.{IsNeed}
-use Rattle.session_log.specs.Needs.{need_lines, tells_need}
+use Rattle.session_log.specs.Needs.{need_lines, is_need_line}
 use Rattle.session_log.specs.Text.{ArePackets, ended, sent_text, tick_text, meters_line}
 
 -- how an input moves a state, the packets that are sent for it, and what is counted
@@ -92,7 +92,7 @@ abbrev pub writes_needs : {S : Type 0} → Course S → (S → Needed) → S →
 writes_needs course needs s line (Input timed) =
     ended line ++ flat_map sent_text (course.sends s timed) ++ flat_map ended (need_lines (needs (course.turned s timed)))
 writes_needs course needs s line (Sent packet) = []
-writes_needs course needs s line Comment = if tells_need line then [] else ended line
+writes_needs course needs s line Comment = if is_need_line line then [] else ended line
 writes_needs course needs s line Count = []
 
 abbrev pub living : {S : Type 0} → Course S → (S → Needed) → World S

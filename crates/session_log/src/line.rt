@@ -155,7 +155,9 @@ fn read_input(letter: u8, field: &[u8]) -> Option<Input>
     }
 }
 
-/// The input and its moment that the fields of a line with this letter say.
+/// The input and its moment that the fields of a line with this letter say. Apart, so that a comment or a tick doesn't
+/// pay for its room.
+#[inline(never)]
 fn read_timed(letter: u8, fields: &[u8]) -> Option<Line>
     ensures { result ≡ input_line letter fields.now }
 {

@@ -137,7 +137,7 @@ fn a_registration(rt: HostRuntime) -> Result<(), AllocError> {
 }
 
 #[test]
-fn told_remarks_are_dropped(rt: HostRuntime) -> Result<(), AllocError> {
+fn needs_said_before_are_dropped(rt: HostRuntime) -> Result<(), AllocError> {
     let end = "= held 0 rows 0 pending 0 requests 0 bytes 0 steps 0\n";
     for kept in [
         "#",
@@ -185,7 +185,7 @@ fn faults(rt: HostRuntime) {
 }
 
 #[test]
-fn what_is_needed_is_told_before_more_is_read(rt: HostRuntime) -> Result<(), AllocError> {
+fn what_is_needed_is_said_before_more_is_read(rt: HostRuntime) -> Result<(), AllocError> {
     let greeting = format!(in rt.alloc(); "> 0 {INIT:0<128}\n")?;
     // The INIT, half a tick, and its other half with a comment.
     let pieces = [greeting.as_str(), "t ", "5\n# a\n"];

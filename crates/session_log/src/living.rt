@@ -1,7 +1,7 @@
 //! A log replayed on a session, with what the session needs.
 ghost use Rattle.std.specs.Prelude.{◌≡◌, ◌<◌, ◌-◌, ◌^◌, List, [], OnOk};
 ghost use Rattle.session_log.specs.Ending.{ending_of, read_fails, write_fails};
-ghost use Rattle.session_log.specs.Needs.{tells_need as is_told};
+ghost use Rattle.session_log.specs.Needs.{is_need_line as is_one};
 ghost use Rattle.session_log.specs.Replay.{Logs, ReadsTo};
 ghost use Rattle.session_log.specs.Session.{live_history, live_machine, Repeats, RepeatsIn};
 ghost use Rattle.token_session.specs.declared.input.Timed.{Timed as OneInput};
@@ -38,10 +38,10 @@ impl Living {
 }
 
 /// Whether a comment tells what an earlier run needed.
-fn tells_need(remark: &[u8]) -> bool
-    ensures { result ≡ is_told remark.now }
+fn is_need_line(comment: &[u8]) -> bool
+    ensures { result ≡ is_one comment.now }
 {
-    remark.starts_with(b"# need ") || remark.starts_with(b"# signed ")
+    comment.starts_with(b"# need ") || comment.starts_with(b"# signed ")
 }
 
 impl<const C: usize> Player<C> for Living {
@@ -64,7 +64,7 @@ impl<const C: usize> Player<C> for Living {
             None => Err(LogFault::BadLine(number)),
             Some(Line::Sent(_) | Line::Count) => Ok(()),
             Some(Line::Comment) => {
-                if tells_need(line) {
+                if is_need_line(line) {
                     Ok(())
                 } else {
                     put_line(writer, &mut self.text, line)

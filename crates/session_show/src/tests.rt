@@ -142,7 +142,7 @@ fn a_request_and_its_answer(rt: HostRuntime) -> Result<(), Fail> {
 }
 
 #[test]
-fn replies_and_remarks(rt: HostRuntime) -> Result<(), Fail> {
+fn replies_and_comments(rt: HostRuntime) -> Result<(), Fail> {
     let alloc = rt.alloc();
     let error = "00000001bf000106";
     let log = format!(in alloc;
@@ -153,7 +153,7 @@ fn replies_and_remarks(rt: HostRuntime) -> Result<(), Fail> {
     assert_shown(&rt, alloc, log.as_str(), want)?;
     let bytes = "Aa";
     let log = format!(in alloc;
-        "# a remark\n\n= anything\np 3 granted\np 18446744073709551615 timeout\ns 0 no\n\
+        "# a comment\n\n= anything\np 3 granted\np 18446744073709551615 timeout\ns 0 no\n\
         k 5 {bytes:0<64} {bytes:0<64} {bytes:0<64}"
     )?;
     let want = "4 p 3 granted\n5 p 18446744073709551615 timeout\n6 s 0 no\n7 k 5 yes\n";

@@ -9,7 +9,7 @@ use Rattle.token_session.specs.Law.{numbered, onto, sent_from, sent_now}
 use Rattle.token_session.specs.declared.input.Meters.{Meters}
 use Rattle.token_session.specs.Noise.{Quiet, quiet_from}
 use Rattle.token_session.specs.Meters.{SessionState, StandsAfter, stepped, sent_by}
-use Rattle.token_session.proofs.Metering.{stands_longer, machine_behind}
+use Rattle.token_session.proofs.Metering.{stands_longer, machine_after}
 use Rattle.token_session.proofs.Noise.{quiet_alike, quiet_runs}
 use Rattle.token_session.proofs.Runs.{step_sends}
 
@@ -50,7 +50,7 @@ driven_stands (x ∷ xs) s start h b = driven_stands xs (stepped s x) start (x �
 pub driven_follows : (xs : List Timed) (s : SessionState) (start : Start) (n : ℕ) (h : List Timed) → StandsAfter s start h → driven_sends n s xs ≡ sent_from n start h xs
 driven_follows [] s start n h b = refl
 driven_follows (x ∷ xs) s start n h b =
-    ap (λ ps. numbered n ps ++ driven_sends (n + 1) (stepped s x) xs) (step_sends s.machine start h x (machine_behind s start h b))
+    ap (λ ps. numbered n ps ++ driven_sends (n + 1) (stepped s x) xs) (step_sends s.machine start h x (machine_after s start h b))
     ∙ ap (λ qs. numbered n (sent_now start h x) ++ qs) (driven_follows xs (stepped s x) start (n + 1) (x ∷ h) (stands_longer s start h x b))
 
 -- Two drives by which quiet histories go on.

@@ -2,7 +2,7 @@
 use Rattle.std.proofs.Common.{◌≡◌, ℕ, ◌+◌, ◌≤◌, Bool, true, false, cond, ◌&&◌, ◌||◌, not, List, [], ◌∷◌, ◌++◌, max, min, Option, Some, None, option_map, refl, sym, ◌∙◌, ap, subst, arith, nat_lt, nat_le, sum_by}
 use Rattle.std.proofs.lemmas.Bool.Decides.{nat_tests}
 use Rattle.std.proofs.lemmas.List.Sums.{sum_by-cons}
-use Rattle.token_session.proofs.Opens.{Lawful, next, then_next, open_behind}
+use Rattle.token_session.proofs.Opens.{Lawful, next, then_next, open_next_is}
 use Rattle.token_session.proofs.Serve.{says_admitted, Safe, OpenGiven, Serves, serves, new_open, cond_case}
 use Rattle.token_session.proofs.Time.{still, still_open}
 use Rattle.token_session.proofs.Safety.{packet_works, packet_alone, reply_works, reply_alone}
@@ -161,7 +161,7 @@ served_named start t h (Packet x) good le =
     let s : Serves g o w t p (fields p) (new_open g o w t p (Packet x)) (finished o (admits g o w p) (Packet x)) row = serves g o w t x (safe_at start t h good le) in
     let channels : given_after g row ≡ given (judged_at start t h (Packet x) ∷ h) = sym (given_more (judged_at start t h (Packet x)) h ∙ s.channels) in
     let current : open_after (option_map as_open o) t (fields p) row ≡ option_map as_open (open_at (judged_at start t h (Packet x) ∷ h) t) =
-    sym (ap (option_map as_open) (open_behind h (judged_at start t h (Packet x)) start good.lawful le) ∙ s.current) in
+    sym (ap (option_map as_open) (open_next_is h (judged_at start t h (Packet x)) start good.lawful le) ∙ s.current) in
     let message : message_after (option_map as_open o) (fields p) row ≡ finished o (admits g o w p) (Packet x) = sym s.message in
     let packets : (row_packets g (fields p) row ++ ping_packets (message_after (option_map as_open o) (fields p) row)) ≡ (table_packets g o w (Packet x) ++ ping_packets (finished o (admits g o w p) (Packet x))) =
     ap (λ m. row_packets g (fields p) row ++ ping_packets m) message in
@@ -173,7 +173,7 @@ served_named start t h other good le =
     let e : Judged = judged_at start t h other in
     let o = open_at h t in
     let channels : given h ≡ given (e ∷ h) = sym (given_more e h) in
-    let current : option_map as_open o ≡ option_map as_open (open_at (e ∷ h) t) = sym (ap (option_map as_open) (open_behind h e start good.lawful le ∙ other_next t false other o refl)) in
+    let current : option_map as_open o ≡ option_map as_open (open_at (e ∷ h) t) = sym (ap (option_map as_open) (open_next_is h e start good.lawful le ∙ other_next t false other o refl)) in
     happens_same t (time_keepalive (open_at h (end start h)) o (waiting (core start h)) (last_keepalive start h) t) (given h) (given (e ∷ h)) (option_map as_open o) (option_map as_open (open_at (e ∷ h) t))
     (core start h) (time_packets start h t) [] [] (reply_in other) (reply_in other) channels current refl refl
     ∙ named_turn start e h
@@ -221,17 +221,17 @@ safe_of start t h i o w works opens is =
       opens = opens_more (given h) _ _ w le (subst (λ v. OpenGiven (given h) v w) (sym is) opens);
     }
 
-safe_behind : (start : Start) (t : ℕ) (h : List Judged) (i : Input) → Good start h → end start h ≤ t
+safe_after : (start : Start) (t : ℕ) (h : List Judged) (i : Input) → Good start h → end start h ≤ t
     → Safe (given (judged_at start t h i ∷ h)) (open_at (judged_at start t h i ∷ h) t) (working (event_core (core start h) t (event (working (core start h)) (finished (open_at h t) (judged_at start t h i).admitted i) i)))
 unfolding event finished
-safe_behind start t h (Packet x) good le =
+safe_after start t h (Packet x) good le =
     let s = safe_at start t h good le in
     safe_of start t h (Packet x) _ _ (packet_works (given h) (open_at h t) (core start h) t x s) (packet_alone (given h) (open_at h t) (core start h) t x s)
-    (open_behind h (judged_at start t h (Packet x)) start good.lawful le)
-safe_behind start t h other good le =
+    (open_next_is h (judged_at start t h (Packet x)) start good.lawful le)
+safe_after start t h other good le =
     let s = safe_at start t h good le in
     safe_of start t h other (open_at h t) _ (reply_works (given h) (core start h) t other s.works) (reply_alone (given h) (open_at h t) (core start h) t other s.opens)
-    (open_behind h (judged_at start t h other) start good.lawful le ∙ other_next t false other (open_at h t) refl)
+    (open_next_is h (judged_at start t h other) start good.lawful le ∙ other_next t false other (open_at h t) refl)
 
 -- What holds after a history holds after a longer one.
 good_longer : (start : Start) (h : List Judged) (x : Timed) → Good start h → Good start (judge start x h ∷ h)
@@ -241,7 +241,7 @@ good_longer start h x good =
     let le : end start h ≤ t = omega arith in
     record {
       lawful = (le, admitted_alone (given h) (open_at h t) (working (core start h)) x.input, good.lawful);
-      safe = safe_behind start t h x.input good le;
+      safe = safe_after start t h x.input good le;
     }
 
 pub good_judged : (start : Start) (h : List Timed) → Good start (judged start h)

@@ -18,7 +18,7 @@ use Rattle.token_session.specs.Messages.{as_open}
 use Rattle.token_session.specs.Law.{named, event_at, IsAfter}
 use Rattle.cred_table.specs.Waiting.{pending_count}
 use Rattle.token_session.specs.Meters.{AreBounded, peak_rows, peak_pending, metered_by, as_list, requests, peak_held, meters_of, one_more, bytes_in, steps_in, metered, SessionState, StandsAfter, stepped, session_of}
-use Rattle.token_session.proofs.Runs.{turn_behind}
+use Rattle.token_session.proofs.Runs.{turn_after}
 
 -- the bytes held are those that the history names
 pub held_named : (start : Start) (h : List Judged) → held_bytes (named start h).current ≡ held start h
@@ -60,7 +60,7 @@ meters_more start e h =
 pub stands_longer : (s : SessionState) (start : Start) (h : List Timed) (x : Timed) → StandsAfter s start h → StandsAfter (stepped s x) start (x ∷ h)
 unfolding stepped session_of named judged
 stands_longer s start h x b =
-    let turned = turn_behind s.machine start h x (ap (λ (v : SessionState). v.machine) b) in
+    let turned = turn_after s.machine start h x (ap (λ (v : SessionState). v.machine) b) in
     let e = judge start x (judged start h) in
     λ i. record {
       machine = (ap (λ (t : Turn). t.state) turned) i;
@@ -98,9 +98,9 @@ starts start m rows is counted =
     (λ i. record { machine = m; meters = record { held = 0; rows = counted i; pending = 0; requests = 0; bytes = 0; steps = 0 } })
     ∙ ap (λ (v : State). record { machine = v; meters = record { held = 0; rows = length v.core.state.rows; pending = 0; requests = 0; bytes = 0; steps = 0 } }) is
 
-pub machine_behind : (s : SessionState) (start : Start) (h : List Timed) → StandsAfter s start h → IsAfter s.machine start h
+pub machine_after : (s : SessionState) (start : Start) (h : List Timed) → StandsAfter s start h → IsAfter s.machine start h
 unfolding session_of
-machine_behind s start h b = ap (λ (v : SessionState). v.machine) b
+machine_after s start h b = ap (λ (v : SessionState). v.machine) b
 
 pub session_held : (start : Start) (h : List Judged) → held_bytes (session_of start h).machine.current ≡ held start h
 unfolding session_of

@@ -198,10 +198,10 @@ open_now x =
     and_also (x.admitted && is_long (packet x.input)) (nat_lt x.at (x.at + 500)) soon
 
 -- What is open after one more input.
-pub open_behind : (h : List Judged) (x : Judged) (start : Start) → Lawful start h → end start h ≤ x.at
+pub open_next_is : (h : List Judged) (x : Judged) (start : Start) → Lawful start h → end start h ≤ x.at
     → open_at (x ∷ h) x.at
     ≡ cond (x.admitted && is_long (packet x.input)) (Some (record { packet = packet x.input; at = x.at; own = [] })) (then_next x (open_at h x.at))
 unfolding open_at open_among own
-open_behind h x start l le =
+open_next_is h x start l le =
     ap (λ b. cond b (Some (record { packet = packet x.input; at = x.at; own = [] })) (open_among (x ∷ []) h x.at)) (open_now x)
     ∙ ap (λ o. cond (x.admitted && is_long (packet x.input)) (Some (record { packet = packet x.input; at = x.at; own = [] })) o) (one_more h [] x start l tt le)

@@ -60,8 +60,8 @@ one x = 0 ∷ 0 ∷ 0 ∷ 1 ∷ x
 abbrev two : List ℕ → List ℕ
 two x = 0 ∷ 0 ∷ 0 ∷ 2 ∷ x
 
-abbrev behind_two : List (List ℕ) → List (List ℕ)
-behind_two ps = greeted 1 ∷ greeted 2 ∷ ps
+abbrev after_two : List (List ℕ) → List (List ℕ)
+after_two ps = greeted 1 ∷ greeted 2 ∷ ps
 
 -- PING of 100 bytes, its bytes 1s and 2s
 abbrev ping_100 : List ℕ
@@ -77,44 +77,44 @@ error_1 : ℕ → List ℕ
 error_1 code = pad (one (191 ∷ 0 ∷ 1 ∷ code ∷ []))
 
 two_hosts : sent_by (begun_with_two (came 0 ping_100 ∷ came 10 (two (129 ∷ 0 ∷ 1 ∷ 97 ∷ [])) ∷ came 20 (number 0) ∷ []))
-    ≡ behind_two (pad (two (191 ∷ 0 ∷ 1 ∷ 6 ∷ [])) ∷ ping_100_back)
+    ≡ after_two (pad (two (191 ∷ 0 ∷ 1 ∷ 6 ∷ [])) ∷ ping_100_back)
 unfolding sent_by
 two_hosts = refl
 
 wrong_sequence : sent_by (begun_with_two (came 0 ping_100 ∷ came 0 (two (0 ∷ [])) ∷ came 0 (number 1) ∷ came 0 (number 0) ∷ []))
-    ≡ behind_two (error_1 4 ∷ [])
+    ≡ after_two (error_1 4 ∷ [])
 unfolding sent_by error_1
 wrong_sequence = refl
 
 init_on_open : sent_by (begun_with_two (came 0 ping_100 ∷ came 0 (one (134 ∷ 0 ∷ 8 ∷ replicate 8 8)) ∷ came 0 (number 0) ∷ []))
-    ≡ behind_two (pad (one (134 ∷ 0 ∷ 17 ∷ replicate 8 8 ++ 0 ∷ 0 ∷ 0 ∷ 1 ∷ 2 ∷ 1 ∷ 0 ∷ 0 ∷ 12 ∷ [])) ∷ [])
+    ≡ after_two (pad (one (134 ∷ 0 ∷ 17 ∷ replicate 8 8 ++ 0 ∷ 0 ∷ 0 ∷ 1 ∷ 2 ∷ 1 ∷ 0 ∷ 0 ∷ 12 ∷ [])) ∷ [])
 unfolding sent_by
 init_on_open = refl
 
 init_of_seven : sent_by (begun_with_two (came 0 ping_100 ∷ came 0 (one (134 ∷ 0 ∷ 7 ∷ replicate 7 8)) ∷ came 0 (number 0) ∷ []))
-    ≡ behind_two (error_1 3 ∷ [])
+    ≡ after_two (error_1 3 ∷ [])
 unfolding sent_by error_1
 init_of_seven = refl
 
 init_elsewhere : sent_by (begun_with_two (came 0 ping_100 ∷ came 0 init_line ∷ came 0 (number 0) ∷ []))
-    ≡ behind_two (greeted 3 ∷ ping_100_back)
+    ≡ after_two (greeted 3 ∷ ping_100_back)
 unfolding sent_by
 init_elsewhere = refl
 
-in_time : sent_by (begun_with_two (came 1000 ping_100 ∷ came 1499 (number 0) ∷ [])) ≡ behind_two ping_100_back
+in_time : sent_by (begun_with_two (came 1000 ping_100 ∷ came 1499 (number 0) ∷ [])) ≡ after_two ping_100_back
 unfolding sent_by
 in_time = refl
 
-late : sent_by (begun_with_two (came 2000 ping_100 ∷ tick 2300 ∷ came 2400 (one (145 ∷ 0 ∷ 0 ∷ [])) ∷ came 2500 (number 0) ∷ [])) ≡ behind_two (error_1 5 ∷ [])
+late : sent_by (begun_with_two (came 2000 ping_100 ∷ tick 2300 ∷ came 2400 (one (145 ∷ 0 ∷ 0 ∷ [])) ∷ came 2500 (number 0) ∷ [])) ≡ after_two (error_1 5 ∷ [])
 unfolding sent_by error_1
 late = refl
 
-earlier : sent_by (begun_with_two (came 3000 ping_100 ∷ came 900 (number 0) ∷ [])) ≡ behind_two ping_100_back
+earlier : sent_by (begun_with_two (came 3000 ping_100 ∷ came 900 (number 0) ∷ [])) ≡ after_two ping_100_back
 unfolding sent_by
 earlier = refl
 
 broken_off : sent_by (begun_with_two (came 0 ping_100 ∷ came 10 (one (145 ∷ 0 ∷ 0 ∷ [])) ∷ came 20 (one (129 ∷ 0 ∷ 0 ∷ [])) ∷ came 30 (one (129 ∷ 0 ∷ 0 ∷ [])) ∷ []))
-    ≡ behind_two (error_1 4 ∷ pad (one (129 ∷ 0 ∷ 0 ∷ [])) ∷ [])
+    ≡ after_two (error_1 4 ∷ pad (one (129 ∷ 0 ∷ 0 ∷ [])) ∷ [])
 unfolding sent_by error_1
 broken_off = refl
 
@@ -128,39 +128,39 @@ back_from zero k = []
 back_from (suc n) k = one (k ∷ replicate 59 2) ∷ back_from n (k + 1)
 
 -- 57 + 10 * 59 = 647 = 2 * 256 + 135
-ten : sent_by (begun_with_two (came 0 (one (129 ∷ 2 ∷ 135 ∷ replicate 57 1)) ∷ numbers_from 10 0)) ≡ behind_two (one (129 ∷ 2 ∷ 135 ∷ replicate 57 1) ∷ back_from 10 0)
+ten : sent_by (begun_with_two (came 0 (one (129 ∷ 2 ∷ 135 ∷ replicate 57 1)) ∷ numbers_from 10 0)) ≡ after_two (one (129 ∷ 2 ∷ 135 ∷ replicate 57 1) ∷ back_from 10 0)
 unfolding sent_by
 ten = refl
 
-forty : sent_by (begun_with_two (came 0 (one (129 ∷ 9 ∷ 113 ∷ replicate 57 1)) ∷ numbers_from 40 0)) ≡ behind_two (one (129 ∷ 9 ∷ 113 ∷ replicate 57 1) ∷ back_from 40 0)
+forty : sent_by (begun_with_two (came 0 (one (129 ∷ 9 ∷ 113 ∷ replicate 57 1)) ∷ numbers_from 40 0)) ≡ after_two (one (129 ∷ 9 ∷ 113 ∷ replicate 57 1) ∷ back_from 40 0)
 unfolding sent_by
 forty = refl
 
-longest : sent_by (begun_with_two (came 0 (one (129 ∷ 29 ∷ 185 ∷ replicate 57 1)) ∷ numbers_from 128 0)) ≡ behind_two (one (129 ∷ 29 ∷ 185 ∷ replicate 57 1) ∷ back_from 128 0)
+longest : sent_by (begun_with_two (came 0 (one (129 ∷ 29 ∷ 185 ∷ replicate 57 1)) ∷ numbers_from 128 0)) ≡ after_two (one (129 ∷ 29 ∷ 185 ∷ replicate 57 1) ∷ back_from 128 0)
 unfolding sent_by
 longest = refl
 
-too_long : sent_by (begun_with_two (came 0 (one (129 ∷ 29 ∷ 186 ∷ replicate 57 1)) ∷ came 1 (number 0) ∷ [])) ≡ behind_two (error_1 3 ∷ [])
+too_long : sent_by (begun_with_two (came 0 (one (129 ∷ 29 ∷ 186 ∷ replicate 57 1)) ∷ came 1 (number 0) ∷ [])) ≡ after_two (error_1 3 ∷ [])
 unfolding sent_by error_1
 too_long = refl
 
 -- PING of 0, 57 and 58 bytes
-ping_0 : sent_by (begun_with_two (came 0 (one (129 ∷ 0 ∷ 0 ∷ [])) ∷ [])) ≡ behind_two (pad (one (129 ∷ 0 ∷ 0 ∷ [])) ∷ [])
+ping_0 : sent_by (begun_with_two (came 0 (one (129 ∷ 0 ∷ 0 ∷ [])) ∷ [])) ≡ after_two (pad (one (129 ∷ 0 ∷ 0 ∷ [])) ∷ [])
 unfolding sent_by
 ping_0 = refl
 
-ping_57 : sent_by (begun_with_two (came 0 (one (129 ∷ 0 ∷ 57 ∷ replicate 57 7)) ∷ [])) ≡ behind_two (one (129 ∷ 0 ∷ 57 ∷ replicate 57 7) ∷ [])
+ping_57 : sent_by (begun_with_two (came 0 (one (129 ∷ 0 ∷ 57 ∷ replicate 57 7)) ∷ [])) ≡ after_two (one (129 ∷ 0 ∷ 57 ∷ replicate 57 7) ∷ [])
 unfolding sent_by
 ping_57 = refl
 
 ping_58 : sent_by (begun_with_two (came 0 (one (129 ∷ 0 ∷ 58 ∷ replicate 57 7)) ∷ came 0 (one (0 ∷ 7 ∷ [])) ∷ []))
-    ≡ behind_two (one (129 ∷ 0 ∷ 58 ∷ replicate 57 7) ∷ pad (one (0 ∷ 7 ∷ [])) ∷ [])
+    ≡ after_two (one (129 ∷ 0 ∷ 58 ∷ replicate 57 7) ∷ pad (one (0 ∷ 7 ∷ [])) ∷ [])
 unfolding sent_by
 ping_58 = refl
 
 -- commands that aren't served, a channel that wasn't given, a CBOR message without a byte and one that isn't served
 refusals : sent_by (begun_with_two (came 0 (one (131 ∷ 0 ∷ 0 ∷ [])) ∷ came 1 (0 ∷ 0 ∷ 0 ∷ 3 ∷ 129 ∷ 0 ∷ 0 ∷ []) ∷ came 2 (one (144 ∷ 0 ∷ 0 ∷ [])) ∷ came 3 (one (144 ∷ 0 ∷ 1 ∷ 6 ∷ [])) ∷ []))
-    ≡ behind_two (error_1 1 ∷ pad (0 ∷ 0 ∷ 0 ∷ 3 ∷ 191 ∷ 0 ∷ 1 ∷ 11 ∷ []) ∷ error_1 3 ∷ pad (one (144 ∷ 0 ∷ 1 ∷ 1 ∷ [])) ∷ [])
+    ≡ after_two (error_1 1 ∷ pad (0 ∷ 0 ∷ 0 ∷ 3 ∷ 191 ∷ 0 ∷ 1 ∷ 11 ∷ []) ∷ error_1 3 ∷ pad (one (144 ∷ 0 ∷ 1 ∷ 1 ∷ [])) ∷ [])
 unfolding sent_by error_1
 refusals = refl
 
@@ -169,17 +169,16 @@ info_1 : List (List ℕ)
 unfolding written initialization_packet continuation_packet continuation_packets padded
 info_1 = written 1 0x10 (info_answer (replicate 16 0))
 
-get_info : sent_by (begun_with_two (came 0 (one (144 ∷ 0 ∷ 1 ∷ 4 ∷ [])) ∷ [])) ≡ behind_two info_1
+get_info : sent_by (begun_with_two (came 0 (one (144 ∷ 0 ∷ 1 ∷ 4 ∷ [])) ∷ [])) ≡ after_two info_1
 unfolding sent_by info_1
 get_info = refl
 
 -- a byte after its command
-get_info_refused : sent_by (begun_with_two (came 0 (one (144 ∷ 0 ∷ 2 ∷ 4 ∷ 0 ∷ [])) ∷ [])) ≡ behind_two (pad (one (144 ∷ 0 ∷ 1 ∷ 3 ∷ [])) ∷ [])
+get_info_refused : sent_by (begun_with_two (came 0 (one (144 ∷ 0 ∷ 2 ∷ 4 ∷ 0 ∷ [])) ∷ [])) ≡ after_two (pad (one (144 ∷ 0 ∷ 1 ∷ 3 ∷ [])) ∷ [])
 unfolding sent_by
 get_info_refused = refl
 
--- Work waits for the user's presence on channel 1 since the moment 0. (No command begins work yet, so that such a state
--- stands after no history.)
+-- Work waits for the user's presence on channel 1 since the moment 0.
 waiting : State
 waiting = record { now = 0; given = 2; current = None; core = record { setup = record { aaguid = replicate 16 0; began = 0; room = 64 }; state = record { rows = []; pending = None; work = Some (record { cid = 1; task = Selects }) } }; keepalive_at = 0 }
 

@@ -5,7 +5,7 @@
 //!
 //! ```text
 //! let mut key = Session::<8>::bare([0; 16], 0);
-//! for packet in Fragments::new(0xffff_ffff, command::INIT, b"nonce...") {
+//! for packet in Fragments::new(BROADCAST, command::INIT, b"nonce...") {
 //!     let mut outbox = Outbox::new();
 //!     key.step(0, Input::Packet(packet), &mut outbox);
 //!     for answer in outbox {

@@ -1,12 +1,12 @@
 //! The example of the crate's page.
 
 use crate::{Input, Session};
-use hid_packet::{Fragments, Outbox, View, command};
+use hid_packet::{BROADCAST, Fragments, Outbox, View, command};
 
 #[test]
 fn the_page(rt: HostRuntime) {
     let mut key = Session::<8>::bare([0; 16], 0);
-    for packet in Fragments::new(0xffff_ffff, command::INIT, b"nonce...") {
+    for packet in Fragments::new(BROADCAST, command::INIT, b"nonce...") {
         let mut outbox = Outbox::new();
         key.step(0, Input::Packet(packet), &mut outbox);
         for answer in outbox {

@@ -165,8 +165,8 @@ fn get_info(rt: HostRuntime) {
 #[test]
 fn requests_that_are_refused(rt: HostRuntime) {
     let mut session = two_channels(&rt);
-    let with_a_byte_behind = [0, 0, 0, 1, 0x90, 0, 2, 4, 0];
-    step(&rt, &mut session, 0, &with_a_byte_behind, &[refused(0x03)]);
+    let with_a_byte_more = [0, 0, 0, 1, 0x90, 0, 2, 4, 0];
+    step(&rt, &mut session, 0, &with_a_byte_more, &[refused(0x03)]);
     let meters = Meters {
         requests: 1,
         bytes: 1,

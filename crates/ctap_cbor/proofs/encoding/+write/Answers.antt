@@ -11,7 +11,7 @@ use Rattle.ctap_cbor.specs.Grammar.{text, texts, pair_texts}
 use Rattle.ctap_cbor.specs.Faults.{AKey, is_above}
 use Rattle.ctap_cbor.specs.Values.{tree_step, tree_of, trees_of, pairs_of}
 use Rattle.ctap_cbor.specs.Writes.{last_text}
-use Rattle.ctap_cbor.proofs.Written.{array_written, array_gives_up, map_written, map_gives_up, item_stops_here, key_stops_here, order_stops_here, value_stops_here, pair_here, above_here, span_within, item_short_here, key_short_here, value_short_here, front_short, behind_short, array_short, map_short, if_memory}
+use Rattle.ctap_cbor.proofs.Written.{array_written, array_fails, map_written, map_fails, item_stops_here, key_stops_here, order_stops_here, value_stops_here, pair_here, above_here, span_within, item_short_here, key_short_here, value_short_here, front_short, short_beyond, array_short, map_short, if_memory}
 use Rattle.ctap_cbor.proofs.encoding.+write.Goals as goal
 
 -- ---- a value
@@ -43,7 +43,7 @@ write_array-returns-clause-short t c =
     let old = c.args.out.now.items in
     let middle = c.write_head.new.out.items in
     IfErr-weaker c.write_items.result _ _
-    (λ k short is. array_short cap (length vs) vs old refl (behind_short cap (vec_capacity c.write_head.new.out) old middle (head 4 (length vs)) (texts (trees_of vs)) c.in_ok-write_head.ensures.ok c.write_head.ensures.grows (short is)))
+    (λ k short is. array_short cap (length vs) vs old refl (short_beyond cap (vec_capacity c.write_head.new.out) old middle (head 4 (length vs)) (texts (trees_of vs)) c.in_ok-write_head.ensures.ok c.write_head.ensures.grows (short is)))
     c.write_items.ensures.short
 
 pub write_map-returns-in_err-write_head-clause-short : goal.write_map-returns-in_err-write_head-clause-short
@@ -59,7 +59,7 @@ write_map-returns-clause-short t c =
     let old = c.args.out.now.items in
     let middle = c.write_head.new.out.items in
     IfErr-weaker c.write_pairs.result _ _
-    (λ k short is. map_short cap (length vs) vs old refl (behind_short cap (vec_capacity c.write_head.new.out) old middle (head 5 (length vs)) (pair_texts (pairs_of vs)) c.in_ok-write_head.ensures.ok c.write_head.ensures.grows (short is)))
+    (λ k short is. map_short cap (length vs) vs old refl (short_beyond cap (vec_capacity c.write_head.new.out) old middle (head 5 (length vs)) (pair_texts (pairs_of vs)) c.in_ok-write_head.ensures.ok c.write_head.ensures.grows (short is)))
     c.write_pairs.ensures.short
 
 pub write_array-returns-clause-writes : goal.write_array-returns-clause-writes
@@ -71,7 +71,7 @@ write_array-returns-clause-writes t c =
     let head = c.in_ok-write_head.ensures.ok in
     MatchResult-weaker c.write_items.result c.write_items.ensures.writes
     (λ _ h. array_written c.args.room (length vs) vs old middle new c.if-room-eq0.false refl (omega arith) head h)
-    (λ k g. array_gives_up c.args.room (length vs) vs old middle new k c.if-room-eq0.false head g)
+    (λ k g. array_fails c.args.room (length vs) vs old middle new k c.if-room-eq0.false head g)
 
 pub write_map-returns-clause-writes : goal.write_map-returns-clause-writes
 write_map-returns-clause-writes t c =
@@ -82,7 +82,7 @@ write_map-returns-clause-writes t c =
     let head = c.in_ok-write_head.ensures.ok in
     MatchResult-weaker c.write_pairs.result c.write_pairs.ensures.writes
     (λ _ h. map_written c.args.room (length vs) vs old middle new c.if-room-eq0.false refl (omega arith) head h)
-    (λ k g. map_gives_up c.args.room (length vs) vs old middle new k c.if-room-eq0.false head g)
+    (λ k g. map_fails c.args.room (length vs) vs old middle new k c.if-room-eq0.false head g)
 
 -- ---- the items of an array
 

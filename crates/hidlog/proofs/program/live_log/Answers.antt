@@ -1,5 +1,5 @@
+use Rattle.session_log.specs.Command.{start_with}
 use Rattle.std.proofs.Common.{◌≡◌, ◌∙◌, inr, refl, rules, sym, Ok, Err, []}
-use Rattle.hidlog.specs.Saved.{start_with}
 use Rattle.hidlog.proofs.program.live_log.Goals as goal
 
 pub returns-in_err-live_command-clause-does : goal.returns-in_err-live_command-clause-does

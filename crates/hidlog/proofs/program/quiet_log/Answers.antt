@@ -1,5 +1,5 @@
+use Rattle.session_log.specs.Command.{start_with}
 use Rattle.std.proofs.Common.{inr, refl, sym, []}
-use Rattle.hidlog.specs.Saved.{start_with}
 use Rattle.hidlog.proofs.Statuses.{is_status}
 use Rattle.hidlog.proofs.program.quiet_log.Goals as goal
 

@@ -1,6 +1,6 @@
+use Rattle.session_log.specs.Command.{start_with}
 use Rattle.std.proofs.Common.{[], take, rules}
 use Rattle.session_log.specs.Session.{live_history}
-use Rattle.hidlog_c.specs.Begin.{start_with}
 use Rattle.hidlog_c.proofs.Written.{faulty}
 use Rattle.hidlog_c.proofs.commands.LiveCommand.play.Goals as goal
 

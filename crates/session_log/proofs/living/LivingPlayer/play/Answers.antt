@@ -33,8 +33,8 @@ returns-in-Some-Input-clause-played g c =
     hands_over live_machine taken failed n s t line (c.args.writer.now, c.put_served.new.writer) c.put_served.result sound stood packets
     (subst (λ (x : List ℕ). PutsLine taken failed (c.args.writer.now, c.put_served.new.writer) x c.put_served.result) text c.put_served.ensures.puts)
 
-pub returns-else-tells_need-clause-played : goal.returns-else-tells_need-clause-played
-returns-else-tells_need-clause-played g c =
+pub returns-else-is_need_line-clause-played : goal.returns-else-is_need_line-clause-played
+returns-else-is_need_line-clause-played g c =
     let taken = g.T.Target.taken in
     let failed = g.T.Target.failed in
     let n = c.args.number in
@@ -44,7 +44,7 @@ returns-else-tells_need-clause-played g c =
     let sound : fault_by live_machine n s (said line) ≡ None = ap (fault_by live_machine n s) is in
     let stood : s ≡ after live_machine s line = ap (after_by live_machine s) (sym is) in
     let packets : SendsPackets live_machine s (said line) = subst (SendsPackets live_machine s) (sym is) tt in
-    let tells = sym c.if-tells_need.false ∙ c.tells_need.ensures in
+    let tells = sym c.if-is_need_line.false ∙ c.is_need_line.ensures in
     let text : ended line ≡ text_of live_machine s line =
     ap (λ (b : Bool). cond b [] (ended line)) tells ∙ ap (text_by live_machine s line) (sym is) in
     hands_over live_machine taken failed n s s line (c.args.writer.now, c.put_line.new.writer) c.put_line.result sound stood packets

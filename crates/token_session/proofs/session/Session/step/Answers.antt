@@ -1,7 +1,7 @@
 use Rattle.std.proofs.Common.{ℕ, ◌≤◌, List, length, subst, sym, ◌∙◌}
 use Rattle.token_session.proofs.Few.{turn_few}
 use Rattle.token_session.proofs.Runs.{step_sends}
-use Rattle.token_session.proofs.Metering.{stepped_is, stands_longer, machine_behind, counted_bounded}
+use Rattle.token_session.proofs.Metering.{stepped_is, stands_longer, machine_after, counted_bounded}
 use Rattle.token_session.specs.Meters.{AreBounded}
 use Rattle.token_session.specs.Readings.{with_reading}
 use Rattle.token_session.specs.Machine.{turn}
@@ -28,4 +28,4 @@ returns-clause-after g c = λ start h b. returns-clause-state g c ∙ stands_lon
 pub returns-clause-sent : goal.returns-clause-sent
 returns-clause-sent g c = λ start h b.
     c.step-reading.ensures.packets
-    ∙ step_sends c.self.inside.machine start h (record { at = c.args.at; input = c.args.input }) (machine_behind _ start h (c.self.view_is ∙ b))
+    ∙ step_sends c.self.inside.machine start h (record { at = c.args.at; input = c.args.input }) (machine_after _ start h (c.self.view_is ∙ b))
