@@ -12,6 +12,8 @@ const KEEPALIVE = 0x3b;
 const BROADCAST = "ffffffff";
 // The first channel that the key gives out: no other host speaks to it.
 const CHANNEL = "00000001";
+// With no other host, the nonce of an INIT needn't be random.
+const NONCE = Uint8Array.of(0, 1, 2, 3, 4, 5, 6, 7);
 const KEEPALIVE_MS = 100;
 const decoder = new TextDecoder();
 const encoder = new TextEncoder();
@@ -38,16 +40,24 @@ const packetsOf = (channel, command, bytes) => {
     return packets.map((packet) => packet.padEnd(128, "0"));
 };
 
+/** Puts the DER form of a positive integer of so many bytes. */
+const putInteger = (to, bytes) => {
+    const first = bytes.findIndex((it) => it !== 0);
+    const rest = first < 0 ? bytes.subarray(-1) : bytes.subarray(first);
+    const isPadded = rest[0] >= 128;
+    to.push(2, rest.length + Number(isPadded));
+    if (isPadded) {
+        to.push(0);
+    }
+    rest.forEach((byte) => to.push(byte));
+};
+
 /** The DER form of an ECDSA signature that is r and s of 32 bytes each. */
 export const derOf = (raw) => {
-    const integer = (bytes) => {
-        const first = bytes.findIndex((it) => it !== 0);
-        const short = first < 0 ? [0] : [...bytes.subarray(first)];
-        const positive = short[0] >= 128 ? [0, ...short] : short;
-        return [2, positive.length, ...positive];
-    };
-    const both = [...integer(raw.subarray(0, 32)), ...integer(raw.subarray(32))];
-    return Uint8Array.from([0x30, both.length, ...both]);
+    const both = [];
+    putInteger(both, raw.subarray(0, 32));
+    putInteger(both, raw.subarray(32));
+    return new Uint8Array([0x30, both.length, ...both]);
 };
 
 /**
@@ -141,8 +151,7 @@ export class Authenticator {
 
     /** The lines of a request, after an INIT where no channel was asked for yet. */
     requestLines(bytes) {
-        const nonce = new Uint8Array(8);
-        const opening = this.inputs.length ? [] : this.linesOf(BROADCAST, INIT, crypto.getRandomValues(nonce));
+        const opening = this.inputs.length ? [] : this.linesOf(BROADCAST, INIT, NONCE);
         return [...opening, ...this.linesOf(CHANNEL, CBOR, bytes)];
     }
 

@@ -62,6 +62,22 @@
     const decoder = new TextDecoder("utf-8", { fatal: true });
     const encoder = new TextEncoder();
 
+    /** The text that bytes are. Most are short and ASCII, for which a decoder takes longer. */
+    const textOf = (bytes) =>
+        bytes.length > 64 || bytes.some((byte) => byte > 127) ? decoder.decode(bytes) : String.fromCharCode(...bytes);
+
+    /** The UTF-8 form of a text. Most are ASCII, for which an encoder takes longer. */
+    const utf8 = (text) => {
+        const bytes = new Uint8Array(text.length);
+        for (let at = 0; at < text.length; at += 1) {
+            bytes[at] = text.charCodeAt(at);
+            if (text.charCodeAt(at) > 127) {
+                return encoder.encode(text);
+            }
+        }
+        return bytes;
+    };
+
     /** A reader of CBOR items of definite length. What it can't read throws. */
     class CborReader {
         constructor(bytes) {
@@ -117,7 +133,7 @@
                 case 2:
                     return this.take(Number(argument));
                 case 3:
-                    return decoder.decode(this.take(Number(argument)));
+                    return textOf(this.take(Number(argument)));
                 case 4:
                     return this.list(Number(argument), () => this.item(depth + 1));
                 case 5:
@@ -176,7 +192,7 @@
         } else if (typeof value === "number") {
             putHead(to, value < 0 ? 1 : 0, value < 0 ? -1 - value : value);
         } else if (typeof value === "string") {
-            putBytes(to, 3, encoder.encode(value));
+            putBytes(to, 3, utf8(value));
         } else if (value instanceof Uint8Array) {
             putBytes(to, 2, value);
         } else if (value instanceof Map) {
@@ -299,6 +315,6 @@
     };
 
     globalThis.hidlogDecode = {
-        toHex, fromHex, readCbor, writeCbor, showMessage, nameMessage, COMMANDS, REQUESTS, STATUSES,
+        toHex, fromHex, utf8, readCbor, writeCbor, showMessage, nameMessage, COMMANDS, REQUESTS, STATUSES,
     };
 })();

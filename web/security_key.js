@@ -9,7 +9,7 @@
 //     key.uninstall();
 import { Authenticator, CtapError } from "./ctap.js";
 
-const { readCbor, writeCbor } = globalThis.hidlogDecode;
+const { readCbor, utf8, writeCbor } = globalThis.hidlogDecode;
 const MAKE_CREDENTIAL = 1;
 const GET_ASSERTION = 2;
 const GET_NEXT_ASSERTION = 8;
@@ -32,9 +32,6 @@ const refuse = (name, text) => {
     throw new DOMException(text, name);
 };
 
-const encoder = new TextEncoder();
-
-const utf8 = (text) => encoder.encode(text);
 
 /** The RP's id, which has to be the page's domain or one above it. */
 const checkRpId = (id) => {

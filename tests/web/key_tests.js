@@ -1,6 +1,6 @@
 // web/security_key.js against python-fido2's server: what a service tests, with the key in the place of
 // navigator.credentials.
-import { install } from "../../web/security_key.js";
+import { install, makeKey } from "../../web/security_key.js";
 import { expect, post, rejection, results, run, wait } from "./harness.js";
 
 const fromText = (text) => {
@@ -154,7 +154,8 @@ const refusesWhatItCannot = async () => {
     await isRefused(signIn({ user: "ann" }), "NotAllowedError");
 };
 
-const ROUNDS = 400;
+const ROUNDS = 200;
+const BATCHES = 5;
 
 /** The browser's processor time for each of many rounds, in milliseconds. */
 const processorTime = async (round) => {
@@ -181,23 +182,32 @@ const callWebCrypto = async () => {
 /** A registration and a sign-in with a new key. */
 const registerAndSignIn = async () => {
     const options = (more) => ({ publicKey: { challenge: new Uint8Array(32), rpId: "localhost", ...more } });
-    const key = await install({ clock: steady() });
-    const made = await navigator.credentials.create(options({
+    const key = await makeKey({ clock: steady() });
+    const made = await key.create(options({
         rp: { id: "localhost", name: "A service" }, user: { id: Uint8Array.of(1), name: "ann", displayName: "Ann" },
         pubKeyCredParams: [{ type: "public-key", alg: -7 }],
     }));
-    await navigator.credentials.get(options({ allowCredentials: [{ type: "public-key", id: made.rawId }] }));
-    key.uninstall();
+    await key.get(options({ allowCredentials: [{ type: "public-key", id: made.rawId }] }));
+};
+
+/** The first batch, for which the browser compiles what is used, and the least of the later ones. */
+const batchTimes = async (round) => {
+    const first = await processorTime(round);
+    const later = [];
+    for (let count = 0; count < BATCHES; count += 1) {
+        later.push(await processorTime(round));
+    }
+    return { first, least: Math.min(...later) };
 };
 
 /** Processor time is that of all of the browser's processes, so nothing else runs meanwhile. */
 const isFast = async () => {
-    await registerAndSignIn();
-    const all = await processorTime(registerAndSignIn);
-    const crypto = await processorTime(callWebCrypto);
-    const own = (all - crypto).toFixed(2);
-    results.figures.push(`a registration and a sign-in: ${all.toFixed(2)} ms of processor time,`
-        + ` WebCrypto's calls alone ${crypto.toFixed(2)} ms, so ${own} ms beside them (means of ${ROUNDS})`);
+    const all = await batchTimes(registerAndSignIn);
+    const crypto = await batchTimes(callWebCrypto);
+    const own = (all.least - crypto.least).toFixed(2);
+    results.figures.push(`a registration and a sign-in: ${all.least.toFixed(2)} ms of processor time, WebCrypto's calls`
+        + ` alone ${crypto.least.toFixed(2)} ms, so ${own} ms beside them (the least of ${BATCHES} times ${ROUNDS};`
+        + ` the first ${ROUNDS} took ${all.first.toFixed(2)} ms)`);
 };
 
 run({

@@ -21,18 +21,24 @@ TOP = os.path.abspath(os.path.join(os.path.dirname(__file__), "..", ".."))
 SECONDS = 120
 
 
+def is_of(session, process):
+    """Whether a process is of a session."""
+    with open(f"/proc/{process}/stat", encoding="ascii", errors="replace") as file:
+        return file.read().rpartition(")")[2].split()[3] == str(session)
+
+
 def processor_seconds(session):
-    """The processor time so far of all processes of a session, as Linux counts it."""
-    ticks = 0
-    for name in filter(str.isdigit, os.listdir("/proc")):
+    """The processor time so far of all threads of a session's processes, as Linux's scheduler counts it."""
+    nanoseconds = 0
+    for process in filter(str.isdigit, os.listdir("/proc")):
         try:
-            with open(f"/proc/{name}/stat", encoding="ascii", errors="replace") as file:
-                fields = file.read().rpartition(")")[2].split()
+            threads = os.listdir(f"/proc/{process}/task") if is_of(session, process) else []
+            for thread in threads:
+                with open(f"/proc/{process}/task/{thread}/schedstat", encoding="ascii") as file:
+                    nanoseconds += int(file.read().split()[0])
         except OSError:
             continue
-        if fields[3] == str(session):
-            ticks += int(fields[11]) + int(fields[12])
-    return ticks / os.sysconf("SC_CLK_TCK")
+    return nanoseconds / 1e9
 
 
 class Handler(SimpleHTTPRequestHandler):
