@@ -1,7 +1,7 @@
 //! What a line says.
 ghost use Rattle.std.specs.Prelude.{◌≡◌, ◌<◌, ◌≤◌, ◌/◌, ◌==◌, length, position, Option, None, Some, IfSome, MatchOption};
 ghost use Rattle.session_log.specs.Letters.{space};
-ghost use Rattle.session_log.specs.Said.{bytes_of, first_field, input_by, input_line, key_of, key_said, moment, presence_said, said, signature_of, signature_said};
+ghost use Rattle.session_log.specs.Said.{bytes_of, first_field, input_by, input_line, key_of, key_said, moment, presence_said, said, sent_line, signature_of, signature_said, tick_line};
 
 use authn_core::{NewKey, Presence, Signature};
 use hid_packet::Packet;
@@ -155,8 +155,29 @@ fn read_input(letter: u8, field: &[u8]) -> Option<Input>
     }
 }
 
-/// The input and its moment that the fields of a line with this letter say. Apart, so that a comment or a tick doesn't
-/// pay for its room.
+// The next three aren't inlined, so that a line of another kind doesn't pay for their room.
+
+/// The packet that the field of a `<` line says.
+#[inline(never)]
+fn read_sent(field: &[u8]) -> Option<Line>
+    ensures { result ≡ sent_line field.now }
+{
+    Some(Line::Sent(Packet(read_bytes(field)?)))
+}
+
+/// The moment that the field of a `t` line says.
+#[inline(never)]
+fn read_tick(field: &[u8]) -> Option<Line>
+    ensures { result ≡ tick_line field.now }
+{
+    let at = read_moment(field)?;
+    Some(Line::Input(Timed {
+        at,
+        input: Input::Tick,
+    }))
+}
+
+/// The input and its moment that the fields of a line with this letter say.
 #[inline(never)]
 fn read_timed(letter: u8, fields: &[u8]) -> Option<Line>
     ensures { result ≡ input_line letter fields.now }
@@ -174,11 +195,8 @@ pub fn read_line(line: &[u8]) -> Option<Line>
     match line {
         [] | [b'#', ..] => Some(Line::Comment),
         [b'=', ..] => Some(Line::Count),
-        [b'<', b' ', digits @ ..] => Some(Line::Sent(Packet(read_bytes(digits)?))),
-        [b't', b' ', digits @ ..] => Some(Line::Input(Timed {
-            at: read_moment(digits)?,
-            input: Input::Tick,
-        })),
+        [b'<', b' ', field @ ..] => read_sent(field),
+        [b't', b' ', field @ ..] => read_tick(field),
         [letter, b' ', fields @ ..] => read_timed(*letter, fields),
         _ => None,
     }
