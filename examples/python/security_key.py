@@ -31,38 +31,28 @@ KEYS = 0xFFFFFFFF00000000FFFFFFFFFFFFFFFFBCE6FAADA7179E84F3B9CAC2FC632550
 KEEPALIVE_MS = 100
 
 
-class SecurityKey(CtapHidConnection):
-    """A connection to a key that is a process of its own.
+class Caller(CtapHidConnection):
+    """A connection to a key, and the caller that gives the key what it needs: the user, new keys and signatures.
 
     answer   what the user says to a request for presence: "granted", "denied" or "timeout". None: the user does
              nothing, and KEEPALIVE packets come until the client cancels.
     delay    how many milliseconds the user takes.
-    keys     the private keys by credential id. Hand them to the next SecurityKey for a restart.
+    keys     the private keys by credential id. Hand them to the next key for a restart.
     moment   milliseconds since the start. Each line of the log takes one, a wait for the user takes 100. So a log
-             doesn't depend on the machine's speed. With `real_time` waits take their time, and a clock is read.
+             doesn't depend on the machine's speed.
     random   gives n random bytes. `random.Random(1).randbytes` gives the same keys in each run (Python 3.9).
-    load     a snapshot of credentials to start with; save: where to write one at `close`.
-    program  the program that is started; by default what the variable HIDLOG names, or ./hidlog.
+
+    A class under it says by `_exchange` which lines the key writes for an input line.
     """
 
-    def __init__(
-        self, load=None, save=None, keys=None, program=PROGRAM, random=os.urandom, real_time=False
-    ):
+    def __init__(self, keys=None, random=os.urandom):
         self.answer = "granted"
         self.delay = 200
         self.keys = {} if keys is None else keys
         self.moment = 0
-        self.log = []
         self._random = random
-        self._started = time.monotonic() if real_time else None
         self._packets = deque()
         self._need = SimpleNamespace(what="nothing", credential="", signed=b"", since=0)
-        words = [program, "live"]
-        for option, path in (("--load", load), ("--save", save)):
-            words += [option, path] if path else []
-        self._process = subprocess.Popen(
-            words, stdin=subprocess.PIPE, stdout=subprocess.PIPE, text=True, errors="replace"
-        )
 
     def device(self):
         """The device that python-fido2's clients take."""
@@ -79,25 +69,8 @@ class SecurityKey(CtapHidConnection):
             self._serve_need()
         return self._packets.popleft()
 
-    def note(self, text):
-        """Writes a comment into the log."""
-        self._write(f"# {text}")
-
-    def save_log(self, path):
-        """Writes the log of all that was sent and answered."""
-        with open(path, "w", encoding="utf-8") as file:
-            file.writelines(line + "\n" for line in self.log)
-
     def close(self):
-        """Ends the key, which then writes its counts, and its snapshot to `save`."""
-        if self._process is None:
-            return
-        rest, _ = self._process.communicate()
-        self.log += rest.splitlines()
-        status = self._process.returncode
-        self._process = None
-        if status:
-            raise OSError(f"hidlog ended with status {status}")
+        """Nothing is to be closed."""
 
     def __enter__(self):
         return self
@@ -140,20 +113,16 @@ class SecurityKey(CtapHidConnection):
             self._play("s", private.sign(self._need.signed, ec.ECDSA(hashes.SHA256())).hex())
 
     def _play(self, kind, *fields, after=1):
-        """Hands the key an input line, and reads what it sends and needs."""
+        """Hands the key an input line, and keeps what it sends and needs."""
         self._pass(after)
-        self._write(" ".join([kind, str(self.moment), *fields]))
         signed = b""
-        while True:
-            line = self._read()
-            self.log.append(line)
+        for line in self._exchange(" ".join([kind, str(self.moment), *fields])):
             if line.startswith("< "):
                 self._packets.append(bytes.fromhex(line[2:]))
             elif line.startswith("# signed "):
                 signed += bytes.fromhex(line[9:])
             elif line.startswith("# need "):
                 self._set_need(line[7:], signed)
-                return
 
     def _set_need(self, text, signed):
         """Keeps what the key needs now, and since when."""
@@ -163,11 +132,69 @@ class SecurityKey(CtapHidConnection):
 
     def _pass(self, milliseconds):
         """Time passes."""
+        self.moment += milliseconds
+
+    def _exchange(self, line):
+        """The lines that the key writes for an input line."""
+        raise NotImplementedError
+
+
+class SecurityKey(Caller):
+    """A key that is a process of its own.
+
+    log        the lines of the session so far.
+    load       a snapshot of credentials to start with; save: where to write one at `close`.
+    program    the program that is started; by default what the variable HIDLOG names, or ./hidlog.
+    real_time  waits take their time, and moments are those of a clock.
+    """
+
+    def __init__(
+        self, load=None, save=None, keys=None, program=PROGRAM, random=os.urandom, real_time=False
+    ):
+        super().__init__(keys, random)
+        self.log = []
+        self._started = time.monotonic() if real_time else None
+        words = [program, "live"]
+        for option, path in (("--load", load), ("--save", save)):
+            words += [option, path] if path else []
+        self._process = subprocess.Popen(
+            words, stdin=subprocess.PIPE, stdout=subprocess.PIPE, text=True, errors="replace"
+        )
+
+    def note(self, text):
+        """Writes a comment into the log."""
+        self._write(f"# {text}")
+
+    def save_log(self, path):
+        """Writes the log of all that was sent and answered."""
+        with open(path, "w", encoding="utf-8") as file:
+            file.writelines(line + "\n" for line in self.log)
+
+    def close(self):
+        """Ends the key, which then writes its counts, and its snapshot to `save`."""
+        if self._process is None:
+            return
+        rest, _ = self._process.communicate()
+        self.log += rest.splitlines()
+        status = self._process.returncode
+        self._process = None
+        if status:
+            raise OSError(f"hidlog ended with status {status}")
+
+    def _pass(self, milliseconds):
         if self._started is None:
-            self.moment += milliseconds
+            super()._pass(milliseconds)
         else:
             time.sleep(milliseconds / 1000)
             self.moment = int((time.monotonic() - self._started) * 1000)
+
+    def _exchange(self, line):
+        self._write(line)
+        lines = [self._read()]
+        while not lines[-1].startswith("# need "):
+            lines.append(self._read())
+        self.log += lines
+        return lines
 
     def _write(self, line):
         self._process.stdin.write(line + "\n")
