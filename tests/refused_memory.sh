@@ -1,6 +1,7 @@
 #!/usr/bin/env bash
 # Has each of the first allocations of every test fail in turn, so many as the first argument says (12), in each crate that
-# allocates: ctap_cbor (decode_value, encode_value), cred_table (save) and session_show (show). Then it gives one verdict.
+# has tests of calls that allocate: cbor_tests (decode_value, encode_value), authenticator_tests (save) and session_show
+# (show). Then it gives one verdict.
 # Needs rt and Python 3. Status 0: a refusal changes nothing but the answer. 1: it does.
 #
 # A test that is refused memory may end with that as its error, and with nothing else. Tests of session_show write to a
@@ -17,7 +18,7 @@ try_crate() {
     done
 }
 
-for crate in ctap_cbor cred_table session_show; do
+for crate in cbor_tests authenticator_tests session_show; do
     try_crate "$crate" "${1:-12}" &
 done
 wait

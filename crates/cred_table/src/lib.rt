@@ -1,6 +1,6 @@
 //! The credential table of an authenticator: rows in order of making, whatever keeps them.
 //!
-//! An example, which the gate runs (`src/page.rt`):
+//! An example, which the gate runs (`crates/authenticator_tests/src/table_page.rt`):
 //!
 //! ```text
 //! let mut table = Store::<4>::new();
@@ -48,10 +48,3 @@ pub use table::Table;
 
 /// The table that the authenticator uses.
 pub type Store<const C: usize> = Chained<C>;
-
-#[cfg(test)]
-mod page;
-#[cfg(test)]
-mod snapshot_tests;
-#[cfg(test)]
-mod tests;

@@ -9,7 +9,7 @@
 //! - [`decode_value`] and [`encode_value`] read and write a [`Value`], an owned tree.
 //! - [`laws`] has what holds of the encoding itself, as that no encoding begins another.
 //!
-//! An example, which the gate runs (`src/page.rt`):
+//! An example, which the gate runs (`crates/cbor_tests/src/page.rt`):
 //!
 //! ```text
 //! // {1: "usb", 2: [true]}
@@ -54,14 +54,8 @@ mod fault;
 mod head;
 mod item;
 pub mod laws;
-#[cfg(test)]
-mod page;
 mod sink;
-#[cfg(test)]
-mod tests;
 mod value;
-#[cfg(test)]
-mod value_tests;
 
 pub use checking::{Checked, check, read_whole};
 pub use collect::{Entries, Members, read_array, read_map};

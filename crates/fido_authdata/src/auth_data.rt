@@ -154,6 +154,3 @@ pub fn to_sign(auth_data: &AuthData, hash: &[u8; 32]) -> ArrayVec<u8, TO_SIGN_MA
     signed.try_extend_from_slice(hash).unwrap();
     signed
 }
-
-#[cfg(test)]
-mod tests;

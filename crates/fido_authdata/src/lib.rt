@@ -3,7 +3,7 @@
 //!
 //! Nothing is hashed or signed here: the SHA-256 hash of the RP id comes in as 32 bytes. Nothing takes memory.
 //!
-//! An example, which the gate runs (`src/page.rt`):
+//! An example, which the gate runs (`crates/authenticator_tests/src/auth_data_page.rt`):
 //!
 //! ```text
 //! let data = AuthData::assertion(&[0xa3; 32], true, 1);
@@ -19,6 +19,3 @@ mod cose;
 
 pub use auth_data::{ASSERTION_LEN, AuthData, CREATED_LEN, TO_SIGN_MAX, to_sign};
 pub use cose::{COSE_KEY_LEN, cose_key};
-
-#[cfg(test)]
-mod page;

@@ -2,7 +2,7 @@
 //! each packet, and the time-out of a message that isn't finished (CTAP 2.1, sections 11.2.4 and 11.2.5).
 //! Nothing here takes memory.
 //!
-//! An example, which the gate runs (`src/page.rt`):
+//! An example, which the gate runs (`crates/transport_tests/src/assembler_page.rt`):
 //!
 //! ```text
 //! let mut assembler = Assembler::with_given(1);
@@ -28,8 +28,3 @@ pub use assembler::{Assembler, MESSAGE_TIMEOUT};
 pub use code::ErrorCode;
 pub use table::{Continuation, LAST_CHANNEL, Row};
 pub use verdict::Verdict;
-
-#[cfg(test)]
-mod page;
-#[cfg(test)]
-mod tests;

@@ -1,7 +1,7 @@
 //! CTAPHID packets of 64 bytes, the packets that carry a message, and a queue of packets to send
 //! (CTAP 2.1, section 11.2.4, "Message and packet structure"). Nothing here takes memory.
 //!
-//! An example, which the gate runs (`src/page.rt`):
+//! An example, which the gate runs (`crates/transport_tests/src/packet_page.rt`):
 //!
 //! ```text
 //! let mut outbox = Outbox::new();
@@ -32,10 +32,3 @@ pub use fragments::{Fragments, packets_for};
 pub use limit::{CONTINUATION_DATA, INITIALIZATION_DATA, LONGEST_MESSAGE, OUTBOX_CAPACITY};
 pub use outbox::Outbox;
 pub use packet::{BROADCAST, PACKET_SIZE, Packet, View};
-
-#[cfg(test)]
-mod outbox_tests;
-#[cfg(test)]
-mod page;
-#[cfg(test)]
-mod tests;

@@ -1,7 +1,7 @@
 //! Text logs of CTAPHID sessions: lines are read, their inputs are stepped on a session, and each line
 //! is written again with the packets that the session sent for it (docs/LOG_FORMAT.md).
 //!
-//! An example, which the gate runs (`src/page.rt`):
+//! An example, which the gate runs (`crates/log_tests/src/page.rt`):
 //!
 //! ```text
 //! let mut session = Session::<8>::bare([0; 16], 0);
@@ -15,28 +15,18 @@
 //! ```
 #![tactic(auto)]
 
-#[cfg(test)]
-mod check_tests;
 mod checking;
 mod command;
 mod fault;
 pub mod laws;
 mod line;
 mod lines;
-#[cfg(test)]
-mod live_tests;
 mod living;
-#[cfg(test)]
-mod page;
 mod playing;
-#[cfg(test)]
-mod quiet_tests;
 mod quieting;
 mod replaying;
 mod source;
 mod target;
-#[cfg(test)]
-mod tests;
 mod text;
 mod window;
 

@@ -1,7 +1,7 @@
 //! The transport and the authenticator together: a session takes inputs, one at a time, and gives the
 //! packets to send.
 //!
-//! An example, which the gate runs (`src/page.rt`):
+//! An example, which the gate runs (`crates/session_tests/src/page.rt`):
 //!
 //! ```text
 //! let mut key = Session::<8>::bare([0; 16], 0);
@@ -30,16 +30,3 @@ pub use authenticator::KEEPALIVE_PERIOD;
 pub use driving::{BothFault, DriveFault, drive, drive_both};
 pub use input::{Input, Meters, Sent, Timed};
 pub use session::Session;
-
-#[cfg(test)]
-mod counter_tests;
-#[cfg(test)]
-mod driving_tests;
-#[cfg(test)]
-mod hostile_tests;
-#[cfg(test)]
-mod page;
-#[cfg(test)]
-mod registration_tests;
-#[cfg(test)]
-mod tests;

@@ -1,0 +1,12 @@
+//! The example on the page of `fido_authdata`.
+
+use fido_authdata::{AuthData, to_sign};
+
+#[test]
+fn the_page(rt: HostRuntime) {
+    let data = AuthData::assertion(&[0xa3; 32], true, 1);
+    let bytes = data.bytes();
+    assert_eq!(rt; bytes.len(), 37);
+    let signed = to_sign(&data, &[0x22; 32]);
+    assert_eq!(rt; signed.len(), 69);
+}

@@ -1,0 +1,16 @@
+//! The example on the page of `authn_core`.
+
+use authn_core::{Config, Core, Presence, Turn};
+use cred_table::Store;
+
+#[test]
+fn the_page(rt: HostRuntime) {
+    let mut core = Core::<Store<4>, 4>::new(Config { aaguid: [0; 16] }, Store::new(), 0);
+    // authenticatorSelection on channel 1 waits for the user's presence, and is then answered.
+    core.request(10, 1, b"\x0b");
+    let waits = core.need().is_presence();
+    assert!(rt; waits);
+    let turn = core.presence(20, Presence::Granted);
+    let answered = matches!(turn, Turn::Answer(answer) if answer.as_slice() == [0].as_slice());
+    assert!(rt; answered);
+}

@@ -1,0 +1,23 @@
+//! The example on the page of `cred_table`.
+
+use cred_table::{Row, Store, Table, load, save};
+use std::test::Fail;
+
+#[test]
+fn the_page(rt: HostRuntime) -> Result<(), Fail> {
+    let mut table = Store::<4>::new();
+    table.put(Row {
+        rp: [0xa3; 32],
+        id: [0xaa; 32],
+        discoverable: true,
+        ..Row::default()
+    });
+    let mut snapshot = Vec::new(rt.alloc());
+    save(&table, &mut snapshot)?;
+
+    let mut copy = Store::<4>::new();
+    let loaded = load(snapshot.as_slice(), &mut copy);
+    assert!(rt; loaded.is_ok());
+    assert_eq!(rt; copy.len(), 1);
+    Ok(())
+}

@@ -1,0 +1,10 @@
+//! Tests of `ctap_cbor` by its public calls. They stand apart, as in Cargo's folder
+//! `tests/`, since a check of a crate's tests proves the whole crate once more.
+#![tactic(auto)]
+
+#[cfg(test)]
+mod items;
+#[cfg(test)]
+mod page;
+#[cfg(test)]
+mod values;

@@ -1,0 +1,31 @@
+//! The example on the page of `ctap_cbor`.
+
+use ctap_cbor::{Cursor, Item, Sink, check, decode_value, encode_value};
+use std::test::Fail;
+
+#[test]
+fn the_page(rt: HostRuntime) -> Result<(), Fail> {
+    // {1: "usb", 2: [true]}
+    let message = b"\xa2\x01\x63usb\x02\x81\xf5".as_slice();
+    assert!(rt; check(message).result.is_ok());
+
+    let mut cursor = Cursor::new(message);
+    assert_eq!(rt; cursor.item(1)?, Item::Map(2));
+    let first = cursor.key(None)?;
+    cursor.skip(2)?;
+    cursor.key(Some(first.bytes))?; // has to stand above the first
+    cursor.skip(2)?;
+    cursor.end()?;
+
+    let mut buffer = [0; 2];
+    let mut sink = Sink::new(&mut buffer);
+    sink.array(1);
+    sink.flag(true);
+    assert_eq!(rt; buffer, [0x81, 0xf5]);
+
+    let value = decode_value(rt.alloc(), message)?;
+    let mut copy = Vec::new(rt.alloc());
+    encode_value(&value, &mut copy)?;
+    assert!(rt; copy.as_slice() == message);
+    Ok(())
+}

@@ -1,0 +1,14 @@
+//! Tests of `session_log` by its public calls. They stand apart, as in Cargo's folder
+//! `tests/`, since a check of a crate's tests proves the whole crate once more.
+#![tactic(auto)]
+
+#[cfg(test)]
+mod checking;
+#[cfg(test)]
+mod living;
+#[cfg(test)]
+mod page;
+#[cfg(test)]
+mod quieting;
+#[cfg(test)]
+mod replaying;

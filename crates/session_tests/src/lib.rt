@@ -1,0 +1,16 @@
+//! Tests of `token_session` by its public calls. They stand apart, as in Cargo's folder
+//! `tests/`, since a check of a crate's tests proves the whole crate once more.
+#![tactic(auto)]
+
+#[cfg(test)]
+mod counters;
+#[cfg(test)]
+mod driving;
+#[cfg(test)]
+mod hostile;
+#[cfg(test)]
+mod page;
+#[cfg(test)]
+mod registration;
+#[cfg(test)]
+mod transport;

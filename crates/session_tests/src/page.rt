@@ -1,0 +1,20 @@
+//! The example on the page of `token_session`.
+
+use hid_packet::{BROADCAST, Fragments, Outbox, View, command};
+use token_session::{Input, Session};
+
+#[test]
+fn the_page(rt: HostRuntime) {
+    let mut key = Session::<8>::bare([0; 16], 0);
+    for packet in Fragments::new(BROADCAST, command::INIT, b"nonce...") {
+        let mut outbox = Outbox::new();
+        key.step(0, Input::Packet(packet), &mut outbox);
+        for answer in outbox {
+            match answer.view() {
+                View::Start { cmd, len, .. } => assert_eq!(rt; (cmd, len), (command::INIT, 17)),
+                View::More { .. } => panic!(rt; "the answer fits one packet"),
+            }
+        }
+    }
+    assert_eq!(rt; key.credentials(), 0);
+}

@@ -1,0 +1,25 @@
+//! The example on the page of `hid_packet`.
+
+use hid_packet::laws::written_packets_are_the_fewest;
+use hid_packet::{Outbox, View, command};
+
+#[test]
+fn the_page(rt: HostRuntime) {
+    let mut outbox = Outbox::new();
+    written_packets_are_the_fewest(); // so there is room
+    outbox.put_message(1, command::PING, b"hello");
+    for packet in outbox {
+        match packet.view() {
+            View::Start {
+                cid,
+                cmd,
+                len,
+                part,
+            } => {
+                assert_eq!(rt; (cid, cmd, len), (1, command::PING, 5));
+                assert!(rt; part.starts_with(b"hello"));
+            }
+            View::More { .. } => panic!(rt; "it fits one packet"),
+        }
+    }
+}
