@@ -1,5 +1,5 @@
 // Made by build.sh, in base64: crates/hidlog_c as a WebAssembly module, and examples/registration.log.
-// The source's hash (source_hash.sh): 2f5c97b204cc5779e37521692b368b658cfddcf3eb22e1e010aefd20c186b462
+// The source's hash (source_hash.sh): e6c48dc289996ce7dae1f564dd681cf2fa706d1a97219f9889039f299e8e6e53
 globalThis.HIDLOG_WASM = [
     "AGFzbQEAAAABkgEVYAABf2AAAGADfn5+AGADfn5/AGACfn4Bf2ADfn5+AX9gBH5+f34AYAN+fn4BfmAEfn5+fgBgBn5+fn5+fgBgAn5+AGAEfn",
     "9+fgBgBH5+fn4Bf2ABfgBgBX5/f35+AGAIf39/f39/f38Bf2AHfn5/f39+fgBgBX5+fn5+AGADfn9+AGABfgF/YAd+fn5+fn5+AAM3NgABAQID",
