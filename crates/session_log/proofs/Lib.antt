@@ -1,5 +1,6 @@
 pub mod Sends
 pub mod Moments
+pub mod Digits
 pub mod Gathering
 pub mod Cutting
 pub mod Through

@@ -1,11 +1,11 @@
 //! What a line says.
-ghost use Rattle.std.specs.Prelude.{◌≡◌, ◌<◌, ◌≤◌, ◌/◌, ◌==◌, length, position, Option, None, Some, IfSome, MatchOption};
+ghost use Rattle.std.specs.Prelude.{◌≡◌, ◌<◌, ◌≤◌, ◌-◌, ◌/◌, ◌^◌, ◌↔◌, ◌==◌, length, position, slice_index, Option, None, Some, IfSome, IsTrue, MatchOption, SomeIff};
+ghost use Rattle.std.specs.Str.Parse.{AllDigits, digits_value};
 ghost use Rattle.session_log.specs.Letters.{space};
 ghost use Rattle.session_log.specs.Said.{bytes_of, first_field, input_by, input_line, key_of, key_said, moment, presence_said, said, sent_line, signature_of, signature_said, tick_line};
 
 use authn_core::{NewKey, Presence, Signature};
 use hid_packet::Packet;
-use itoa::Buffer;
 use token_session::{Input, Timed};
 
 /// What one line of a log says.
@@ -21,24 +21,33 @@ pub enum Line {
     Count,
 }
 
-/// The number whose decimal text this is.
-fn read_number(digits: &str) -> Option<u64>
-    ensures { result ≡ moment digits.now }
+/// The number below 2^64 that decimal digits write, however many zeros stand in front.
+fn read_digits(digits: &[u8]) -> Option<u64>
+    ensures { SomeIff result (AllDigits 10 digits.now × (digits_value 10 digits.now ≤ 2 ^ 64 - 1)) (digits_value 10 digits.now) }
 {
-    match digits.parse::<u64>() {
-        Ok(number) if Buffer::new().format(number) == digits => Some(number),
-        _ => None,
+    let mut number = 0_u64;
+    for byte in digits {
+        let digit = char::from(*byte).to_digit(10)?;
+        number = number.checked_mul(10)?.checked_add(u64::from(digit))?;
     }
+    Some(number)
 }
 
-/// The same of any bytes.
+/// Whether a zero stands before other digits.
+fn is_padded(digits: &[u8]) -> bool
+    ensures { IsTrue result ↔ ((2 ≤ length digits.now) × (slice_index digits.now 0 ≡ 48)) }
+{
+    digits.len() > 1 && digits[0] == b'0'
+}
+
+/// The number whose decimal text this is. It has one text: no zero stands in front of other digits.
 fn read_moment(digits: &[u8]) -> Option<u64>
     ensures { result ≡ moment digits.now }
 {
-    match str::from_utf8(digits) {
-        Ok(text) => read_number(text),
-        Err(_) => None,
+    if digits.is_empty() || is_padded(digits) {
+        return None;
     }
+    read_digits(digits)
 }
 
 /// The bytes that twice as many hexadecimal digits write, in either case.
@@ -155,7 +164,7 @@ fn read_input(letter: u8, field: &[u8]) -> Option<Input>
     }
 }
 
-// The next three aren't inlined, so that a line of another kind doesn't pay for their room.
+// The next one and `read_timed` aren't inlined, so that a line of another kind doesn't pay for their room.
 
 /// The packet that the field of a `<` line says.
 #[inline(never)]
@@ -166,7 +175,6 @@ fn read_sent(field: &[u8]) -> Option<Line>
 }
 
 /// The moment that the field of a `t` line says.
-#[inline(never)]
 fn read_tick(field: &[u8]) -> Option<Line>
     ensures { result ≡ tick_line field.now }
 {
@@ -189,6 +197,8 @@ fn read_timed(letter: u8, fields: &[u8]) -> Option<Line>
 }
 
 /// What the line says, if it is a log line. The line comes without its line feed.
+// Inlined, so that a comment or a tick isn't copied as the largest line is.
+#[inline(always)]
 pub fn read_line(line: &[u8]) -> Option<Line>
     ensures { result ≡ said line.now }
 {

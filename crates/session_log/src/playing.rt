@@ -78,7 +78,7 @@ pub fn play_all<P: Player<C>, S: Source, T: Target, const C: usize>(
         window.drop_front(end + 1);
         number += 1;
     }
-    if window.len() == 0 {
+    if window.is_empty() {
         return Ok(());
     }
     player.play(window.as_slice(), number, writer, session)

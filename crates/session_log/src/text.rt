@@ -55,6 +55,8 @@ fn push_packet(text: &mut Text, packet: Packet)
 }
 
 /// Appends the lines of the packets that were sent, and empties the outbox.
+// Most lines send nothing, so that is asked first and in place.
+#[inline(always)]
 fn push_packets(text: &mut Text, outbox: &mut Outbox)
     requires { length text.old.items + SENT_LINE * length outbox.old ≤ LONGEST }
     ensures text { text.new.items ≡ text.old.items ++ flat_map sent_text outbox.old }
@@ -62,6 +64,9 @@ fn push_packets(text: &mut Text, outbox: &mut Outbox)
     ensures empty { outbox.new ≡ [] }
     ensures packets { ArePackets outbox.old }
 {
+    if outbox.is_empty() {
+        return;
+    }
     while let Some(packet) = outbox.pop() {
         push_packet(text, packet);
     }

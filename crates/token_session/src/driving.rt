@@ -1,5 +1,5 @@
 //! Inputs driven through a session, and through two.
-ghost use Rattle.std.specs.Prelude.{◌≡◌, ℕ, ◌+◌, ◌<◌, ◌≤◌, ◌++◌, ◌⊎◌, List, ◌∷◌, [], length, map, take, IfErr, IfOk, Result, Ok, Err};
+ghost use Rattle.std.specs.Prelude.{◌≡◌, ℕ, ◌+◌, ◌<◌, ◌≤◌, ◌++◌, ◌⊎◌, List, ◌∷◌, [], length, map, take, IfErr, IfOk, MatchBool, Result, Ok, Err};
 ghost use Rattle.arrayvec.specs.ArrayVec.{array_vec_len};
 ghost use Rattle.authn_core.specs.Turn.{Start};
 ghost use Rattle.token_session.specs.declared.input.Timed.{Timed as OneInput};
@@ -45,6 +45,13 @@ fn take_all<const N: usize>(outbox: &mut Outbox, number: u64, sent: &mut ArrayVe
     }
 }
 
+/// Whether there is room for all that one more input may send.
+fn has_room<const N: usize>(sent: &ArrayVec<Sent, N>) -> bool
+    ensures { MatchBool result (array_vec_len sent.now + OUTBOX_CAPACITY ≤ N) (N < array_vec_len sent.now + OUTBOX_CAPACITY) }
+{
+    sent.remaining_capacity() >= OUTBOX_CAPACITY
+}
+
 /// Steps a session through the inputs, and appends the packets that they send. It stops before the
 /// first input at which fewer than 130 places are free.
 pub fn drive<const C: usize, const N: usize>(
@@ -68,7 +75,7 @@ pub fn drive<const C: usize, const N: usize>(
 {
     let mut outbox = Outbox::new();
     for (i, timed) in inputs.iter().enumerate() {
-        if sent.remaining_capacity() < OUTBOX_CAPACITY {
+        if !has_room(sent) {
             return Err(DriveFault::Full { done: i });
         }
         session.step(timed.at, timed.input, &mut outbox);

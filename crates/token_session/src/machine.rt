@@ -1,8 +1,9 @@
-ghost use Rattle.std.specs.Prelude.{◌≡◌, ◌≤◌, ◌++◌, [], length, if◌then◌else◌};
+ghost use Rattle.std.specs.Prelude.{◌≡◌, ℕ, ◌≤◌, ◌++◌, [], Some, length, if◌then◌else◌};
 ghost use Rattle.hid_assemble.specs.Assembly.{held_bytes};
 ghost use Rattle.hid_assemble.specs.Codes.{code_number};
 ghost use Rattle.authn_core.specs.Bare.{bare_rows};
 ghost use Rattle.authn_core.specs.Needs.{IsNeed};
+ghost use Rattle.authn_core.specs.State.{Drop as DropWork};
 ghost use Rattle.authn_core.specs.Views.{needs, needed};
 ghost use Rattle.cred_table.specs.Waiting.{pending_count};
 ghost use Rattle.token_session.specs.Replies.{error, greeting};
@@ -51,6 +52,26 @@ fn put_greeting(outbox: &mut Outbox, on: u32, channel: u32, nonce: &[u8; 8])
     outbox.put_message(on, INIT, answer.as_slice());
 }
 
+/// Answers an INIT on the channel whose work waits. That work is dropped, and isn't answered.
+fn greet_anew<const C: usize>(
+    authenticator: &mut Authenticator<C>,
+    outbox: &mut Outbox,
+    on: u32,
+    channel: u32,
+    nonce: &[u8; 8],
+)
+    requires { length outbox.old ≤ 1 }
+    ensures core { (now : ℕ) → authenticator.new.core ≡ event_core authenticator.old.core now (Some DropWork) }
+    ensures latest { authenticator.new.latest ≡ authenticator.old.latest }
+    ensures keepalive { (now : ℕ) → authenticator.new.keepalive_at
+        ≡ (if event_keeps_alive authenticator.old.core now (Some DropWork) then now else authenticator.old.keepalive_at) }
+    ensures silent { (now : ℕ) → event_packets authenticator.old.core now (Some DropWork) ≡ [] }
+    ensures packets { outbox.new ≡ outbox.old ++ greeting on channel nonce.now }
+{
+    put_greeting(outbox, on, channel, nonce);
+    authenticator.drop_work();
+}
+
 /// Sends what a verdict sends, hands the authenticator the event that it is, and gives what reading
 /// the request took, if it is one. `message` is what the packet finished.
 fn react<const C: usize>(
@@ -81,8 +102,7 @@ fn react<const C: usize>(
             None
         }
         Verdict::GreetAndDrop { on, channel, nonce } => {
-            put_greeting(outbox, on, channel, &nonce);
-            authenticator.drop_work();
+            greet_anew(authenticator, outbox, on, channel, &nonce);
             None
         }
         Verdict::CancelWork => {

@@ -83,13 +83,13 @@ returns-in_err-play-clause-played g c =
     (read_on (left c.args.reader.now) (left c.lines.reader) (left c.next_line.new.reader) before.0 c.lines.window w before.2 c.in_ok-end.ensures.bytes)
     before.3 before.4 has is_line c.in_err-play.ensures.played)
 
-pub returns-then-len-eq0-clause-played : goal.returns-then-len-eq0-clause-played
-returns-then-len-eq0-clause-played g c =
+pub returns-then-is_empty-clause-played : goal.returns-then-is_empty-clause-played
+returns-then-is_empty-clause-played g c =
     let state = g.P.Player.state in
     let left = g.S.Source.left in
     let before = c.lines.invariant.done in
     let w = c.next_line.new.window in
-    let none : w ≡ [] = is_nil w (sym c.len.ensures.value ∙ c.if-len-eq0.true) in (
+    let none : w ≡ [] = c.if-is_empty.ensures.0 refl in (
       before.0 ++ [],
       before.1,
       subst (λ (l : List ℕ). Consumes (left c.args.reader.now) (left c.next_line.new.reader) (before.0 ++ l)) none
@@ -107,7 +107,7 @@ returns-clause-played g c =
     let w = c.as_slice-2.result.now in
     let is = c.as_slice-2.ensures.value in
     let unfinished = rw c.in_default.is at c.in_ok-end.ensures.found in
-    let some : 0 < length w = some_left (length w) (λ e. c.if-len-eq0.false (c.len.ensures.value ∙ ap length (sym is) ∙ e)) in
+    let some : 0 < length w = some_left (length w) (λ e. cc (c.if-is_empty.ensures.1 (sym is ∙ is_nil w e))) in
     ends g.P.Player.world taken g.T.Target.failed c.play-2.result (left c.args.reader.now) (left c.next_line.new.reader) (taken c.args.writer.now) (c.lines.writer, c.play-2.new.writer)
     (state c.args.player.now c.args.session.now) (state c.lines.player c.lines.session) (state c.play-2.new.self c.play-2.new.session) before.0 before.1 w c.lines.number
     (subst (λ (l : List ℕ). Consumes (left c.args.reader.now) (left c.next_line.new.reader) (before.0 ++ l)) (sym is)
