@@ -9,6 +9,7 @@ newer() {
 }
 if [ ! -e "$library" ] || [ -n "$(newer "$library")" ]; then
     echo "hidlog_c: proving and building, which takes minutes from nothing" >&2
+    mkdir -p "$top/crates/hidlog_c/out"
     (cd "$top/crates/hidlog_c" && rt lib) >"$top/crates/hidlog_c/out/build.log" 2>&1 || {
         tail -20 "$top/crates/hidlog_c/out/build.log" >&2
         exit 3
