@@ -1,10 +1,10 @@
 #!/usr/bin/env bash
 # Has each of the first allocations of every test fail in turn, so many as the first argument says (12), in each crate that
-# has tests of calls that allocate: cbor_tests (decode_value, encode_value), authenticator_tests (save) and session_show
+# has tests of calls that allocate: cbor_tests (decode_value, encode_value), authenticator_tests (save) and log_tests
 # (show). Then it gives one verdict.
 # Needs rt and Python 3. Status 0: a refusal changes nothing but the answer. 1: it does.
 #
-# A test that is refused memory may end with that as its error, and with nothing else. Tests of session_show write to a
+# A test that is refused memory may end with that as its error, and with nothing else. Tests of `show` write to a
 # vector: where that one is refused memory, it is a write that fails. Tests of `.._after_refused_memory` make the same call
 # again and have to pass.
 set -u
@@ -18,7 +18,7 @@ try_crate() {
     done
 }
 
-for crate in cbor_tests authenticator_tests session_show; do
+for crate in cbor_tests authenticator_tests log_tests; do
     try_crate "$crate" "${1:-12}" &
 done
 wait
@@ -43,7 +43,7 @@ for name in runs:
         if result == "ok":
             continue
         refusals += 1
-        is_named = REFUSED.search(text) or crate == "session_show" and WRITE_REFUSED.search(text)
+        is_named = REFUSED.search(text) or crate == "log_tests" and WRITE_REFUSED.search(text)
         if test.endswith("_after_refused_memory") or not is_named:
             wrong.append(f"{crate}, allocation {number}: {test}")
 for line in wrong:

@@ -27,10 +27,14 @@ fn holds<const N: usize>(
     for (place, id) in ids.as_slice().iter().enumerate() {
         assert!(rt; pending.len() > 0);
         assert_eq!(rt; pending.len().saturating_add(place), N);
-        assert_eq!(rt; pending.cid(), 7);
-        assert_eq!(rt; pending.hash(), [0x22; 32]);
-        assert!(rt; pending.presence());
-        assert_eq!(rt; pending.moment(), if place == 0 { 1000 } else { 1500 });
+        let moment = if place == 0 { 1000 } else { 1500 };
+        let kept = (
+            pending.cid(),
+            pending.hash(),
+            pending.presence(),
+            pending.moment(),
+        );
+        assert_eq!(rt; kept, (7, [0x22; 32], true, moment));
         assert_eq!(rt; pending.next(), Some(*id));
         pending.stamp(1500);
     }

@@ -1,4 +1,4 @@
-//! Tests of `session_log` by its public calls. They stand apart, as in Cargo's folder
+//! Tests of `session_log` and `session_show` by their public calls. They stand apart, as in Cargo's folder
 //! `tests/`, since a check of a crate's tests proves the whole crate once more.
 #![tactic(auto)]
 
@@ -12,3 +12,5 @@ mod page;
 mod quieting;
 #[cfg(test)]
 mod replaying;
+#[cfg(test)]
+mod showing;

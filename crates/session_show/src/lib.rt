@@ -6,8 +6,7 @@ mod diagnostic;
 mod message;
 mod packet_line;
 mod showing;
-#[cfg(test)]
-mod tests;
 mod transcript;
 
+pub use diagnostic::Diagnostic;
 pub use showing::show;

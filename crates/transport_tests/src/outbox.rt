@@ -4,11 +4,20 @@ use hid_packet::laws::written_packets_are_the_fewest;
 use hid_packet::{Fragments, Outbox, Packet, packets_for};
 use std::process::Abort;
 
+/// Takes packets, and asserts that they are these.
+fn take_each(rt: &impl Abort, outbox: &mut Outbox, packets: Fragments<'_>) {
+    for expected in packets {
+        assert_eq!(rt; outbox.pop(), Some(expected));
+    }
+}
+
 /// Takes the packets of a message on channel 1 with command 1, and asserts that they are those that are written for it.
 fn take(rt: &impl Abort, outbox: &mut Outbox, bytes: &[u8]) {
-    for expected in Fragments::new(1, 1, &bytes[..bytes.len().min(7609)]) {
-        assert_eq!(rt; outbox.pop(), Some(expected), "of {} bytes", bytes.len());
-    }
+    take_each(
+        rt,
+        outbox,
+        Fragments::new(1, 1, &bytes[..bytes.len().min(7609)]),
+    );
     assert!(rt; outbox.is_empty());
 }
 
@@ -42,13 +51,9 @@ fn a_full_outbox_is_filled_again(rt: HostRuntime) {
     assert_eq!(rt; outbox.len(), 129);
     outbox.put_packet(single);
     assert_eq!(rt; outbox.len(), 130);
-    for expected in first {
-        assert_eq!(rt; outbox.pop(), Some(expected));
-    }
+    take_each(&rt, &mut outbox, first);
     assert_eq!(rt; outbox.pop(), Some(single));
-    for expected in Fragments::new(2, 1, &[7; 5839]) {
-        assert_eq!(rt; outbox.pop(), Some(expected));
-    }
+    take_each(&rt, &mut outbox, Fragments::new(2, 1, &[7; 5839]));
     assert_eq!(rt; outbox.pop(), Some(single));
     assert_eq!(rt; outbox.pop(), None);
 }

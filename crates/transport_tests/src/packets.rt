@@ -1,7 +1,6 @@
 //! What no clause says: that the calls succeed on packets written out by hand.
 
-use hid_packet::laws::written_packets_are_the_fewest;
-use hid_packet::{Fragments, OUTBOX_CAPACITY, Outbox, Packet, View, packets_for};
+use hid_packet::{Fragments, Packet, View, packets_for};
 use std::test::Fail;
 
 /// The bytes, at most 64, and zeros after them.
@@ -65,31 +64,6 @@ fn short_messages_take_one_packet(rt: HostRuntime) {
     let mut full = Fragments::new(1, 1, &[9; 57]);
     assert!(rt; full.next().is_some());
     assert_eq!(rt; full.next(), None);
-}
-
-#[test]
-fn the_outbox_holds_130_packets_in_order(rt: HostRuntime) {
-    let mut outbox = Outbox::new();
-    assert!(rt; outbox.is_empty());
-    // Two packets that come and go, so that the rest goes around the end of the slots.
-    outbox.put_packet(pad(&[1]));
-    outbox.put_packet(pad(&[2]));
-    assert_eq!(rt; outbox.pop(), Some(pad(&[1])));
-    assert_eq!(rt; outbox.pop(), Some(pad(&[2])));
-    assert!(rt; outbox.is_empty());
-
-    // That there is room for so many packets is a law.
-    written_packets_are_the_fewest();
-    outbox.put_message(1, 1, &[9; 7609]);
-    assert_eq!(rt; outbox.len(), OUTBOX_CAPACITY - 1);
-    outbox.put_packet(pad(&[3]));
-    assert_eq!(rt; outbox.len(), OUTBOX_CAPACITY);
-    for expected in Fragments::new(1, 1, &[9; 7609]) {
-        assert_eq!(rt; outbox.pop(), Some(expected));
-    }
-    assert_eq!(rt; outbox.pop(), Some(pad(&[3])));
-    assert_eq!(rt; outbox.pop(), None);
-    assert!(rt; outbox.is_empty());
 }
 
 #[test]

@@ -2,11 +2,10 @@
 //!
 //! The test `shows_after_refused_memory` is for allocations that fail (`rt try --test --fail-alloc N`): whichever
 //! it is, the texts of the lines before were written, and the same call with memory succeeds.
-use crate::diagnostic::Diagnostic;
-use crate::show;
 use arrayvec::ArrayVec;
 use ctap_cbor::{Fault, decode_value};
 use session_log::{FromRead, LogFault, SliceIn, SliceOut, ToWrite};
+use session_show::{Diagnostic, show};
 use std::alloc::{AllocError, Global};
 use std::io::{self, ErrorKind, Read, Write};
 use std::process::Abort;
