@@ -1,5 +1,5 @@
 // Made by build.sh, in base64: crates/hidlog_c as a WebAssembly module, and examples/registration.log.
-// The source's hash (source_hash.sh): ff56389f778c787bd36fa776860866590b6fa4b1982b972a4bb73849c41e0764
+// The source's hash (source_hash.sh): b4671db045bec6d52e178d4c8b521f531afd091e4261654191ddb9faca0b599d
 globalThis.HIDLOG_WASM = [
     "AGFzbQEAAAABkgEVYAABf2AAAGADfn5+AGADfn5/AGACfn4Bf2ADfn5+AX9gBH5+f34AYAN+fn4BfmAEfn5+fgBgBn5+fn5+fgBgBH5/fn4AYA",
     "J+fgBgAX4AYAV+f39+fgBgCH9/f39/f39/AX9gB35+f39/fn4AYAV+fn5+fgBgA35/fgBgAX4Bf2AEfn5+fgF/YAd+fn5+fn5+AAMyMQABAQID",

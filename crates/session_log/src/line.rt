@@ -197,7 +197,7 @@ fn read_timed(letter: u8, fields: &[u8]) -> Option<Line>
 }
 
 /// What the line says, if it is a log line. The line comes without its line feed.
-// Inlined, so that a comment or a tick isn't copied as the largest line is.
+// Inlined, so that what it returns isn't copied once more for each line.
 #[inline(always)]
 pub fn read_line(line: &[u8]) -> Option<Line>
     ensures { result ≡ said line.now }
