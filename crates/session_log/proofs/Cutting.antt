@@ -1,11 +1,14 @@
 -- Bytes cut at line feeds, from the front.
 use Rattle.std.proofs.Common.{◌≡◌, ℕ, suc, zero, ◌+◌, ◌≤◌, ◌<◌, ◌==◌, nat_lt, Bool, true, false, cond, List, [], ◌∷◌, ◌++◌, length, get_or, take, drop, position, Some, None, refl, sym, ap, ◌∙◌, arith, add-one, take-append-drop}
-use Rattle.std.proofs.lemmas.Bool.{ltb-false}
+use Rattle.std.proofs.Math.Seq.{take-append_seam, take-suc}
+use Rattle.std.proofs.lemmas.Bool.{eqb-true, ltb-false}
+use Rattle.std.proofs.lemmas.List.{take-take}
 use Rattle.std.proofs.lemmas.Bool.Decides.{nat_tests}
 use Rattle.std.proofs.lemmas.List.Quantifiers.{position-Some}
 use Rattle.std.proofs.lemmas.List.Sums.{fails_before_first}
 use Rattle.std.proofs.lemmas.List.Splits.{slice_split_none, slice_split-cons_yes, slice_split-cons_no}
 use Rattle.std.specs.List.{onto_first, position_or_len}
+use Rattle.session_log.specs.Text.{ended}
 use Rattle.session_log.specs.Lines.{is_feed, pieces, all_but_last, last_of, lines_of_pieces, lines}
 
 cut_at : (w : List ℕ) (end : ℕ) (tail : List ℕ) → end < length w → is_feed (get_or w end 0) ≡ true → ((k : ℕ) → k < end → is_feed (get_or w k 0) ≡ false)
@@ -20,6 +23,28 @@ pub first_piece : (w : List ℕ) (end : ℕ) (tail : List ℕ) → position is_f
 first_piece w end tail e =
     let at = position-Some is_feed w end 0 e in
     rw add-one (cut_at w end tail at.0 at.1 at.2)
+
+-- it ends with its line feed
+pub ends_in_feed : (w : List ℕ) (end : ℕ) → position is_feed w ≡ Some end → take (end + 1) w ≡ ended (take end w)
+ends_in_feed w end e =
+    let at = position-Some is_feed w end 0 e in
+    rw add-one (take-suc w end 0 at.0 ∙ ap (λ (b : ℕ). take end w ++ b ∷ []) (eqb-true (get_or w end 0) 10 at.1))
+
+-- what stands in a window was cut after a line feed, and before it
+pub cut_twice : (w held text line : List ℕ) (end : ℕ) → held ≡ w → text ≡ take (end + 1) held → line ≡ take end text → (text ≡ take (end + 1) w) × (line ≡ take end w)
+cut_twice w held text line end is whole front =
+    let text_is : text ≡ take (end + 1) w = whole ∙ ap (take (end + 1)) is in
+    (text_is, front ∙ ap (take end) text_is ∙ take-take end (end + 1) w (omega arith))
+
+-- that is the line with its line feed
+pub text_of_line : (w text line : List ℕ) (end : ℕ) → position is_feed w ≡ Some end → (text ≡ take (end + 1) w) × (line ≡ take end w) → text ≡ ended line
+text_of_line w text line end e cut = cut.0 ∙ ends_in_feed w end e ∙ ap ended (sym cut.1)
+
+-- a last line was given its line feed
+pub last_line_of : (w held text line : List ℕ) (n : ℕ) → n ≡ length w → held ≡ ended w → text ≡ held → line ≡ take n text → (text ≡ ended w) × (line ≡ w)
+last_line_of w held text line n count is same front =
+    let text_is : text ≡ ended w = same ∙ is in
+    (text_is, front ∙ (λ i. take (count i) (text_is i)) ∙ take-append_seam w (10 ∷ []))
 
 none_is : (b : Bool) (n : ℕ) → cond b (Some n) None ≡ None → b ≡ false
 none_is true n e = cc

@@ -9,7 +9,8 @@ use Rattle.session_log.specs.Ending.{Ending, Done, Refused, Unread, Unwritten, e
 use Rattle.session_log.specs.Said.{said}
 use Rattle.session_log.specs.World.{World}
 use Rattle.session_log.specs.Lines.{lines}
-use Rattle.session_log.specs.Log.{text_of, last_text, after, fault_by, fault_at}
+use Rattle.session_log.specs.Log.{text_of, text_by, last_text, after, after_by, fault_by, fault_at}
+use Rattle.session_log.specs.declared.line.Line.{Line}
 use Rattle.session_log.specs.Sent.{SendsPackets}
 use Rattle.session_log.specs.Streams.{Moves, IsTaken, IsBroken, PutsLine}
 use Rattle.session_log.specs.Window.{HasLine, IsUnfinished, Stops}
@@ -91,10 +92,17 @@ stops_at_line {S} {F} world taken failed left left' start target s0 s t read tex
 stops_at_line world taken failed left left' start target s0 s t read text w line more n (Read m) p q through first short few h = absurd h
 
 -- a line's text was handed over
-pub hands_over : {S F A : Type 0} (world : World S) (taken : F → Option (List ℕ)) (failed : F → ℕ) (n : ℕ) (s t : S) (line : List ℕ) (target : F × F) (r : Result A LogFault)
+hands_over : {S F A : Type 0} (world : World S) (taken : F → Option (List ℕ)) (failed : F → ℕ) (n : ℕ) (s t : S) (line : List ℕ) (target : F × F) (r : Result A LogFault)
     → fault_by world n s (said line) ≡ None → t ≡ after world s line → SendsPackets world s (said line) → PutsLine taken failed target (text_of world s line) r → PlaysLine world taken failed n s t line target (ending_of r)
 hands_over world taken failed n s t line target (Ok x) sound stood packets put = (sound, stood, packets, put)
 hands_over world taken failed n s t line target (Err e) sound stood packets put = subst (λ (f : LogFault). PlaysLine world taken failed n s t line target (ended_by f)) (sym put.0) (sound, stood, put.1)
+
+-- the text for a line that says this was handed over
+pub writes_for : {S F A : Type 0} (world : World S) (taken : F → Option (List ℕ)) (failed : F → ℕ) (n : ℕ) (s t : S) (line : List ℕ) (l : Line) (target : F × F) (r : Result A LogFault) (text : List ℕ)
+    → said line ≡ Some l → world.stops s l ≡ None → t ≡ world.moves s l → world.sound s l → text ≡ world.writes s line l → PutsLine taken failed target text r → PlaysLine world taken failed n s t line target (ending_of r)
+writes_for world taken failed n s t line l target r text is sound stood packets same put =
+    hands_over world taken failed n s t line target r (ap (fault_by world n s) is ∙ sound) (stood ∙ ap (after_by world s) (sym is)) (subst (SendsPackets world s) (sym is) packets)
+    (subst (λ (x : List ℕ). PutsLine taken failed target x r) (same ∙ ap (text_by world s line) (sym is)) put)
 
 -- more was read into the window
 pub read_on : (a b c : Option (List ℕ)) (read w w' : List ℕ) → Consumes a b (read ++ w) → ((more : List ℕ) × (w' ≡ w ++ more) × Consumes b c more) → Consumes a c (read ++ w')
@@ -102,7 +110,7 @@ read_on a b c read w w' p m =
     subst (Consumes a c) (append_assoc read w m.0 ∙ ap (λ (l : List ℕ). read ++ l) (sym m.1)) (Consumes-trans a b c (read ++ w) m.0 p m.2)
 
 -- the line in front is short
-short_in_front : (w line : List ℕ) (n end : ℕ) → HasLine n w end → line ≡ take end w → length line < 256
+pub short_in_front : (w line : List ℕ) (n end : ℕ) → HasLine n w end → line ≡ take end w → length line < 256
 short_in_front w line n end has is_line =
     let inside : end ≤ length w = omega (arith, has.within) in
     omega (arith, ap length is_line, length-take-le end w inside, has.within, has.short)

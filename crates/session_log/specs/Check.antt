@@ -13,8 +13,8 @@ use Rattle.session_log.specs.Session.{sessions, histories}
 use Rattle.session_log.specs.Text.{same_line}
 use Rattle.session_log.specs.World.{Course, World}
 
--- what the lines so far led to: where the inputs led; how many lines there were; the line of the last input (0 before any),
--- how many of its packets were found, and those that are due; and how many inputs and packets were the same
+-- what the lines so far led to: where the inputs led; how many lines there were; the line of the last input (0 before
+-- any), how many of its packets were found, and those that are due; and how many inputs and packets were the same
 pub record Compared (S : Type 0) : Type 0 where
   pub session : S
   pub lines : ℕ
@@ -24,7 +24,8 @@ pub record Compared (S : Type 0) : Type 0 where
   pub inputs : ℕ
   pub packets : ℕ
 
-abbrev pub compared : {S : Type 0} → S → (lines input found : ℕ) → (due : List (List ℕ)) → (inputs packets : ℕ) → Compared S
+abbrev pub compared : {S : Type 0} → S → (lines input found : ℕ) → (due : List (List ℕ)) → (inputs packets : ℕ)
+    → Compared S
 compared s lines input found due inputs packets =
     record { session = s; lines = lines; input = input; found = found; due = due; inputs = inputs; packets = packets }
 

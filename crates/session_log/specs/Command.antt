@@ -14,8 +14,8 @@ use Rattle.session_log.specs.Session.{history, live_history, quiet_history}
 use Rattle.session_log.specs.Streams.{Counts, IsAllRead, Moves}
 use Rattle.session_log.specs.World.{World}
 
--- the start of the program's session: an AAGUID of sixteen zero bytes, the moment 0, and room for 64 credentials, none of
--- which is there
+-- the start of the program's session: an AAGUID of sixteen zero bytes, the moment 0, and room for 64 credentials, none
+-- of which is there
 abbrev pub program_start : Start
 program_start = record { aaguid = replicate 16 0; moment = 0; room = 64; rows = [] }
 
@@ -31,17 +31,20 @@ abbrev pub status_of : {A : Type 0} → Result A LogFault → Status
 status_of (Ok x) = Ok tt
 status_of (Err fault) = Err 1
 
--- A failure of the source or the target was counted exactly where the fault is one, and without a fault the log was all that
--- the source held. A pair is a source or a target before and after the call.
-abbrev pub IsCounted : {A I O : Type 0} → (left : I → Option (List ℕ)) → (unread : I → ℕ) → (ended : I → Bool) → (unwritten : O → ℕ) → Result A LogFault → (I × I) → (O × O) → Type 0
+-- A failure of the source or the target was counted exactly where the fault is one, and without a fault the log was all
+-- that the source held. A pair is a source or a target before and after the call.
+abbrev pub IsCounted : {A I O : Type 0} → (left : I → Option (List ℕ)) → (unread : I → ℕ) → (ended : I → Bool)
+    → (unwritten : O → ℕ) → Result A LogFault → (I × I) → (O × O) → Type 0
 IsCounted left unread ended unwritten answer input output =
     Counts unread input (read_fails (ending_of answer))
     × Counts unwritten output (write_fails (ending_of answer))
     × OnOk answer (IsAllRead left ended input.1)
 
--- A log was replayed on a session that stood after this history of this start, with this exit status; it is now at s. The
--- log is what this world says of the history.
-abbrev pub IsLogged : {I O : Type 0} → (Start → World (List Timed)) → Start → List Timed → (left : I → Option (List ℕ)) → (unread : I → ℕ) → (ended : I → Bool) → (taken : O → Option (List ℕ)) → (unwritten : O → ℕ)
+-- A log was replayed on a session that stood after this history of this start, with this exit status; it is now at s.
+-- The log is what this world says of the history.
+abbrev pub IsLogged : {I O : Type 0} → (Start → World (List Timed)) → Start → List Timed
+    → (left : I → Option (List ℕ)) → (unread : I → ℕ) → (ended : I → Bool) → (taken : O → Option (List ℕ))
+    → (unwritten : O → ℕ)
     → Status → SessionState → (I × I) → (O × O) → Type 0
 IsLogged world start h left unread ended taken unwritten status s input output =
     (answer : Result Meters LogFault) × (later : List Timed) × (status ≡ status_of answer) × StandsAfter s start later
@@ -50,28 +53,36 @@ IsLogged world start h left unread ended taken unwritten status s input output =
     × IsCounted left unread ended unwritten answer input output
 
 -- Replayed alone, and with what is needed.
-abbrev pub IsReplayed : {I O : Type 0} → Start → List Timed → (left : I → Option (List ℕ)) → (unread : I → ℕ) → (ended : I → Bool) → (taken : O → Option (List ℕ)) → (unwritten : O → ℕ)
+abbrev pub IsReplayed : {I O : Type 0} → Start → List Timed → (left : I → Option (List ℕ)) → (unread : I → ℕ)
+    → (ended : I → Bool) → (taken : O → Option (List ℕ)) → (unwritten : O → ℕ)
     → Status → SessionState → (I × I) → (O × O) → Type 0
-IsReplayed start h left unread ended taken unwritten status s input output = IsLogged history start h left unread ended taken unwritten status s input output
+IsReplayed start h left unread ended taken unwritten status s input output =
+    IsLogged history start h left unread ended taken unwritten status s input output
 
-abbrev pub IsLived : {I O : Type 0} → Start → List Timed → (left : I → Option (List ℕ)) → (unread : I → ℕ) → (ended : I → Bool) → (taken : O → Option (List ℕ)) → (unwritten : O → ℕ)
+abbrev pub IsLived : {I O : Type 0} → Start → List Timed → (left : I → Option (List ℕ)) → (unread : I → ℕ)
+    → (ended : I → Bool) → (taken : O → Option (List ℕ)) → (unwritten : O → ℕ)
     → Status → SessionState → (I × I) → (O × O) → Type 0
-IsLived start h left unread ended taken unwritten status s input output = IsLogged live_history start h left unread ended taken unwritten status s input output
+IsLived start h left unread ended taken unwritten status s input output =
+    IsLogged live_history start h left unread ended taken unwritten status s input output
 
 -- A log was made quiet, likewise.
-abbrev pub IsQuieted : {I O : Type 0} → Start → List Timed → (left : I → Option (List ℕ)) → (unread : I → ℕ) → (ended : I → Bool) → (taken : O → Option (List ℕ)) → (unwritten : O → ℕ)
+abbrev pub IsQuieted : {I O : Type 0} → Start → List Timed → (left : I → Option (List ℕ)) → (unread : I → ℕ)
+    → (ended : I → Bool) → (taken : O → Option (List ℕ)) → (unwritten : O → ℕ)
     → Status → SessionState → (I × I) → (O × O) → Type 0
 IsQuieted start h left unread ended taken unwritten status s input output =
-    (answer : Result (Unit {0}) LogFault) × (later : List Timed) × (status ≡ status_of answer) × StandsAfter s start later
+    (answer : Result (Unit {0}) LogFault) × (later : List Timed) × (status ≡ status_of answer)
+    × StandsAfter s start later
     × Moves (left input.0) (left input.1) (taken output.0) (taken output.1)
     (λ bytes text. Makes (quiet_history start) h later bytes text (ending_of answer))
     × IsCounted left unread ended unwritten answer input output
 
 -- A log was compared with what is sent, likewise.
-abbrev pub IsChecked : {I O : Type 0} → Start → List Timed → (left : I → Option (List ℕ)) → (unread : I → ℕ) → (ended : I → Bool) → (taken : O → Option (List ℕ)) → (unwritten : O → ℕ)
+abbrev pub IsChecked : {I O : Type 0} → Start → List Timed → (left : I → Option (List ℕ)) → (unread : I → ℕ)
+    → (ended : I → Bool) → (taken : O → Option (List ℕ)) → (unwritten : O → ℕ)
     → Status → SessionState → (I × I) → (O × O) → Type 0
 IsChecked start h left unread ended taken unwritten status s input output =
-    (answer : Result (Unit {0}) LogFault) × (later : Compared (List Timed)) × (status ≡ status_of answer) × StandsAfter s start later.session
+    (answer : Result (Unit {0}) LogFault) × (later : Compared (List Timed)) × (status ≡ status_of answer)
+    × StandsAfter s start later.session
     × Moves (left input.0) (left input.1) (taken output.0) (taken output.1)
     (λ bytes text. Makes (check_history start) (begun h) later bytes text (ending_of answer))
     × IsCounted left unread ended unwritten answer input output

@@ -11,17 +11,19 @@ use Rattle.session_log.specs.Words.{presence_word, refusal_word}
 abbrev pub IsHexOf : List ℕ → ℕ → List ℕ → Type 0
 IsHexOf digits n bytes = decode_sized digits n ≡ Ok bytes
 
--- a field after the moment: the packet's 64 bytes, the answer in a word, the id of a new key and its coordinates X and Y, of
--- 32 bytes each, a signature of 1 to 72 bytes, or that none is had
+-- a field after the moment: the packet's 64 bytes, the answer in a word, the id of a new key and its coordinates X and
+-- Y, of 32 bytes each, a signature of 1 to 72 bytes, or that none is had
 abbrev pub SpellsField : List ℕ → AnyInput → Type 0
 SpellsField field (Packet packet) = IsHexOf field 64 packet.0
 SpellsField field Tick = ⊥
 SpellsField field (Presence answer) = field ≡ presence_word answer
 SpellsField field (Key None) = field ≡ refusal_word
 SpellsField field (Key (Some key)) =
-    (id : List ℕ) × (x : List ℕ) × (y : List ℕ) × (field ≡ id ++ (codes " " ++ (x ++ (codes " " ++ y)))) × IsHexOf id 32 key.id × IsHexOf x 32 key.x × IsHexOf y 32 key.y
+    (id : List ℕ) × (x : List ℕ) × (y : List ℕ) × (field ≡ id ++ (codes " " ++ (x ++ (codes " " ++ y))))
+    × IsHexOf id 32 key.id × IsHexOf x 32 key.x × IsHexOf y 32 key.y
 SpellsField field (Signature None) = field ≡ refusal_word
-SpellsField field (Signature (Some bytes)) = IsHexOf field (length bytes) bytes × (1 ≤ length bytes) × (length bytes ≤ 72)
+SpellsField field (Signature (Some bytes)) = IsHexOf field (length bytes) bytes × (1 ≤ length bytes)
+    × (length bytes ≤ 72)
 
 -- the letter and the space in front of an input's moment
 abbrev pub front_of : AnyInput → List ℕ
@@ -34,7 +36,8 @@ front_of (Signature signature) = codes "s "
 -- `t M` is a tick at M, `> M P` a packet; `p M granted`, `k M ID X Y`, `s M S` and their like are the caller's replies
 abbrev pub SpellsInput : List ℕ → ℕ → AnyInput → Type 0
 SpellsInput line at Tick = line ≡ codes "t " ++ decimal at
-SpellsInput line at input = (field : List ℕ) × (line ≡ front_of input ++ (decimal at ++ (codes " " ++ field))) × SpellsField field input
+SpellsInput line at input = (field : List ℕ) × (line ≡ front_of input ++ (decimal at ++ (codes " " ++ field)))
+    × SpellsField field input
 
 -- `< P` is a packet that was sent, `=..` what was counted, `#..` and an empty line are comments
 abbrev pub Spells : List ℕ → Line → Type 0

@@ -1,5 +1,5 @@
--- The packets that stand in a log, and those that are sent for its inputs: first those before any input, and then for each
--- input its own.
+-- The packets that stand in a log, and those that are sent for its inputs: first those before any input, and then for
+-- each input its own.
 use Rattle.std.specs.Prelude.{◌≡◌, ◌≢◌, ℕ, ◌+◌, List, [], ◌∷◌, ◌++◌, length, Option, Some, None}
 use Rattle.token_session.specs.declared.input.Timed.{Timed}
 use Rattle.session_log.specs.declared.line.Line.{Line}
@@ -52,8 +52,9 @@ DifferFirst (p ∷ ps) [] = Unit {0}
 DifferFirst [] (q ∷ qs) = Unit {0}
 DifferFirst (p ∷ ps) (q ∷ qs) = p ≢ q
 
--- Groups of packets that were found and that are sent, and the number of the line that each belongs to: the groups before this
--- line's are equal, and of its own groups just this packet, counted from 1, is the first that differs, is missing or is too many.
+-- Groups of packets that were found and that are sent, and the number of the line that each belongs to: the groups
+-- before this line's are equal, and of its own groups just this packet, counted from 1, is the first that differs, is
+-- missing or is too many.
 pub record IsFirstDifference (found sent : Groups) (numbers : List ℕ) (line packet : ℕ) : Type 0 where
   pub before : Groups
   pub common : List (List ℕ)

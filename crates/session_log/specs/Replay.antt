@@ -84,17 +84,21 @@ abbrev pub Logs : {S : Type 0} → World S → S → S → List ℕ → List ℕ
 Logs world s t bytes text r = Makes world s t bytes text (ending_of r) × IfOk r (λ m. m ≡ world.counts t)
 
 -- what the playing of one line means: its text was written; or it is faulty, and nothing was; or its text broke off
-abbrev pub PlaysLine : {S F : Type 0} → World S → (F → Option (List ℕ)) → (F → ℕ) → ℕ → S → S → List ℕ → (F × F) → Ending → Type 0
+abbrev pub PlaysLine : {S F : Type 0} → World S → (F → Option (List ℕ)) → (F → ℕ) → ℕ → S → S → List ℕ → (F × F)
+    → Ending → Type 0
 PlaysLine world taken failed n s t line target Done =
-    (fault_by world n s (said line) ≡ None) × (t ≡ after world s line) × SendsPackets world s (said line) × IsTaken taken failed target (text_of world s line)
+    (fault_by world n s (said line) ≡ None) × (t ≡ after world s line) × SendsPackets world s (said line)
+    × IsTaken taken failed target (text_of world s line)
 PlaysLine world taken failed n s t line target (Refused fault) =
-    (fault_by world n s (said line) ≡ Some fault) × (t ≡ s) × Keeps (taken target.0) (taken target.1) × (failed target.1 ≡ failed target.0)
+    (fault_by world n s (said line) ≡ Some fault) × (t ≡ s) × Keeps (taken target.0) (taken target.1)
+    × (failed target.1 ≡ failed target.0)
 PlaysLine world taken failed n s t line target (Unread m) = ⊥
 PlaysLine world taken failed n s t line target Unwritten =
-    (fault_by world n s (said line) ≡ None) × (t ≡ after world s line) × IsBroken taken failed target (text_of world s line)
+    (fault_by world n s (said line) ≡ None) × (t ≡ after world s line)
+    × IsBroken taken failed target (text_of world s line)
 
--- what the end of the lines means: the text after them was written; or something is wrong there, and nothing was; or the text
--- broke off
+-- what the end of the lines means: the text after them was written; or something is wrong there, and nothing was; or
+-- the text broke off
 abbrev pub Closes : {S F : Type 0} → World S → (F → Option (List ℕ)) → (F → ℕ) → S → (F × F) → Ending → Type 0
 Closes world taken failed s target Done = (world.lacks s ≡ None) × IsTaken taken failed target (world.ending s)
 Closes world taken failed s target (Refused fault) =
@@ -122,17 +126,20 @@ pub record IsNear {S : Type 0} (world : World S) (s : S) (bytes : List ℕ) (n :
   pub count : n ≡ length (whole_lines before) + 1
   pub near : length front ≤ 256
 
--- how far was read to find a fault: a bad line is one of the whole lines of what was read, or this was all that there was; of
--- a line that is too long just 256 bytes were read; and a difference is found at a line, or at the end of all
+-- how far was read to find a fault: a bad line is one of the whole lines of what was read, or this was all that there
+-- was; of a line that is too long just 256 bytes were read; and a difference is found at a line, or at the end of all
 abbrev pub Reaches : {S : Type 0} → World S → S → List ℕ → Type 0 → LogFault → Type 0
 Reaches world s bytes all (BadLine n) = IsNear world s bytes n × ((n ≤ length (whole_lines bytes)) ⊎ all)
-Reaches world s bytes all (TooLong n) = IsNear world s bytes n × (n ≡ length (whole_lines bytes) + 1) × (length (last_piece bytes) ≡ 256)
-Reaches world s bytes all (Differs line packet) = ((n : ℕ) × IsNear world s bytes n × (n ≤ length (whole_lines bytes))) ⊎ all
+Reaches world s bytes all (TooLong n) = IsNear world s bytes n × (n ≡ length (whole_lines bytes) + 1)
+    × (length (last_piece bytes) ≡ 256)
+Reaches world s bytes all (Differs line packet) = ((n : ℕ) × IsNear world s bytes n
+    × (n ≤ length (whole_lines bytes))) ⊎ all
 Reaches world s bytes all TooManyLines = IsNear world s bytes (2 ^ 32)
 Reaches world s bytes all (Read n) = ⊥
 Reaches world s bytes all Write = ⊥
 Reaches world s bytes all (Memory n) = ⊥
 
 abbrev pub ReadsTo : {S : Type 0} → World S → S → Option (List ℕ) → Option (List ℕ) → Type 0 → Ending → Type 0
-ReadsTo world s left left' all (Refused fault) = (bytes : List ℕ) × Consumes left left' bytes × Reaches world s bytes all fault
+ReadsTo world s left left' all (Refused fault) = (bytes : List ℕ) × Consumes left left' bytes
+    × Reaches world s bytes all fault
 ReadsTo world s left left' all _ = Unit {0}

@@ -11,6 +11,8 @@ use Rattle.token_session.specs.declared.input.Input.{Input as AnyInput}
 use Rattle.token_session.specs.declared.input.Input.TheVariants.{Packet, Tick, Presence, Key, Signature}
 use Rattle.session_log.specs.declared.line.Line.{Line}
 use Rattle.session_log.specs.declared.line.Line.TheVariants.{Input, Sent, Comment, Count}
+use Rattle.session_log.specs.declared.line.LineKind.{LineKind}
+use Rattle.session_log.specs.declared.line.LineKind.TheVariants as kind
 use Rattle.session_log.specs.Letters.{host_letter, key_letter, tick_letter, presence_letter, new_key_letter, signature_letter, comment_letter, count_letter, space}
 use Rattle.session_log.specs.Words.{refusal_word}
 
@@ -62,7 +64,8 @@ key_of field = do
 
 -- `ID X Y`, `no`
 abbrev pub key_said : List ℕ → Option AnyInput
-key_said field = if is_word refusal_word field then Some (Key None) else (key_of field >>= (λ key. Some (Key (Some key))))
+key_said field = if is_word refusal_word field then Some (Key None)
+    else (key_of field >>= (λ key. Some (Key (Some key))))
 
 -- 1 to 72 bytes
 abbrev pub signature_of : List ℕ → Option (List ℕ)
@@ -72,7 +75,8 @@ signature_of digits =
 
 -- `S`, `no`
 abbrev pub signature_said : List ℕ → Option AnyInput
-signature_said field = if is_word refusal_word field then Some (Signature None) else (signature_of field >>= (λ bytes. Some (Signature (Some bytes))))
+signature_said field = if is_word refusal_word field then Some (Signature None)
+    else (signature_of field >>= (λ bytes. Some (Signature (Some bytes))))
 
 -- an input but for a tick, by the letter at the line's front
 abbrev pub input_by : ℕ → List ℕ → Option AnyInput
@@ -103,12 +107,13 @@ sent_line fields = do
   packet ← bytes_of 64 fields
   Some (Sent (record { 0 = packet }))
 
+-- an input and its moment, by the letter at the line's front
+abbrev pub timed_line : ℕ → List ℕ → Option Line
+timed_line letter fields = if letter == tick_letter then tick_line fields else input_line letter fields
+
 -- by the letter at the line's front
 abbrev pub said_by : ℕ → List ℕ → Option Line
-said_by letter fields =
-    if letter == key_letter then sent_line fields
-    else if letter == tick_letter then tick_line fields
-    else input_line letter fields
+said_by letter fields = if letter == key_letter then sent_line fields else timed_line letter fields
 
 -- what the line says, if it is a log line
 abbrev pub said : List ℕ → Option Line
@@ -119,3 +124,10 @@ said (first ∷ second ∷ fields) =
     else if first == count_letter then Some Count
     else if second == space then said_by first fields
     else None
+
+-- what a line of this kind says, by the fields that are still to be read
+abbrev pub says : LineKind → Option Line
+says (kind.Input letter fields) = timed_line letter fields.now
+says (kind.Sent field) = sent_line field.now
+says kind.Comment = Some Comment
+says kind.Count = Some Count

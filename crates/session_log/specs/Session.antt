@@ -18,7 +18,11 @@ sessions = record { turned = λ s x. stepped s x; sends = λ s x. sent_by s x; c
 
 -- the inputs so far, the newest first, and what the history that they are sends and counts
 abbrev pub histories : Start → Course (List Timed)
-histories start = record { turned = λ h x. x ∷ h; sends = λ h x. sent_now start h x; counts = λ h. meters_of start (judged start h) }
+histories start = record {
+  turned = λ h x. x ∷ h;
+  sends = λ h x. sent_now start h x;
+  counts = λ h. meters_of start (judged start h);
+}
 
 -- a log replayed on them
 abbrev pub machine : World SessionState
@@ -32,7 +36,8 @@ abbrev pub quiet_machine : World SessionState
 quiet_machine = quieting sessions (λ s x. is_noise_at s.machine x)
 
 abbrev pub quiet_history : Start → World (List Timed)
-quiet_history start = quieting (histories start) (λ h x. is_noise_after start (judge start x (judged start h)) (judged start h))
+quiet_history start = quieting (histories start) (λ h x. is_noise_after start (judge start x (judged start h))
+    (judged start h))
 
 -- what they need
 abbrev pub session_needs : SessionState → Needed
@@ -50,7 +55,8 @@ live_history start = living (histories start) (history_needs start)
 
 -- what was written is its own log in this world, from s on, unless it has too many lines
 abbrev pub RepeatsIn : World SessionState → Option (List ℕ) → Option (List ℕ) → SessionState → Type 0
-RepeatsIn world taken taken' s = (text : List ℕ) × Appends taken taken' text × (length (lines text) < 2 ^ 32 → log world s text ≡ text)
+RepeatsIn world taken taken' s = (text : List ℕ) × Appends taken taken' text
+    × (length (lines text) < 2 ^ 32 → log world s text ≡ text)
 
 -- replayed
 abbrev pub Repeats : Option (List ℕ) → Option (List ℕ) → SessionState → Type 0

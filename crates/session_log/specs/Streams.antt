@@ -19,23 +19,29 @@ Counts failed stream fails = failed stream.1 ≡ (if fails then failed stream.0 
 
 -- the target took the front of the text, and not all of it
 abbrev pub BreaksOff : Option (List ℕ) → Option (List ℕ) → List ℕ → Type 0
-BreaksOff old new text = (front : List ℕ) × (rest : List ℕ) × (text ≡ front ++ rest) × (0 < length rest) × Appends old new front
+BreaksOff old new text = (front : List ℕ) × (rest : List ℕ) × (text ≡ front ++ rest) × (0 < length rest)
+    × Appends old new front
 
 -- a target took a text whole; or a call of it failed, and it took the front alone
 abbrev pub IsTaken : {F : Type 0} → (F → Option (List ℕ)) → (F → ℕ) → (F × F) → List ℕ → Type 0
 IsTaken taken failed target text = Appends (taken target.0) (taken target.1) text × (failed target.1 ≡ failed target.0)
 
 abbrev pub IsBroken : {F : Type 0} → (F → Option (List ℕ)) → (F → ℕ) → (F × F) → List ℕ → Type 0
-IsBroken taken failed target text = BreaksOff (taken target.0) (taken target.1) text × (failed target.1 ≡ failed target.0 + 1)
+IsBroken taken failed target text = BreaksOff (taken target.0) (taken target.1) text
+    × (failed target.1 ≡ failed target.0 + 1)
 
 -- a write of a text: it was taken whole at Ok, and broke off at an error
 abbrev pub Puts : {F A E : Type 0} → (F → Option (List ℕ)) → (F → ℕ) → (F × F) → List ℕ → Result A E → Type 0
-Puts taken failed target text r = MatchResult r (λ x. IsTaken taken failed target text) (λ e. IsBroken taken failed target text)
+Puts taken failed target text r = MatchResult r (λ x. IsTaken taken failed target text)
+    (λ e. IsBroken taken failed target text)
 
 -- the same, and the error is `Write`
 abbrev pub PutsLine : {F A : Type 0} → (F → Option (List ℕ)) → (F → ℕ) → (F × F) → List ℕ → Result A LogFault → Type 0
-PutsLine taken failed target text r = MatchResult r (λ x. IsTaken taken failed target text) (λ e. (e ≡ Write) × IsBroken taken failed target text)
+PutsLine taken failed target text r = MatchResult r (λ x. IsTaken taken failed target text)
+    (λ e. (e ≡ Write) × IsBroken taken failed target text)
 
 -- the bytes that were read and the text that was written, and P of both
-abbrev pub Moves : Option (List ℕ) → Option (List ℕ) → Option (List ℕ) → Option (List ℕ) → (List ℕ → List ℕ → Type 0) → Type 0
-Moves left left' taken taken' P = (bytes : List ℕ) × (text : List ℕ) × Consumes left left' bytes × Appends taken taken' text × P bytes text
+abbrev pub Moves : Option (List ℕ) → Option (List ℕ) → Option (List ℕ) → Option (List ℕ) → (List ℕ → List ℕ → Type 0)
+    → Type 0
+Moves left left' taken taken' P = (bytes : List ℕ) × (text : List ℕ) × Consumes left left' bytes
+    × Appends taken taken' text × P bytes text

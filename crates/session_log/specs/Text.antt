@@ -27,7 +27,8 @@ sent_text packet = codes "< " ++ encode_lower packet ++ 10 ∷ []
 abbrev pub meters_line : Meters → List ℕ
 meters_line m =
     codes "= held " ++ decimal m.held ++ codes " rows " ++ decimal m.rows ++ codes " pending " ++ decimal m.pending
-    ++ codes " requests " ++ decimal m.requests ++ codes " bytes " ++ decimal m.bytes ++ codes " steps " ++ decimal m.steps ++ codes "\n"
+    ++ codes " requests " ++ decimal m.requests ++ codes " bytes " ++ decimal m.bytes ++ codes " steps "
+    ++ decimal m.steps ++ codes "\n"
 
 -- the line of what was the same
 abbrev pub same_line : (inputs packets : ℕ) → List ℕ

@@ -16,9 +16,9 @@ pub record Course (S : Type 0) : Type 0 where
   pub sends : S → Timed → List (List ℕ)
   pub counts : S → Meters
 
--- of what a line says: the fault that it has on a state, if any, where it leads, what is known of the packets that are sent
--- for it, and the text that is written for it; what is wrong after the last line, if anything, and else the text that is
--- written there; and what is counted
+-- of what a line says: the fault that it has on a state, if any, where it leads, what is known of the packets that are
+-- sent for it, and the text that is written for it; what is wrong after the last line, if anything, and else the text
+-- that is written there; and what is counted
 pub record World (S : Type 0) : Type 1 where
   pub stops : S → Line → Option LogFault
   pub moves : S → Line → S
@@ -28,8 +28,8 @@ pub record World (S : Type 0) : Type 1 where
   pub ending : S → List ℕ
   pub counts : S → Meters
 
--- Replayed, each input line and each comment comes again, after an input line the packets that are sent for it, and at the
--- end the meters. No line is faulty but for its text.
+-- Replayed, each input line and each comment comes again, after an input line the packets that are sent for it, and at
+-- the end the meters. No line is faulty but for its text.
 
 abbrev pub moves_input : {S : Type 0} → Course S → S → Line → S
 moves_input course s (Input timed) = course.turned s timed
@@ -79,8 +79,8 @@ quieting course noises = record {
   counts = course.counts;
 }
 
--- Replayed with what is needed: after the packets of an input line stand the lines of what is needed then. Those that an
--- earlier run wrote are dropped.
+-- Replayed with what is needed: after the packets of an input line stand the lines of what is needed then. Those that
+-- an earlier run wrote are dropped.
 
 abbrev pub sends_needs : {S : Type 0} → Course S → (S → Needed) → S → Line → Type 0
 sends_needs course needs s (Input timed) = ArePackets (course.sends s timed) × IsNeed (needs (course.turned s timed))
@@ -90,7 +90,8 @@ sends_needs course needs s Count = Unit {0}
 
 abbrev pub writes_needs : {S : Type 0} → Course S → (S → Needed) → S → List ℕ → Line → List ℕ
 writes_needs course needs s line (Input timed) =
-    ended line ++ flat_map sent_text (course.sends s timed) ++ flat_map ended (need_lines (needs (course.turned s timed)))
+    ended line ++ flat_map sent_text (course.sends s timed)
+    ++ flat_map ended (need_lines (needs (course.turned s timed)))
 writes_needs course needs s line (Sent packet) = []
 writes_needs course needs s line Comment = if is_need_line line then [] else ended line
 writes_needs course needs s line Count = []

@@ -9,7 +9,7 @@ ghost use Rattle.authn_core.specs.Turn.{Start};
 ghost use Rattle.token_session.specs.Meters.{SessionState, StandsAfter};
 
 use crate::fault::LogFault;
-use crate::line::{Line, read_line};
+use crate::line::{LineKind, kind_of, read_packet, read_timed};
 use crate::playing::{Player, play_all};
 use crate::source::Source;
 use crate::target::Target;
@@ -132,24 +132,31 @@ impl<const C: usize> Player<C> for Checking {
     fn play<T: Target>(
         &mut self,
         line: &[u8],
+        _text: &[u8],
         number: u64,
         _writer: &mut T,
         session: &mut Session<C>,
     ) -> Result<(), LogFault> {
-        match read_line(line) {
+        match kind_of(line) {
             None => Err(LogFault::BadLine(number)),
-            Some(Line::Comment | Line::Count) => {
+            Some(LineKind::Comment | LineKind::Count) => {
                 self.lines = number;
                 Ok(())
             }
-            Some(Line::Sent(packet)) => {
+            Some(LineKind::Sent(field)) => {
+                let Some(packet) = read_packet(field) else {
+                    return Err(LogFault::BadLine(number));
+                };
                 if self.awaited != Some(packet) {
                     return Err(self.difference());
                 }
                 self.take_next(number);
                 Ok(())
             }
-            Some(Line::Input(timed)) => {
+            Some(LineKind::Input(letter, fields)) => {
+                let Some(timed) = read_timed(letter, fields) else {
+                    return Err(LogFault::BadLine(number));
+                };
                 if self.awaited.is_some() {
                     return Err(self.difference());
                 }

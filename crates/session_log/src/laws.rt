@@ -71,8 +71,8 @@ pub fn a_difference_is_the_first()
         ([] ∷ sent_groups (histories start) h (inputs (lines bytes))) (0 ∷ input_lines 1 (lines bytes)) line packet }
 {}
 
-/// Of the lines that tell what is needed just the last begins with `# need `. The bytes to sign are cut into pieces of at
-/// most 96, which joined are those bytes.
+/// Of the lines that tell what is needed just the last begins with `# need `. The bytes to sign are cut into pieces of
+/// at most 96, which joined are those bytes.
 pub fn what_is_needed_is_said_once()
     ensures last { (n : Needed) → (before : List (List ℕ)) × (last : List ℕ) × (need_lines n ≡ before ++ last ∷ [])
         × (says_need last ≡ true) × All (λ line. says_need line ≡ false) before }

@@ -2,7 +2,7 @@
 ghost use Rattle.std.specs.Prelude.{◌≡◌, ◌<◌, ◌≤◌, ◌-◌, ◌/◌, ◌^◌, ◌↔◌, ◌==◌, length, position, slice_index, Option, None, Some, IfSome, IsTrue, MatchOption, SomeIff};
 ghost use Rattle.std.specs.Str.Parse.{AllDigits, digits_value};
 ghost use Rattle.session_log.specs.Letters.{space};
-ghost use Rattle.session_log.specs.Said.{bytes_of, first_field, input_by, input_line, key_of, key_said, moment, presence_said, said, sent_line, signature_of, signature_said, tick_line};
+ghost use Rattle.session_log.specs.Said.{bytes_of, first_field, input_by, input_line, key_of, key_said, moment, presence_said, said, says, sent_line, signature_of, signature_said, tick_line, timed_line};
 
 use authn_core::{NewKey, Presence, Signature};
 use hid_packet::Packet;
@@ -21,9 +21,23 @@ pub enum Line {
     Count,
 }
 
+/// A line by its front. The fields of an input, and of a packet that was sent, are still to be read.
+#[derive(Clone, Copy)]
+pub enum LineKind<'a> {
+    /// An input for the session: the letter in front, and the fields after it.
+    Input(u8, &'a [u8]),
+    /// A packet that an earlier run sent: its field.
+    Sent(&'a [u8]),
+    /// `#..` or an empty line.
+    Comment,
+    /// `=..`: what an earlier run counted.
+    Count,
+}
+
 /// The number below 2^64 that decimal digits write, however many zeros stand in front.
 fn read_digits(digits: &[u8]) -> Option<u64>
-    ensures { SomeIff result (AllDigits 10 digits.now × (digits_value 10 digits.now ≤ 2 ^ 64 - 1)) (digits_value 10 digits.now) }
+    ensures { SomeIff result (AllDigits 10 digits.now × (digits_value 10 digits.now ≤ 2 ^ 64 - 1))
+        (digits_value 10 digits.now) }
 {
     let mut number = 0_u64;
     for byte in digits {
@@ -164,50 +178,72 @@ fn read_input(letter: u8, field: &[u8]) -> Option<Input>
     }
 }
 
-// The next one and `read_timed` aren't inlined, so that a line of another kind doesn't pay for their room.
+// Not inlined, so that a tick and a comment don't pay for the room of the other inputs.
 
 /// The packet that the field of a `<` line says.
 #[inline(never)]
-fn read_sent(field: &[u8]) -> Option<Line>
-    ensures { result ≡ sent_line field.now }
+pub fn read_packet(field: &[u8]) -> Option<Packet>
+    ensures { MatchOption result (sent_line field.now ≡ None)
+        (λ packet. sent_line field.now ≡ Some (Line.Sent packet)) }
 {
-    Some(Line::Sent(Packet(read_bytes(field)?)))
+    Some(Packet(read_bytes(field)?))
 }
 
 /// The moment that the field of a `t` line says.
-fn read_tick(field: &[u8]) -> Option<Line>
-    ensures { result ≡ tick_line field.now }
+fn read_tick(field: &[u8]) -> Option<Timed>
+    ensures { MatchOption result (tick_line field.now ≡ None) (λ timed. tick_line field.now ≡ Some (Line.Input timed)) }
 {
     let at = read_moment(field)?;
-    Some(Line::Input(Timed {
+    Some(Timed {
         at,
         input: Input::Tick,
-    }))
+    })
 }
 
-/// The input and its moment that the fields of a line with this letter say.
+/// The input and its moment that the fields of a line with another letter say.
 #[inline(never)]
-fn read_timed(letter: u8, fields: &[u8]) -> Option<Line>
-    ensures { result ≡ input_line letter fields.now }
+fn read_other(letter: u8, fields: &[u8]) -> Option<Timed>
+    ensures { MatchOption result (input_line letter fields.now ≡ None)
+        (λ timed. input_line letter fields.now ≡ Some (Line.Input timed)) }
 {
     let (moment, field) = split_field(fields)?;
     let at = read_moment(moment)?;
     let input = read_input(letter, field)?;
-    Some(Line::Input(Timed { at, input }))
+    Some(Timed { at, input })
+}
+
+/// The input and its moment that the fields of a line with this letter say.
+pub fn read_timed(letter: u8, fields: &[u8]) -> Option<Timed>
+    ensures { MatchOption result (timed_line letter fields.now ≡ None)
+        (λ timed. timed_line letter fields.now ≡ Some (Line.Input timed)) }
+{
+    match letter {
+        b't' => read_tick(fields),
+        _ => read_other(letter, fields),
+    }
+}
+
+/// What kind of line it is, if it begins as a log line does. The line comes without its line feed.
+pub fn kind_of(line: &[u8]) -> Option<LineKind<'_>>
+    ensures { MatchOption result (said line.now ≡ None) (λ kind. said line.now ≡ says kind) }
+{
+    match line {
+        [] | [b'#', ..] => Some(LineKind::Comment),
+        [b'=', ..] => Some(LineKind::Count),
+        [b'<', b' ', field @ ..] => Some(LineKind::Sent(field)),
+        [letter, b' ', fields @ ..] => Some(LineKind::Input(*letter, fields)),
+        _ => None,
+    }
 }
 
 /// What the line says, if it is a log line. The line comes without its line feed.
-// Inlined, so that what it returns isn't copied once more for each line.
-#[inline(always)]
 pub fn read_line(line: &[u8]) -> Option<Line>
     ensures { result ≡ said line.now }
 {
-    match line {
-        [] | [b'#', ..] => Some(Line::Comment),
-        [b'=', ..] => Some(Line::Count),
-        [b'<', b' ', field @ ..] => read_sent(field),
-        [b't', b' ', field @ ..] => read_tick(field),
-        [letter, b' ', fields @ ..] => read_timed(*letter, fields),
-        _ => None,
+    match kind_of(line)? {
+        LineKind::Input(letter, fields) => Some(Line::Input(read_timed(letter, fields)?)),
+        LineKind::Sent(field) => Some(Line::Sent(read_packet(field)?)),
+        LineKind::Comment => Some(Line::Comment),
+        LineKind::Count => Some(Line::Count),
     }
 }

@@ -10,11 +10,11 @@ ghost use Rattle.token_session.specs.Meters.{SessionState, StandsAfter};
 ghost use Rattle.session_log.specs.Streams.{Counts, IsAllRead, Moves};
 
 use crate::fault::LogFault;
-use crate::line::{Line, read_line};
+use crate::line::{LineKind, kind_of, read_packet, read_timed};
 use crate::playing::{Player, play_all};
 use crate::source::Source;
 use crate::target::Target;
-use crate::text::{Text, put_line, put_meters, put_served};
+use crate::text::{Text, put_meters, put_served, put_text};
 use hid_packet::Outbox;
 use token_session::{Meters, Session};
 
@@ -56,27 +56,32 @@ impl<const C: usize> Player<C> for Living {
     fn play<T: Target>(
         &mut self,
         line: &[u8],
+        text: &[u8],
         number: u64,
         writer: &mut T,
         session: &mut Session<C>,
     ) -> Result<(), LogFault> {
-        match read_line(line) {
-            None => Err(LogFault::BadLine(number)),
-            Some(Line::Sent(_) | Line::Count) => Ok(()),
-            Some(Line::Comment) => {
+        match kind_of(line) {
+            Some(LineKind::Count) => Ok(()),
+            Some(LineKind::Sent(field)) if read_packet(field).is_some() => Ok(()),
+            None | Some(LineKind::Sent(_)) => Err(LogFault::BadLine(number)),
+            Some(LineKind::Comment) => {
                 if is_need_line(line) {
                     Ok(())
                 } else {
-                    put_line(writer, &mut self.text, line)
+                    put_text(writer, text)
                 }
             }
-            Some(Line::Input(timed)) => {
+            Some(LineKind::Input(letter, fields)) => {
+                let Some(timed) = read_timed(letter, fields) else {
+                    return Err(LogFault::BadLine(number));
+                };
                 session.step(timed.at, timed.input, &mut self.outbox);
                 // What is needed is asked of the session as the input leaves it.
                 put_served(
                     writer,
                     &mut self.text,
-                    line,
+                    text,
                     &mut self.outbox,
                     session.need(),
                 )
@@ -87,9 +92,9 @@ impl<const C: usize> Player<C> for Living {
 
 /// Replays a log on a session as [`crate::replay`] does, and tells after the packets of each input line what the
 /// session needs ([`Session::need`]; docs/LOG_FORMAT.md): comments of which just one, the last, begins with
-/// `# need `. Comments that begin with `# need ` or `# signed ` are dropped, so what was written is its own log, of this
-/// and of a replay. The text for a line is handed to the target whole, before more is asked of the source than the line
-/// that it is for. It allocates nothing.
+/// `# need `. Comments that begin with `# need ` or `# signed ` are dropped, so what was written is its own log, of
+/// this and of a replay. The text for a line is handed to the target whole, before more is asked of the source than the
+/// line that it is for. It allocates nothing.
 ///
 /// It fails where [`crate::replay`] does, and leaves what that leaves.
 pub fn live<S: Source, T: Target, const C: usize>(
@@ -99,8 +104,8 @@ pub fn live<S: Source, T: Target, const C: usize>(
 ) -> Result<Meters, LogFault>
     requires read { S.failed reader.old < 2 ^ 64 - 1 }
     requires write { T.failed writer.old < 2 ^ 64 - 1 }
-    // At Ok no line is faulty, and the whole log was written with what was needed. What a fault means is what it means of
-    // a replay, but of the text with what was needed.
+    // At Ok no line is faulty, and the whole log was written with what was needed. What a fault means is what it means
+    // of a replay, but of the text with what was needed.
     ensures lived { Moves (S.left reader.old) (S.left reader.new) (T.taken writer.old) (T.taken writer.new)
         (λ bytes text. Logs live_machine session.old session.new bytes text result) }
     // At Ok it was all that the reader held.

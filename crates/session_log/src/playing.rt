@@ -16,6 +16,7 @@ pub trait Player<const C: usize> {
     ghost use Rattle.std.specs.Prelude.{◌≡◌, ◌<◌, ◌+◌, ◌-◌, ◌^◌, ℕ, length, OnOk, IfErr};
     ghost use Rattle.session_log.specs.Ending.{ending_of};
     ghost use Rattle.session_log.specs.Replay.{IsOfLine, PlaysLine};
+    ghost use Rattle.session_log.specs.Text.{ended};
     ghost use Rattle.session_log.specs.World.{World};
     ghost use Rattle.token_session.specs.Meters.{SessionState};
 
@@ -31,16 +32,19 @@ pub trait Player<const C: usize> {
     /// Whether it is ready for line n.
     ghost IsReady: { Self → ℕ → Type 0 };
 
-    /// Plays a line, which is line `number` of its log. A line that is faulty leaves the session as it is.
+    /// Plays a line, which is line `number` of its log; `text` is the line with its line feed. A line that is
+    /// faulty leaves the session as it is.
     fn play<T: Target>(
         &mut self,
         line: &[u8],
+        text: &[u8],
         number: u64,
         writer: &mut T,
         session: &mut Session<C>,
     ) -> Result<(), LogFault>
         requires write { T.failed writer.old < 2 ^ 64 - 1 }
         requires short { length line.now < 256 }
+        requires ended { text.now ≡ ended line.now }
         requires few { number < 2 ^ 32 }
         requires ready { IsReady self.old number }
         ensures played { PlaysLine world T.taken T.failed number (state self.old session.old)
@@ -73,13 +77,16 @@ pub fn play_all<P: Player<C>, S: Source, T: Target, const C: usize>(
     let mut window = Window::new();
     let mut number = 1;
     'lines: while let Some(end) = next_line(&mut window, reader, number)? {
-        let line = window.as_slice().split_at(end).0;
-        player.play(line, number, writer, session)?;
+        let text = window.as_slice().split_at(end + 1).0;
+        player.play(text.split_at(end).0, text, number, writer, session)?;
         window.drop_front(end + 1);
         number += 1;
     }
     if window.is_empty() {
         return Ok(());
     }
-    player.play(window.as_slice(), number, writer, session)
+    let end = window.len();
+    window.end_line();
+    let text = window.as_slice();
+    player.play(text.split_at(end).0, text, number, writer, session)
 }

@@ -9,11 +9,11 @@ ghost use Rattle.token_session.specs.Meters.{SessionState, StandsAfter};
 ghost use Rattle.session_log.specs.Streams.{Counts, IsAllRead, Moves};
 
 use crate::fault::LogFault;
-use crate::line::{Line, read_line};
+use crate::line::{LineKind, kind_of, read_packet, read_timed};
 use crate::playing::{Player, play_all};
 use crate::source::Source;
 use crate::target::Target;
-use crate::text::{Text, put_line, put_tick};
+use crate::text::{Text, put_text, put_tick};
 use hid_packet::Outbox;
 use token_session::Session;
 
@@ -54,15 +54,20 @@ impl<const C: usize> Player<C> for Quieting {
     fn play<T: Target>(
         &mut self,
         line: &[u8],
+        text: &[u8],
         number: u64,
         writer: &mut T,
         session: &mut Session<C>,
     ) -> Result<(), LogFault> {
-        match read_line(line) {
-            None => Err(LogFault::BadLine(number)),
-            Some(Line::Sent(_) | Line::Count) => Ok(()),
-            Some(Line::Comment) => put_line(writer, &mut self.text, line),
-            Some(Line::Input(timed)) => {
+        match kind_of(line) {
+            Some(LineKind::Count) => Ok(()),
+            Some(LineKind::Sent(field)) if read_packet(field).is_some() => Ok(()),
+            None | Some(LineKind::Sent(_)) => Err(LogFault::BadLine(number)),
+            Some(LineKind::Comment) => put_text(writer, text),
+            Some(LineKind::Input(letter, fields)) => {
+                let Some(timed) = read_timed(letter, fields) else {
+                    return Err(LogFault::BadLine(number));
+                };
                 // Whether it is noise is asked of the session as the input finds it.
                 let noise = session.noise(timed.at, &timed.input);
                 session.step(timed.at, timed.input, &mut self.outbox);
@@ -70,7 +75,7 @@ impl<const C: usize> Player<C> for Quieting {
                 if noise {
                     put_tick(writer, &mut self.text, timed.at)
                 } else {
-                    put_line(writer, &mut self.text, line)
+                    put_text(writer, text)
                 }
             }
         }

@@ -55,8 +55,6 @@ fn push_packet(text: &mut Text, packet: Packet)
 }
 
 /// Appends the lines of the packets that were sent, and empties the outbox.
-// Most lines send nothing, so that is asked first and in place.
-#[inline(always)]
 fn push_packets(text: &mut Text, outbox: &mut Outbox)
     requires { length text.old.items + SENT_LINE * length outbox.old ≤ LONGEST }
     ensures text { text.new.items ≡ text.old.items ++ flat_map sent_text outbox.old }
@@ -64,9 +62,6 @@ fn push_packets(text: &mut Text, outbox: &mut Outbox)
     ensures empty { outbox.new ≡ [] }
     ensures packets { ArePackets outbox.old }
 {
-    if outbox.is_empty() {
-        return;
-    }
     while let Some(packet) = outbox.pop() {
         push_packet(text, packet);
     }
@@ -166,23 +161,12 @@ fn gather_meters(text: &mut Text, meters: Meters)
     text.push(b'\n');
 }
 
-/// Writes what was gathered.
-fn put_text<T: Target>(writer: &mut T, text: &[u8]) -> Result<(), LogFault>
+/// Writes a text.
+pub fn put_text<T: Target>(writer: &mut T, text: &[u8]) -> Result<(), LogFault>
     requires { T.failed writer.old < 2 ^ 64 - 1 }
     ensures { PutsLine T.taken T.failed (writer.old, writer.new) text.now result }
 {
     put_all(writer, text).map_err(|_| LogFault::Write)
-}
-
-/// Writes a line with its line feed.
-pub fn put_line<T: Target>(writer: &mut T, text: &mut Text, line: &[u8]) -> Result<(), LogFault>
-    requires write { T.failed writer.old < 2 ^ 64 - 1 }
-    requires short { length line.now < 256 }
-    ensures { PutsLine T.taken T.failed (writer.old, writer.new) (ended line.now) result }
-{
-    text.clear();
-    push_line(text, line);
-    put_text(writer, text.as_slice())
 }
 
 /// Writes the line of a tick.
@@ -196,7 +180,7 @@ pub fn put_tick<T: Target>(writer: &mut T, text: &mut Text, at: u64) -> Result<(
     put_text(writer, text.as_slice())
 }
 
-/// Writes an input line and the packets that were sent for it, and empties the outbox.
+/// Writes an input line, which ends with its line feed, and the packets that were sent for it, and empties the outbox.
 pub fn put_input<T: Target>(
     writer: &mut T,
     text: &mut Text,
@@ -204,20 +188,25 @@ pub fn put_input<T: Target>(
     outbox: &mut Outbox,
 ) -> Result<(), LogFault>
     requires write { T.failed writer.old < 2 ^ 64 - 1 }
-    requires short { length line.now < 256 }
+    requires short { length line.now ≤ 256 }
     requires few { length outbox.old ≤ 130 }
     ensures puts { PutsLine T.taken T.failed (writer.old, writer.new)
-        (ended line.now ++ flat_map sent_text outbox.old) result }
+        (line.now ++ flat_map sent_text outbox.old) result }
     ensures empty { outbox.new ≡ [] }
     ensures packets { ArePackets outbox.old }
 {
+    // Most lines send nothing, and need not be gathered.
+    if outbox.is_empty() {
+        return put_text(writer, line);
+    }
     text.clear();
-    push_line(text, line);
+    let _ = text.try_extend_from_slice(line);
     push_packets(text, outbox);
     put_text(writer, text.as_slice())
 }
 
-/// Writes an input line, the packets that were sent for it, which it takes from the outbox, and what is needed then.
+/// Writes an input line, which ends with its line feed, the packets that were sent for it, which it takes from the
+/// outbox, and what is needed then.
 pub fn put_served<T: Target>(
     writer: &mut T,
     text: &mut Text,
@@ -226,16 +215,16 @@ pub fn put_served<T: Target>(
     need: Need<'_>,
 ) -> Result<(), LogFault>
     requires write { T.failed writer.old < 2 ^ 64 - 1 }
-    requires short { length line.now < 256 }
+    requires short { length line.now ≤ 256 }
     requires few { length sent.old ≤ 130 }
     requires sized { IsNeed (needed need) }
     ensures puts { PutsLine T.taken T.failed (writer.old, writer.new)
-        (ended line.now ++ flat_map sent_text sent.old ++ flat_map ended (need_lines (needed need.entry))) result }
+        (line.now ++ flat_map sent_text sent.old ++ flat_map ended (need_lines (needed need.entry))) result }
     ensures empty { sent.new ≡ [] }
     ensures packets { ArePackets sent.old }
 {
     text.clear();
-    push_line(text, line);
+    let _ = text.try_extend_from_slice(line);
     push_packets(text, sent);
     push_need(text, need);
     put_text(writer, text.as_slice())

@@ -1,4 +1,4 @@
-use Rattle.std.proofs.Common.{◌≡◌, ◌<◌, ℕ, List, [], ◌++◌, length, take, Err, refl, sym, ap, ◌∙◌, subst, arith}
+use Rattle.std.proofs.Common.{rules, ◌≡◌, ◌<◌, ◌-◌, ◌^◌, ℕ, List, [], ◌++◌, length, Err, refl, sym, ap, ◌∙◌, subst, arith}
 use Rattle.std.specs.Io.KnownBytes.{Consumes}
 use Rattle.std.proofs.KnownBytes.{Consumes-nil, Appends-nil}
 use Rattle.std.proofs.lemmas.Result.{err_from_is_err_and}
@@ -8,8 +8,11 @@ use Rattle.session_log.specs.Streams.{IsAllRead, Moves}
 use Rattle.session_log.specs.Window.{IsUnfinished}
 use Rattle.session_log.specs.declared.fault.LogFault.{LogFault}
 use Rattle.session_log.proofs.Through.{through_none, played_none}
-use Rattle.session_log.proofs.Exits.{as_err, read_on, goes_on, stops_reading, stops_in_front, ends, is_nil, some_left}
+use Rattle.session_log.proofs.Exits.{as_err, read_on, goes_on, stops_reading, short_in_front, stops_in_front, ends, is_nil, some_left}
 use Rattle.session_log.proofs.Lasts.{faulty_in_front, faulty_last, none_bad}
+use Rattle.session_log.specs.Text.{ended}
+use Rattle.session_log.proofs.Cutting.{cut_twice, last_line_of, text_of_line}
+use Rattle.session_log.proofs.Gathering.{in_count}
 use Rattle.session_log.proofs.playing.play_all.Goals as goal
 
 pub lines-init : goal.lines-init
@@ -29,6 +32,31 @@ lines-init g c =
       );
     }
 
+pub play-requires : goal.play-requires
+play-requires g c =
+    let w = c.next_line.new.window in
+    let has = rw c.in-Some.is at c.in_ok-end.ensures.found in
+    let text = c.split_at.result.0.now in
+    let line = c.split_at-in-Some.result.0.now in
+    let cut = cut_twice w c.as_slice.result.now text line c.in-Some.end c.as_slice.ensures.value c.split_at.ensures.front c.split_at-in-Some.ensures.front in
+    let unfailed : g.T.Target.failed c.lines.writer < 2 ^ 64 - 1 = search rules in (
+      search rules,
+      (unfailed, (short_in_front w line c.lines.number c.in-Some.end has cut.1, (text_of_line w text line c.in-Some.end has.feed cut, (has.counted, c.lines.invariant.ready)))),
+    )
+
+pub play-requires-2 : goal.play-requires-2
+play-requires-2 g c =
+    let w = c.next_line.new.window in
+    let text = c.as_slice-text.result.now in
+    let line = c.split_at-2.result.0.now in
+    let unfinished = rw c.in_default.is at c.in_ok-end.ensures.found in
+    let cut = last_line_of w c.end_line.new.self text line c.len-end.result c.len-end.ensures.value c.end_line.ensures c.as_slice-text.ensures.value c.split_at-2.ensures.front in
+    let some : 0 < length w = some_left (length w) (λ e. cc (c.if-is_empty.ensures.1 (is_nil w e))) in
+    let unfailed : g.T.Target.failed c.lines.writer < 2 ^ 64 - 1 = search rules in (
+      search rules,
+      (unfailed, (subst (λ (l : List ℕ). length l < 256) (sym cut.1) unfinished.0.short, (cut.0 ∙ ap ended (sym cut.1), (in_count c.lines.number w unfinished.0.counted some, c.lines.invariant.ready)))),
+    )
+
 pub lines-preserved : goal.lines-preserved
 lines-preserved g c =
     let state = g.P.Player.state in
@@ -36,8 +64,8 @@ lines-preserved g c =
     let before = c.lines.invariant.done in
     let has = rw c.in-Some.is at c.in_ok-end.ensures.found in
     let w = c.next_line.new.window in
-    let line = c.split_at.result.0.now in
-    let is_line : line ≡ take c.in-Some.end w = c.split_at.ensures.front ∙ ap (take c.in-Some.end) c.as_slice.ensures.value in
+    let line = c.split_at-in-Some.result.0.now in
+    let is_line = (cut_twice w c.as_slice.result.now c.split_at.result.0.now line c.in-Some.end c.as_slice.ensures.value c.split_at.ensures.front c.split_at-in-Some.ensures.front).1 in
     let played = c.in_ok-play.ensures.played in
     record {
       reads = c.in_ok-end.ensures.reads ∙ c.lines.invariant.reads;
@@ -73,8 +101,8 @@ returns-in_err-play-clause-played g c =
     let e = c.in_err-play.field-0.0 in
     let w = c.next_line.new.window in
     let has = rw c.in-Some.is at c.in_ok-end.ensures.found in
-    let line = c.split_at.result.0.now in
-    let is_line : line ≡ take c.in-Some.end w = c.split_at.ensures.front ∙ ap (take c.in-Some.end) c.as_slice.ensures.value in
+    let line = c.split_at-in-Some.result.0.now in
+    let is_line = (cut_twice w c.as_slice.result.now c.split_at.result.0.now line c.in-Some.end c.as_slice.ensures.value c.split_at.ensures.front c.split_at-in-Some.ensures.front).1 in
     let from = err_from_is_err_and c.from_residual-in_err-play.result c.from_residual-in_err-play.ensures.1 in
     as_err c.from_residual-in_err-play.result e (λ (q : Ending). Moves (left c.args.reader.now) (left c.next_line.new.reader) (taken c.args.writer.now) (taken c.play.new.writer) (λ bytes text. Plays g.P.Player.world (state c.args.player.now c.args.session.now) (state c.play.new.self c.play.new.session) bytes text q))
     (from.1 ∙ ap (λ (f : LogFault). Err f) from.2)
@@ -104,8 +132,8 @@ returns-clause-played g c =
     let left = g.S.Source.left in
     let taken = g.T.Target.taken in
     let before = c.lines.invariant.done in
-    let w = c.as_slice-2.result.now in
-    let is = c.as_slice-2.ensures.value in
+    let w = c.split_at-2.result.0.now in
+    let is = (last_line_of c.next_line.new.window c.end_line.new.self c.as_slice-text.result.now w c.len-end.result c.len-end.ensures.value c.end_line.ensures c.as_slice-text.ensures.value c.split_at-2.ensures.front).1 in
     let unfinished = rw c.in_default.is at c.in_ok-end.ensures.found in
     let some : 0 < length w = some_left (length w) (λ e. cc (c.if-is_empty.ensures.1 (sym is ∙ is_nil w e))) in
     ends g.P.Player.world taken g.T.Target.failed c.play-2.result (left c.args.reader.now) (left c.next_line.new.reader) (taken c.args.writer.now) (c.lines.writer, c.play-2.new.writer)
@@ -133,7 +161,7 @@ returns-in_err-play-clause-reach g c =
     let before = c.lines.invariant.done in
     let e = c.in_err-play.field-0.0 in
     let w = c.next_line.new.window in
-    let line = c.split_at.result.0.now in
+    let line = c.split_at-in-Some.result.0.now in
     let all = IsAllRead left g.S.Source.ended c.next_line.new.reader in
     let has = rw c.in-Some.is at c.in_ok-end.ensures.found in
     let from = err_from_is_err_and c.from_residual-in_err-play.result c.from_residual-in_err-play.ensures.1 in
