@@ -1,7 +1,8 @@
 #!/usr/bin/env bash
-# Counts the instructions of an outbox's calls, by callgrind: a longest message put and its 129 packets taken, and a PING of
-# one byte. Needs rt and valgrind. A count is that of 200 rounds less that of none, over 200. A first argument names a folder
-# with the crates to measure, instead of this repository's: say a checkout of an earlier commit.
+# Counts the instructions of an outbox's calls, by callgrind: a longest message put and its 129 packets taken, and a
+# PING of one byte. Needs rt and valgrind. A count is that of 200 rounds less that of none, over 200. A first
+# argument names a folder with the crates to measure, instead of this repository's: say a checkout of an earlier
+# commit.
 set -eu
 here=$(cd "$(dirname "$0")/.." && pwd)
 from=${1:-$here}
@@ -12,8 +13,8 @@ cp -r "$from/crates/hid_packet" "$work/crates/"
 grep '^hid_packet:' "$from/crates.txt" > "$work/crates.txt"
 echo 'outbox_bench: hid_packet' >> "$work/crates.txt"
 cat > "$work/crates/outbox_bench/src/main.rt" <<'PROGRAM'
-//! Puts messages and takes their packets, as two bytes of standard input say: the rounds, and whether the messages are the
-//! longest or of one byte.
+//! Puts messages and takes their packets, as two bytes of standard input say: the rounds, and whether the messages
+//! are the longest or of one byte.
 #![tactic(auto)]
 
 use hid_packet::laws::written_packets_are_the_fewest;
@@ -21,7 +22,8 @@ use hid_packet::{Outbox, Packet};
 use std::io;
 use std::io::Read;
 
-/// Puts a message and takes its packets. It gives a byte of the last one: which is not known here, so each packet is made whole.
+/// Puts a message and takes its packets. It gives a byte of the last one: which is not known here, so each packet
+/// is made whole.
 fn round(outbox: &mut Outbox, bytes: &[u8], place: usize) -> u8 {
     written_packets_are_the_fewest();
     if !outbox.is_empty() || bytes.len() > 7609 {

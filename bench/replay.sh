@@ -1,7 +1,8 @@
 #!/usr/bin/env bash
 # Counts what a line costs that `hidlog replay` plays: instructions (callgrind), system calls (strace) and processor
 # time, for logs of PINGs, authenticatorGetInfo, ticks and comments, of 1,000 and 100,000 lines, from a file to a file;
-# beside bench/replay_c.c, a C program of the same promises for these lines. Needs rt, gcc, valgrind, strace and Python 3.
+# beside bench/replay_c.c, a C program of the same promises for these lines. Needs rt, gcc, valgrind, strace and
+# Python 3.
 #
 # What a log of no line costs is taken off, so start-up doesn't count.
 #

@@ -1,7 +1,7 @@
 /* A replay with the promises of `hidlog replay` for the lines that bench/replay.sh makes, as a measure for it: lines of
- * at most 255 bytes from a buffered standard input, hexadecimal decoded and encoded again, a greeting for an INIT on the
- * broadcast channel, a PING of one packet echoed, authenticatorGetInfo answered, and one write for a line and what is
- * sent for it. It holds no other state. */
+ * at most 255 bytes from a buffered standard input, hexadecimal decoded and encoded again, a greeting for an INIT
+ * on the broadcast channel, a PING of one packet echoed, authenticatorGetInfo answered, and one write for a line
+ * and what is sent for it. It holds no other state. */
 #include <stdint.h>
 #include <stdio.h>
 #include <string.h>
@@ -176,6 +176,7 @@ int main(void)
     }
     if (held > front && play(window + front, held - front))
         return 1;
-    written = (size_t)snprintf(text, sizeof text, "= held 0 rows 0 pending 0 requests %llu bytes %llu steps 0\n", requests, bytes);
+    written = (size_t)snprintf(text, sizeof text, "= held 0 rows 0 pending 0 requests %llu bytes %llu steps 0\n",
+                               requests, bytes);
     return flush_text() ? 1 : 0;
 }

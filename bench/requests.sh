@@ -1,7 +1,8 @@
 #!/usr/bin/env bash
 # Counts the instructions of `ctap_message::read_request` and, on the bytes after the command byte alone, of
-# `ctap_cbor::check`, by callgrind: for a makeCredential of 91 bytes, a getAssertion of 50 and one with an allowList of 64
-# descriptors. Goal: at most three times `check`, since a request is checked and then read. Needs rt, valgrind and Python 3.
+# `ctap_cbor::check`, by callgrind: for a makeCredential of 91 bytes, a getAssertion of 50 and one with an allowList
+# of 64 descriptors. Goal: at most three times `check`, since a request is checked and then read. Needs rt, valgrind
+# and Python 3.
 #
 # Each count is that of 250 rounds, less that of none, so start-up doesn't count. The program is made in a folder of its
 # own, beside copies of the crates.
@@ -14,10 +15,11 @@ for crate in ctap_cbor ctap_message; do
     rm -rf "$work/crates/$crate"
     cp -r "$here/../crates/$crate" "$work/crates/"
 done
-printf 'ctap_cbor: byteorder thiserror\nctap_message: ctap_cbor arrayvec\nrequests_bench: ctap_cbor ctap_message\n' > "$work/crates.txt"
+printf '%s\n' 'ctap_cbor: byteorder thiserror' 'ctap_message: ctap_cbor arrayvec' \
+    'requests_bench: ctap_cbor ctap_message' > "$work/crates.txt"
 cat > "$work/crates/requests_bench/src/main.rt" <<'PROGRAM'
-//! Reads the message of standard input after two bytes, so many rounds as the first says: by `read_request` where the second
-//! is 0, else by `check`. Tells the steps of all rounds.
+//! Reads the message of standard input after two bytes, so many rounds as the first says: by `read_request` where
+//! the second is 0, else by `check`. Tells the steps of all rounds.
 #![tactic(auto)]
 
 use ctap_cbor::check;

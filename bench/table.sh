@@ -1,6 +1,6 @@
 #!/usr/bin/env bash
-# Counts the instructions of a credential table's calls, by callgrind, on both tables: with 1, 64 and 256 rows, in tables
-# for 256. Needs rt and valgrind.
+# Counts the instructions of a credential table's calls, by callgrind, on both tables: with 1, 64 and 256 rows, in
+# tables for 256. Needs rt and valgrind.
 #
 # A count is that of 1,020 rounds less that of none, over 1,020. A round is one call with what its condition asks: `put`
 # and `raise` with a `find`, `replace` with a `find` and a `same_user`. `put` is that of filling a table, less that of
@@ -14,7 +14,8 @@ for crate in ctap_cbor cred_table; do
     rm -rf "$work/crates/$crate"
     cp -r "$here/../crates/$crate" "$work/crates/"
 done
-printf 'ctap_cbor: byteorder thiserror\ncred_table: ctap_cbor arrayvec thiserror\ntable_bench: cred_table\n' > "$work/crates.txt"
+printf '%s\n' 'ctap_cbor: byteorder thiserror' 'cred_table: ctap_cbor arrayvec thiserror' \
+    'table_bench: cred_table' > "$work/crates.txt"
 cat > "$work/crates/table_bench/src/main.rt" <<'PROGRAM'
 //! Makes calls on a table, as four bytes of standard input say: the table, the call, its rows less one, and the rounds
 //! over four.
@@ -153,7 +154,8 @@ round() {
 printf '%-10s %6s %8s %8s\n' call rows Listed Chained
 for rows in 1 64 256; do
     for call in find:f named:n same_user:u replace:x raise:r clear:c; do
-        printf '%-10s %6s %8s %8s\n' "${call%:*}" "$rows" "$(round l "${call#*:}" "$rows")" "$(round c "${call#*:}" "$rows")"
+        printf '%-10s %6s %8s %8s\n' "${call%:*}" "$rows" \
+            "$(round l "${call#*:}" "$rows")" "$(round c "${call#*:}" "$rows")"
     done
     for table in l c; do
         eval "put_$table=$((($(round $table p "$rows") - $(round $table c 1)) / rows))"

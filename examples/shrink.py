@@ -8,10 +8,11 @@ The command reads a log on standard input, and fails by ending with a status oth
     examples/shrink.py recorded.log ./hidlog check
     examples/shrink.py session.log sh -c './hidlog replay | ./my_test'
 
-An input line goes with the `<` lines after it. Blocks of them are left out, halves first and then ever smaller ones, and what
-can't be left out becomes a tick of its moment, as long as the command still fails. The shortest log found goes to standard
-output, and how far it is to standard error. It ends with 2 where the command doesn't fail on the whole log. Making the log
-quiet first (`hidlog quiet`) takes the noise out in one go, where the command doesn't look at `<` lines.
+An input line goes with the `<` lines after it. Blocks of them are left out, halves first and then ever smaller ones,
+and what can't be left out becomes a tick of its moment, as long as the command still fails. The shortest log found
+goes to standard output, and how far it is to standard error. It ends with 2 where the command doesn't fail on the
+whole log. Making the log quiet first (`hidlog quiet`) takes the noise out in one go, where the command doesn't look
+at `<` lines.
 """
 
 import subprocess

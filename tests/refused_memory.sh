@@ -1,12 +1,12 @@
 #!/usr/bin/env bash
-# Has each of the first allocations of every test fail in turn, so many as the first argument says (12), in each crate that
-# has tests of calls that allocate: cbor_tests (decode_value, encode_value), authenticator_tests (save) and log_tests
-# (show). Then it gives one verdict.
-# Needs rt and Python 3. Status 0: a refusal changes nothing but the answer. 1: it does.
+# Has each of the first allocations of every test fail in turn, so many as the first argument says (12), in each
+# crate that has tests of calls that allocate: cbor_tests (decode_value, encode_value), authenticator_tests (save)
+# and log_tests (show). Then it gives one verdict. Needs rt and Python 3. Status 0: a refusal changes nothing but
+# the answer. 1: it does.
 #
 # A test that is refused memory may end with that as its error, and with nothing else. Tests of `show` write to a
-# vector: where that one is refused memory, it is a write that fails. Tests of `.._after_refused_memory` make the same call
-# again and have to pass.
+# vector: where that one is refused memory, it is a write that fails. Tests of `.._after_refused_memory` make the
+# same call again and have to pass.
 set -u
 cd "$(dirname "$0")/.."
 work=$(mktemp -d)

@@ -17,7 +17,10 @@ for crate in "$top"/crates/*; do
     if [ "$name" != hidlog_c ]; then
         rm -rf "$room/crates/$name"
         # Links in place of copies, where the file system has them. What is proved of a library is in out/rlib.
-        cp -al "$crate" "$room/crates/$name" 2>/dev/null || { rm -rf "$room/crates/$name"; cp -a "$crate" "$room/crates/"; }
+        if ! cp -al "$crate" "$room/crates/$name" 2>/dev/null; then
+            rm -rf "$room/crates/$name"
+            cp -a "$crate" "$room/crates/"
+        fi
         rm -rf "$room/crates/$name/out/incremental"
     fi
 done

@@ -189,7 +189,9 @@ export class SecurityKey {
         return this.presence === "click" ? clicked(text, signal) : this.presence;
     }
 
-    /** A request to the authenticator, its refusals as the errors that WebAuthn names. No text: the user isn't asked. */
+    /**
+     * A request to the authenticator, its refusals as the errors that WebAuthn names. No text: the user isn't asked.
+     */
     async #request(bytes, text, options) {
         const ended = { why: "user" };
         const { signal } = options;

@@ -1,7 +1,7 @@
 //! Snapshots that are loaded and saved, with bytes from outside.
 //!
-//! `rt try --test --fail-alloc N` refuses the Nth allocation of each test. Whichever it is, all tests but `saves_at_once`
-//! hold: the answer is Memory, the vector is unchanged, and the same call with memory succeeds.
+//! `rt try --test --fail-alloc N` refuses the Nth allocation of each test. Whichever it is, all tests but
+//! `saves_at_once` hold: the answer is Memory, the vector is unchanged, and the same call with memory succeeds.
 
 mod changed_bytes;
 

@@ -41,10 +41,12 @@ abbrev pub begins : List Row → (now cid : ℕ) (hash rp : List ℕ) (presence 
 begins rows now cid hash rp presence given [] = refuses rows None NO_CREDENTIALS
 begins rows now cid hash rp presence given (id ∷ others) =
     if nat_lt (counter_of id rows) MOST
-    then begun rows (pending_of cid hash presence now others) cid (record { hash = hash; rp = rp; id = id; presence = presence; number = told given (length others + 1) })
+    then begun rows (pending_of cid hash presence now others) cid
+    (record { hash = hash; rp = rp; id = id; presence = presence; number = told given (length others + 1) })
     else refuses rows None LIMIT_EXCEEDED
 
-abbrev pub assert_begins : List Row → (now cid : ℕ) (hash rp : List ℕ) (given : Bool) (allow : List (List ℕ)) (presence : Bool) → Turned
+abbrev pub assert_begins : List Row → (now cid : ℕ) (hash rp : List ℕ) (given : Bool) (allow : List (List ℕ))
+    (presence : Bool) → Turned
 assert_begins rows now cid hash rp given allow presence =
     begins rows now cid hash rp presence given (ids (applicable rows rp given allow))
 
@@ -76,7 +78,8 @@ is_due now cid None = false
 is_due now cid (Some w) = w.cid == cid && nat_le now (w.moment + NEXT_LIMIT)
 
 -- The row with the id signs. Every pending id has a row.
-abbrev pub row_signs : List Row → Option Waiting → (cid : ℕ) → (hash : List ℕ) (presence : Bool) (id : List ℕ) → Option Row → Turned
+abbrev pub row_signs : List Row → Option Waiting → (cid : ℕ) → (hash : List ℕ) (presence : Bool) (id : List ℕ)
+    → Option Row → Turned
 row_signs rows pending cid hash presence id None = refuses rows None NOT_ALLOWED
 row_signs rows pending cid hash presence id (Some row) =
     if nat_lt (counter_of id rows) MOST
@@ -86,7 +89,8 @@ row_signs rows pending cid hash presence id (Some row) =
 -- The first pending one signs, by the first request's hash and presence, and the others stay pending.
 abbrev pub next_signs : List Row → Option Waiting → (cid : ℕ) → Option (List ℕ) → Turned
 next_signs rows pending cid None = refuses rows None NOT_ALLOWED
-next_signs rows pending cid (Some id) = row_signs rows (rest_of pending) cid (hash_of pending) (presence_of pending) id (find (has_id id) rows)
+next_signs rows pending cid (Some id) = row_signs rows (rest_of pending) cid (hash_of pending)
+    (presence_of pending) id (find (has_id id) rows)
 
 abbrev pub next_begins : List Row → Option Waiting → (now cid : ℕ) → Turned
 next_begins rows pending now cid =

@@ -24,7 +24,13 @@ names_one rp rows ids = list_any (λ id. is_some (find (is_named rp id) rows)) i
 -- what is to be made
 abbrev pub making : (hash rp_id user_id user_name : List ℕ) (discoverable : Bool) → Making
 making hash rp_id user_id user_name discoverable =
-    record { hash = hash; rp = rp_hash rp_id; user = record { items = user_id }; name = cut user_name; discoverable = discoverable }
+    record {
+      hash = hash;
+      rp = rp_hash rp_id;
+      user = record { items = user_id };
+      name = cut user_name;
+      discoverable = discoverable;
+    }
 
 -- The user's presence is asked for, also where a credential is excluded.
 abbrev pub make_begins : List Row → (cid : ℕ) → Making → (exclude : List (List ℕ)) → Turned
@@ -35,7 +41,8 @@ abbrev pub fits : (room : ℕ) → Making → List Row → Bool
 fits room m rows = nat_lt (length rows) room || (m.discoverable && is_some (find (is_user m.rp m.user.items) rows))
 
 -- Where a credential is excluded, any reply refuses.
-abbrev pub make_asked : (room : ℕ) → List Row → Option Waiting → (cid : ℕ) → Making → (excluded : Bool) → Presence → Turned
+abbrev pub make_asked : (room : ℕ) → List Row → Option Waiting → (cid : ℕ) → Making → (excluded : Bool) → Presence
+    → Turned
 make_asked room rows pending cid m true reply = refuses rows pending CREDENTIAL_EXCLUDED
 make_asked room rows pending cid m false Granted =
     if fits room m rows then waits rows pending cid (WantsKey m) else refuses rows pending KEY_STORE_FULL
@@ -45,11 +52,21 @@ make_asked room rows pending cid m false reply = refuses rows pending OPERATION_
 abbrev pub key_wanted : (aaguid : List ℕ) → List Row → Option Waiting → (cid : ℕ) → Making → Option NewKey → Turned
 key_wanted aaguid rows pending cid m None = refuses rows pending OTHER
 key_wanted aaguid rows pending cid m (Some key) =
-    if is_some (find (has_id key.id) rows) then refuses rows pending OTHER else waits rows pending cid (sealing aaguid m key)
+    if is_some (find (has_id key.id) rows) then refuses rows pending OTHER
+    else waits rows pending cid (sealing aaguid m key)
 
 abbrev pub new_row : Making → NewKey → Row
 new_row m key =
-    record { rp = m.rp; id = key.id; x = key.x; y = key.y; user = m.user; discoverable = m.discoverable; counter = 0; name = text_of m.name }
+    record {
+      rp = m.rp;
+      id = key.id;
+      x = key.x;
+      y = key.y;
+      user = m.user;
+      discoverable = m.discoverable;
+      counter = 0;
+      name = text_of m.name;
+    }
 
 -- Signed, the row is stored and the answer sent. Nothing is pending then: the request emptied it.
 abbrev pub make_signed : (aaguid : List ℕ) → List Row → Option Waiting → Making → NewKey → Option (List ℕ) → Turned

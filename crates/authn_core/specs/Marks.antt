@@ -1,5 +1,5 @@
--- The credentials after a history of events, by filters and counts: what each event made, raised or reset (WebAuthn Level 2,
--- sections 6.1.1 and 6.3), and the texts to sign of its assertions.
+-- The credentials after a history of events, by filters and counts: what each event made, raised or reset (WebAuthn
+-- Level 2, sections 6.1.1 and 6.3), and the texts to sign of its assertions.
 use Rattle.std.specs.Prelude.{ℕ, ◌+◌, List, [], ◌∷◌, ◌++◌, length, flat_map, Bool, true, false, ◌&&◌, not, if◌then◌else◌, Option, Some, None, option_to_list, ◌≡◌, ◌==◌}
 use Rattle.std.specs.List.{filter, list_any}
 use Rattle.std.specs.Str.{bytes_eq}
@@ -38,8 +38,8 @@ counted later r = record r { counter = r.counter + length (filter (λ m. is_rais
 abbrev pub left : List Mark → Row → List Row
 left later r = if stays later r then counted later r ∷ [] else []
 
--- The rows of the start and the made ones in order, each with the marks after it, of which the later ones are handed along
--- in order of time. The history is newest first.
+-- The rows of the start and the made ones in order, each with the marks after it, of which the later ones are handed
+-- along in order of time. The history is newest first.
 unfoldable pub rows_among : List Row → List Mark → List Mark → List Row
 rows_among start later [] = flat_map (left later) start
 rows_among start later (m ∷ past) =
@@ -145,7 +145,8 @@ text_of past r w = None
 unfoldable pub texts : CoreState → List Step → List Text
 texts start [] = []
 texts start (x ∷ past) =
-    option_to_list (text_of (marks start past) (raised_by (core_at start past).state.work (core_at start (x ∷ past)).state.work) (core_at start (x ∷ past)).state.work)
+    option_to_list (text_of (marks start past) (raised_by (core_at start past).state.work
+    (core_at start (x ∷ past)).state.work) (core_at start (x ∷ past)).state.work)
     ++ texts start past
 
 -- no two are equal

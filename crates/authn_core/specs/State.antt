@@ -69,7 +69,10 @@ refuses rows pending code = answers rows pending (refusal code)
 
 abbrev pub waits : List Row → Option Waiting → (cid : ℕ) → Task → Turned
 waits rows pending cid task =
-    record { state = record { rows = rows; pending = pending; work = Some (record { cid = cid; task = task }) }; answer = Waits (status task) }
+    record {
+      state = record { rows = rows; pending = pending; work = Some (record { cid = cid; task = task }) };
+      answer = Waits (status task);
+    }
 
 abbrev pub ignores : State → Turned
 ignores s = record { state = s; answer = Ignored }

@@ -76,8 +76,8 @@ pub record CoreState : Type 0 where
   pub setup : Setup
   pub state : State
 
--- What an authenticator begins with: its AAGUID, the moment in milliseconds, how many rows there is room for, and the rows in
--- order of making.
+-- What an authenticator begins with: its AAGUID, the moment in milliseconds, how many rows there is room for, and the
+-- rows in order of making.
 pub record Start : Type 0 where
   pub aaguid : List ℕ
   pub moment : ℕ
@@ -114,8 +114,8 @@ waiting core = option_map as_work core.state.work
 abbrev pub working : CoreState → Option ℕ
 working core = option_map (λ (w : Work). w.cid) (waiting core)
 
--- An authenticator between its turns: its state, the greatest moment of its start and of all events, and the steps of reading
--- its last request, 0 before one.
+-- An authenticator between its turns: its state, the greatest moment of its start and of all events, and the steps of
+-- reading its last request, 0 before one.
 pub record Held : Type 0 where
   pub core : CoreState
   pub latest : ℕ

@@ -76,8 +76,8 @@ pub struct Config {
     pub aaguid: [u8; 16],
 }
 
-/// The authenticator over a table of at most `C` rows. The moment of an event, in milliseconds, is the greatest of the start
-/// and of all moments that were handed in so far. No call takes memory.
+/// The authenticator over a table of at most `C` rows. The moment of an event, in milliseconds, is the greatest of the
+/// start and of all moments that were handed in so far. No call takes memory.
 #[derive(Drop)]
 pub struct Core<T: Table<C>, const C: usize> {
     config: Config,
@@ -95,7 +95,15 @@ impl<T: Table<C>, const C: usize> Model for Core<T, C> {
 
     ghost Value = { Held };
 
-    ghost view = { λ s. record { core = record { setup = record { aaguid = s.config.aaguid; began = s.began; room = C }; state = s.parts }; latest = s.latest; last_steps = s.last_steps } };
+    ghost view = { λ s. record {
+      core = record {
+        setup =
+            record { aaguid = s.config.aaguid; began = s.began; room = C };
+        state = s.parts;
+      };
+      latest = s.latest;
+      last_steps = s.last_steps;
+    } };
 
     ghost invariant = { λ s. (s.began ≤ s.latest) × Ready C s.parts };
 }
@@ -103,7 +111,12 @@ impl<T: Table<C>, const C: usize> Model for Core<T, C> {
 impl<T: Table<C>, const C: usize> Core<T, C> {
     /// An authenticator that begins at the moment `start`, in milliseconds, with these rows and no waiting work.
     pub fn new(config: Config, table: T, start: u64) -> Self
-        ensures core { result.core ≡ first_state (record { aaguid = config.aaguid; moment = start; room = C; rows = bare_rows (T.rows table) }) }
+        ensures core { result.core ≡ first_state (record {
+          aaguid = config.aaguid;
+          moment = start;
+          room = C;
+          rows = bare_rows (T.rows table);
+        }) }
         ensures latest { result.latest ≡ start }
         ensures steps { result.last_steps ≡ 0 }
     {
@@ -120,8 +133,8 @@ impl<T: Table<C>, const C: usize> Core<T, C> {
         }
     }
 
-    /// The turn of a request that came at `at` on the channel `cid`: `message` is its command byte and what follows. Work
-    /// that waits ends with no answer of its own.
+    /// The turn of a request that came at `at` on the channel `cid`: `message` is its command byte and what follows.
+    /// Work that waits ends with no answer of its own.
     #[tactic(auto, unfolding(crate::specs::Turn::turn))]
     pub fn request(&mut self, at: u64, cid: u32, message: &[u8]) -> Turn
         ensures core { self.new.core ≡ core_after self.old.core (max self.old.latest at) (Asks cid message.now) }

@@ -186,7 +186,8 @@ impl<T: Table<C>, const C: usize> Kept<T, C> {
     /// Puts a row in.
     #[tactic(auto, using(crate::proofs::BareRows::stored_bare))]
     fn put(&mut self, row: Row)
-        requires room { (length self.old < C) ⊎ ((row.discoverable ≡ true) × (is_some (find (is_user row.rp row.user.items) self.old) ≡ true)) }
+        requires room { (length self.old < C) ⊎ ((row.discoverable ≡ true)
+            × (is_some (find (is_user row.rp row.user.items) self.old) ≡ true)) }
         requires fresh { is_some (find (has_id row.id) self.old) ≡ false }
         ensures { self.new ≡ stored (bare row) self.old }
     {
@@ -216,7 +217,8 @@ impl<T: Table<C>, const C: usize> Kept<T, C> {
 
 /// The id of the row that a new one takes the place of.
 fn replaced<T: Table<C>, const C: usize>(table: &T, row: &Row) -> Option<[u8; 32]>
-    ensures { result ≡ option_map (λ old. old.id) (if row.now.discoverable then find (is_user row.now.rp row.now.user.items) (T.rows table.now) else None) }
+    ensures { result ≡ option_map (λ old. old.id) (if row.now.discoverable
+        then find (is_user row.now.rp row.now.user.items) (T.rows table.now) else None) }
 {
     if row.discoverable {
         table.same_user(&row.rp, row.user.as_slice())

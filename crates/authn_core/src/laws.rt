@@ -13,19 +13,24 @@ pub fn turns_keep_ready()
     ensures { (u : Setup) (s : State) (now : ℕ) (e : AnyEvent) → Ready u.room s → Ready u.room (turn u s now e).state }
 {}
 
-/// The rows after any history are the start's and those that it made, in order, less what a granted reset or a replacing row
-/// took out since; each counter is that of the start, or 0 for a made row, and the raises of that row alone. They are lawful
-/// where the start's are: at most as many as there is room for. No more assertions are pending.
+/// The rows after any history are the start's and those that it made, in order, less what a granted reset or a
+/// replacing row took out since; each counter is that of the start, or 0 for a made row, and the raises of that row
+/// alone. They are lawful where the start's are: at most as many as there is room for. No more assertions are pending.
 pub fn rows_follow_history()
-    ensures rows { (start : CoreState) (h : List Step) → Orderly start h → (core_at start h).state.rows ≡ rows_of start.state.rows (marks start h) }
-    ensures lawful { (start : CoreState) (h : List Step) → Ready start.setup.room start.state → Lawful start.setup.room start.state.rows
+    ensures rows { (start : CoreState) (h : List Step) → Orderly start h
+        → (core_at start h).state.rows ≡ rows_of start.state.rows (marks start h) }
+    ensures lawful { (start : CoreState) (h : List Step) → Ready start.setup.room start.state
+        → Lawful start.setup.room start.state.rows
         → Lawful start.setup.room (core_at start h).state.rows }
-    ensures pending { (start : CoreState) (h : List Step) → Ready start.setup.room start.state → Lawful start.setup.room start.state.rows
-        → pending_count start.state.pending ≤ start.setup.room → pending_count (core_at start h).state.pending ≤ start.setup.room }
+    ensures pending { (start : CoreState) (h : List Step) → Ready start.setup.room start.state
+        → Lawful start.setup.room start.state.rows
+        → pending_count start.state.pending ≤ start.setup.room
+        → pending_count (core_at start h).state.pending ≤ start.setup.room }
 {}
 
 /// No two texts to sign of assertions by one row hold the same counter.
 pub fn texts_to_sign_differ()
-    ensures { (start : CoreState) (h : List Step) → Ready start.setup.room start.state → Lawful start.setup.room start.state.rows
+    ensures { (start : CoreState) (h : List Step) → Ready start.setup.room start.state
+        → Lawful start.setup.room start.state.rows
         → Orderly start h → all_differ (texts start h) ≡ true }
 {}

@@ -1,5 +1,5 @@
-//! The authenticator of CTAP 2.1, section 6, as a machine that takes requests and replies, one turn each. Nothing here takes
-//! memory.
+//! The authenticator of CTAP 2.1, section 6, as a machine that takes requests and replies, one turn each. Nothing here
+//! takes memory.
 //!
 //! An example, which the gate runs (`crates/authenticator_tests/src/core_page.rt`):
 //!

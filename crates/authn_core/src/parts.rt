@@ -274,7 +274,8 @@ impl<T: Table<C>, const C: usize> Parts<T, C> {
     /// A makeCredential.
     fn begin_make(&mut self, cid: u32, making: Making, exclude: Descriptors<'_>) -> Turn
         ensures state { self.new ≡ (make.make_begins self.old.rows cid making (ids_of (left_of exclude.entry))).state }
-        ensures answer { answer_of result ≡ (make.make_begins self.old.rows cid making (ids_of (left_of exclude.entry))).answer }
+        ensures answer { answer_of result ≡ (make.make_begins self.old.rows cid making
+            (ids_of (left_of exclude.entry))).answer }
     {
         let excluded = self.names_one(&making.rp, exclude);
         self.pending.clear();
@@ -283,7 +284,8 @@ impl<T: Table<C>, const C: usize> Parts<T, C> {
 
     fn make_presence(&mut self, cid: u32, making: Making, excluded: bool, reply: Presence) -> Turn
         ensures state { self.new ≡ (make.make_asked C self.old.rows self.old.pending cid making excluded reply).state }
-        ensures answer { answer_of result ≡ (make.make_asked C self.old.rows self.old.pending cid making excluded reply).answer }
+        ensures answer { answer_of result ≡ (make.make_asked C self.old.rows self.old.pending cid making excluded
+            reply).answer }
     {
         if excluded {
             return self.refuse(refusals::CREDENTIAL_EXCLUDED);
@@ -302,7 +304,8 @@ impl<T: Table<C>, const C: usize> Parts<T, C> {
 
     fn make_key(&mut self, aaguid: &[u8; 16], cid: u32, making: Making, key: Option<NewKey>) -> Turn
         ensures state { self.new ≡ (make.key_wanted aaguid.now self.old.rows self.old.pending cid making key).state }
-        ensures answer { answer_of result ≡ (make.key_wanted aaguid.now self.old.rows self.old.pending cid making key).answer }
+        ensures answer { answer_of result ≡ (make.key_wanted aaguid.now self.old.rows self.old.pending cid making
+            key).answer }
     {
         match key {
             Some(key) => {
@@ -326,8 +329,10 @@ impl<T: Table<C>, const C: usize> Parts<T, C> {
     ) -> Turn
         requires room { make.fits C making self.old.rows ≡ true }
         requires fresh { is_some (find (has_id key.id) self.old.rows) ≡ false }
-        ensures state { self.new ≡ (make.make_signed aaguid.now self.old.rows self.old.pending making key signature).state }
-        ensures answer { answer_of result ≡ (make.make_signed aaguid.now self.old.rows self.old.pending making key signature).answer }
+        ensures state { self.new ≡ (make.make_signed aaguid.now self.old.rows self.old.pending making key
+            signature).state }
+        ensures answer { answer_of result ≡ (make.make_signed aaguid.now self.old.rows self.old.pending making key
+            signature).answer }
     {
         let Some(signature) = signature else {
             return self.refuse(refusals::OTHER);
@@ -343,7 +348,8 @@ impl<T: Table<C>, const C: usize> Parts<T, C> {
 
     /// The id of the row of the first id that names one of the RP.
     fn named_first(&self, rp: &[u8; 32], allow: Descriptors<'_>) -> Option<[u8; 32]>
-        ensures { result ≡ option_map (λ row. row.id) (get.find_named rp.now self.now.rows (ids_of (left_of allow.entry))) }
+        ensures { result ≡ option_map (λ row. row.id)
+            (get.find_named rp.now self.now.rows (ids_of (left_of allow.entry))) }
     {
         let mut allow = allow;
         'walk: while let Some(id) = allow.next() {
@@ -357,7 +363,8 @@ impl<T: Table<C>, const C: usize> Parts<T, C> {
     /// The ids of the applicable rows.
     fn applicable_ids(&self, rp: &[u8; 32], allow: Descriptors<'_>) -> ArrayVec<[u8; 32], C>
         requires { list_of allow ≡ left_of allow }
-        ensures { result.items ≡ ids (get.applicable self.now.rows rp.now (has_entries (left_of allow.entry)) (ids_of (left_of allow.entry))) }
+        ensures { result.items ≡ ids (get.applicable self.now.rows rp.now (has_entries (left_of allow.entry))
+            (ids_of (left_of allow.entry))) }
     {
         let mut found: ArrayVec<[u8; 32], C> = ArrayVec::new();
         if allow.is_given() {
@@ -395,8 +402,10 @@ impl<T: Table<C>, const C: usize> Parts<T, C> {
         mut ids: ArrayVec<[u8; 32], C>,
     ) -> Turn
         requires { AllThere self.old.rows ids.items }
-        ensures state { self.new ≡ (get.begins self.old.rows now cid hash.now rp.now presence given ids.entry.items).state }
-        ensures answer { answer_of result ≡ (get.begins self.old.rows now cid hash.now rp.now presence given ids.entry.items).answer }
+        ensures state { self.new ≡ (get.begins self.old.rows now cid hash.now rp.now presence given
+            ids.entry.items).state }
+        ensures answer { answer_of result ≡ (get.begins self.old.rows now cid hash.now rp.now presence given
+            ids.entry.items).answer }
     {
         let number = self.told_number(given, ids.len());
         if ids.is_empty() {
@@ -433,8 +442,10 @@ impl<T: Table<C>, const C: usize> Parts<T, C> {
     ) -> Turn
         requires hash { length hash.now ≡ 32 }
         requires fresh { list_of allow ≡ left_of allow }
-        ensures state { self.new ≡ (get.assert_begins self.old.rows now cid hash.now (rp_hash rp_id.now) (has_entries (left_of allow.entry)) (ids_of (left_of allow.entry)) presence).state }
-        ensures answer { answer_of result ≡ (get.assert_begins self.old.rows now cid hash.now (rp_hash rp_id.now) (has_entries (left_of allow.entry)) (ids_of (left_of allow.entry)) presence).answer }
+        ensures state { self.new ≡ (get.assert_begins self.old.rows now cid hash.now (rp_hash rp_id.now)
+            (has_entries (left_of allow.entry)) (ids_of (left_of allow.entry)) presence).state }
+        ensures answer { answer_of result ≡ (get.assert_begins self.old.rows now cid hash.now (rp_hash rp_id.now)
+            (has_entries (left_of allow.entry)) (ids_of (left_of allow.entry)) presence).answer }
     {
         let rp = rp_hash_of(rp_id);
         let hash = hash_of(hash);
@@ -464,7 +475,8 @@ impl<T: Table<C>, const C: usize> Parts<T, C> {
         signature: Option<Signature>,
     ) -> Turn
         ensures state { self.new ≡ (get.assert_signed self.old.rows self.old.pending now a counter signature).state }
-        ensures answer { answer_of result ≡ (get.assert_signed self.old.rows self.old.pending now a counter signature).answer }
+        ensures answer { answer_of result ≡ (get.assert_signed self.old.rows self.old.pending now a counter
+            signature).answer }
     {
         let Some(signature) = signature else {
             return self.refuse_all(refusals::OTHER);
@@ -512,8 +524,10 @@ impl<T: Table<C>, const C: usize> Parts<T, C> {
     /// The row with the id signs.
     fn next_signs(&mut self, cid: u32, hash: [u8; 32], presence: bool, id: [u8; 32]) -> Turn
         requires { is_some (find (has_id id) self.old.rows) ≡ true }
-        ensures state { self.new ≡ (get.row_signs self.old.rows self.old.pending cid hash presence id (find (has_id id) self.old.rows)).state }
-        ensures answer { answer_of result ≡ (get.row_signs self.old.rows self.old.pending cid hash presence id (find (has_id id) self.old.rows)).answer }
+        ensures state { self.new ≡ (get.row_signs self.old.rows self.old.pending cid hash presence id
+            (find (has_id id) self.old.rows)).state }
+        ensures answer { answer_of result ≡ (get.row_signs self.old.rows self.old.pending cid hash presence id
+            (find (has_id id) self.old.rows)).answer }
     {
         let Some(rp) = self.kept.rp_of(&id) else {
             return self.refuse_all(refusals::NOT_ALLOWED);
@@ -548,8 +562,11 @@ impl<T: Table<C>, const C: usize> Parts<T, C> {
         requires early { began ≤ now }
         requires fresh { IsFresh read }
         requires lens { HasLengths read }
-        ensures state { self.new ≡ (requested (record { aaguid = aaguid.now; began = began; room = C }) self.old.rows self.old.pending now cid (shown read.entry)).state }
-        ensures answer { answer_of result ≡ (requested (record { aaguid = aaguid.now; began = began; room = C }) self.old.rows self.old.pending now cid (shown read.entry)).answer }
+        ensures state { self.new ≡ (requested (record { aaguid = aaguid.now; began = began; room = C }) self.old.rows
+            self.old.pending now cid (shown read.entry)).state }
+        ensures answer { answer_of result ≡ (requested
+            (record { aaguid = aaguid.now; began = began; room = C }) self.old.rows self.old.pending now cid
+            (shown read.entry)).answer }
     {
         let request = match read {
             Ok(request) => request,

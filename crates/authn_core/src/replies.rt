@@ -40,11 +40,14 @@ impl Model for Signature {
 
     ghost view = { λ s. take s.len s.bytes };
 
-    ghost invariant = { λ s. (1 ≤ s.len) × (s.len ≤ 72) × (length s.bytes ≡ 72) × (drop s.len s.bytes ≡ replicate (72 - s.len) 0) };
+    ghost invariant = { λ s. (1 ≤ s.len) × (s.len ≤ 72) × (length s.bytes ≡ 72)
+        × (drop s.len s.bytes ≡ replicate (72 - s.len) 0) };
 
     ghost inverse = { λ v. record { bytes = padded v; len = length v } };
 
-    ghost inverse_ok = { λ a h. ap (λ (b : List ℕ). record { bytes = b; len = length (take a.len a.bytes) }) (padded-take a.len a.bytes h.1 h.2 h.3) ∙ ap (λ (n : ℕ). record { bytes = a.bytes; len = n }) (length-kept a.len a.bytes h.1 h.2) };
+    ghost inverse_ok = { λ a h. ap (λ (b : List ℕ). record { bytes = b; len = length (take a.len a.bytes) })
+        (padded-take a.len a.bytes h.1 h.2 h.3) ∙ ap (λ (n : ℕ). record { bytes = a.bytes; len = n })
+        (length-kept a.len a.bytes h.1 h.2) };
 }
 
 /// The bytes, with zeros up to 72 places.

@@ -250,8 +250,10 @@ fn stands_after_faults(rt: HostRuntime) {
 /// Writes each sort of item once: `{-1: 65536, "ä": [h'07', true, null, -2^64]}`.
 fn write_sample(out: &mut [u8]) -> usize
     requires { 24 ≤ length out.old }
-    ensures { take result out.new ≡ head 5 2 ++ scalar_text (Int (negsuc 0)) ++ head 0 0x1_0000 ++ scalar_text (Text (0xc3 ∷ 0xa4 ∷ []))
-        ++ head 4 4 ++ scalar_text (Bytes (7 ∷ [])) ++ scalar_text (Flag true) ++ scalar_text Null ++ scalar_text (Int (negsuc 0xffff_ffff_ffff_ffff)) }
+    ensures { take result out.new ≡ head 5 2 ++ scalar_text (Int (negsuc 0)) ++ head 0 0x1_0000
+        ++ scalar_text (Text (0xc3 ∷ 0xa4 ∷ []))
+        ++ head 4 4 ++ scalar_text (Bytes (7 ∷ [])) ++ scalar_text (Flag true) ++ scalar_text Null
+        ++ scalar_text (Int (negsuc 0xffff_ffff_ffff_ffff)) }
 {
     let mut sink = Sink::new(out);
     sink.map(2);

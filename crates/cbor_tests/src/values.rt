@@ -1,8 +1,9 @@
 //! Values: the rows again, refusals, and refused memory.
 //!
 //! With ample memory each call is made once and succeeds. The tests `decodes_after_refused_memory` and
-//! `encodes_after_refused_memory` are for allocations that fail: whichever it is, the answer is Memory, nothing else changes,
-//! and the same call with memory succeeds. `tests/refused_memory.sh` has each of the first allocations fail in turn.
+//! `encodes_after_refused_memory` are for allocations that fail: whichever it is, the answer is Memory, nothing else
+//! changes, and the same call with memory succeeds. `tests/refused_memory.sh` has each of the first allocations fail in
+//! turn.
 
 use crate::items::rows;
 use ctap_cbor::*;

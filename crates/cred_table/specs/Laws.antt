@@ -11,11 +11,13 @@ SameRows rows others = rows_then true rows no_trees ≡ rows_then true others no
 
 -- one text is the snapshot of one list of rows, of one version
 abbrev pub SnapshotsAreOne : Type 0
-SnapshotsAreOne = (named other : Bool) (room space : ℕ) (rows others : List Row) (text : List ℕ) → IsSnapshot named room rows text → IsSnapshot other space others text → (named ≡ other) × SameRows rows others
+SnapshotsAreOne = (named other : Bool) (room space : ℕ) (rows others : List Row) (text : List ℕ)
+    → IsSnapshot named room rows text → IsSnapshot other space others text → (named ≡ other) × SameRows rows others
 
 -- what is refused is the snapshot of no rows for which there is room
 abbrev pub RefusedIsNone : Type 0
-RefusedIsNone = (room : ℕ) (text : List ℕ) (fault : SnapshotFault) → Refuses room text fault → (named : Bool) (rows : List Row) → IsSnapshot named room rows text → ⊥
+RefusedIsNone = (room : ℕ) (text : List ℕ) (fault : SnapshotFault) → Refuses room text fault
+    → (named : Bool) (rows : List Row) → IsSnapshot named room rows text → ⊥
 
 -- a text is refused for one thing
 abbrev pub OneRefusal : Type 0

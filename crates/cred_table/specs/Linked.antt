@@ -38,8 +38,10 @@ pub record Linked {C : ℕ} (away : List ℕ) (chains : Chains C) : Type 0 where
   pub turned : chain (links Older chains.slots) chains.newest ≡ reverse (age chains)
   pub freed : is_chain (links Next chains.slots) chains.free ≡ true
   pub found : (b : ℕ) → is_chain (links Next chains.slots) (head b chains) ≡ true
-  pub by_id : (b k : ℕ) → has k (id_slots b chains) ≡ (has k (age chains) && nat_eq (bucket (row_at chains.slots k).id) b)
-  pub in_free : (k : ℕ) → has k (free_slots chains) ≡ (not (has k (away ++ age chains)) && nat_lt k (length chains.slots))
+  pub by_id : (b k : ℕ) → has k (id_slots b chains) ≡
+      (has k (age chains) && nat_eq (bucket (row_at chains.slots k).id) b)
+  pub in_free : (k : ℕ) → has k (free_slots chains) ≡
+      (not (has k (away ++ age chains)) && nat_lt k (length chains.slots))
   pub apart : distinct (away ++ age chains) ≡ true
   pub inside : (k : ℕ) → has k (away ++ age chains) ≡ true → k < length chains.slots
   pub all : length (away ++ age chains) + length (free_slots chains) ≡ length chains.slots

@@ -12,7 +12,8 @@ pub record IsCut (whole cut : List ℕ) : Type 0 where
 -- a character of the text begins at a place, or the text ends there
 abbrev pub is_boundary : List ℕ → ℕ → Bool
 is_boundary text i =
-    nat_le i (length text) && (nat_le (length text) i || nat_lt (slice_index text i) 128 || nat_le 192 (slice_index text i))
+    nat_le i (length text) && (nat_le (length text) i || nat_lt (slice_index text i) 128
+    || nat_le 192 (slice_index text i))
 
 -- the last such place up to n
 abbrev pub boundary_to : List ℕ → (n : ℕ) → ℕ

@@ -19,14 +19,16 @@ Given None P = Unit {0}
 Given (Some v) P = P v
 
 -- Some kind of values has texts. What a reader gave was passed; where the text of any such value stands, it was read.
-pub record Reads {V : Type 0} (Is : V → Type 0) (spell : V → List ℕ) (old new : Reading) (result : Option V) : Type 0 where
+pub record Reads {V : Type 0} (Is : V → Type 0) (spell : V → List ℕ) (old new : Reading)
+    (result : Option V) : Type 0 where
   pub took : Given result (λ v. Is v × (rest_of old ≡ spell v ++ rest_of new))
   pub found : (v : V) (rest : List ℕ) → Is v → rest_of old ≡ spell v ++ rest → IsSome result × (rest_of new ≡ rest)
 
 -- The same of heads, with the bytes of strings: where one stands, it is what was read.
 pub record ReadsPart (room : ℕ) (spell : Part → List ℕ) (old new : Reading) (result : Option Part) : Type 0 where
   pub took : Given result (λ i. Suits room AnItem i × (rest_of old ≡ spell i ++ rest_of new))
-  pub found : (i : Part) (rest : List ℕ) → Suits room AnItem i → rest_of old ≡ spell i ++ rest → (result ≡ Some i) × (rest_of new ≡ rest)
+  pub found : (i : Part) (rest : List ℕ) → Suits room AnItem i → rest_of old ≡ spell i ++ rest
+      → (result ≡ Some i) × (rest_of new ≡ rest)
 
 -- a member of a map, by its key: the key and the head of its value, which is a string whole
 abbrev pub member_text : ℕ → Part → List ℕ
@@ -99,7 +101,8 @@ rows_text named rows = texts (rows_then named rows no_trees)
 
 -- where no row stands that may come after these
 abbrev pub NoneFits : (named : Bool) → List Row → List ℕ → Type 0
-NoneFits named rows here = (row : Row) (rest : List ℕ) → IsRow named row → here ≡ row_text named row ++ rest → IsTrue (clashes row rows)
+NoneFits named rows here = (row : Row) (rest : List ℕ) → IsRow named row → here ≡ row_text named row ++ rest
+    → IsTrue (clashes row rows)
 
 -- a row was taken and put after these
 pub record TakesRow (named : Bool) (old new : Reading) (rows more : List Row) : Type 0 where
@@ -129,7 +132,8 @@ pub record BreaksOff (named : Bool) (room n place : ℕ) (old : Reading) : Type 
   pub none : NoneFits named rows (rest_of between)
 
 -- what reading so many entries does
-abbrev pub ReadsRows : (named : Bool) (room n : ℕ) → Reading → Reading → List Row → Result (Unit {0}) SnapshotFault → Type 0
+abbrev pub ReadsRows : (named : Bool) (room n : ℕ) → Reading → Reading → List Row → Result (Unit {0}) SnapshotFault
+    → Type 0
 ReadsRows named room n old new rows (Ok _) = TakesRows named n old new rows
 ReadsRows named room n old new rows (Err (RowBroken place)) = BreaksOff named room n place old
 ReadsRows named room n old new rows (Err _) = ⊥

@@ -10,7 +10,16 @@ use Rattle.cred_table.specs.Rows.{raised_by_one}
 
 -- The row of a slot that never held one.
 abbrev pub blank_row : Row
-blank_row = record { rp = []; id = []; x = []; y = []; user = record { items = [] }; discoverable = false; counter = 0; name = record { bytes = []; spare = [] } }
+blank_row = record {
+  rp = [];
+  id = [];
+  x = [];
+  y = [];
+  user = record { items = [] };
+  discoverable = false;
+  counter = 0;
+  name = record { bytes = []; spare = [] };
+}
 
 abbrev pub blank : Slot
 blank = record { row = blank_row; next = None; newer = None; older = None }

@@ -112,12 +112,13 @@ pub record FirstBroken (named : Bool) (room : ℕ) (entries : Trees) (place : �
   pub lawful : Lawful room before
   pub broken : (row : Row) → IsRow named row → entry ≡ row_tree named row → IsTrue (clashes row before)
 
--- What a text is refused for, in the order in which it is asked: it is no snapshot at all; it has more entries than there
--- is room for; it has a broken entry.
+-- What a text is refused for, in the order in which it is asked: it is no snapshot at all; it has more entries than
+-- there is room for; it has a broken entry.
 abbrev pub Refuses : (room : ℕ) → List ℕ → SnapshotFault → Type 0
 Refuses room text NotSnapshot = (named : Bool) (entries : Trees) → Holds named entries text → ⊥
 Refuses room text TooMany = (named : Bool) × (entries : Trees) × Holds named entries text × (room < count entries)
-Refuses room text (RowBroken place) = (named : Bool) × (entries : Trees) × Holds named entries text × (count entries ≤ room) × FirstBroken named room entries place
+Refuses room text (RowBroken place) = (named : Bool) × (entries : Trees) × Holds named entries text
+    × (count entries ≤ room) × FirstBroken named room entries place
 Refuses room text Memory = ⊥
 
 -- what loading answers of a text, and the rows that the table then has

@@ -1,8 +1,8 @@
 -- Assertions that wait to be asked for (CTAP 2.1, section 6.3).
 use Rattle.std.specs.Prelude.{ℕ, length, drop, List, [], ◌∷◌, Bool, false, Option, Some, None}
 
--- the channel that asked, the hash of its client data, whether the user's presence was asked for, the moment from which the
--- time to ask for the next counts, and the credentials' ids
+-- the channel that asked, the hash of its client data, whether the user's presence was asked for, the moment from which
+-- the time to ask for the next counts, and the credentials' ids
 pub record Waiting : Type 0 where
   pub cid : ℕ
   pub hash : List ℕ

@@ -31,7 +31,8 @@ fn clashes<T: Table<C>, const C: usize>(table: &T, row: &Row) -> bool
 fn put_row<T: Table<C>, const C: usize>(table: &mut T, row: Row) -> bool
     requires room { length (T.rows table.old) < C }
     ensures value { result ≡ not (clashes row (T.rows table.old)) }
-    ensures rows { T.rows table.new ≡ (if clashes row (T.rows table.old) then T.rows table.old else T.rows table.old ++ row ∷ []) }
+    ensures rows { T.rows table.new ≡ (if clashes row (T.rows table.old) then T.rows table.old
+        else T.rows table.old ++ row ∷ []) }
 {
     if clashes(table, &row) {
         return false;

@@ -6,8 +6,8 @@ ghost use Rattle.cred_table.specs.Waiting.{pending_of, pending_count, stamped, f
 use arrayvec::ArrayVec;
 use std::marker::Model;
 
-/// The credentials, at most `C`, that a getAssertion named and getNextAssertion may still ask for (CTAP 2.1, section 6.3),
-/// with what goes with them. A contract sees `None`, or them all. No call takes memory.
+/// The credentials, at most `C`, that a getAssertion named and getNextAssertion may still ask for (CTAP 2.1, section
+/// 6.3), with what goes with them. A contract sees `None`, or them all. No call takes memory.
 #[derive(Drop)]
 pub struct Pending<const C: usize> {
     cid: u32,

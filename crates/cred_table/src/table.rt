@@ -58,11 +58,12 @@ pub trait Table<const C: usize> {
         ensures appended { rows self.new ≡ rows self.old ++ row ∷ [] }
         ensures stored { rows self.new ≡ stored row (rows self.old) };
 
-    /// Takes the row `old` out and puts the new one last, in a full table too. The new one's id is new, and `old` is the
-    /// id that `same_user` gives for its RP and user.
+    /// Takes the row `old` out and puts the new one last, in a full table too. The new one's id is new, and `old` is
+    /// the id that `same_user` gives for its RP and user.
     fn replace(&mut self, old: &[u8; 32], new: Row)
         requires fresh { find (has_id new.id) (rows self.old) ≡ None }
-        requires same_user { option_map (λ row. row.id) (find (is_user new.rp new.user.items) (rows self.old)) ≡ Some old.now }
+        requires same_user { option_map (λ row. row.id) (find (is_user new.rp new.user.items) (rows self.old))
+            ≡ Some old.now }
         ensures appended { rows self.new ≡ without old.now (rows self.old) ++ new ∷ [] }
         ensures stored { IsTrue new.discoverable → rows self.new ≡ stored new (rows self.old) };
 

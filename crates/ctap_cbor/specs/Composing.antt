@@ -15,7 +15,12 @@ then {a = a} {x = x} {y = y} {m = m} {n = n} p q = record {
 
 -- nothing
 pub done : {a : Sink} → Appends a a [] 0
-done {a = a} = record { grows = sym (append-nil (contents a)); len_is = omega arith; room_is = omega arith; keeps = refl }
+done {a = a} = record {
+  grows = sym (append-nil (contents a));
+  len_is = omega arith;
+  room_is = omega arith;
+  keeps = refl;
+}
 
 -- so many bytes, by another sum
 pub sized : {a b : Sink} {x : List ℕ} {m n : ℕ} → m ≡ n → Appends a b x m → Appends a b x n

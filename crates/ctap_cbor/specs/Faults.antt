@@ -74,7 +74,8 @@ body_faults first rest =
 
 -- and the fault of a key's order
 abbrev pub later_faults : Due → ℕ → List ℕ → List (Bool × Kind)
-later_faults due first rest = body_faults first rest ++ (not (is_above due (take (item_len first rest) (first ∷ rest))), KeyOrder) ∷ []
+later_faults due first rest = body_faults first rest ++
+    (not (is_above due (take (item_len first rest) (first ∷ rest))), KeyOrder) ∷ []
 
 abbrev pub faults : ℕ → Due → ℕ → List ℕ → List (Bool × Kind)
 faults room due first rest = first_faults room due first ++ later_faults due first rest

@@ -18,7 +18,8 @@ head major n =
 
 -- how long that is
 abbrev pub head_len : ℕ → ℕ
-head_len n = if nat_lt n 24 then 1 else if nat_lt n 0x100 then 2 else if nat_lt n 0x1_0000 then 3 else if nat_lt n 0x1_0000_0000 then 5 else 9
+head_len n = if nat_lt n 24 then 1 else if nat_lt n 0x100 then 2 else if nat_lt n 0x1_0000 then 3
+    else if nat_lt n 0x1_0000_0000 then 5 else 9
 
 -- the fields of a head's first byte: the major type, and the additional information
 abbrev pub major : ℕ → ℕ

@@ -17,11 +17,13 @@ EachTextIsOne = (b : List ℕ) → AreBytes b → (o : Outcome) × IsOutcome b o
 
 -- no text of a tree begins another, and none is that of two trees; so what follows is the same too
 abbrev pub NoneBeginsAnother : Type 0
-NoneBeginsAnother = (t u : Tree) (b c x y : List ℕ) → IsEncoding t b → IsEncoding u c → b ++ x ≡ c ++ y → (t ≡ u) × (b ≡ c) × (x ≡ y)
+NoneBeginsAnother = (t u : Tree) (b c x y : List ℕ) → IsEncoding t b → IsEncoding u c → b ++ x ≡ c ++ y
+    → (t ≡ u) × (b ≡ c) × (x ≡ y)
 
 -- and the same of items without what is inside them: heads, and heads with the bytes of a string
 abbrev pub NoItemBeginsAnother : Type 0
-NoItemBeginsAnother = (room : ℕ) (i j : Part) (x y : List ℕ) → Suits room AnItem i → Suits room AnItem j → item_text i ++ x ≡ item_text j ++ y → (i ≡ j) × (x ≡ y)
+NoItemBeginsAnother = (room : ℕ) (i j : Part) (x y : List ℕ) → Suits room AnItem i → Suits room AnItem j
+    → item_text i ++ x ≡ item_text j ++ y → (i ≡ j) × (x ≡ y)
 
 -- reading n bytes takes at most 2 * n + 1 steps
 abbrev pub StepsAreBounded : Type 0
@@ -33,15 +35,18 @@ WrittenIsReadAgain = (t : Tree) (b : List ℕ) → IsCanonical t b → (o : Outc
 
 -- where a tree's text stands at a cursor's place, no other tree is passed
 abbrev pub OneTreePasses : Type 0
-OneTreePasses = (room : ℕ) (t u : Tree) (rest : List ℕ) (old new : Reading) → IsLawful t → depth t ≤ room → rest_of old ≡ text t ++ rest → Passes room u old new → (u ≡ t) × (rest_of new ≡ rest)
+OneTreePasses = (room : ℕ) (t u : Tree) (rest : List ℕ) (old new : Reading) → IsLawful t → depth t ≤ room
+    → rest_of old ≡ text t ++ rest → Passes room u old new → (u ≡ t) × (rest_of new ≡ rest)
 
 -- and no fault is found
 abbrev pub NothingHalts : Type 0
-NothingHalts = (room : ℕ) (t : Tree) (rest : List ℕ) (old new : Reading) (at : ℕ) (kind : Kind) → IsLawful t → depth t ≤ room → rest_of old ≡ text t ++ rest → Halts room old new at kind → ⊥
+NothingHalts = (room : ℕ) (t : Tree) (rest : List ℕ) (old new : Reading) (at : ℕ) (kind : Kind) → IsLawful t
+    → depth t ≤ room → rest_of old ≡ text t ++ rest → Halts room old new at kind → ⊥
 
 -- what is encoded is decoded to the same tree, and for no fault is it refused
 abbrev pub EncodedIsDecoded : Type 0
-EncodedIsDecoded = (t : Tree) (b : List ℕ) → IsCanonical t b → ((u : Tree) → IsCanonical u b → u ≡ t) × ((o : Outcome) → IsOutcome b o → result_of o ≡ None)
+EncodedIsDecoded = (t : Tree) (b : List ℕ) → IsCanonical t b
+    → ((u : Tree) → IsCanonical u b → u ≡ t) × ((o : Outcome) → IsOutcome b o → result_of o ≡ None)
 
 -- a tree that is refused has no canonical text
 abbrev pub RefusedHasNoText : Type 0
@@ -65,9 +70,11 @@ pub record TellsNone (b : List ℕ) (s : ℕ) (new : Reading) : Type 0 where
 
 -- Reading these bytes whole gives what they are, whatever was counted before, and takes the steps of checking them.
 pub record WholeReadings (b : List ℕ) : Type 0 where
-  pub passed : (t : Tree) (s : ℕ) (middle new : Reading) → Passes 4 t (at_front b s) middle → Ends middle new → TellsTree b s t new
+  pub passed : (t : Tree) (s : ℕ) (middle new : Reading) → Passes 4 t (at_front b s) middle → Ends middle new
+      → TellsTree b s t new
   pub stopped : (s : ℕ) (new : Reading) (at : ℕ) (kind : Kind) → Halts 4 (at_front b s) new at kind → TellsNone b s new
-  pub longer : (t : Tree) (s : ℕ) (middle new : Reading) (at : ℕ) (kind : Kind) → Passes 4 t (at_front b s) middle → GoesOn middle new at kind → TellsNone b s new
+  pub longer : (t : Tree) (s : ℕ) (middle new : Reading) (at : ℕ) (kind : Kind) → Passes 4 t (at_front b s) middle
+      → GoesOn middle new at kind → TellsNone b s new
 
 -- of every list, the steps that it names are at most 2 * n + 1
 abbrev pub CheckStepsAreBounded : Type 0

@@ -32,8 +32,11 @@ last_key before (pair k v ps) = last_key (Some (text k)) ps
 -- It may be open where so many more may be opened inside of it.
 abbrev pub IsOpen : ℕ → Open → Type 0
 IsOpen room (InArray total done) = (total < 2 ^ 64) × (count done < total) × AreLawful done × (depth_all done ≤ room)
-IsOpen room (AtKey total done) = (total < 2 ^ 64) × (count_pairs done < total) × Rises None done × AreLawfulPairs done × (depth_pairs done ≤ room)
-IsOpen room (AtValue total done key) = (total < 2 ^ 64) × (count_pairs done < total) × Rises None done × AreLawfulPairs done × (depth_pairs done ≤ room) × IsKey key × IsLawful key × IsAbove (last_key None done) (text key)
+IsOpen room (AtKey total done) = (total < 2 ^ 64) × (count_pairs done < total) × Rises None done × AreLawfulPairs done
+    × (depth_pairs done ≤ room)
+IsOpen room (AtValue total done key) = (total < 2 ^ 64) × (count_pairs done < total) × Rises None done
+    × AreLawfulPairs done × (depth_pairs done ≤ room) × IsKey key × IsLawful key
+    × IsAbove (last_key None done) (text key)
 
 -- an array or a map stands inside one, and a key is no array or map
 abbrev pub CanHold : Open → List Open → Type 0

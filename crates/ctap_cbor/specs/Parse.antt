@@ -63,7 +63,8 @@ then_value sub bytes (Ok (OpensMap n, rest)) go = Walked no_pairs rest
 
 abbrev pub pairs : (List ℕ → Parse) → ℕ → ℕ → Option (List ℕ) → List ℕ → Walk
 pairs sub room zero last bytes = Walked no_pairs bytes
-pairs sub room (suc n) last bytes = then_value sub bytes (read room (AKey last) bytes) (λ key. pairs sub room n (Some key))
+pairs sub room (suc n) last bytes = then_value sub bytes (read room (AKey last) bytes)
+    (λ key. pairs sub room n (Some key))
 
 -- what an item leads to
 abbrev pub then_inside : (List ℕ → Parse) → ℕ → List ℕ → Result (Part × List ℕ) Kind → Parse

@@ -29,7 +29,8 @@ item_of (suc (suc zero)) first rest = One (Bytes (string_at first rest))
 item_of (suc (suc (suc zero))) first rest = One (Text (string_at first rest))
 item_of (suc (suc (suc (suc zero)))) first rest = OpensArray (argument first rest)
 item_of (suc (suc (suc (suc (suc zero))))) first rest = OpensMap (argument first rest)
-item_of m first rest = One (if nat_eq (info first) 20 then Flag false else if nat_eq (info first) 21 then Flag true else Null)
+item_of m first rest = One (if nat_eq (info first) 20 then Flag false else if nat_eq (info first) 21 then Flag true
+    else Null)
 
 -- a fault, or an item and what follows it
 abbrev pub unless : Option Kind → Part → List ℕ → Result (Part × List ℕ) Kind
@@ -38,7 +39,8 @@ unless (Some kind) i rest = Err kind
 
 unfoldable pub read : ℕ → Due → List ℕ → Result (Part × List ℕ) Kind
 read room due [] = Err Truncated
-read room due (first ∷ rest) = unless (fault room due (first ∷ rest)) (item_of (major first) first rest) (drop (item_len first rest) (first ∷ rest))
+read room due (first ∷ rest) = unless (fault room due (first ∷ rest)) (item_of (major first) first rest)
+    (drop (item_len first rest) (first ∷ rest))
 
 abbrev pub Nests : ℕ → Due → Type 0
 Nests room AnItem = 0 < room

@@ -57,7 +57,8 @@ compared (Some before) n = n
 pub record TakesKey (last : Option (List ℕ)) (old new : Reading) (s : Scalar) : Type 0 where
   pub suits : Suits 0 (AKey last) (One s)
   pub spelled : rest_of old ≡ scalar_text s ++ rest_of new
-  pub moved : new ≡ advance old (length (scalar_text s)) (length (scalar_text s) + compared last (length (scalar_text s)))
+  pub moved : new ≡ advance old (length (scalar_text s))
+      (length (scalar_text s) + compared last (length (scalar_text s)))
 
 -- such a key, with its text
 pub record GivesKey (last : Option (List ℕ)) (old new : Reading) (part : Part) (bytes : List ℕ) : Type 0 where
@@ -80,7 +81,8 @@ pub record Halts (room : ℕ) (old new : Reading) (at : ℕ) (kind : Kind) : Typ
   pub halts : HaltsIn room AnItem os kind tail
   pub spelled : rest_of old ≡ fronts os ++ tail
   pub place : at ≡ old.place + length (fronts os)
-  pub moved : new ≡ advance old (length (fronts os) + passed kind tail) (length (fronts os) + later_in_open os + fault_steps kind tail)
+  pub moved : new ≡ advance old (length (fronts os) + passed kind tail)
+      (length (fronts os) + later_in_open os + fault_steps kind tail)
 
 -- so many items of an array were passed
 pub record PassesAll (room n : ℕ) (done : Trees) (old new : Reading) : Type 0 where
@@ -159,7 +161,8 @@ HaltsInPairs room n old new at kind = HaltsAtKey room n old new at kind ⊎ Halt
 -- where reading halts, it halts there.
 pub record Only (room : ℕ) (old new : Reading) (result : Result (Unit {0}) Fault) : Type 0 where
   pub passed : (t : Tree) (r : Reading) → Passes room t old r → (result ≡ Ok tt) × (new ≡ r)
-  pub halted : (at : ℕ) (kind : Kind) (r : Reading) → Halts room old r at kind → (result ≡ Err record { at = at; kind = kind }) × (new ≡ r)
+  pub halted : (at : ℕ) (kind : Kind) (r : Reading) → Halts room old r at kind
+      → (result ≡ Err record { at = at; kind = kind }) × (new ≡ r)
 
 -- no byte is left, and one step found that
 pub record Ends (old new : Reading) : Type 0 where

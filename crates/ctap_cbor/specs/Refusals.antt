@@ -49,4 +49,5 @@ abbrev mutual
 
   pub refusal_pairs : ℕ → Option (List ℕ) → Pairs → Option Kind
   refusal_pairs room last no_pairs = None
-  refusal_pairs room last (pair k v ps) = or_else (own_refusal k) (or_else (order_refusal last (text k)) (or_else (refusal room v) (refusal_pairs room (Some (text k)) ps)))
+  refusal_pairs room last (pair k v ps) = or_else (own_refusal k)
+      (or_else (order_refusal last (text k)) (or_else (refusal room v) (refusal_pairs room (Some (text k)) ps)))

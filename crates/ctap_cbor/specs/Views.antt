@@ -25,11 +25,13 @@ part_of Null = One tree.Null
 -- Nothing else can be taken there: an item that stands at the place is the one that was taken.
 abbrev pub TakesOnly : ℕ → Reading → Reading → Result Item Fault → Type 0
 TakesOnly room old new result =
-    (i : Part) (rest : List ℕ) → Suits room AnItem i → rest_of old ≡ item_text i ++ rest → IsOkAnd result (λ j. (part_of j ≡ i) × (rest_of new ≡ rest))
+    (i : Part) (rest : List ℕ) → Suits room AnItem i → rest_of old ≡ item_text i ++ rest
+    → IsOkAnd result (λ j. (part_of j ≡ i) × (rest_of new ≡ rest))
 
 -- what a function found is what reading gives
 abbrev pub Finds : List ℕ → Result (Item × ℕ) (Kind × ℕ) → Result (Part × List ℕ) Kind → Type 0
-Finds bytes (Ok (i, len)) read = (read ≡ Ok (part_of i, drop len bytes)) × (len ≤ length bytes) × (len ≡ passed KeyOrder bytes)
+Finds bytes (Ok (i, len)) read = (read ≡ Ok (part_of i, drop len bytes)) × (len ≤ length bytes)
+    × (len ≡ passed KeyOrder bytes)
 Finds bytes (Err (kind, n)) read = (read ≡ Err kind) × (n ≡ passed kind bytes) × (n ≤ length bytes)
 
 abbrev pub due_of : Bool → Due
@@ -46,8 +48,10 @@ headed m i n = One (if nat_eq i 20 then tree.Flag false else if nat_eq i 21 then
 
 -- the tests after those of a head's first byte, and the item
 abbrev pub FindsRest : ℕ → List ℕ → Result (Item × ℕ) (Kind × ℕ) → Type 0
-FindsRest first rest (Ok (i, len)) = (first_of (later_faults AnItem first rest) ≡ None) × (part_of i ≡ item_of (major first) first rest) × (len ≡ item_len first rest) × (len ≤ suc (length rest))
-FindsRest first rest (Err (kind, n)) = (first_of (later_faults AnItem first rest) ≡ Some kind) × (n ≡ passed kind (first ∷ rest)) × (n ≤ suc (length rest))
+FindsRest first rest (Ok (i, len)) = (first_of (later_faults AnItem first rest) ≡ None)
+    × (part_of i ≡ item_of (major first) first rest) × (len ≡ item_len first rest) × (len ≤ suc (length rest))
+FindsRest first rest (Err (kind, n)) = (first_of (later_faults AnItem first rest) ≡ Some kind)
+    × (n ≡ passed kind (first ∷ rest)) × (n ≤ suc (length rest))
 
 abbrev pub end_steps_of : Kind → ℕ
 end_steps_of Truncated = 1

@@ -43,7 +43,8 @@ pub fn check(bytes: &[u8]) -> Checked
 pub fn read_whole(cursor: &mut Cursor) -> Result<(), Fault>
     ensures { MatchResult result
         (λ _. (middle : Reading) × PassesOne 4 cursor.old middle × Ends middle cursor.new)
-        (λ f. Halts 4 cursor.old cursor.new f.at f.kind ⊎ ((middle : Reading) × PassesOne 4 cursor.old middle × GoesOn middle cursor.new f.at f.kind)) }
+        (λ f. Halts 4 cursor.old cursor.new f.at f.kind
+        ⊎ ((middle : Reading) × PassesOne 4 cursor.old middle × GoesOn middle cursor.new f.at f.kind)) }
 {
     cursor.skip(1)?;
     cursor.end()

@@ -51,7 +51,8 @@ fn read_pairs<'a, M: Members<'a>>(
     requires low { 1 ≤ level }
     requires high { level ≤ 5 }
     ensures { MatchResult result
-        (λ _. (last : Option (List ℕ)) × AddsPairs M.Holds (5 - level) count last members.old members.new cursor.old cursor.new)
+        (λ _. (last : Option (List ℕ)) × AddsPairs M.Holds
+        (5 - level) count last members.old members.new cursor.old cursor.new)
         (λ f. HaltsInPairs (5 - level) count cursor.old cursor.new f.at f.kind) }
 {
     let mut previous = None;
@@ -108,8 +109,8 @@ pub fn read_map<'a, M: Members<'a>>(
     }
 }
 
-/// Takes a whole item at this level, from 1 to 5, and hands the entries of an array to `entries`. Gives whether it is an
-/// array.
+/// Takes a whole item at this level, from 1 to 5, and hands the entries of an array to `entries`. Gives whether it is
+/// an array.
 ///
 /// The first fault that is met ends the reading; the cursor then stands as [`Cursor::skip`] leaves it.
 pub fn read_array<'a, M: Entries<'a>>(

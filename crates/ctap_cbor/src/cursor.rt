@@ -100,7 +100,8 @@ impl<'a> Cursor<'a> {
             (λ k. GivesKey (option_copied previous.entry) self.old self.new (part_of k.item) k.bytes.now)
             (λ f. Refuses 0 (AKey (option_copied previous.entry)) self.old self.new f.at f.kind) }
         ensures exact { MatchResult result
-            (λ k. read 0 (AKey (option_copied previous.entry)) (rest_of self.old) ≡ Ok (part_of k.item, rest_of self.new))
+            (λ k. read 0 (AKey (option_copied previous.entry)) (rest_of self.old)
+            ≡ Ok (part_of k.item, rest_of self.new))
             (λ f. read 0 (AKey (option_copied previous.entry)) (rest_of self.old) ≡ Err f.kind) }
     {
         let at = self.place();

@@ -46,7 +46,8 @@ impl<T: Drop> From<AllocFailed<T>> for Fault {
 /// [`Kind::Memory`] at 0. What a head declares takes no memory before it is there.
 pub fn decode_value(alloc: Global, bytes: &[u8]) -> Result<Value, Fault>
     ensures ok { IfOk result (λ v. IsCanonical (tree_of v) bytes.now) }
-    ensures err { IfErr result (λ f. UnlessMemory f ((o : Outcome) × IsOutcome bytes.now o × (result_of o ≡ Some (f.at, f.kind)))) }
+    ensures err { IfErr result (λ f. UnlessMemory f ((o : Outcome) × IsOutcome bytes.now o
+        × (result_of o ≡ Some (f.at, f.kind)))) }
 {
     known_bytes(bytes);
     let mut cursor = Cursor::new(bytes);

@@ -47,8 +47,8 @@ impl<T: Drop> From<AllocFailed<T>> for Kind {
 ///
 /// A value that has none is refused with the kind that is met first as it is written: for a key its type (5), then an
 /// integer out of range (8), then its order in the map (6), and then its value; for an array or a map a fifth level
-/// (4), and then what is inside; for another integer its range (8). Where memory is refused the kind is 10, and that only
-/// where the vector's capacity was short of the encoding. After a refusal the vector holds what it held before.
+/// (4), and then what is inside; for another integer its range (8). Where memory is refused the kind is 10, and that
+/// only where the vector's capacity was short of the encoding. After a refusal the vector holds what it held before.
 pub fn encode_value(value: &Value, out: &mut Vec<u8>) -> Result<(), Kind>
     ensures ok { OnOk result (IsCanonical (tree_of value.now) (text (tree_of value.now))) }
     ensures appends { OnOk result (out.new.items ≡ out.old.items ++ text (tree_of value.now)) }
@@ -56,7 +56,8 @@ pub fn encode_value(value: &Value, out: &mut Vec<u8>) -> Result<(), Kind>
     ensures unchanged { OnErr result (out.new.items ≡ out.old.items) }
 
     // Memory is refused only where the vector would have to grow.
-    ensures memory { result ≡ Err Kind.Memory → IsShort (vec_capacity out.old) out.old.items (text (tree_of value.now)) }
+    ensures memory { result ≡ Err Kind.Memory → IsShort (vec_capacity out.old) out.old.items
+        (text (tree_of value.now)) }
 {
     let len = out.len();
     let written = write_value(value, out, 4);
@@ -73,7 +74,8 @@ fn write_value(value: &Value, out: &mut Vec<u8>, room: u8) -> Result<(), Kind>
         (λ _. Writes room (tree_of value.now) out.old.items out.new.items)
         (λ k. FailsWith k (refusal room (tree_of value.now)) out.old.items out.new.items) }
     ensures grows { vec_capacity out.old ≤ vec_capacity out.new }
-    ensures short { IfErr result (λ k. k ≡ Kind.Memory → IsShort (vec_capacity out.old) out.old.items (text (tree_of value.now))) }
+    ensures short { IfErr result (λ k. k ≡ Kind.Memory
+        → IsShort (vec_capacity out.old) out.old.items (text (tree_of value.now))) }
 {
     match value {
         Value::Int(i) => write_int(*i, out),
@@ -93,7 +95,8 @@ fn write_array(items: &[Value], out: &mut Vec<u8>, room: u8) -> Result<(), Kind>
         (λ _. Writes room (tree.Array (trees_of items.now)) out.old.items out.new.items)
         (λ k. FailsWith k (refusal room (tree.Array (trees_of items.now))) out.old.items out.new.items) }
     ensures grows { vec_capacity out.old ≤ vec_capacity out.new }
-    ensures short { IfErr result (λ k. k ≡ Kind.Memory → IsShort (vec_capacity out.old) out.old.items (text (tree.Array (trees_of items.now)))) }
+    ensures short { IfErr result (λ k. k ≡ Kind.Memory
+        → IsShort (vec_capacity out.old) out.old.items (text (tree.Array (trees_of items.now)))) }
 {
     if room == 0 {
         return Err(Kind::TooDeep);
@@ -109,7 +112,8 @@ fn write_map(pairs: &[(Value, Value)], out: &mut Vec<u8>, room: u8) -> Result<()
         (λ _. Writes room (tree.Map (pairs_of pairs.now)) out.old.items out.new.items)
         (λ k. FailsWith k (refusal room (tree.Map (pairs_of pairs.now))) out.old.items out.new.items) }
     ensures grows { vec_capacity out.old ≤ vec_capacity out.new }
-    ensures short { IfErr result (λ k. k ≡ Kind.Memory → IsShort (vec_capacity out.old) out.old.items (text (tree.Map (pairs_of pairs.now)))) }
+    ensures short { IfErr result (λ k. k ≡ Kind.Memory
+        → IsShort (vec_capacity out.old) out.old.items (text (tree.Map (pairs_of pairs.now)))) }
 {
     if room == 0 {
         return Err(Kind::TooDeep);
@@ -125,7 +129,8 @@ fn write_items(items: &[Value], out: &mut Vec<u8>, room: u8) -> Result<(), Kind>
         (λ _. WritesAll room (trees_of items.now) out.old.items out.new.items)
         (λ k. FailsWith k (refusal_all room (trees_of items.now)) out.old.items out.new.items) }
     ensures grows { vec_capacity out.old ≤ vec_capacity out.new }
-    ensures short { IfErr result (λ k. k ≡ Kind.Memory → IsShort (vec_capacity out.old) out.old.items (texts (trees_of items.now))) }
+    ensures short { IfErr result (λ k. k ≡ Kind.Memory
+        → IsShort (vec_capacity out.old) out.old.items (texts (trees_of items.now))) }
 {
     for item in items {
         write_value(item, out, room)?;
@@ -140,7 +145,8 @@ fn write_pairs(pairs: &[(Value, Value)], out: &mut Vec<u8>, room: u8) -> Result<
         (λ _. WritesPairs room (pairs_of pairs.now) out.old.items out.new.items)
         (λ k. FailsWith k (refusal_pairs room None (pairs_of pairs.now)) out.old.items out.new.items) }
     ensures grows { vec_capacity out.old ≤ vec_capacity out.new }
-    ensures short { IfErr result (λ k. k ≡ Kind.Memory → IsShort (vec_capacity out.old) out.old.items (pair_texts (pairs_of pairs.now))) }
+    ensures short { IfErr result (λ k. k ≡ Kind.Memory
+        → IsShort (vec_capacity out.old) out.old.items (pair_texts (pairs_of pairs.now))) }
 {
     let mut previous = None;
     for pair in pairs {
@@ -164,7 +170,8 @@ fn write_key(key: &Value, out: &mut Vec<u8>) -> Result<(), Kind>
         (λ _. WritesKey (tree_of key.now) out.old.items out.new.items)
         (λ k. FailsWith k (own_refusal (tree_of key.now)) out.old.items out.new.items) }
     ensures grows { vec_capacity out.old ≤ vec_capacity out.new }
-    ensures short { IfErr result (λ k. k ≡ Kind.Memory → IsShort (vec_capacity out.old) out.old.items (text (tree_of key.now))) }
+    ensures short { IfErr result (λ k. k ≡ Kind.Memory
+        → IsShort (vec_capacity out.old) out.old.items (text (tree_of key.now))) }
 {
     match key {
         Value::Int(i) => write_int(*i, out),
@@ -192,7 +199,8 @@ fn write_int(value: i128, out: &mut Vec<u8>) -> Result<(), Kind>
         (λ _. WritesScalar (tree.Int value) out.old.items out.new.items)
         (λ k. FailsWith k (range_refusal (tree.Int value)) out.old.items out.new.items) }
     ensures grows { vec_capacity out.old ≤ vec_capacity out.new }
-    ensures short { IfErr result (λ k. k ≡ Kind.Memory → IsShort (vec_capacity out.old) out.old.items (scalar_text (tree.Int value))) }
+    ensures short { IfErr result (λ k. k ≡ Kind.Memory
+        → IsShort (vec_capacity out.old) out.old.items (scalar_text (tree.Int value))) }
 {
     if !(-0x1_0000_0000_0000_0000 <= value && value <= 0xffff_ffff_ffff_ffff) {
         return Err(Kind::Unsupported);
@@ -211,7 +219,8 @@ fn write_bytes(bytes: &[u8], out: &mut Vec<u8>) -> Result<(), Kind>
         (λ _. WritesScalar (tree.Bytes bytes.now) out.old.items out.new.items)
         (λ k. (k ≡ Kind.Memory) × Extends out.old.items out.new.items) }
     ensures grows { vec_capacity out.old ≤ vec_capacity out.new }
-    ensures short { IfErr result (λ k. k ≡ Kind.Memory → IsShort (vec_capacity out.old) out.old.items (scalar_text (tree.Bytes bytes.now))) }
+    ensures short { IfErr result (λ k. k ≡ Kind.Memory
+        → IsShort (vec_capacity out.old) out.old.items (scalar_text (tree.Bytes bytes.now))) }
 {
     known_bytes(bytes);
     write_head(2, bytes.len() as u64, out)?;
@@ -225,7 +234,8 @@ fn write_text(text: &str, out: &mut Vec<u8>) -> Result<(), Kind>
         (λ _. WritesScalar (tree.Text text.now) out.old.items out.new.items)
         (λ k. (k ≡ Kind.Memory) × Extends out.old.items out.new.items) }
     ensures grows { vec_capacity out.old ≤ vec_capacity out.new }
-    ensures short { IfErr result (λ k. k ≡ Kind.Memory → IsShort (vec_capacity out.old) out.old.items (scalar_text (tree.Text text.now))) }
+    ensures short { IfErr result (λ k. k ≡ Kind.Memory
+        → IsShort (vec_capacity out.old) out.old.items (scalar_text (tree.Text text.now))) }
 {
     write_head(3, text.len() as u64, out)?;
     out.extend_from_slice(text.as_bytes())?;

@@ -26,8 +26,8 @@ byte_string bytes = Plain (Bytes bytes)
 abbrev pub flag : Bool → Tree
 flag is_set = Plain (Flag is_set)
 
--- The members of authenticatorGetInfo's answer (CTAP 2.1, section 6.4). Which it has beside versions and aaguid, and the
--- values of all but aaguid, are this project's choice.
+-- The members of authenticatorGetInfo's answer (CTAP 2.1, section 6.4). Which it has beside versions and aaguid, and
+-- the values of all but aaguid, are this project's choice.
 
 -- versions (0x01): the versions of the protocol that are supported
 abbrev pub versions : Tree
@@ -155,7 +155,9 @@ member_count user credentials = count_pairs (with_user user (with_number credent
 -- the members that every assertion's answer has
 abbrev pub signed_text : (id auth sig : List ℕ) → List ℕ
 signed_text id auth sig =
-    text (number 0x01) ++ (text (credential id) ++ (text (number 0x02) ++ (text (byte_string auth) ++ (text (number 0x03) ++ text (byte_string sig)))))
+    text (number 0x01) ++ (text (credential id) ++ (text (number 0x02)
+    ++ (text (byte_string auth) ++ (text (number 0x03) ++ text (byte_string sig)))))
 
 abbrev pub assertion_len : (id auth sig : List ℕ) → Option (List ℕ) → Option ℕ → ℕ
-assertion_len id auth sig user credentials = 24 + bytes_len id + bytes_len auth + bytes_len sig + user_len user + number_len credentials
+assertion_len id auth sig user credentials = 24 + bytes_len id + bytes_len auth + bytes_len sig + user_len user +
+    number_len credentials

@@ -46,7 +46,10 @@ abbrev pub shown_user : UserFields → Bool × User
 shown_user x = (x.typed, record { id = option_copied x.id; name = option_copied x.name })
 
 abbrev pub user_next : Label → Tree → User → User
-user_next l v x = record { id = if same label.Id l then as_bytes (Some v) else x.id; name = if same label.Name l then as_text (Some v) else x.name }
+user_next l v x = record {
+  id = if same label.Id l then as_bytes (Some v) else x.id;
+  name = if same label.Name l then as_text (Some v) else x.name;
+}
 
 abbrev pub user_step : Label → Tree → Bool × User → Bool × User
 user_step l v x = (x.0 && label_suits user_labels l v, user_next l v x.1)
@@ -86,7 +89,10 @@ shown_parameter x = (x.typed, record { alg = x.alg; credential_type = option_cop
 
 abbrev pub parameter_next : Label → Tree → Parameter → Parameter
 parameter_next l v x =
-    record { alg = if same label.Alg l then as_int (Some v) else x.alg; credential_type = if same label.Type l then as_text (Some v) else x.credential_type }
+    record {
+      alg = if same label.Alg l then as_int (Some v) else x.alg;
+      credential_type = if same label.Type l then as_text (Some v) else x.credential_type;
+    }
 
 abbrev pub parameter_step : Label → Tree → Bool × Parameter → Bool × Parameter
 parameter_step l v x = (x.0 && label_suits parameter_labels l v, parameter_next l v x.1)

@@ -27,7 +27,10 @@ shown_descriptor x = (x.typed, record { id = option_copied x.id; credential_type
 
 abbrev pub descriptor_next : Label → Tree → Descriptor → Descriptor
 descriptor_next l v x =
-    record { id = if same label.Id l then as_bytes (Some v) else x.id; credential_type = if same label.Type l then as_text (Some v) else x.credential_type }
+    record {
+      id = if same label.Id l then as_bytes (Some v) else x.id;
+      credential_type = if same label.Type l then as_text (Some v) else x.credential_type;
+    }
 
 -- of one pair more that isn't the list of transports
 abbrev pub descriptor_step : Label → Tree → Bool × Descriptor → Bool × Descriptor
@@ -36,7 +39,10 @@ descriptor_step l v x = (x.0 && label_suits plain_labels l v, descriptor_next l 
 -- ---- lists: whether each is whole, and whether there is one
 
 abbrev pub listing_told : Trees → Bool × (Bool × Bool)
-listing_told ts = (all_entries (map_by_name descriptor_types) ts, ((descriptors_in (Some (Array ts))).is_whole, has_entries ts))
+listing_told ts = (
+  all_entries (map_by_name descriptor_types) ts,
+  ((descriptors_in (Some (Array ts))).is_whole, has_entries ts),
+)
 
 abbrev pub shown_listing : Listing → Bool × (Bool × Bool)
 shown_listing x = (x.typed, (x.is_whole, x.given))

@@ -1,4 +1,5 @@
--- What is collected of the parameters of a request, pair by pair; and beside it the entries that the walk over its list has.
+-- What is collected of the parameters of a request, pair by pair; and beside it the entries that the walk over its list
+-- has.
 use Rattle.std.specs.Prelude.{◌≡◌, ℕ, ◌==◌, Bool, true, ◌&&◌, Some, if◌then◌else◌, codes}
 use Rattle.std.specs.Option.{option_copied}
 use Rattle.ctap_cbor.specs.Tree.{Tree, Map, Trees, Pairs}
@@ -19,7 +20,10 @@ abbrev pub MakeTold : Type 0
 MakeTold = Bool × (MakeParameters × Trees)
 
 abbrev pub make_told : Pairs → MakeTold
-make_told ps = (all_pairs (suits_number make_types) ps, (make_parameters (Some (Map ps)), entries_of (numbered 0x05 (Some (Map ps)))))
+make_told ps = (
+  all_pairs (suits_number make_types) ps,
+  (make_parameters (Some (Map ps)), entries_of (numbered 0x05 (Some (Map ps)))),
+)
 
 abbrev pub shown_make : Make → MakeTold
 shown_make m = (
@@ -56,11 +60,15 @@ make_next n v m =
     }
 
 abbrev pub make_step : ℕ → Tree → MakeTold → MakeTold
-make_step n v x = (x.0 && number_suits make_types n v, (make_next n v x.1.0, if 0x05 == n then entries_of (Some v) else x.1.1))
+make_step n v x = (
+  x.0 && number_suits make_types n v,
+  (make_next n v x.1.0, if 0x05 == n then entries_of (Some v) else x.1.1),
+)
 
 -- the value of the parameter with this number was taken
 abbrev pub TakesMake : ℕ → ℕ → Make → Make → Reading → Reading → Type 0
-TakesMake n room before after old new = (v : Tree) × Passes room v old new × (shown_make after ≡ make_step n v (shown_make before))
+TakesMake n room before after old new = (v : Tree) × Passes room v old new
+    × (shown_make after ≡ make_step n v (shown_make before))
 
 -- ---- getAssertion
 
@@ -68,7 +76,10 @@ abbrev pub AssertTold : Type 0
 AssertTold = Bool × (AssertionParameters × Trees)
 
 abbrev pub assert_told : Pairs → AssertTold
-assert_told ps = (all_pairs (suits_number assertion_types) ps, (assertion_parameters (Some (Map ps)), entries_of (numbered 0x03 (Some (Map ps)))))
+assert_told ps = (
+  all_pairs (suits_number assertion_types) ps,
+  (assertion_parameters (Some (Map ps)), entries_of (numbered 0x03 (Some (Map ps)))),
+)
 
 abbrev pub shown_assert : Assert → AssertTold
 shown_assert a = (
@@ -96,7 +107,11 @@ assert_next n v a =
     }
 
 abbrev pub assert_step : ℕ → Tree → AssertTold → AssertTold
-assert_step n v x = (x.0 && number_suits assertion_types n v, (assert_next n v x.1.0, if 0x03 == n then entries_of (Some v) else x.1.1))
+assert_step n v x = (
+  x.0 && number_suits assertion_types n v,
+  (assert_next n v x.1.0, if 0x03 == n then entries_of (Some v) else x.1.1),
+)
 
 abbrev pub TakesAssert : ℕ → ℕ → Assert → Assert → Reading → Reading → Type 0
-TakesAssert n room before after old new = (v : Tree) × Passes room v old new × (shown_assert after ≡ assert_step n v (shown_assert before))
+TakesAssert n room before after old new = (v : Tree) × Passes room v old new
+    × (shown_assert after ≡ assert_step n v (shown_assert before))

@@ -1,5 +1,5 @@
--- A walk over a list of descriptors, which is the one stated second look at a part of a message: what is left of the list, and
--- the walk's own steps.
+-- A walk over a list of descriptors, which is the one stated second look at a part of a message: what is left of the
+-- list, and the walk's own steps.
 use Rattle.std.specs.Prelude.{◌≡◌, ℕ, ◌+◌, ◌-◌, ◌≤◌, min, Bool, true, List, length, Option, Some, None, is_some, if◌then◌else◌}
 use Rattle.std.specs.Borrow.{Bor}
 use Rattle.std.specs.Iterator.{YieldsFirstBy}
@@ -28,7 +28,8 @@ left_of w = items_at 3 w.count (rest_of w.cursor)
 abbrev pub IsWhole : DescriptorWalk → Trees → Type 0
 IsWhole w ts = (list_of w ≡ ts) × (left_of w ≡ ts)
 
--- the steps of a whole walk: those of checking the list's bytes, but for finding their end; none where there is no entry
+-- the steps of a whole walk: those of checking the list's bytes, but for finding their end; none where there is no
+-- entry
 abbrev pub list_steps : Trees → ℕ
 list_steps no_trees = 0
 list_steps (tree t ts) = steps (text (Array (tree t ts))) (Whole (Array (tree t ts))) - 1
@@ -72,7 +73,8 @@ pub record Walks (r s : Reading) (n : ℕ) (ts us : Trees) (more : ℕ) : Type 0
 -- what looking for the next id gives
 abbrev pub Gives : Reading → ℕ → Reading → ℕ → Option (List ℕ) → Type 0
 Gives r n s m id =
-    (ts : Trees) → Left r n ts → (us : Trees) × (more : ℕ) × Walks r s m ts us more × (ids_of ts ≡ in_front id (ids_of us)) × (id ≡ None → us ≡ no_trees) × (us ≡ after_first ts)
+    (ts : Trees) → Left r n ts → (us : Trees) × (more : ℕ) × Walks r s m ts us more
+    × (ids_of ts ≡ in_front id (ids_of us)) × (id ≡ None → us ≡ no_trees) × (us ≡ after_first ts)
 
 -- the bytes of a list with entries, as they stand in a request
 pub record IsList (l : List ℕ) (ts : Trees) : Type 0 where

@@ -45,7 +45,10 @@ pub record DescriptorList : Type 0 where
   pub entries : Trees
 
 abbrev pub descriptors_in : Option Tree → DescriptorList
-descriptors_in t = record { is_whole = all_entries (λ t. is_whole_descriptor (descriptor_in (Some t))) (entries_of t); entries = entries_of t }
+descriptors_in t = record {
+  is_whole = all_entries (λ t. is_whole_descriptor (descriptor_in (Some t))) (entries_of t);
+  entries = entries_of t;
+}
 
 -- ---- options
 
@@ -58,7 +61,11 @@ pub record Options : Type 0 where
   pub uv : Option Bool
 
 abbrev pub options_in : Option Tree → Options
-options_in t = record { rk = as_flag (named (codes "rk") t); up = as_flag (named (codes "up") t); uv = as_flag (named (codes "uv") t) }
+options_in t = record {
+  rk = as_flag (named (codes "rk") t);
+  up = as_flag (named (codes "up") t);
+  uv = as_flag (named (codes "uv") t);
+}
 
 -- an option that was given as true, and as false
 abbrev pub is_on : Option Bool → Bool

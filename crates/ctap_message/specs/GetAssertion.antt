@@ -1,5 +1,5 @@
--- authenticatorGetAssertion (CTAP 2.1, section 6.2): the types of its parameters, what they tell, the checks of a request
--- in their order, and what it asks. The order, and that pinUvAuthParam is refused, are this project's choice.
+-- authenticatorGetAssertion (CTAP 2.1, section 6.2): the types of its parameters, what they tell, the checks of a
+-- request in their order, and what it asks. The order, and that pinUvAuthParam is refused, are this project's choice.
 use Rattle.std.specs.Prelude.{ℕ, ◌==◌, Bool, false, not, ◌&&◌, List, [], ◌∷◌, length, Option, Some, None, is_some, Result}
 use Rattle.ctap_cbor.specs.Tree.{Tree, is_map}
 use Rattle.ctap_message.specs.Statuses.{INVALID_PARAMETER, INVALID_LENGTH, CBOR_UNEXPECTED_TYPE, INVALID_CBOR, MISSING_PARAMETER, UNSUPPORTED_OPTION, INVALID_OPTION}
@@ -59,7 +59,8 @@ assertion_checks is_canonical is_typed a =
     ∷ []
 
 abbrev pub assertion_asks : AssertionParameters → Asked
-assertion_asks a = GetAssertion (or_empty a.client_data_hash) (or_empty a.rp_id) a.allow_list.entries (not (is_off a.options.up))
+assertion_asks a = GetAssertion (or_empty a.client_data_hash) (or_empty a.rp_id) a.allow_list.entries
+    (not (is_off a.options.up))
 
 abbrev pub assertion_judged : Bool → Bool → AssertionParameters → Result Asked ℕ
 assertion_judged is_canonical is_typed a = if_all_hold (assertion_checks is_canonical is_typed a) (assertion_asks a)

@@ -20,7 +20,8 @@ label_text label.Other = []
 
 abbrev pub labels : List Label
 labels =
-    label.Id ∷ label.Type ∷ label.Name ∷ label.DisplayName ∷ label.Transports ∷ label.Alg ∷ label.Rk ∷ label.Up ∷ label.Uv ∷ []
+    label.Id ∷ label.Type ∷ label.Name ∷ label.DisplayName ∷ label.Transports ∷ label.Alg ∷ label.Rk ∷ label.Up
+    ∷ label.Uv ∷ []
 
 -- the first label with this text
 abbrev pub first_labelled : List ℕ → List Label → Label

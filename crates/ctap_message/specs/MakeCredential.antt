@@ -72,14 +72,16 @@ or_empty s = unwrap_or s []
 -- the parameters that have to be there, inside too
 abbrev pub make_is_whole : MakeParameters → Bool
 make_is_whole m =
-    is_some m.client_data_hash && is_some m.rp_id && is_some m.user.id && m.has_parameters && m.parameters.is_whole && m.exclude_list.is_whole
+    is_some m.client_data_hash && is_some m.rp_id && is_some m.user.id && m.has_parameters && m.parameters.is_whole
+    && m.exclude_list.is_whole
 
 abbrev pub make_checks : Bool → Bool → MakeParameters → List Check
 make_checks is_canonical is_typed m =
     check is_canonical INVALID_CBOR  -- 0x12: canonical CBOR, section 8
     ∷ check is_typed CBOR_UNEXPECTED_TYPE  -- 0x11: a map, and the types of section 6.1
     ∷ check (make_is_whole m) MISSING_PARAMETER  -- 0x14: what section 6.1 requires
-    ∷ check (length (or_empty m.client_data_hash) == 32 && nat_le (length (or_empty m.user.id)) 64) INVALID_LENGTH  -- 0x03: WebAuthn Level 2, section 5.4.3
+    -- 0x03: WebAuthn Level 2, section 5.4.3
+    ∷ check (length (or_empty m.client_data_hash) == 32 && nat_le (length (or_empty m.user.id)) 64) INVALID_LENGTH
     ∷ check (not m.has_pin_uv_auth_param) INVALID_PARAMETER  -- 0x02: no PIN and no user verification
     ∷ check m.parameters.has_es256 UNSUPPORTED_ALGORITHM  -- 0x26: section 6.1.2, pubKeyCredParams
     ∷ check (not (is_on m.options.uv) && not (is_off m.options.up)) INVALID_OPTION  -- 0x2c: section 6.1.2, options
@@ -87,7 +89,8 @@ make_checks is_canonical is_typed m =
     ∷ []
 
 abbrev pub make_asks : MakeParameters → Asked
-make_asks m = MakeCredential (or_empty m.client_data_hash) (or_empty m.rp_id) (or_empty m.user.id) (or_empty m.user.name) (is_on m.options.rk) m.exclude_list.entries
+make_asks m = MakeCredential (or_empty m.client_data_hash) (or_empty m.rp_id) (or_empty m.user.id)
+    (or_empty m.user.name) (is_on m.options.rk) m.exclude_list.entries
 
 abbrev pub make_judged : Bool → Bool → MakeParameters → Result Asked ℕ
 make_judged is_canonical is_typed m = if_all_hold (make_checks is_canonical is_typed m) (make_asks m)

@@ -1,5 +1,5 @@
--- How a request's parameters are found in the tree of its bytes: members of maps by number or by name, entries of arrays,
--- and the types that they are to have.
+-- How a request's parameters are found in the tree of its bytes: members of maps by number or by name, entries of
+-- arrays, and the types that they are to have.
 use Rattle.std.specs.Prelude.{ℕ, ℤ, pos, ◌==◌, Bool, true, false, ◌&&◌, ◌||◌, List, [], ◌∷◌, Option, Some, None, is_some, if◌then◌else◌}
 use Rattle.std.specs.Str.{bytes_eq}
 use Rattle.ctap_cbor.specs.Tree.{Int, Bytes, Text, Flag, Tree, Plain, Array, Map, Trees, no_trees, tree, Pairs, no_pairs, pair, is_map, is_array}

@@ -20,8 +20,8 @@ named_command byte =
     else (if byte == 0x08 then Some served.GetNextAssertion
     else (if byte == 0x0b then Some served.Selection else None)))))
 
--- What takes no parameters (CTAP 2.1, sections 6.3, 6.4, 6.6 and 6.9) asks by its command byte alone. That bytes which stand there
--- are a wrong length is this project's choice.
+-- What takes no parameters (CTAP 2.1, sections 6.3, 6.4, 6.6 and 6.9) asks by its command byte alone. That bytes which
+-- stand there are a wrong length is this project's choice.
 abbrev pub alone : List ℕ → Asked → Result Asked ℕ
 alone parameters asked = if_all_hold (check (length parameters == 0) INVALID_LENGTH ∷ []) asked
 
@@ -44,10 +44,11 @@ unfoldable pub read_of : List ℕ → Result Asked ℕ
 read_of [] = Err INVALID_LENGTH
 read_of (byte ∷ parameters) = served_request (named_command byte) parameters
 
--- The steps of reading parameters: those of checking them, and as many again where they are canonical, for they are walked once
--- more.
+-- The steps of reading parameters: those of checking them, and as many again where they are canonical, for they are
+-- walked once more.
 abbrev pub reading_steps : List ℕ → ℕ
-reading_steps parameters = if is_some (canonical_tree parameters) then 2 * check_steps parameters else check_steps parameters
+reading_steps parameters = if is_some (canonical_tree parameters) then 2 * check_steps parameters
+    else check_steps parameters
 
 -- The steps of reading what stands after a command byte: none where nothing may stand there.
 abbrev pub command_steps : Command → List ℕ → ℕ

@@ -8,7 +8,8 @@ use Rattle.ctap_message.specs.Asked as asks
 use Rattle.ctap_message.specs.DescriptorWalk.{list_of, left_of}
 
 abbrev pub asked : Request → Asked
-asked (request.Make hash rp_id user_id user_name discoverable exclude) = asks.MakeCredential hash.now rp_id.now user_id.now user_name.now discoverable (left_of exclude)
+asked (request.Make hash rp_id user_id user_name discoverable exclude) =
+    asks.MakeCredential hash.now rp_id.now user_id.now user_name.now discoverable (left_of exclude)
 asked (request.Assert hash rp_id allow presence) = asks.GetAssertion hash.now rp_id.now (left_of allow) presence
 asked request.Info = asks.GetInfo
 asked request.Reset = asks.Reset
@@ -27,6 +28,7 @@ IsFresh _ = Unit {0}
 
 -- the lengths that the checks ask for
 abbrev pub HasLengths : Result Request Status → Type 0
-HasLengths (Ok (request.Make hash rp_id user_id user_name discoverable exclude)) = (length hash.now ≡ 32) × (length user_id.now ≤ 64)
+HasLengths (Ok (request.Make hash rp_id user_id user_name discoverable exclude)) =
+    (length hash.now ≡ 32) × (length user_id.now ≤ 64)
 HasLengths (Ok (request.Assert hash rp_id allow presence)) = length hash.now ≡ 32
 HasLengths _ = Unit {0}

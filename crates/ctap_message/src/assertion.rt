@@ -13,8 +13,8 @@ use crate::created::put_bytes;
 use ctap_cbor::Sink;
 
 /// The answer of an assertion (CTAP 2.1, sections 6.2.2 and 6.3): status 0x00 and the map
-/// `{1: {"id": id, "type": "public-key"}, 2: auth, 3: sig, 4: {"id": user}, 5: number}` in canonical CBOR, 4 and 5 where
-/// they are given.
+/// `{1: {"id": id, "type": "public-key"}, 2: auth, 3: sig, 4: {"id": user}, 5: number}` in canonical CBOR, 4 and 5
+/// where they are given.
 #[tactic(auto, unfolding(crate::specs::Answers::assertion_answer))]
 pub fn write_assertion(
     id: &[u8; 32],
@@ -47,7 +47,8 @@ fn assertion_into(
     requires sig { length sig.now ≤ 72 }
     requires user { ForSome user (λ u. length u.now ≤ 64) }
     ensures within { result ≤ LONGEST_MAP }
-    ensures front { take result buffer.new ≡ text (spec.assertion_tree id.now auth.now sig.now (option_copied user.entry) number) }
+    ensures front { take result buffer.new ≡ text (spec.assertion_tree id.now auth.now sig.now
+        (option_copied user.entry) number) }
 {
     let mut sink = Sink::new(buffer);
     put_assertion(&mut sink, id, auth, sig, user, number);
@@ -67,7 +68,9 @@ fn put_assertion(
     requires auth { length auth.now ≡ 37 }
     requires sig { length sig.now ≤ 72 }
     requires user { ForSome user (λ u. length u.now ≤ 64) }
-    ensures appends { Appends sink.old sink.new (text (spec.assertion_tree id.now auth.now sig.now (option_copied user.entry) number)) (spec.assertion_len id.now auth.now sig.now (option_copied user.entry) number) }
+    ensures appends { Appends sink.old sink.new (text
+        (spec.assertion_tree id.now auth.now sig.now (option_copied user.entry) number))
+        (spec.assertion_len id.now auth.now sig.now (option_copied user.entry) number) }
     ensures few { spec.assertion_len id.now auth.now sig.now (option_copied user.entry) number ≤ LONGEST_MAP }
     ensures same { SameBuffer sink.old sink.new }
 {
@@ -94,7 +97,8 @@ fn put_signed(sink: &mut Sink<'_>, id: &[u8; 32], auth: &[u8], sig: &[u8])
     requires room { 170 ≤ room_of sink.old }
     requires auth { length auth.now ≡ 37 }
     requires sig { length sig.now ≤ 72 }
-    ensures appends { Appends sink.old sink.new (spec.signed_text id.now auth.now sig.now) (23 + spec.bytes_len id.now + spec.bytes_len auth.now + spec.bytes_len sig.now) }
+    ensures appends { Appends sink.old sink.new (spec.signed_text id.now auth.now sig.now)
+        (23 + spec.bytes_len id.now + spec.bytes_len auth.now + spec.bytes_len sig.now) }
     ensures few { 23 + spec.bytes_len id.now + spec.bytes_len auth.now + spec.bytes_len sig.now ≤ 170 }
     ensures same { SameBuffer sink.old sink.new }
 {
@@ -124,7 +128,8 @@ fn put_credential(sink: &mut Sink<'_>, id: &[u8; 32])
 fn put_user(sink: &mut Sink<'_>, user: Option<&[u8]>)
     requires room { 71 ≤ room_of sink.old }
     requires user { ForSome user (λ u. length u.now ≤ 64) }
-    ensures appends { Appends sink.old sink.new (pair_texts (spec.with_user (option_copied user.entry) no_pairs)) (spec.user_len (option_copied user.entry)) }
+    ensures appends { Appends sink.old sink.new (pair_texts (spec.with_user (option_copied user.entry) no_pairs))
+        (spec.user_len (option_copied user.entry)) }
     ensures few { spec.user_len (option_copied user.entry) ≤ 71 }
     ensures same { SameBuffer sink.old sink.new }
 {

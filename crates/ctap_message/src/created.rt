@@ -41,7 +41,8 @@ fn put_created(sink: &mut Sink<'_>, auth: &[u8], sig: &[u8])
     requires room { LONGEST_MAP ≤ room_of sink.old }
     requires auth { length auth.now ≡ 164 }
     requires sig { length sig.now ≤ 72 }
-    ensures appends { Appends sink.old sink.new (text (spec.created_tree auth.now sig.now)) (21 + spec.bytes_len auth.now + spec.bytes_len sig.now) }
+    ensures appends { Appends sink.old sink.new (text (spec.created_tree auth.now sig.now))
+        (21 + spec.bytes_len auth.now + spec.bytes_len sig.now) }
     ensures few { 21 + spec.bytes_len auth.now + spec.bytes_len sig.now ≤ LONGEST_MAP }
     ensures same { SameBuffer sink.old sink.new }
 {

@@ -72,7 +72,8 @@ impl<'a> Descriptor<'a> {
 
     /// Takes a member that isn't the list of transports.
     fn put(&mut self, label: Label, value: Item<'a>)
-        ensures { shown_descriptor self.new ≡ descriptor_step label (head_of (part_of value.entry)) (shown_descriptor self.old) }
+        ensures { shown_descriptor self.new ≡ descriptor_step label (head_of (part_of value.entry))
+            (shown_descriptor self.old) }
     {
         match label {
             Label::Id => {

@@ -45,8 +45,8 @@ impl<'a> Entry<'a> {
 
 /// The ids of a list's entries of type `public-key`, in order, lent from the message.
 ///
-/// The walk is a second look at the list's bytes, with a count of its own: [`Descriptors::steps`]. A list that isn't there has
-/// no entry.
+/// The walk is a second look at the list's bytes, with a count of its own: [`Descriptors::steps`]. A list that isn't
+/// there has no entry.
 #[derive(Drop)]
 pub struct Descriptors<'a> {
     entry: Entry<'a>,
@@ -106,8 +106,8 @@ impl<'a> Descriptors<'a> {
         self.given
     }
 
-    /// The steps of the walk so far. At the end of the list they are those of checking its bytes, less the one that finds
-    /// their end.
+    /// The steps of the walk so far. At the end of the list they are those of checking its bytes, less the one that
+    /// finds their end.
     pub fn steps(&self) -> u64
         ensures { result ≡ walked self.now }
     {

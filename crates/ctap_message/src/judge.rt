@@ -56,7 +56,8 @@ pub(crate) fn judge_make<'a>(make: Make<'a>) -> Result<Request<'a>, Status>
 /// What a getAssertion asks, or the status of the first check that it fails.
 pub(crate) fn judge_assert<'a>(assert: Assert<'a>) -> Result<Request<'a>, Status>
     requires { list_of assert.allow.list ≡ left_of assert.allow.list }
-    ensures request { shown result ≡ assertion_judged true (shown_assert assert.entry).0 (shown_assert assert.entry).1.0 }
+    ensures request { shown result ≡ assertion_judged true (shown_assert assert.entry).0
+        (shown_assert assert.entry).1.0 }
     ensures fresh { IsFresh result }
     ensures lens { HasLengths result }
 {

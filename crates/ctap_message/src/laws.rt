@@ -28,17 +28,20 @@ pub fn steps_are_bounded()
 
 /// After its status, the answer of authenticatorMakeCredential is the canonical CBOR encoding of its map.
 pub fn created_is_canonical()
-    ensures { (auth sig : List ℕ) → AreShort auth → AreShort sig → IsCanonical (created_tree auth sig) (drop 1 (created_answer auth sig)) }
+    ensures { (auth sig : List ℕ) → AreShort auth → AreShort sig
+        → IsCanonical (created_tree auth sig) (drop 1 (created_answer auth sig)) }
 {}
 
 /// After its status, the answer of an assertion is the canonical CBOR encoding of its map.
 pub fn assertion_is_canonical()
-    ensures { (id auth sig : List ℕ) (user : Option (List ℕ)) (credentials : Option ℕ) → AreShort id → AreShort auth → AreShort sig → UserIsShort user → NumberIsShort credentials
-        → IsCanonical (assertion_tree id auth sig user credentials) (drop 1 (assertion_answer id auth sig user credentials)) }
+    ensures { (id auth sig : List ℕ) (user : Option (List ℕ)) (credentials : Option ℕ) → AreShort id → AreShort auth
+        → AreShort sig → UserIsShort user → NumberIsShort credentials
+        → IsCanonical (assertion_tree id auth sig user credentials)
+        (drop 1 (assertion_answer id auth sig user credentials)) }
 {}
 
-/// A walk over a list of n bytes takes at most 2 * n steps, and at the list's end exactly those of checking its bytes, less
-/// the one that finds their end.
+/// A walk over a list of n bytes takes at most 2 * n steps, and at the list's end exactly those of checking its bytes,
+/// less the one that finds their end.
 pub fn walks_are_bounded()
     ensures bound { (ts : Trees) (l : List ℕ) → IsCanonical (Array ts) l → list_steps ts ≤ 2 * length l }
     ensures ended { (w : DescriptorWalk) → left_of w ≡ no_trees → walked w ≡ min (list_steps (list_of w)) LARGEST }

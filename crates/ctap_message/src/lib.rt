@@ -20,8 +20,8 @@
 //! - [`read_request`] gives what a message asks, or the status of the first check that it fails, and how many
 //!   steps reading took.
 //! - [`Descriptors`] walks a request's list of credentials, in place.
-//! - [`write_status`], [`write_info`], [`write_created`] and [`write_assertion`] write answers: a status alone, or status
-//!   0x00 and a map in canonical CBOR.
+//! - [`write_status`], [`write_info`], [`write_created`] and [`write_assertion`] write answers: a status alone, or
+//! status 0x00 and a map in canonical CBOR.
 //! - [`laws`] has what holds of the definitions themselves.
 //!
 //! The commands authenticatorMakeCredential (0x01), GetAssertion (0x02), GetInfo (0x04), Reset (0x07),

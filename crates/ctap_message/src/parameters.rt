@@ -25,7 +25,8 @@ pub(crate) struct Parameter<'a> {
 impl<'a> Parameter<'a> {
     /// Takes a member.
     fn put(&mut self, label: Label, value: Item<'a>)
-        ensures { shown_parameter self.new ≡ parameter_step label (head_of (part_of value.entry)) (shown_parameter self.old) }
+        ensures { shown_parameter self.new ≡ parameter_step label (head_of (part_of value.entry))
+            (shown_parameter self.old) }
     {
         match label {
             Label::Alg => {

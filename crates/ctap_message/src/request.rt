@@ -65,8 +65,8 @@ pub enum Request<'a> {
 /// | a command that isn't served | 0x01 | 0 |
 /// | 0x04, 0x07, 0x08 or 0x0b alone | `Info`, `Reset`, `Next` or `Select` | 0 |
 /// | one of these and bytes after it | 0x03 | 0 |
-/// | 0x01 or 0x02 and canonical parameters | `Make` or `Assert`, or the first failing check's status | twice those of checking them |
-/// | 0x01 or 0x02 and others | 0x12 | those of checking them |
+/// | 0x01 or 0x02 and canonical parameters | `Make` or `Assert`, or the first failing check's status | twice those of
+/// checking them | | 0x01 or 0x02 and others | 0x12 | those of checking them |
 #[tactic(auto, unfolding(crate::specs::Requests::read_of, crate::specs::Requests::steps_of))]
 pub fn read_request<'a>(message: &'a [u8]) -> (Result<Request<'a>, Status>, u64)
     ensures request { shown result.0 ≡ read_of message.now }
@@ -141,8 +141,10 @@ fn read_make_credential<'a>(parameters: &'a [u8]) -> (Result<Request<'a>, Status
 /// The parameters of a makeCredential, up to their end.
 fn read_make_again<'a>(cursor: &mut Cursor<'a>) -> Result<Make<'a>, Fault>
     ensures { MatchResult result
-        (λ m. (middle : Reading) × Reads (map_told make_told) 4 (shown_make m) cursor.old middle × Ends middle cursor.new)
-        (λ f. Halts 4 cursor.old cursor.new f.at f.kind ⊎ ((middle : Reading) × PassesOne 4 cursor.old middle × GoesOn middle cursor.new f.at f.kind)) }
+        (λ m. (middle : Reading) × Reads (map_told make_told) 4 (shown_make m) cursor.old middle
+        × Ends middle cursor.new)
+        (λ f. Halts 4 cursor.old cursor.new f.at f.kind
+        ⊎ ((middle : Reading) × PassesOne 4 cursor.old middle × GoesOn middle cursor.new f.at f.kind)) }
 {
     let make = read_make(cursor)?;
     cursor.end()?;
@@ -171,8 +173,10 @@ fn read_get_assertion<'a>(parameters: &'a [u8]) -> (Result<Request<'a>, Status>,
 /// The parameters of a getAssertion, up to their end.
 fn read_assert_again<'a>(cursor: &mut Cursor<'a>) -> Result<Assert<'a>, Fault>
     ensures { MatchResult result
-        (λ a. (middle : Reading) × Reads (map_told assert_told) 4 (shown_assert a) cursor.old middle × Ends middle cursor.new)
-        (λ f. Halts 4 cursor.old cursor.new f.at f.kind ⊎ ((middle : Reading) × PassesOne 4 cursor.old middle × GoesOn middle cursor.new f.at f.kind)) }
+        (λ a. (middle : Reading) × Reads (map_told assert_told) 4 (shown_assert a) cursor.old middle
+        × Ends middle cursor.new)
+        (λ f. Halts 4 cursor.old cursor.new f.at f.kind
+        ⊎ ((middle : Reading) × PassesOne 4 cursor.old middle × GoesOn middle cursor.new f.at f.kind)) }
 {
     let assert = read_assert(cursor)?;
     cursor.end()?;

@@ -14,7 +14,8 @@ impl Status {
     /// 0x02, CTAP1_ERR_INVALID_PARAMETER: a parameter that isn't taken was given.
     pub const INVALID_PARAMETER: Status = Status(0x02);
 
-    /// 0x03, CTAP1_ERR_INVALID_LENGTH: the message, the client data hash or the user id hasn't the length that is asked for.
+    /// 0x03, CTAP1_ERR_INVALID_LENGTH: the message, the client data hash or the user id hasn't the length that is asked
+    /// for.
     pub const INVALID_LENGTH: Status = Status(0x03);
 
     /// 0x11, CTAP2_ERR_CBOR_UNEXPECTED_TYPE: a parameter, or a member inside, is of another type.

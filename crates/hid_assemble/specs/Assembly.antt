@@ -41,10 +41,24 @@ given_after given (Begins InitNew) = given + 1
 given_after given _ = given
 
 abbrev pub begun : ℕ → Fields → Open
-begun at f = record { cid = channel_of f; cmd = command_of f; len = length_of f; bytes = data_of f; kept = 0; last = at }
+begun at f = record {
+  cid = channel_of f;
+  cmd = command_of f;
+  len = length_of f;
+  bytes = data_of f;
+  kept = 0;
+  last = at;
+}
 
 abbrev pub grown : ℕ → Fields → Open → Open
-grown at f m = record { cid = m.cid; cmd = m.cmd; len = m.len; bytes = m.bytes ++ data_of f; kept = m.kept + 1; last = at }
+grown at f m = record {
+  cid = m.cid;
+  cmd = m.cmd;
+  len = m.len;
+  bytes = m.bytes ++ data_of f;
+  kept = m.kept + 1;
+  last = at;
+}
 
 -- the open message, but not one on this channel
 abbrev pub drop_on : Option Open → ℕ → Option Open
@@ -68,7 +82,11 @@ abbrev pub completed : Fields → Open → Message
 completed f m = record { cid = m.cid; cmd = m.cmd; bytes = take m.len (m.bytes ++ data_of f) }
 
 unfoldable pub message_after : Option Open → Fields → Ruling → Option Message
-message_after current f (Begins Short) = Some (record { cid = channel_of f; cmd = command_of f; bytes = take (length_of f) (data_of f) })
+message_after current f (Begins Short) = Some (record {
+  cid = channel_of f;
+  cmd = command_of f;
+  bytes = take (length_of f) (data_of f);
+})
 message_after current f (Continues Whole) = option_map (completed f) current
 message_after current f _ = None
 
@@ -79,13 +97,18 @@ bytes_of (Some m) = m.bytes
 -- What a packet makes of all that is kept.
 abbrev pub kept_by : Assembly → ℕ → Fields → Ruling → Assembly
 kept_by a at f ruling =
-    record { given = given_after a.given ruling; current = open_after a.current at f ruling; finished = bytes_of (message_after a.current f ruling) }
+    record {
+      given = given_after a.given ruling;
+      current = open_after a.current at f ruling;
+      finished = bytes_of (message_after a.current f ruling);
+    }
 
 -- What is kept after a packet with these fields.
 unfoldable pub accepted : Assembly → ℕ → Option ℕ → Fields → Assembly
 accepted a at work f = kept_by a at f (ruling_of a.given a.current work f)
 
--- An open message is a PING or a CBOR message on a channel that was given out, too long for one packet and not yet whole.
+-- An open message is a PING or a CBOR message on a channel that was given out, too long for one packet and not yet
+-- whole.
 pub record IsOpenMessage (given cid cmd len kept : ℕ) : Type 0 where
   pub low : 1 ≤ cid
   pub high : cid ≤ given

@@ -10,7 +10,14 @@ use Rattle.hid_packet.specs.declared.limit.TheConstants.{LONGEST_MESSAGE}
 
 -- the open message, whose data bytes are the first of the buffer
 abbrev pub opened : List ℕ → OpenMessage → Open
-opened buffer m = record { cid = m.cid; cmd = m.cmd; len = m.len; bytes = take (data_room m.kept) buffer; kept = m.kept; last = m.last }
+opened buffer m = record {
+  cid = m.cid;
+  cmd = m.cmd;
+  len = m.len;
+  bytes = take (data_room m.kept) buffer;
+  kept = m.kept;
+  last = m.last;
+}
 
 abbrev pub open_in : List ℕ → Contents → Option Open
 open_in buffer Nothing = None
@@ -23,7 +30,11 @@ finished_in buffer (HoldsOpen m) = []
 finished_in buffer (Finished len) = take len buffer
 
 unfoldable pub assembly : ℕ → Contents → List ℕ → Assembly
-assembly given contents buffer = record { given = given; current = open_in buffer contents; finished = finished_in buffer contents }
+assembly given contents buffer = record {
+  given = given;
+  current = open_in buffer contents;
+  finished = finished_in buffer contents;
+}
 
 abbrev pub MayBeHeld : ℕ → Contents → Type 0
 MayBeHeld given Nothing = Unit {0}

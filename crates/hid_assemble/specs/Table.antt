@@ -1,6 +1,6 @@
 -- The reply table: which of its rows a packet falls under (CTAP 2.1, sections 11.2.4 to 11.2.5 and 11.2.9, with this
--- project's choices). It looks at the packet's fields, at how many channels were given out, at the open message and at the
--- channel of waiting work.
+-- project's choices). It looks at the packet's fields, at how many channels were given out, at the open message and at
+-- the channel of waiting work.
 use Rattle.std.specs.Prelude.{ℕ, ◌+◌, Bool, true, false, not, ◌&&◌, ◌||◌, ◌==◌, nat_le, nat_lt, List, [], ◌∷◌, Option, Some, None, option_map, if◌then◌else◌}
 use Rattle.hid_packet.specs.Commands.{PING, INIT, CBOR, CANCEL, BROADCAST}
 use Rattle.hid_packet.specs.Packet.{Fields, initialization, continuation}
@@ -11,8 +11,8 @@ use Rattle.hid_assemble.specs.declared.table.Continuation.TheVariants.{Stray, Wr
 use Rattle.hid_packet.specs.Limits.{data_room}
 use Rattle.hid_packet.specs.declared.limit.TheConstants.{INITIALIZATION_DATA, LONGEST_MESSAGE}
 
--- An open message: what its initialization packet said, the data bytes so far, how many continuation packets brought them,
--- and the moment of the last packet.
+-- An open message: what its initialization packet said, the data bytes so far, how many continuation packets brought
+-- them, and the moment of the last packet.
 pub record Open : Type 0 where
   pub cid : ℕ
   pub cmd : ℕ
@@ -44,7 +44,8 @@ abbrev pub first_row : List (Bool × Row) → Row → Row
 first_row [] else_row = else_row
 first_row (t ∷ ts) else_row = if t.0 then t.1 else first_row ts else_row
 
--- An initialization packet: each row with its test, in their order. A packet that is under none of them opens a message.
+-- An initialization packet: each row with its test, in their order. A packet that is under none of them opens a
+-- message.
 unfoldable pub initialization_row : ℕ → Option ℕ → Option ℕ → ℕ → ℕ → ℕ → Row
 initialization_row given current work cid cmd len =
     let asks_for_channel = (cid == BROADCAST) && (cmd == INIT) in
@@ -64,7 +65,8 @@ initialization_row given current work cid cmd len =
     ∷ (nat_le len INITIALIZATION_DATA, Short)
     ∷ []) Long
 
--- A continuation packet, where a message of `len` bytes is open on the channel `on` and `kept` of its packets were kept.
+-- A continuation packet, where a message of `len` bytes is open on the channel `on` and `kept` of its packets were
+-- kept.
 abbrev pub continues : (on len kept cid number : ℕ) → Continuation
 continues on len kept cid number =
     if not (on == cid) then Stray
@@ -82,11 +84,12 @@ pub data Ruling : Type 0 where
   Continues : Continuation → Ruling
 
 unfoldable pub ruling_of : ℕ → Option Open → Option ℕ → Fields → Ruling
-ruling_of given current work (initialization cid cmd len part) = Begins (initialization_row given (option_map (λ m. m.cid) current) work cid cmd len)
+ruling_of given current work (initialization cid cmd len part) =
+    Begins (initialization_row given (option_map (λ m. m.cid) current) work cid cmd len)
 ruling_of given current work (continuation cid number part) = Continues (continuation_row current cid number)
 
--- A packet is noise, which changes nothing, where it is a CANCEL for which no work waits, where its channel was never given out,
--- where its channel or another is busy, and where it continues no open message.
+-- A packet is noise, which changes nothing, where it is a CANCEL for which no work waits, where its channel was never
+-- given out, where its channel or another is busy, and where it continues no open message.
 abbrev pub is_noise : Ruling → Bool
 is_noise (Begins CancelsNothing) = true
 is_noise (Begins NoSuchChannel) = true

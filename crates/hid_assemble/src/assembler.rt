@@ -160,7 +160,8 @@ impl Assembler {
     /// Drops an overdue message and gives its channel, on which ERROR 0x05 is due
     /// (CTAP 2.1, section 11.2.5.2).
     pub fn pass(&mut self, at: u64) -> Option<u32>
-        ensures dropped { result ≡ (if is_overdue self.old.current at then option_map (λ m. m.cid) self.old.current else None) }
+        ensures dropped { result ≡ (if is_overdue self.old.current at then option_map (λ m. m.cid) self.old.current
+            else None) }
         ensures state { self.new ≡ record self.old { current = still_open self.old.current at } }
         ensures lawful { IsLawful self.new }
     {
@@ -197,7 +198,8 @@ impl Assembler {
     /// Whether a packet that comes at `at`, while work waits on the channel `working` or none does, is noise: after
     /// [`pass`](Self::pass) it would change nothing, and its host would be sent an ERROR or nothing.
     pub fn is_noise(&self, at: u64, packet: &Packet, working: Option<u32>) -> bool
-        ensures { result ≡ is_noise (ruling_of self.now.given (still_open self.now.current at) working (fields packet.now.0)) }
+        ensures { result ≡ is_noise (ruling_of self.now.given (still_open self.now.current at) working
+            (fields packet.now.0)) }
     {
         let overdue = self.overdue(at);
         match packet.view() {
@@ -286,7 +288,8 @@ impl Assembler {
         requires data { length part.now ≡ CONTINUATION_DATA }
         requires forgotten { self.old.finished ≡ [] }
         ensures verdict { (working : Option ℕ) → result ≡ verdict self.old working (continuation cid number part.now) }
-        ensures state { (working : Option ℕ) → self.new ≡ accepted self.old at working (continuation cid number part.now) }
+        ensures state { (working : Option ℕ) → self.new
+            ≡ accepted self.old at working (continuation cid number part.now) }
     {
         let Contents::Open(mut message) = self.contents else {
             return Verdict::Ignored;

@@ -12,18 +12,22 @@ ghost use Rattle.hid_assemble.specs.declared.verdict.Verdict.TheVariants.{Finish
 /// With nothing open, the packets of a message on a channel that was given out, each less than 500 ms
 /// after the one before, finish with just the message's bytes, where its command is served.
 pub fn packets_of_a_message_finish_it()
-    ensures told { (a : Assembly) (arrivals : List Arrival) (cid cmd : ℕ) (bytes : List ℕ) → a.current ≡ None → 1 ≤ cid → cid ≤ a.given → IsServed cmd bytes
+    ensures told { (a : Assembly) (arrivals : List Arrival) (cid cmd : ℕ) (bytes : List ℕ) → a.current ≡ None
+        → 1 ≤ cid → cid ≤ a.given → IsServed cmd bytes
         → CarriesMessage (packets_of arrivals) cid cmd bytes → ComeInTime arrivals
         → last_verdict a arrivals ≡ Finished cid cmd }
-    ensures bytes { (a : Assembly) (arrivals : List Arrival) (cid cmd : ℕ) (bytes : List ℕ) → a.current ≡ None → 1 ≤ cid → cid ≤ a.given → IsServed cmd bytes
+    ensures bytes { (a : Assembly) (arrivals : List Arrival) (cid cmd : ℕ) (bytes : List ℕ) → a.current ≡ None
+        → 1 ≤ cid → cid ≤ a.given → IsServed cmd bytes
         → CarriesMessage (packets_of arrivals) cid cmd bytes → ComeInTime arrivals
         → received a arrivals ≡ record { given = a.given; current = None; finished = bytes } }
 {}
 
 /// No packet of another channel changes an open message, whatever it is, and no CANCEL does.
 pub fn an_open_message_is_left_alone()
-    ensures foreign { (a : Assembly) (at : ℕ) (work : Option ℕ) (f : Fields) (m : Open) → a.current ≡ Some m → (channel_of f ≡ m.cid → ⊥)
+    ensures foreign { (a : Assembly) (at : ℕ) (work : Option ℕ) (f : Fields) (m : Open) → a.current ≡ Some m
+        → (channel_of f ≡ m.cid → ⊥)
         → (accepted a at work f).current ≡ a.current }
-    ensures cancel { (a : Assembly) (at : ℕ) (work : Option ℕ) (cid len : ℕ) (part : List ℕ) (m : Open) → a.current ≡ Some m
+    ensures cancel { (a : Assembly) (at : ℕ) (work : Option ℕ) (cid len : ℕ) (part : List ℕ) (m : Open)
+        → a.current ≡ Some m
         → (accepted a at work (initialization cid CANCEL len part)).current ≡ a.current }
 {}

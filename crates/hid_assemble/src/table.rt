@@ -43,8 +43,8 @@ pub enum Row {
 }
 
 impl Row {
-    /// Whether a packet under this row is noise, which changes nothing. Other rows may change nothing too, where there is
-    /// nothing to change.
+    /// Whether a packet under this row is noise, which changes nothing. Other rows may change nothing too, where there
+    /// is nothing to change.
     pub(crate) fn is_noise(self) -> bool
         ensures { result ≡ spec.is_noise (Begins self) }
     {

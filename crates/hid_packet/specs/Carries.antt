@@ -8,11 +8,13 @@ use Rattle.hid_packet.specs.Limits.{data_room}
 abbrev pub Continue : ℕ → ℕ → List (List ℕ) → Type 0
 Continue cid number [] = Unit {0}
 Continue cid number (packet ∷ packets) =
-    (is_initialization packet ≡ false) × (channel packet ≡ cid) × (sequence packet ≡ number) × Continue cid (number + 1) packets
+    (is_initialization packet ≡ false) × (channel packet ≡ cid) × (sequence packet ≡ number)
+    × Continue cid (number + 1) packets
 
 -- The least number of continuation packets with which so many bytes fit.
 abbrev pub IsLeast : (count len : ℕ) → Type 0
-IsLeast count len = ((len ≤ INITIALIZATION_DATA) × (count ≡ 0)) ⊎ ((len ≤ data_room count) × (data_room count < len + CONTINUATION_DATA))
+IsLeast count len = ((len ≤ INITIALIZATION_DATA) × (count ≡ 0))
+    ⊎ ((len ≤ data_room count) × (data_room count < len + CONTINUATION_DATA))
 
 -- the data of an initialization packet and of the continuation packets after it, joined
 abbrev pub joined : List ℕ → List (List ℕ) → List ℕ

@@ -21,10 +21,12 @@ unfoldable pub continuation_packets : (most : ℕ) → ℕ → ℕ → List ℕ 
 continuation_packets zero cid number bytes = []
 continuation_packets (suc most) cid number [] = []
 continuation_packets (suc most) cid number (b ∷ bytes) =
-    continuation_packet cid number (take CONTINUATION_DATA (b ∷ bytes)) ∷ continuation_packets most cid (number + 1) (drop CONTINUATION_DATA (b ∷ bytes))
+    continuation_packet cid number (take CONTINUATION_DATA (b ∷ bytes))
+    ∷ continuation_packets most cid (number + 1) (drop CONTINUATION_DATA (b ∷ bytes))
 
 -- The packets of the message with these bytes: the initialization packet with the first 57 of them, and continuation
 -- packets with the rest.
 unfoldable pub written : ℕ → ℕ → List ℕ → List (List ℕ)
 written cid cmd bytes =
-    initialization_packet cid cmd (length bytes) (take INITIALIZATION_DATA bytes) ∷ continuation_packets 128 cid 0 (drop INITIALIZATION_DATA bytes)
+    initialization_packet cid cmd (length bytes) (take INITIALIZATION_DATA bytes)
+    ∷ continuation_packets 128 cid 0 (drop INITIALIZATION_DATA bytes)

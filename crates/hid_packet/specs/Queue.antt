@@ -14,7 +14,8 @@ window first len ring = take len (drop first ring ++ take first ring)
 
 -- `front` written from a place on, and then `back` from the first on
 abbrev pub overwritten : (place : ℕ) (front back ring : List ℕ) → List ℕ
-overwritten place front back ring = back ++ drop (length back) (take place ring ++ (front ++ drop (place + length front) ring))
+overwritten place front back ring = back ++ drop (length back)
+    (take place ring ++ (front ++ drop (place + length front) ring))
 
 -- how many bytes of the ring belong to an entry, and the packets that they are
 abbrev pub held_by : Entry → ℕ
@@ -28,7 +29,8 @@ packets_by (Part message) bytes = packets_left message.cid message.due bytes
 -- the packets of entries, whose bytes come one after the other
 unfoldable pub waiting : List Entry → List ℕ → List (List ℕ)
 waiting [] bytes = []
-waiting (entry ∷ more) bytes = packets_by entry (take (held_by entry) bytes) ++ waiting more (drop (held_by entry) bytes)
+waiting (entry ∷ more) bytes = packets_by entry (take (held_by entry) bytes)
+    ++ waiting more (drop (held_by entry) bytes)
 
 -- A message has a packet to come, and its bytes fit the packets that may come.
 abbrev pub MayCome : Due → ℕ → Type 0

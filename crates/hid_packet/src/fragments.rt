@@ -42,7 +42,8 @@ fn put_header(out: &mut [u8], cid: u32, kind: u8)
 pub(crate) fn put_initialization(out: &mut [u8], cid: u32, cmd: u8, len: u16, part: &[u8])
     requires command { cmd < 128 }
     requires room { 7 + length part.now ≤ length out.old }
-    ensures { out.new ≡ (((big_bytes 4 cid ++ (cmd + 128) ∷ []) ++ big_bytes 2 len) ++ part.now) ++ drop (7 + length part.now) out.old }
+    ensures { out.new ≡ (((big_bytes 4 cid ++ (cmd + 128) ∷ []) ++ big_bytes 2 len) ++ part.now)
+        ++ drop (7 + length part.now) out.old }
 {
     put_header(out, cid, cmd + 128);
     BigEndian::write_u16(&mut out[5..], len);

@@ -9,13 +9,15 @@ ghost use Rattle.hid_packet.specs.declared.limit.TheConstants.{LONGEST_MESSAGE};
 
 /// The packets that are written for a message carry it.
 pub fn written_packets_carry_their_message()
-    ensures { (cid cmd : ℕ) (bytes : List ℕ) → cid < 2 ^ 32 → length bytes ≤ LONGEST_MESSAGE → CarriesMessage (written cid cmd bytes) cid cmd bytes }
+    ensures { (cid cmd : ℕ) (bytes : List ℕ) → cid < 2 ^ 32 → length bytes ≤ LONGEST_MESSAGE
+        → CarriesMessage (written cid cmd bytes) cid cmd bytes }
 {}
 
 /// They are one initialization packet and the least number of continuation packets, at most 129
 /// packets in all, and there is only one least number.
 pub fn written_packets_are_the_fewest()
-    ensures least { (cid cmd : ℕ) (bytes : List ℕ) → length bytes ≤ LONGEST_MESSAGE → IsLeast (length (written cid cmd bytes) - 1) (length bytes) }
+    ensures least { (cid cmd : ℕ) (bytes : List ℕ) → length bytes ≤ LONGEST_MESSAGE
+        → IsLeast (length (written cid cmd bytes) - 1) (length bytes) }
     ensures few { (cid cmd : ℕ) (bytes : List ℕ) → length (written cid cmd bytes) ≤ 129 }
     ensures one { (a b len : ℕ) → IsLeast a len → IsLeast b len → a ≡ b }
 {}
@@ -23,7 +25,8 @@ pub fn written_packets_are_the_fewest()
 /// They are packets of 64 bytes, and their data bytes after the message are zero.
 pub fn written_packets_end_in_zeros()
     ensures packets { (cid cmd : ℕ) (bytes : List ℕ) → cmd < 128 → AreBytes bytes → ArePackets (written cid cmd bytes) }
-    ensures zeros { (cid cmd : ℕ) (bytes : List ℕ) → length bytes ≤ LONGEST_MESSAGE → FurtherDataIsZero bytes (written cid cmd bytes) }
+    ensures zeros { (cid cmd : ℕ) (bytes : List ℕ) → length bytes ≤ LONGEST_MESSAGE
+        → FurtherDataIsZero bytes (written cid cmd bytes) }
 {}
 
 /// No other packets of 64 bytes carry the message with zeros after it.
@@ -35,5 +38,6 @@ pub fn written_packets_are_the_only_ones()
 
 /// A list of packets carries at most one message.
 pub fn packets_carry_one_message()
-    ensures { (packets : List (List ℕ)) (c d k l : ℕ) (a b : List ℕ) → CarriesMessage packets c k a → CarriesMessage packets d l b → (c ≡ d) × (k ≡ l) × (a ≡ b) }
+    ensures { (packets : List (List ℕ)) (c d k l : ℕ) (a b : List ℕ) → CarriesMessage packets c k a
+        → CarriesMessage packets d l b → (c ≡ d) × (k ≡ l) × (a ≡ b) }
 {}

@@ -31,7 +31,8 @@ grammar = record {
       ∷ [];
 }
 
--- the kinds that clap's answer to these words may have: what is wrong with them, help or the version; none where they are a command line
+-- the kinds that clap's answer to these words may have: what is wrong with them, help or the version; none where they
+-- are a command line
 unfoldable pub answers_to : List (List ℕ) → Kinds
 answers_to words = fault_of grammar words
 
@@ -59,7 +60,8 @@ asks Show = show
 abbrev pub ask_of : List ℕ × List Row → Option Ask
 ask_of (name, found) =
     if bytes_eq name (codes "replay") then Some (replay (first_of (codes "load") found) (first_of (codes "save") found))
-    else if bytes_eq name (codes "live") then Some (live (first_of (codes "load") found) (first_of (codes "save") found))
+    else if bytes_eq name (codes "live") then Some (live (first_of (codes "load") found)
+    (first_of (codes "save") found))
     else if bytes_eq name (codes "check") then Some (check (first_of (codes "load") found))
     else if bytes_eq name (codes "quiet") then Some (quiet (first_of (codes "load") found))
     else if bytes_eq name (codes "show") then Some show

@@ -52,11 +52,13 @@ Refuses said unsaid status output faults =
 -- Help was written.
 abbrev pub Helps : {O F : Type 0} → (O → Option (List ℕ)) → (O → ℕ) → Status → (O × O) → (F × F) → Type 0
 Helps taken failed status output faults = (faults.1 ≡ faults.0) × ((text : List ℕ)
-    × MatchResult status (λ _. IsTaken taken failed output text) (λ code. (code ≡ 2) × IsBroken taken failed output text))
+    × MatchResult status (λ _. IsTaken taken failed output text)
+    (λ code. (code ≡ 2) × IsBroken taken failed output text))
 
 -- An answer of clap's was given, of this kind, or there was no memory for it.
 abbrev pub Explains : {O F : Type 0} → ErrorKind → (O → Option (List ℕ)) → (O → ℕ) → (F → Option (List ℕ)) → (F → ℕ)
     → Status → (O × O) → (F × F) → Type 0
 Explains kind taken failed said unsaid status output faults =
     LacksMemory said unsaid status output faults
-    ⊎ ((kind ≢ OutOfMemory) × MatchBool (is_help kind) (Helps taken failed status output faults) (Refuses said unsaid status output faults))
+    ⊎ ((kind ≢ OutOfMemory) × MatchBool (is_help kind) (Helps taken failed status output faults)
+    (Refuses said unsaid status output faults))

@@ -1,5 +1,5 @@
--- The snapshots that a session begins with and ends in. What files hold is said by `Files` (src/files.rt). A pair is the files
--- or a target before and after a call.
+-- The snapshots that a session begins with and ends in. What files hold is said by `Files` (src/files.rt). A pair is
+-- the files or a target before and after a call.
 use Rattle.std.specs.Prelude.{◌≡◌, ◌⊎◌, ℕ, true, List, [], Option, Some, None, Ok, Err}
 use Rattle.authn_core.specs.Bare.{bare_rows}
 use Rattle.cred_table.specs.declared.fault.SnapshotFault.{SnapshotFault}
@@ -21,17 +21,20 @@ FailsToOpen holds unreadable files None said unsaid faults = ⊥
 FailsToOpen holds unreadable files (Some path) said unsaid faults =
     (unreadable files path × IsGiven said unsaid faults cannot_read)
     ⊎ (IsGiven said unsaid faults no_memory
-    ⊎ ((text : List ℕ) × (fault : SnapshotFault) × holds files path text × Refuses 64 text fault × IsGiven said unsaid faults (refused fault)))
+    ⊎ ((text : List ℕ) × (fault : SnapshotFault) × holds files path text × Refuses 64 text fault
+    × IsGiven said unsaid faults (refused fault)))
 
 -- the bytes of a snapshot of the credentials that a session holds
 abbrev pub IsSaved : SessionState → List ℕ → Type 0
 IsSaved s bytes = (rows : List Row) × (bare_rows rows ≡ s.machine.core.state.rows) × IsSnapshot true 64 rows bytes
 
--- A snapshot of the credentials was written to the path; or it couldn't be, or memory was refused, and that was written. Without
--- a path nothing is written.
-abbrev pub Saves : {D F : Type 0} → (D → List ℕ → List ℕ → D → Type 0) → (D → List ℕ → List ℕ → D → Type 0) → Option (List ℕ) → SessionState
+-- A snapshot of the credentials was written to the path; or it couldn't be, or memory was refused, and that was
+-- written. Without a path nothing is written.
+abbrev pub Saves : {D F : Type 0} → (D → List ℕ → List ℕ → D → Type 0) → (D → List ℕ → List ℕ → D → Type 0)
+    → Option (List ℕ) → SessionState
     → (F → Option (List ℕ)) → (F → ℕ) → Status → (D × D) → (F × F) → Type 0
-Saves written unwritten None s said unsaid status files faults = (status ≡ Ok tt) × (files.1 ≡ files.0) × (faults.1 ≡ faults.0)
+Saves written unwritten None s said unsaid status files faults =
+    (status ≡ Ok tt) × (files.1 ≡ files.0) × (faults.1 ≡ faults.0)
 Saves written unwritten (Some path) s said unsaid status files faults =
     ((bytes : List ℕ) × IsSaved s bytes
     × (((status ≡ Ok tt) × written files.0 path bytes files.1 × (faults.1 ≡ faults.0))

@@ -58,7 +58,8 @@ fn save<'a>(alloc: Global) -> Arg<'a>
 
 /// The command `replay`.
 fn replay<'a>(alloc: Global) -> Result<Command<'a>, AllocError>
-    ensures shape { IfOk result (λ made. shape_of made ≡ command (codes "replay") (path_option (codes "load") ∷ path_option (codes "save") ∷ [])) }
+    ensures shape { IfOk result (λ made. shape_of made
+        ≡ command (codes "replay") (path_option (codes "load") ∷ path_option (codes "save") ∷ [])) }
     ensures local { IfOk result (λ made. (fields_of made).has_globals ≡ false) }
 {
     Command::new(alloc, "replay")
@@ -71,7 +72,8 @@ fn replay<'a>(alloc: Global) -> Result<Command<'a>, AllocError>
 
 /// The command `live`.
 fn live<'a>(alloc: Global) -> Result<Command<'a>, AllocError>
-    ensures shape { IfOk result (λ made. shape_of made ≡ command (codes "live") (path_option (codes "load") ∷ path_option (codes "save") ∷ [])) }
+    ensures shape { IfOk result (λ made. shape_of made
+        ≡ command (codes "live") (path_option (codes "load") ∷ path_option (codes "save") ∷ [])) }
     ensures local { IfOk result (λ made. (fields_of made).has_globals ≡ false) }
 {
     Command::new(alloc, "live")

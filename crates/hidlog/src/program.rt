@@ -29,7 +29,8 @@ fn explain<O: Target, E: Target>(
 ) -> Result<(), u8>
     requires writes { O.failed output.old < 2 ^ 64 - 1 }
     requires tells { E.failed faults.old < 2 ^ 64 - 1 }
-    ensures { Explains (kind_of error.now) O.taken O.failed E.taken E.failed result (output.old, output.new) (faults.old, faults.new) }
+    ensures { Explains (kind_of error.now) O.taken O.failed E.taken E.failed result (output.old, output.new)
+        (faults.old, faults.new) }
 {
     let text = match error.to_string(alloc) {
         Ok(text) if error.kind() != ErrorKind::OutOfMemory => text,
@@ -61,8 +62,9 @@ where
     requires writes { O.failed output.old < 2 ^ 64 - 1 }
     requires tells { E.failed faults.old < 2 ^ 64 - 1 }
     ensures status { IfErr result (λ code. (code ≡ 1) ⊎ (code ≡ 2)) }
-    ensures does { Does D.holds D.unreadable D.written D.unwritten S.left S.failed S.ended O.taken O.failed E.taken E.failed
-        (replay (path_of load.entry) (path_of save.entry)) result (files.old, files.new) (input.old, input.new) (output.old, output.new) (faults.old, faults.new) }
+    ensures does { Does D.holds D.unreadable D.written D.unwritten S.left S.failed S.ended O.taken O.failed
+        E.taken E.failed (replay (path_of load.entry) (path_of save.entry)) result
+        (files.old, files.new) (input.old, input.new) (output.old, output.new) (faults.old, faults.new) }
 {
     let mut session = started(files, load, faults)?;
     replay_command(&mut session, input, output, faults)?;
@@ -91,8 +93,9 @@ where
     requires writes { O.failed output.old < 2 ^ 64 - 1 }
     requires tells { E.failed faults.old < 2 ^ 64 - 1 }
     ensures status { IfErr result (λ code. (code ≡ 1) ⊎ (code ≡ 2)) }
-    ensures does { Does D.holds D.unreadable D.written D.unwritten S.left S.failed S.ended O.taken O.failed E.taken E.failed
-        (live (path_of load.entry) (path_of save.entry)) result (files.old, files.new) (input.old, input.new) (output.old, output.new) (faults.old, faults.new) }
+    ensures does { Does D.holds D.unreadable D.written D.unwritten S.left S.failed S.ended O.taken O.failed
+        E.taken E.failed (live (path_of load.entry) (path_of save.entry)) result
+        (files.old, files.new) (input.old, input.new) (output.old, output.new) (faults.old, faults.new) }
 {
     let mut session = started(files, load, faults)?;
     live_command(&mut session, input, output, faults)?;
@@ -119,8 +122,9 @@ where
     requires writes { O.failed output.old < 2 ^ 64 - 1 }
     requires tells { E.failed faults.old < 2 ^ 64 - 1 }
     ensures status { IfErr result (λ code. (code ≡ 1) ⊎ (code ≡ 2)) }
-    ensures does { Does D.holds D.unreadable D.written D.unwritten S.left S.failed S.ended O.taken O.failed E.taken E.failed
-        (check (path_of load.entry)) result (files.now, files.now) (input.old, input.new) (output.old, output.new) (faults.old, faults.new) }
+    ensures does { Does D.holds D.unreadable D.written D.unwritten S.left S.failed S.ended O.taken O.failed
+        E.taken E.failed (check (path_of load.entry)) result
+        (files.now, files.now) (input.old, input.new) (output.old, output.new) (faults.old, faults.new) }
 {
     let mut session = started(files, load, faults)?;
     check_command(&mut session, input, output, faults)
@@ -143,8 +147,9 @@ where
     requires writes { O.failed output.old < 2 ^ 64 - 1 }
     requires tells { E.failed faults.old < 2 ^ 64 - 1 }
     ensures status { IfErr result (λ code. (code ≡ 1) ⊎ (code ≡ 2)) }
-    ensures does { Does D.holds D.unreadable D.written D.unwritten S.left S.failed S.ended O.taken O.failed E.taken E.failed
-        (quiet (path_of load.entry)) result (files.now, files.now) (input.old, input.new) (output.old, output.new) (faults.old, faults.new) }
+    ensures does { Does D.holds D.unreadable D.written D.unwritten S.left S.failed S.ended O.taken O.failed
+        E.taken E.failed (quiet (path_of load.entry)) result
+        (files.now, files.now) (input.old, input.new) (output.old, output.new) (faults.old, faults.new) }
 {
     let mut session = started(files, load, faults)?;
     quiet_command(&mut session, input, output, faults)
@@ -190,8 +195,9 @@ where
     requires tells { E.failed faults.old < 2 ^ 64 - 1 }
     ensures status { IfErr result (λ code. (code ≡ 1) ⊎ (code ≡ 2)) }
     // What the words ask for is done.
-    ensures answered { Answers D.holds D.unreadable D.written D.unwritten S.left S.failed S.ended O.taken O.failed E.taken E.failed
-        (texts_of words.now) result (files.old, files.new) (input.old, input.new) (output.old, output.new) (faults.old, faults.new) }
+    ensures answered { Answers D.holds D.unreadable D.written D.unwritten S.left S.failed S.ended O.taken O.failed
+        E.taken E.failed (texts_of words.now) result
+        (files.old, files.new) (input.old, input.new) (output.old, output.new) (faults.old, faults.new) }
 {
     match task_of(alloc, words) {
         Ok(Task::Replay { load, save }) => {

@@ -32,10 +32,12 @@ fn refusal(fault: SnapshotFault) -> &'static [u8]
 /// the exit status, 2.
 fn loaded<D: Files, E: Target>(files: &D, path: &str, faults: &mut E) -> Result<Store<CAPACITY>, u8>
     requires { E.failed faults.old < 2 ^ 64 - 1 }
-    ensures opens { IfOk result (λ rows. Opens D.holds files.now (Some path.now) (⟦<Store<CAPACITY> as Table<CAPACITY>>⟧.rows rows)) }
+    ensures opens { IfOk result (λ rows. Opens D.holds files.now (Some path.now)
+        (⟦<Store<CAPACITY> as Table<CAPACITY>>⟧.rows rows)) }
     ensures silent { OnOk result (faults.new ≡ faults.old) }
     ensures status { IfErr result (λ code. code ≡ 2) }
-    ensures told { OnErr result (FailsToOpen D.holds D.unreadable files.now (Some path.now) E.taken E.failed (faults.old, faults.new)) }
+    ensures told { OnErr result (FailsToOpen D.holds D.unreadable files.now (Some path.now) E.taken E.failed
+        (faults.old, faults.new)) }
 {
     let bytes = match files.read(path) {
         Ok(bytes) => bytes,
@@ -70,10 +72,12 @@ pub fn started<D: Files, E: Target>(
     faults: &mut E,
 ) -> Result<Session<CAPACITY>, u8>
     requires { E.failed faults.old < 2 ^ 64 - 1 }
-    ensures begins { IfOk result (λ session. (rows : List AnyRow) × Opens D.holds files.now (path_of path.entry) rows × StandsAfter session (start_with rows) []) }
+    ensures begins { IfOk result (λ session. (rows : List AnyRow) × Opens D.holds files.now (path_of path.entry) rows
+        × StandsAfter session (start_with rows) []) }
     ensures silent { OnOk result (faults.new ≡ faults.old) }
     ensures status { IfErr result (λ code. code ≡ 2) }
-    ensures told { OnErr result (FailsToOpen D.holds D.unreadable files.now (path_of path.entry) E.taken E.failed (faults.old, faults.new)) }
+    ensures told { OnErr result (FailsToOpen D.holds D.unreadable files.now (path_of path.entry) E.taken E.failed
+        (faults.old, faults.new)) }
 {
     match path {
         Some(path) => Ok(session_with(loaded(files, path, faults)?)),
@@ -91,7 +95,8 @@ pub fn save_rows<D: Files, E: Target>(
     faults: &mut E,
 ) -> Result<(), u8>
     requires { E.failed faults.old < 2 ^ 64 - 1 }
-    ensures { Saves D.written D.unwritten (Some path.now) session.now E.taken E.failed result (files.old, files.new) (faults.old, faults.new) }
+    ensures { Saves D.written D.unwritten (Some path.now) session.now E.taken E.failed result (files.old, files.new)
+        (faults.old, faults.new) }
 {
     let mut bytes = Vec::new(alloc);
     if save(session.table(), &mut bytes).is_err() {

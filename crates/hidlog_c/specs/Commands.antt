@@ -24,15 +24,18 @@ Lives rows bytes text ending = (later : List Timed) × Makes (live_history (star
 
 -- The log was compared with what is sent from there on.
 abbrev pub Checks : List Row → (bytes text : List ℕ) → Ending → Type 0
-Checks rows bytes text ending = (later : Compared (List Timed)) × Makes (check_history (start_with rows)) (begun []) later bytes text ending
+Checks rows bytes text ending = (later : Compared (List Timed))
+    × Makes (check_history (start_with rows)) (begun []) later bytes text ending
 
 -- The log was made quiet from there on.
 abbrev pub Quiets : List Row → (bytes text : List ℕ) → Ending → Type 0
-Quiets rows bytes text ending = (later : List Timed) × Makes (quiet_history (start_with rows)) [] later bytes text ending
+Quiets rows bytes text ending = (later : List Timed)
+    × Makes (quiet_history (start_with rows)) [] later bytes text ending
 
--- Of the log `bytes` were read, all of it where there is no fault, and no read failed. The text stands at the buffer's front;
--- where a write failed the buffer is full. P holds of the bytes, the text and how it ended.
-pub record IsWritten (log out : List ℕ) (written : ℕ) (answer : Result (Unit {0}) LogFault) (P : List ℕ → List ℕ → Ending → Type 0) : Type 0 where
+-- Of the log `bytes` were read, all of it where there is no fault, and no read failed. The text stands at the buffer's
+-- front; where a write failed the buffer is full. P holds of the bytes, the text and how it ended.
+pub record IsWritten (log out : List ℕ) (written : ℕ) (answer : Result (Unit {0}) LogFault)
+    (P : List ℕ → List ℕ → Ending → Type 0) : Type 0 where
   pub bytes : List ℕ
   pub rest : List ℕ
   pub log_is : log ≡ bytes ++ rest
@@ -42,10 +45,13 @@ pub record IsWritten (log out : List ℕ) (written : ℕ) (answer : Result (Unit
   pub full : write_fails (ending_of answer) ≡ true → written ≡ length out
   pub does : P bytes (take written out) (ending_of answer)
 
--- What a command does is done from the credentials of the snapshot, and the outcome is that of its answer; or the snapshot is
--- refused, and the buffer is as it was. A pair is the buffer before and after the call.
-abbrev pub Answers : (List Row → List ℕ → List ℕ → Ending → Type 0) → (log snapshot : List ℕ) → (List ℕ × List ℕ) → Outcome → Type 0
+-- What a command does is done from the credentials of the snapshot, and the outcome is that of its answer; or the
+-- snapshot is refused, and the buffer is as it was. A pair is the buffer before and after the call.
+abbrev pub Answers : (List Row → List ℕ → List ℕ → Ending → Type 0) → (log snapshot : List ℕ) → (List ℕ × List ℕ)
+    → Outcome → Type 0
 Answers Does log snapshot out outcome =
-    ((rows : List Row) × (answer : Result (Unit {0}) LogFault) × Opens snapshot rows × (outcome ≡ outcome_of answer outcome.written)
+    ((rows : List Row) × (answer : Result (Unit {0}) LogFault) × Opens snapshot rows
+    × (outcome ≡ outcome_of answer outcome.written)
     × IsWritten log out.1 outcome.written answer (Does rows))
-    ⊎ ((fault : SnapshotFault) × (snapshot ≢ []) × Refuses 64 snapshot fault × (outcome ≡ refused fault) × (out.1 ≡ out.0))
+    ⊎ ((fault : SnapshotFault) × (snapshot ≢ []) × Refuses 64 snapshot fault × (outcome ≡ refused fault)
+    × (out.1 ≡ out.0))

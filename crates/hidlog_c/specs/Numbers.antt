@@ -31,7 +31,13 @@ refusal_number NoMemory = 4
 -- a command with this answer, which wrote so many bytes
 abbrev pub outcome_of : {A : Type 0} → Result A LogFault → ℕ → Outcome
 outcome_of (Ok x) written = record { status = 0; fault = 0; line = 0; packet = 0; written = written }
-outcome_of (Err f) written = record { status = 1; fault = fault_number f; line = line_of f; packet = packet_of f; written = written }
+outcome_of (Err f) written = record {
+  status = 1;
+  fault = fault_number f;
+  line = line_of f;
+  packet = packet_of f;
+  written = written;
+}
 
 -- a snapshot that was refused, where nothing was written
 abbrev pub refused : SnapshotFault → Outcome

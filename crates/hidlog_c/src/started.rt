@@ -20,7 +20,8 @@ fn session_with(rows: Store<CAPACITY>) -> Session<CAPACITY>
 
 /// A session at its start with the credentials of the snapshot, or with none where the snapshot is empty.
 pub fn started(snapshot: &[u8]) -> Result<Session<CAPACITY>, SnapshotFault>
-    ensures begins { IfOk result (λ session. (rows : List AnyRow) × Opens snapshot.now rows × StandsAfter session (start_with rows) []) }
+    ensures begins { IfOk result (λ session. (rows : List AnyRow) × Opens snapshot.now rows
+        × StandsAfter session (start_with rows) []) }
     ensures refused { IfErr result (λ fault. (snapshot.now ≢ []) × Refuses 64 snapshot.now fault) }
 {
     let mut rows = Store::new();

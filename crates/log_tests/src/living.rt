@@ -87,7 +87,8 @@ fn assert_replayed<R: Abort>(rt: &R, log: &[u8]) {
     assert!(rt; writer.written() == log);
 }
 
-/// These lines are written for those of them that are a log; and of what was written they are written again, and replayed.
+/// These lines are written for those of them that are a log; and of what was written they are written again, and
+/// replayed.
 fn assert_lived<R: Abort>(rt: &R, alloc: Global, lines: &[(&str, &str)]) -> Result<(), AllocError> {
     let (log, wanted) = texts(alloc, lines)?;
     assert_text(rt, log.as_bytes(), wanted.as_bytes());

@@ -32,8 +32,8 @@ fn assert_few_steps(rt: &impl Abort, session: &Session<4>) {
     assert!(rt; meters.steps <= bytes.saturating_add(requests));
 }
 
-/// Grants presence, and hands in a key and a signature, whether they are needed or not. Then nothing waits, and the session has
-/// at most as many credentials as this.
+/// Grants presence, and hands in a key and a signature, whether they are needed or not. Then nothing waits, and the
+/// session has at most as many credentials as this.
 fn assert_served(rt: &impl Abort, session: &mut Session<4>, most: usize) {
     last_sent(session, 10, Input::Presence(Presence::Granted));
     last_sent(session, 20, Input::Key(Some(KEY)));
@@ -43,7 +43,8 @@ fn assert_served(rt: &impl Abort, session: &mut Session<4>, most: usize) {
     assert_few_steps(rt, session);
 }
 
-/// Hands in a request on channel 1, and asserts that it is answered with an error at once, or waits for the user's presence.
+/// Hands in a request on channel 1, and asserts that it is answered with an error at once, or waits for the user's
+/// presence.
 fn assert_answered(rt: &impl Abort, session: &mut Session<4>, request: &[u8]) {
     let mut sent = None;
     for packet in Fragments::new(1, CBOR, &request[..request.len().min(7609)]) {
@@ -156,8 +157,8 @@ fn send_changed(session: &mut Session<4>, request: &ArrayVec<u8, 300>, place: us
     }
 }
 
-/// Each byte of the packets of the request is changed to each other value, with a new session for each. Whatever comes of it,
-/// the session serves the replies, and then greets a host.
+/// Each byte of the packets of the request is changed to each other value, with a new session for each. Whatever comes
+/// of it, the session serves the replies, and then greets a host.
 fn change_each_packet(rt: &impl Abort, request: &ArrayVec<u8, 300>, credentials: usize) {
     let packets = usize::from(packets_for(request.len() as u16));
     for place in 0..packets.saturating_mul(64) {
@@ -195,8 +196,9 @@ fn order(number: u16) -> Option<[u8; 6]> {
     each_has_two.then_some(order)
 }
 
-/// Three hosts send a PING of 100 bytes each, in two packets, in this order. One that begins while no message is open is
-/// served: its second packet gets its bytes again. Another one gets ERROR 0x06 for its first packet, and nothing for its second.
+/// Three hosts send a PING of 100 bytes each, in two packets, in this order. One that begins while no message is open
+/// is served: its second packet gets its bytes again. Another one gets ERROR 0x06 for its first packet, and nothing for
+/// its second.
 fn assert_order(rt: &impl Abort, order: [u8; 6]) {
     let mut session = two_channels(rt);
     step(rt, &mut session, 0, &INIT, &[greeting(3)]);

@@ -31,7 +31,8 @@ long_carriers None p = []
 long_carriers (Some b) p = if is_last b p then b.packet ∷ (packets_of b.own ++ p ∷ []) else []
 
 unfoldable pub carriers : Option Begun → Bool → Input → List (List ℕ)
-carriers o admitted (Packet p) = if admitted && nat_le (message_length p.0) INITIALIZATION_DATA then p.0 ∷ [] else long_carriers o p.0
+carriers o admitted (Packet p) = if admitted && nat_le (message_length p.0) INITIALIZATION_DATA then p.0 ∷ []
+    else long_carriers o p.0
 carriers o admitted other = []
 
 -- the packets that carried the message that an input finishes after a history

@@ -38,4 +38,5 @@ second_done n (Err (BothFull first second)) = second
 
 -- before each of these inputs 130 places were free
 abbrev pub HadRoom : ℕ → List (ℕ × List ℕ) → SessionState → List Timed → ℕ → Type 0
-HadRoom places old s xs done = (j : ℕ) → j < done → length (old ++ driven_sends 0 s (take j xs)) + OUTBOX_CAPACITY ≤ places
+HadRoom places old s xs done = (j : ℕ) → j < done → length
+    (old ++ driven_sends 0 s (take j xs)) + OUTBOX_CAPACITY ≤ places

@@ -1,5 +1,5 @@
--- What an event makes of the authenticator and sends, and when a KEEPALIVE is due: a moment, the authenticator and an event
--- are all that is looked at.
+-- What an event makes of the authenticator and sends, and when a KEEPALIVE is due: a moment, the authenticator and an
+-- event are all that is looked at.
 use Rattle.std.specs.Prelude.{ℕ, ◌+◌, Bool, false, nat_le, List, [], Option, Some, None}
 use Rattle.authn_core.specs.State.{Event, PresenceIs, KeyIs, SignatureIs}
 use Rattle.authn_core.specs.Turn.{Work, CoreState, waiting, core_after, core_answer}
@@ -22,11 +22,13 @@ event_core core at (Some e) = core_after core at e
 
 abbrev pub event_packets : CoreState → ℕ → Option Event → List (List ℕ)
 event_packets core at None = []
-event_packets core at (Some e) = answer_packets (asker (waiting core) e) (status_of (waiting core)) (core_answer core at e)
+event_packets core at (Some e) = answer_packets (asker (waiting core) e) (status_of (waiting core))
+    (core_answer core at e)
 
 abbrev pub event_keeps_alive : CoreState → ℕ → Option Event → Bool
 event_keeps_alive core at None = false
-event_keeps_alive core at (Some e) = answer_keeps_alive (asker (waiting core) e) (status_of (waiting core)) (core_answer core at e)
+event_keeps_alive core at (Some e) = answer_keeps_alive (asker (waiting core) e) (status_of (waiting core))
+    (core_answer core at e)
 
 -- the authenticator, the greatest moment of its start and its events, and the moment of the last KEEPALIVE
 pub record AuthenticatorState : Type 0 where

@@ -22,15 +22,16 @@ turns_send start (x ∷ past) = turns_send start past ++ (turn (machine start pa
 
 -- Each message that an input finished was carried by its channel's packets.
 abbrev pub WasCarried : Judged → List Judged → Type 0
-WasCarried e past = (m : Message) → finished_at e past ≡ Some m → CarriesMessage (carriers_at e past) m.cid m.cmd m.bytes
+WasCarried e past = (m : Message) → finished_at e past ≡ Some m
+    → CarriesMessage (carriers_at e past) m.cid m.cmd m.bytes
 
 abbrev pub AllCarried : List Judged → Type 0
 AllCarried [] = Unit {0}
 AllCarried (e ∷ past) = WasCarried e past × AllCarried past
 
--- After a history, newest first: the packets sent are exactly those that its definition names; each finished message is the
--- bytes that its packets carried; the unfinished message holds at most 7609 bytes; at most as many rows stand and assertions
--- are pending as there is room for; reading each request of n bytes took at most 4n + 2 steps.
+-- After a history, newest first: the packets sent are exactly those that its definition names; each finished message is
+-- the bytes that its packets carried; the unfinished message holds at most 7609 bytes; at most as many rows stand and
+-- assertions are pending as there is room for; reading each request of n bytes took at most 4n + 2 steps.
 pub record IsAnswered (start : Start) (h : List Timed) : Type 0 where
   pub sent : turns_send start h ≡ sent start (judged start h)
   pub carried : AllCarried (judged start h)

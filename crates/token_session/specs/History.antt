@@ -15,8 +15,8 @@ use Rattle.token_session.specs.Messages.{Begun, open_at, as_open, finished, fini
 use Rattle.token_session.specs.Replies.{error, row_packets, ping_packets, request_event}
 use Rattle.token_session.specs.Events.{reply_in, event_core, event_packets, event_keeps_alive, keepalive_packets, keepalive_due}
 
--- The event that an input is to the authenticator: a CANCEL on the channel of waiting work, an INIT of length 8 there, a
--- finished CBOR message, or a reply of the caller.
+-- The event that an input is to the authenticator: a CANCEL on the channel of waiting work, an INIT of length 8 there,
+-- a finished CBOR message, or a reply of the caller.
 unfoldable pub packet_event : Option ℕ → Option Message → List ℕ → Option Event
 packet_event work m p =
     if is_command CANCEL p && is_on work (channel p) then Some Cancel
@@ -46,7 +46,12 @@ admits given o work p =
 unfoldable pub judge : Start → Timed → List Judged → Judged
 judge start x past =
     let t = max (end start past) x.at in
-    record { at = t; input = x.input; admitted = is_packet (admits (given past) (open_at past t) (working (core start past))) x.input }
+    record {
+      at = t;
+      input = x.input;
+      admitted = is_packet
+          (admits (given past) (open_at past t) (working (core start past))) x.input;
+    }
 
 unfoldable pub judged : Start → List Timed → List Judged
 judged start [] = []
@@ -66,18 +71,21 @@ unfoldable pub last_keepalive : Start → List Judged → ℕ
 last_keepalive start [] = 0
 last_keepalive start (e ∷ past) =
     if event_keeps_alive (core start past) e.at (event_to (core start past) e past)
-    || (not (is_cut (open_at past (end start past)) (open_at past e.at)) && keepalive_due (waiting (core start past)) (last_keepalive start past) e.at)
+    || (not (is_cut (open_at past (end start past)) (open_at past e.at))
+    && keepalive_due (waiting (core start past)) (last_keepalive start past) e.at)
     then e.at else last_keepalive start past
 
 unfoldable pub time_packets : Start → List Judged → ℕ → List (List ℕ)
 time_packets start past t =
     if is_cut (open_at past (end start past)) (open_at past t) then cut_packets (open_at past (end start past))
-    else if keepalive_due (waiting (core start past)) (last_keepalive start past) t then keepalive_packets (waiting (core start past))
+    else if keepalive_due (waiting (core start past)) (last_keepalive start past) t
+    then keepalive_packets (waiting (core start past))
     else []
 
 -- The packets of service: those of the reply table's row, the answer to a finished PING, and those of the event.
 abbrev pub table_packets : ℕ → Option Begun → Option ℕ → Input → List (List ℕ)
-table_packets given o work (Packet p) = row_packets given (fields p.0) (ruling_of given (option_map as_open o) work (fields p.0))
+table_packets given o work (Packet p) = row_packets given (fields p.0)
+    (ruling_of given (option_map as_open o) work (fields p.0))
 table_packets given o work other = []
 
 unfoldable pub service_packets : Start → Judged → List Judged → List (List ℕ)
@@ -85,7 +93,8 @@ service_packets start e past =
     let o = open_at past e.at in
     let k = core start past in
     let m = finished o e.admitted e.input in
-    table_packets (given past) o (working k) e.input ++ ping_packets m ++ event_packets k e.at (event (working k) m e.input)
+    table_packets (given past) o (working k) e.input ++ ping_packets m
+    ++ event_packets k e.at (event (working k) m e.input)
 
 -- What an input sends: the packets of time, and then those of service.
 unfoldable pub sent_at : Start → Judged → List Judged → List (List ℕ)

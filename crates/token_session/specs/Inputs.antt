@@ -1,6 +1,6 @@
--- What came: the inputs of a history as they are judged, the channels that were given out, and a channel's own packets. A
--- history is a list of inputs, the newest first, so that what came before an input is the rest of the list. It begins with an
--- authenticator's start.
+-- What came: the inputs of a history as they are judged, the channels that were given out, and a channel's own packets.
+-- A history is a list of inputs, the newest first, so that what came before an input is the rest of the list. It begins
+-- with an authenticator's start.
 use Rattle.std.specs.Prelude.{ℕ, Bool, false, not, ◌&&◌, ◌==◌, List, [], ◌∷◌, min, filter, count_by}
 use Rattle.hid_packet.specs.Commands.{INIT, CANCEL, BROADCAST}
 use Rattle.hid_packet.specs.Packet.{channel, message_length, is_command}
@@ -9,8 +9,8 @@ use Rattle.authn_core.specs.Turn.{Start}
 use Rattle.token_session.specs.declared.input.Input.{Input}
 use Rattle.token_session.specs.declared.input.Input.TheVariants.{Packet}
 
--- An input as it is judged when it comes: its moment, which is no earlier than any before it, and whether it is an admitted
--- initialization packet.
+-- An input as it is judged when it comes: its moment, which is no earlier than any before it, and whether it is an
+-- admitted initialization packet.
 pub record Judged : Type 0 where
   pub at : ℕ
   pub input : Input
@@ -31,8 +31,8 @@ abbrev pub is_packet : (List ℕ → Bool) → Input → Bool
 is_packet test (Packet p) = test p.0
 is_packet test other = false
 
--- The channels that were given out: one for each INIT of length 8 on the broadcast channel, as far as there are channels
--- (CTAP 2.1, section 11.2.9.1.3).
+-- The channels that were given out: one for each INIT of length 8 on the broadcast channel, as far as there are
+-- channels (CTAP 2.1, section 11.2.9.1.3).
 unfoldable pub asks_channel : List ℕ → Bool
 asks_channel p = is_command INIT p && (message_length p == 8) && (channel p == BROADCAST)
 

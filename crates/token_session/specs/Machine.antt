@@ -1,5 +1,5 @@
--- The composed turn: the transport and the authenticator together, as a state and what an input makes of it. It knows no
--- history.
+-- The composed turn: the transport and the authenticator together, as a state and what an input makes of it. It knows
+-- no history.
 use Rattle.std.specs.Prelude.{ℕ, List, [], ◌∷◌, ◌++◌, max, Option, Some, None, if◌then◌else◌}
 use Rattle.hid_packet.specs.Packet.{Fields, fields, channel_of}
 use Rattle.hid_assemble.specs.Table.{Begins, Open, Ruling, is_on, ruling_of}
@@ -27,8 +27,8 @@ pub record Turn : Type 0 where
   pub packets : List (List ℕ)
   pub event : Option Event
 
--- Time: an overdue message is given up with ERROR 0x05; else, where work waits, a KEEPALIVE is due 100 ms after the last
--- (CTAP 2.1, sections 11.2.5.2 and 11.2.9.1.7).
+-- Time: an overdue message is given up with ERROR 0x05; else, where work waits, a KEEPALIVE is due 100 ms after the
+-- last (CTAP 2.1, sections 11.2.5.2 and 11.2.9.1.7).
 abbrev pub overdue_packets : Option Open → List (List ℕ)
 overdue_packets None = []
 overdue_packets (Some m) = error m.cid 0x05
@@ -39,7 +39,11 @@ time_passed s at =
     if is_overdue s.current at
     then record { state = record s { now = at; current = None }; packets = overdue_packets s.current; event = None }
     else if keepalive_due (waiting s.core) s.keepalive_at at
-    then record { state = record s { now = at; keepalive_at = at }; packets = keepalive_packets (waiting s.core); event = None }
+    then record {
+      state = record s { now = at; keepalive_at = at };
+      packets = keepalive_packets (waiting s.core);
+      event = None;
+    }
     else record { state = record s { now = at }; packets = []; event = None }
 
 -- An event after what else a packet changed: the packets of time come first, then those of the row, then the event's.

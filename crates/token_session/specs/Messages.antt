@@ -13,13 +13,15 @@ use Rattle.token_session.specs.Inputs.{Judged, packet, is_packet, own}
 
 -- continuation packet number m of a message of this length, and not its last
 unfoldable pub is_next : ℕ → ℕ → Judged → Bool
-is_next len m e = is_packet (λ p. not (is_initialization p) && (sequence p == m)) e.input && nat_lt (data_room (m + 1)) len
+is_next len m e = is_packet (λ p. not (is_initialization p) && (sequence p == m)) e.input
+    && nat_lt (data_room (m + 1)) len
 
--- These are continuation packets m, m + 1, .. below the message's length, with less than 500 ms from each to the next, and
--- from the last to the moment t.
+-- These are continuation packets m, m + 1, .. below the message's length, with less than 500 ms from each to the next,
+-- and from the last to the moment t.
 unfoldable pub goes_on : ℕ → ℕ → ℕ → List Judged → ℕ → Bool
 goes_on len m since [] t = nat_lt t (since + MESSAGE_TIMEOUT)
-goes_on len m since (e ∷ es) t = is_next len m e && nat_lt e.at (since + MESSAGE_TIMEOUT) && goes_on len (m + 1) e.at es t
+goes_on len m since (e ∷ es) t = is_next len m e && nat_lt e.at (since + MESSAGE_TIMEOUT)
+    && goes_on len (m + 1) e.at es t
 
 -- an initialization packet, its moment, and the packets of its channel's own that came later
 pub record Begun : Type 0 where
@@ -35,8 +37,8 @@ is_long p = nat_lt INITIALIZATION_DATA (message_length p) && nat_le (message_len
 abbrev pub begun_by : Judged → List Judged → Begun
 begun_by e later = record { packet = packet e.input; at = e.at; own = own (channel (packet e.input)) later }
 
--- A message is open at t: its initialization packet was admitted and is long, and its channel's own packets since then go
--- on with it.
+-- A message is open at t: its initialization packet was admitted and is long, and its channel's own packets since then
+-- go on with it.
 unfoldable pub is_open : Judged → List Judged → ℕ → Bool
 is_open e later t =
     let b = begun_by e later in
@@ -71,7 +73,11 @@ as_open b = record {
 }
 
 abbrev pub message : List ℕ → List (List ℕ) → Message
-message first others = record { cid = channel first; cmd = command first; bytes = take (message_length first) (joined first others) }
+message first others = record {
+  cid = channel first;
+  cmd = command first;
+  bytes = take (message_length first) (joined first others);
+}
 
 unfoldable pub is_last : Begun → List ℕ → Bool
 is_last b p =

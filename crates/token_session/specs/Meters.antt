@@ -46,8 +46,8 @@ meters_of start h = record {
   steps = min (sum_by steps_of (requests start h)) LARGEST;
 }
 
--- What a turn adds: the bytes, rows and pending assertions held after it, and the request that it finished, if it did: one
--- request, its bytes after the command byte, and the steps that reading it takes.
+-- What a turn adds: the bytes, rows and pending assertions held after it, and the request that it finished, if it did:
+-- one request, its bytes after the command byte, and the steps that reading it takes.
 abbrev pub one_more : Option (List ℕ) → ℕ
 one_more None = 0
 one_more (Some message) = 1
@@ -81,7 +81,8 @@ pub record SessionState : Type 0 where
 
 abbrev pub metered_by : Meters → Turn → Meters
 metered_by m t =
-    metered m (held_bytes t.state.current) (length t.state.core.state.rows) (pending_count t.state.core.state.pending) (request_in t.event)
+    metered m (held_bytes t.state.current) (length t.state.core.state.rows) (pending_count t.state.core.state.pending)
+    (request_in t.event)
 
 -- the session after one input more
 unfoldable pub stepped : SessionState → Timed → SessionState

@@ -1,5 +1,5 @@
--- Noise: an input that changes nothing but that time passes to its moment, so that a tick would do in its place. It is judged
--- when time has passed to its moment.
+-- Noise: an input that changes nothing but that time passes to its moment, so that a tick would do in its place. It is
+-- judged when time has passed to its moment.
 use Rattle.std.specs.Prelude.{◌≡◌, ℕ, ◌+◌, ◌⊎◌, Bool, true, false, not, List, [], ◌∷◌, ◌++◌, max, Option, option_map, if◌then◌else◌}
 use Rattle.hid_packet.specs.Packet.{fields}
 use Rattle.hid_assemble.specs.Table as table
@@ -15,8 +15,8 @@ use Rattle.token_session.specs.Messages.{open_at, as_open}
 use Rattle.token_session.specs.History.{core, judge, judged, sent_at, time_packets}
 use Rattle.token_session.specs.Law.{numbered}
 
--- By the channels given out, the open message and the authenticator: a packet is noise by its row of the reply table, a reply
--- of the caller where the waiting work doesn't need it, and a tick never is.
+-- By the channels given out, the open message and the authenticator: a packet is noise by its row of the reply table, a
+-- reply of the caller where the waiting work doesn't need it, and a tick never is.
 abbrev pub is_noise_among : ℕ → Option Open → CoreState → Input → Bool
 is_noise_among given current core (Packet p) = table.is_noise (ruling_of given current (working core) (fields p.0))
 is_noise_among given current core (Presence reply) = not (wants_presence core.state.work)
@@ -33,14 +33,16 @@ is_noise_at s x = is_noise_to (time_passed s (max s.now x.at)).state x.input
 
 -- after a history
 unfoldable pub is_noise_after : Start → Judged → List Judged → Bool
-is_noise_after start e past = is_noise_among (given past) (option_map as_open (open_at past e.at)) (core start past) e.input
+is_noise_after start e past = is_noise_among (given past) (option_map as_open (open_at past e.at))
+    (core start past) e.input
 
 abbrev pub tick_at : ℕ → Timed
 tick_at at = record { at = at; input = Tick }
 
 -- In the place of x, which came after h, stands x, or a tick at its moment where x is noise.
 abbrev pub IsQuiet : Start → List Timed → (x y : Timed) → Type 0
-IsQuiet start h x y = (y ≡ x) ⊎ ((y ≡ tick_at x.at) × (is_noise_after start (judge start x (judged start h)) (judged start h) ≡ true))
+IsQuiet start h x y = (y ≡ x) ⊎ ((y ≡ tick_at x.at) ×
+    (is_noise_after start (judge start x (judged start h)) (judged start h) ≡ true))
 
 -- The second history is the first, with ticks in place of noise: in all such places, in some or in none.
 abbrev pub Quiet : Start → (h g : List Timed) → Type 0

@@ -1,4 +1,5 @@
--- What reading a request took, as the code hands it on until it is counted. Contracts of private functions alone name it.
+-- What reading a request took, as the code hands it on until it is counted. Contracts of private functions alone name
+-- it.
 use Rattle.std.specs.Prelude.{ℕ, ◌+◌, ◌-◌, List, length, max, min, Option, Some, None, option_map}
 use Rattle.authn_core.specs.State.{Event}
 use Rattle.ctap_message.specs.Requests.{steps_of, LARGEST}

@@ -11,8 +11,8 @@ use Rattle.hid_assemble.specs.declared.table.Continuation.TheVariants.{WrongNumb
 use Rattle.authn_core.specs.State.{Event, Request, Answer, Answered, Waits, Ignored, Nothing}
 use Rattle.authn_core.specs.Turn.{Work}
 
--- The INIT answer on a channel, which names the channel that the host is to use: its nonce, that channel, version 2 of the
--- protocol, version 1.0.0 of the device, and the capabilities CBOR and NMSG (CTAP 2.1, section 11.2.9.1.3).
+-- The INIT answer on a channel, which names the channel that the host is to use: its nonce, that channel, version 2 of
+-- the protocol, version 1.0.0 of the device, and the capabilities CBOR and NMSG (CTAP 2.1, section 11.2.9.1.3).
 unfoldable pub greeting : (on cid : ℕ) → (nonce : List ℕ) → List (List ℕ)
 greeting on cid nonce = written on INIT (nonce ++ big_bytes 4 cid ++ 2 ∷ 1 ∷ 0 ∷ 0 ∷ 0x0c ∷ [])
 

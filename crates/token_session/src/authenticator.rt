@@ -56,7 +56,12 @@ impl<const C: usize> Model for Authenticator<C> {
 impl<const C: usize> Authenticator<C> {
     /// No work waits.
     pub(crate) fn new(config: Config, rows: Store<C>, start: u64) -> Self
-        ensures core { result.core ≡ first_state (record { aaguid = config.aaguid; moment = start; room = C; rows = bare_rows (⟦<Store<C> as Table<C>>⟧.rows rows.entry) }) }
+        ensures core { result.core ≡ first_state (record {
+          aaguid = config.aaguid;
+          moment = start;
+          room = C;
+          rows = bare_rows (⟦<Store<C> as Table<C>>⟧.rows rows.entry);
+        }) }
         ensures latest { result.latest ≡ start }
         ensures keepalive { result.keepalive_at ≡ 0 }
     {
@@ -110,8 +115,10 @@ impl<const C: usize> Authenticator<C> {
         requires { length outbox.old ≤ 1 }
         ensures core { self.new.core ≡ self.old.core }
         ensures latest { self.new.latest ≡ self.old.latest }
-        ensures keepalive { self.new.keepalive_at ≡ (if keepalive_due (waiting self.old.core) self.old.keepalive_at at then at else self.old.keepalive_at) }
-        ensures packets { outbox.new ≡ outbox.old ++ (if keepalive_due (waiting self.old.core) self.old.keepalive_at at then keepalive_packets (waiting self.old.core) else []) }
+        ensures keepalive { self.new.keepalive_at ≡ (if keepalive_due (waiting self.old.core) self.old.keepalive_at at
+            then at else self.old.keepalive_at) }
+        ensures packets { outbox.new ≡ outbox.old ++ (if keepalive_due
+            (waiting self.old.core) self.old.keepalive_at at then keepalive_packets (waiting self.old.core) else []) }
     {
         if let Some(work) = self.core.work() {
             if at.saturating_sub(self.keepalive_at) >= KEEPALIVE_PERIOD {
@@ -134,7 +141,8 @@ impl<const C: usize> Authenticator<C> {
         requires moment { self.old.latest ≤ now }
         ensures core { self.new.core ≡ event_core self.old.core now (Some (Request cid message.now)) }
         ensures latest { self.new.latest ≡ now }
-        ensures keepalive { self.new.keepalive_at ≡ (if event_keeps_alive self.old.core now (Some (Request cid message.now)) then now else self.old.keepalive_at) }
+        ensures keepalive { self.new.keepalive_at ≡ (if event_keeps_alive self.old.core now
+            (Some (Request cid message.now)) then now else self.old.keepalive_at) }
         ensures packets { outbox.new ≡ outbox.old ++ event_packets self.old.core now (Some (Request cid message.now)) }
         ensures reading { result ≡ reading_of message.now }
     {
@@ -155,7 +163,8 @@ impl<const C: usize> Authenticator<C> {
         requires moment { self.old.latest ≤ now }
         ensures core { self.new.core ≡ event_core self.old.core now (Some (PresenceIs reply)) }
         ensures latest { self.new.latest ≡ now }
-        ensures keepalive { self.new.keepalive_at ≡ (if event_keeps_alive self.old.core now (Some (PresenceIs reply)) then now else self.old.keepalive_at) }
+        ensures keepalive { self.new.keepalive_at ≡ (if event_keeps_alive self.old.core now (Some (PresenceIs reply))
+            then now else self.old.keepalive_at) }
         ensures packets { outbox.new ≡ outbox.old ++ event_packets self.old.core now (Some (PresenceIs reply)) }
     {
         let work = self.core.work();
@@ -169,7 +178,8 @@ impl<const C: usize> Authenticator<C> {
         requires moment { self.old.latest ≤ now }
         ensures core { self.new.core ≡ event_core self.old.core now (Some (KeyIs key)) }
         ensures latest { self.new.latest ≡ now }
-        ensures keepalive { self.new.keepalive_at ≡ (if event_keeps_alive self.old.core now (Some (KeyIs key)) then now else self.old.keepalive_at) }
+        ensures keepalive { self.new.keepalive_at ≡ (if event_keeps_alive self.old.core now (Some (KeyIs key))
+            then now else self.old.keepalive_at) }
         ensures packets { outbox.new ≡ outbox.old ++ event_packets self.old.core now (Some (KeyIs key)) }
     {
         let work = self.core.work();
@@ -183,7 +193,8 @@ impl<const C: usize> Authenticator<C> {
         requires moment { self.old.latest ≤ now }
         ensures core { self.new.core ≡ event_core self.old.core now (Some (SignatureIs signature)) }
         ensures latest { self.new.latest ≡ now }
-        ensures keepalive { self.new.keepalive_at ≡ (if event_keeps_alive self.old.core now (Some (SignatureIs signature)) then now else self.old.keepalive_at) }
+        ensures keepalive { self.new.keepalive_at ≡ (if event_keeps_alive self.old.core now
+            (Some (SignatureIs signature)) then now else self.old.keepalive_at) }
         ensures packets { outbox.new ≡ outbox.old ++ event_packets self.old.core now (Some (SignatureIs signature)) }
     {
         let work = self.core.work();
@@ -196,7 +207,8 @@ impl<const C: usize> Authenticator<C> {
         requires { length outbox.old ≤ 1 }
         ensures core { self.new.core ≡ event_core self.old.core now (Some Cancel) }
         ensures latest { self.new.latest ≡ self.old.latest }
-        ensures keepalive { self.new.keepalive_at ≡ (if event_keeps_alive self.old.core now (Some Cancel) then now else self.old.keepalive_at) }
+        ensures keepalive { self.new.keepalive_at ≡ (if event_keeps_alive self.old.core now (Some Cancel) then now
+            else self.old.keepalive_at) }
         ensures packets { outbox.new ≡ outbox.old ++ event_packets self.old.core now (Some Cancel) }
     {
         let work = self.core.work();
@@ -209,7 +221,8 @@ impl<const C: usize> Authenticator<C> {
     pub(crate) fn drop_work(&mut self)
         ensures core { (now : ℕ) → self.new.core ≡ event_core self.old.core now (Some DropWork) }
         ensures latest { self.new.latest ≡ self.old.latest }
-        ensures keepalive { (now : ℕ) → self.new.keepalive_at ≡ (if event_keeps_alive self.old.core now (Some DropWork) then now else self.old.keepalive_at) }
+        ensures keepalive { (now : ℕ) → self.new.keepalive_at
+            ≡ (if event_keeps_alive self.old.core now (Some DropWork) then now else self.old.keepalive_at) }
         ensures silent { (now : ℕ) → event_packets self.old.core now (Some DropWork) ≡ [] }
     {
         self.core.drop_work();
@@ -221,8 +234,10 @@ impl<const C: usize> Authenticator<C> {
         requires { length outbox.old ≤ 1 }
         ensures core { self.new.core ≡ self.old.core }
         ensures latest { self.new.latest ≡ self.old.latest }
-        ensures keepalive { self.new.keepalive_at ≡ (if answer_keeps_alive (work_channel (option_map work_of work)) (status_of (option_map work_of work)) (answer_of turn.now) then now else self.old.keepalive_at) }
-        ensures packets { outbox.new ≡ outbox.old ++ answer_packets (work_channel (option_map work_of work)) (status_of (option_map work_of work)) (answer_of turn.now) }
+        ensures keepalive { self.new.keepalive_at ≡ (if answer_keeps_alive (work_channel (option_map work_of work))
+            (status_of (option_map work_of work)) (answer_of turn.now) then now else self.old.keepalive_at) }
+        ensures packets { outbox.new ≡ outbox.old ++ answer_packets (work_channel (option_map work_of work))
+            (status_of (option_map work_of work)) (answer_of turn.now) }
     {
         if let Some(work) = work {
             self.send(now, work.cid, Some(work.status), turn, outbox);
@@ -242,8 +257,10 @@ impl<const C: usize> Authenticator<C> {
         requires { length outbox.old ≤ 1 }
         ensures core { self.new.core ≡ self.old.core }
         ensures latest { self.new.latest ≡ self.old.latest }
-        ensures keepalive { self.new.keepalive_at ≡ (if answer_keeps_alive (Some cid) (option_map status_number before) (answer_of turn.now) then now else self.old.keepalive_at) }
-        ensures packets { outbox.new ≡ outbox.old ++ answer_packets (Some cid) (option_map status_number before) (answer_of turn.now) }
+        ensures keepalive { self.new.keepalive_at ≡ (if answer_keeps_alive (Some cid)
+            (option_map status_number before) (answer_of turn.now) then now else self.old.keepalive_at) }
+        ensures packets { outbox.new ≡ outbox.old ++ answer_packets (Some cid) (option_map status_number before)
+            (answer_of turn.now) }
     {
         match turn {
             Turn::Answer(answer) => outbox.put_message(cid, CBOR, answer.as_slice()),

@@ -47,7 +47,8 @@ fn take_all<const N: usize>(outbox: &mut Outbox, number: u64, sent: &mut ArrayVe
 
 /// Whether there is room for all that one more input may send.
 fn has_room<const N: usize>(sent: &ArrayVec<Sent, N>) -> bool
-    ensures { MatchBool result (array_vec_len sent.now + OUTBOX_CAPACITY ≤ N) (N < array_vec_len sent.now + OUTBOX_CAPACITY) }
+    ensures { MatchBool result (array_vec_len sent.now + OUTBOX_CAPACITY ≤ N)
+        (N < array_vec_len sent.now + OUTBOX_CAPACITY) }
 {
     sent.remaining_capacity() >= OUTBOX_CAPACITY
 }
@@ -62,16 +63,19 @@ pub fn drive<const C: usize, const N: usize>(
     // The session and the list stand exactly after the inputs done.
     ensures state { session.new ≡ driven session.old (take (done_of (length inputs.now) result) inputs.now) }
     ensures packets { map as_pair sent.new.items
-        ≡ map as_pair sent.old.items ++ driven_sends 0 session.old (take (done_of (length inputs.now) result) inputs.now) }
+        ≡ map as_pair sent.old.items ++ driven_sends 0 session.old
+        (take (done_of (length inputs.now) result) inputs.now) }
     ensures meters { IfOk result (λ meters. meters ≡ session.new.meters) }
     // It is full exactly where too few places are free.
-    ensures full { IfErr result (λ e. (done_of 0 result < length inputs.now) × (N < array_vec_len sent.new + OUTBOX_CAPACITY)) }
+    ensures full { IfErr result (λ e. (done_of 0 result < length inputs.now)
+        × (N < array_vec_len sent.new + OUTBOX_CAPACITY)) }
     ensures room { HadRoom N (map as_pair sent.old.items) session.old inputs.now (done_of (length inputs.now) result) }
     // After any history.
     ensures after { (start : Start) (h : List OneInput) → StandsAfter session.old start h
         → StandsAfter session.new start (onto (take (done_of (length inputs.now) result) inputs.now) h) }
     ensures sent { (start : Start) (h : List OneInput) → StandsAfter session.old start h
-        → map as_pair sent.new.items ≡ map as_pair sent.old.items ++ sent_from 0 start h (take (done_of (length inputs.now) result) inputs.now) }
+        → map as_pair sent.new.items ≡ map as_pair sent.old.items
+        ++ sent_from 0 start h (take (done_of (length inputs.now) result) inputs.now) }
 {
     let mut outbox = Outbox::new();
     for (i, timed) in inputs.iter().enumerate() {
@@ -99,21 +103,29 @@ pub fn drive_both<const C: usize, const N: usize>(
     ensures first { first.new ≡ driven first.old (take (first_done (length inputs.now) result) inputs.now) }
     ensures second { second.new ≡ driven second.old (take (second_done (length quiet.now) result) quiet.now) }
     ensures first_packets { map as_pair sent.new.items
-        ≡ map as_pair sent.old.items ++ driven_sends 0 first.old (take (first_done (length inputs.now) result) inputs.now) }
+        ≡ map as_pair sent.old.items ++ driven_sends 0 first.old
+        (take (first_done (length inputs.now) result) inputs.now) }
     ensures second_packets { map as_pair quiet_sent.new.items
-        ≡ map as_pair quiet_sent.old.items ++ driven_sends 0 second.old (take (second_done (length quiet.now) result) quiet.now) }
+        ≡ map as_pair quiet_sent.old.items ++ driven_sends 0 second.old
+        (take (second_done (length quiet.now) result) quiet.now) }
     ensures meters { IfOk result (λ meters. (meters.0 ≡ first.new.meters) × (meters.1 ≡ second.new.meters)) }
     // It is full exactly where one of the runs is; where the first is, the second isn't begun.
     ensures full { IfErr result (λ e.
-        ((first_done 0 result < length inputs.now) × (N < array_vec_len sent.new + OUTBOX_CAPACITY) × (second_done 0 result ≡ 0))
-        ⊎ ((first_done 0 result ≡ length inputs.now) × (second_done 0 result < length quiet.now) × (N < array_vec_len quiet_sent.new + OUTBOX_CAPACITY))) }
-    ensures first_room { HadRoom N (map as_pair sent.old.items) first.old inputs.now (first_done (length inputs.now) result) }
-    ensures second_room { HadRoom N (map as_pair quiet_sent.old.items) second.old quiet.now (second_done (length quiet.now) result) }
+        ((first_done 0 result < length inputs.now) × (N < array_vec_len sent.new + OUTBOX_CAPACITY)
+        × (second_done 0 result ≡ 0))
+        ⊎ ((first_done 0 result ≡ length inputs.now) × (second_done 0 result < length quiet.now)
+        × (N < array_vec_len quiet_sent.new + OUTBOX_CAPACITY))) }
+    ensures first_room { HadRoom N (map as_pair sent.old.items) first.old inputs.now
+        (first_done (length inputs.now) result) }
+    ensures second_room { HadRoom N (map as_pair quiet_sent.old.items) second.old quiet.now
+        (second_done (length quiet.now) result) }
     // After histories of one start of which the second has ticks in place of noise, before and after.
-    ensures alike { (start : Start) (h g : List OneInput) → StandsAfter first.old start h → StandsAfter second.old start g
+    ensures alike { (start : Start) (h g : List OneInput) → StandsAfter first.old start h
+        → StandsAfter second.old start g
         → Quiet start h g → Quiet start (onto inputs.now h) (onto quiet.now g)
         → IfOk result (λ meters. (first.new ≡ second.new) × (meters.0 ≡ meters.1)
-        × (map as_pair quiet_sent.new.items ≡ map as_pair quiet_sent.old.items ++ quiet_from 0 start h inputs.now quiet.now)) }
+        × (map as_pair quiet_sent.new.items ≡ map as_pair quiet_sent.old.items
+        ++ quiet_from 0 start h inputs.now quiet.now)) }
 {
     let meters = match drive(first, inputs, sent) {
         Ok(meters) => meters,

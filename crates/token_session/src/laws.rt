@@ -35,26 +35,31 @@ use ctap_message::laws::steps_are_bounded;
 /// the packets that the history says.
 pub fn machine_follows_history()
     ensures state { (start : Start) (h : List OneInput) → IsAfter (machine start h) start h }
-    ensures packets { (start : Start) (h : List OneInput) (x : OneInput) → (turn (machine start h) x).packets ≡ sent_now start h x }
+    ensures packets { (start : Start) (h : List OneInput) (x : OneInput)
+        → (turn (machine start h) x).packets ≡ sent_now start h x }
 {}
 
 /// A run from a state that stands after a history stands after the longer one, and sends what the
 /// longer history says.
 pub fn runs_follow_history()
-    ensures state { (s : State) (start : Start) (h xs : List OneInput) → IsAfter s start h → IsAfter (run_state s xs) start (onto xs h) }
-    ensures packets { (s : State) (start : Start) (n : ℕ) (h xs : List OneInput) → IsAfter s start h → run_sent n s xs ≡ sent_from n start h xs }
+    ensures state { (s : State) (start : Start) (h xs : List OneInput) → IsAfter s start h
+        → IsAfter (run_state s xs) start (onto xs h) }
+    ensures packets { (s : State) (start : Start) (n : ℕ) (h xs : List OneInput) → IsAfter s start h
+        → run_sent n s xs ≡ sent_from n start h xs }
 {}
 
 /// The moment from which the next KEEPALIVE counts is that of the last input that sent one.
 pub fn keepalives_count_from_the_last()
     ensures { (start : Start) (h : List OneInput) (x : OneInput) → last_keepalive start (judged start (x ∷ h))
-        ≡ (if keeps_alive (sent_now start h x) then (judge start x (judged start h)).at else last_keepalive start (judged start h)) }
+        ≡ (if keeps_alive (sent_now start h x) then (judge start x (judged start h)).at
+        else last_keepalive start (judged start h)) }
 {}
 
 /// At most one message is open after a history, at its end and at any later moment, and at most 7550
 /// bytes are held of it.
 pub fn one_message_is_open()
-    ensures one { (start : Start) (t : ℕ) (h : List OneInput) → end start (judged start h) ≤ t → all_open [] (judged start h) t ≡ option_to_list (open_at (judged start h) t) }
+    ensures one { (start : Start) (t : ℕ) (h : List OneInput) → end start (judged start h) ≤ t
+        → all_open [] (judged start h) t ≡ option_to_list (open_at (judged start h) t) }
     ensures held { (start : Start) (h : List OneInput) → held start (judged start h) ≤ 7550 }
 {}
 
@@ -62,10 +67,13 @@ pub fn one_message_is_open()
 /// is open and no work waits.
 pub fn messages_of_one_packet_finish()
     ensures { (start : Start) (h : List OneInput) (x : OneInput) (p : AnyPacket) (cid cmd : ℕ) (bytes : List ℕ)
-        → x.input ≡ PacketCame p → CarriesMessage (p.0 ∷ []) cid cmd bytes → (cmd ≡ PING) ⊎ ((cmd ≡ CBOR) × (1 ≤ length bytes))
+        → x.input ≡ PacketCame p → CarriesMessage (p.0 ∷ []) cid cmd bytes
+        → (cmd ≡ PING) ⊎ ((cmd ≡ CBOR) × (1 ≤ length bytes))
         → 1 ≤ cid → cid ≤ given (judged start h)
-        → open_at (judged start h) (judge start x (judged start h)).at ≡ None → working (core start (judged start h)) ≡ None
-        → finished_at (judge start x (judged start h)) (judged start h) ≡ Some (record { cid = cid; cmd = cmd; bytes = bytes }) }
+        → open_at (judged start h) (judge start x (judged start h)).at ≡ None
+        → working (core start (judged start h)) ≡ None
+        → finished_at (judge start x (judged start h)) (judged start h)
+        ≡ Some (record { cid = cid; cmd = cmd; bytes = bytes }) }
 {}
 
 /// A finished CBOR message is a request: it is answered on its channel as the authenticator's turn says, and beside
@@ -75,10 +83,12 @@ pub fn requests_are_answered()
     ensures request { (start : Start) (h : List OneInput) (x : OneInput) (m : Message)
         → finished_at (judge start x (judged start h)) (judged start h) ≡ Some m → m.cmd ≡ CBOR
         → service_packets start (judge start x (judged start h)) (judged start h)
-        ≡ event_packets (core start (judged start h)) (judge start x (judged start h)).at (Some (Request m.cid m.bytes)) }
+        ≡ event_packets (core start (judged start h)) (judge start x (judged start h)).at
+        (Some (Request m.cid m.bytes)) }
     ensures info { (start : Start) (h : List OneInput) (x : OneInput) (m : Message)
         → finished_at (judge start x (judged start h)) (judged start h) ≡ Some m → m.cmd ≡ CBOR → m.bytes ≡ 0x04 ∷ []
-        → service_packets start (judge start x (judged start h)) (judged start h) ≡ written m.cid CBOR (info_answer start.aaguid) }
+        → service_packets start (judge start x (judged start h)) (judged start h)
+        ≡ written m.cid CBOR (info_answer start.aaguid) }
 {}
 
 /// The meters of every history are bounded: at most 7550 bytes were held of an unfinished message, and reading
@@ -86,7 +96,8 @@ pub fn requests_are_answered()
 pub fn meters_are_bounded()
     ensures held { (start : Start) (h : List OneInput) → (meters_of start (judged start h)).held ≤ 7550 }
     ensures steps { (start : Start) (h : List OneInput)
-        → (meters_of start (judged start h)).steps ≤ 4 * (meters_of start (judged start h)).bytes + 2 * (meters_of start (judged start h)).requests }
+        → (meters_of start (judged start h)).steps ≤ 4 * (meters_of start (judged start h)).bytes + 2 *
+        (meters_of start (judged start h)).requests }
 {
     steps_are_bounded();
 }
@@ -104,23 +115,27 @@ pub fn finished_messages_were_carried()
         → CarriesMessage (carriers_at (judge start x (judged start h)) (judged start h)) m.cid m.cmd m.bytes }
 {}
 
-/// Noise is a tick to a session: it holds the same after either, its meters too, and what a tick sends are the packets of time
-/// alone. What is noise to the state that a history names is noise after that history.
+/// Noise is a tick to a session: it holds the same after either, its meters too, and what a tick sends are the packets
+/// of time alone. What is noise to the state that a history names is noise after that history.
 pub fn noise_is_a_tick()
-    ensures step { (s : SessionState) (x : OneInput) → is_noise_at s.machine x ≡ true → stepped s x ≡ stepped s (tick_at x.at) }
+    ensures step { (s : SessionState) (x : OneInput) → is_noise_at s.machine x ≡ true
+        → stepped s x ≡ stepped s (tick_at x.at) }
     ensures packets { (s : State) (at : ℕ) → (turn s (tick_at at)).packets ≡ (time_passed s (max s.now at)).packets }
     ensures named { (s : State) (start : Start) (h : List OneInput) (x : OneInput) → IsAfter s start h
         → is_noise_at s x ≡ is_noise_after start (judge start x (judged start h)) (judged start h) }
 {}
 
-/// Of two histories of one start, the second is the first with ticks in place of noise. Then all that a session holds after
-/// them is the same: its channels, its open message, its authenticator, the moments and the meters. The second sends just what
-/// the first sends, less the packets of service at the inputs that were replaced; and so do lists of inputs by which such
-/// histories go on.
+/// Of two histories of one start, the second is the first with ticks in place of noise. Then all that a session holds
+/// after them is the same: its channels, its open message, its authenticator, the moments and the meters. The second
+/// sends just what the first sends, less the packets of service at the inputs that were replaced; and so do lists of
+/// inputs by which such histories go on.
 pub fn quiet_histories_are_alike()
-    ensures session { (start : Start) (h g : List OneInput) → Quiet start h g → session_of start (judged start h) ≡ session_of start (judged start g) }
-    ensures packets { (start : Start) (h g : List OneInput) → Quiet start h g → sent start (judged start g) ≡ quiet_sent start h g }
-    ensures runs { (n : ℕ) (start : Start) (h g xs ys : List OneInput) → Quiet start h g → Quiet start (onto xs h) (onto ys g)
+    ensures session { (start : Start) (h g : List OneInput) → Quiet start h g
+        → session_of start (judged start h) ≡ session_of start (judged start g) }
+    ensures packets { (start : Start) (h g : List OneInput) → Quiet start h g
+        → sent start (judged start g) ≡ quiet_sent start h g }
+    ensures runs { (n : ℕ) (start : Start) (h g xs ys : List OneInput) → Quiet start h g
+        → Quiet start (onto xs h) (onto ys g)
         → sent_from n start g ys ≡ quiet_from n start h xs ys }
 {}
 
@@ -128,19 +143,23 @@ pub fn quiet_histories_are_alike()
 /// replacing credential took out since; each counter is that of the start, or 0 for a made one, and the raises of that
 /// credential alone. They stay lawful, and no two texts to sign of assertions by one credential hold the same counter.
 pub fn credentials_follow_history()
-    ensures rows { (start : Start) (h : List OneInput) → (core start (judged start h)).state.rows ≡ rows_of start.rows (marks (first_state start) (steps start (judged start h))) }
-    ensures lawful { (start : Start) (h : List OneInput) → Lawful start.room start.rows → Lawful start.room (core start (judged start h)).state.rows }
-    ensures texts { (start : Start) (h : List OneInput) → Lawful start.room start.rows → all_differ (texts (first_state start) (steps start (judged start h))) ≡ true }
+    ensures rows { (start : Start) (h : List OneInput)
+        → (core start (judged start h)).state.rows ≡ rows_of start.rows
+        (marks (first_state start) (steps start (judged start h))) }
+    ensures lawful { (start : Start) (h : List OneInput) → Lawful start.room start.rows
+        → Lawful start.room (core start (judged start h)).state.rows }
+    ensures texts { (start : Start) (h : List OneInput) → Lawful start.room start.rows
+        → all_differ (texts (first_state start) (steps start (judged start h))) ≡ true }
 {
     rows_follow_history();
     texts_to_sign_differ();
 }
 
-/// The headline. For every start and every list of inputs, the packets sent are exactly those that the history's definition
-/// names, each finished message being the bytes that its packets carried; and after every input the unfinished message holds
-/// at most 7609 bytes, the table and the pending assertions at most as many rows as there is room for, and reading a request
-/// of n bytes took at most 4n + 2 steps. Its premises: the start's rows are lawful, and each packet has 64 bytes, as each
-/// packet and each table of this program do.
+/// The headline. For every start and every list of inputs, the packets sent are exactly those that the history's
+/// definition names, each finished message being the bytes that its packets carried; and after every input the
+/// unfinished message holds at most 7609 bytes, the table and the pending assertions at most as many rows as there is
+/// room for, and reading a request of n bytes took at most 4n + 2 steps. Its premises: the start's rows are lawful, and
+/// each packet has 64 bytes, as each packet and each table of this program do.
 pub fn every_history_is_answered()
     ensures { (start : Start) (h : List OneInput) → Lawful start.room start.rows → ArriveWhole h → IsAnswered start h }
 {

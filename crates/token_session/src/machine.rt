@@ -64,7 +64,8 @@ fn greet_anew<const C: usize>(
     ensures core { (now : ℕ) → authenticator.new.core ≡ event_core authenticator.old.core now (Some DropWork) }
     ensures latest { authenticator.new.latest ≡ authenticator.old.latest }
     ensures keepalive { (now : ℕ) → authenticator.new.keepalive_at
-        ≡ (if event_keeps_alive authenticator.old.core now (Some DropWork) then now else authenticator.old.keepalive_at) }
+        ≡ (if event_keeps_alive authenticator.old.core now (Some DropWork) then now
+        else authenticator.old.keepalive_at) }
     ensures silent { (now : ℕ) → event_packets authenticator.old.core now (Some DropWork) ≡ [] }
     ensures packets { outbox.new ≡ outbox.old ++ greeting on channel nonce.now }
 {
@@ -86,7 +87,9 @@ fn react<const C: usize>(
     requires moment { authenticator.old.latest ≤ now }
     ensures core { authenticator.new.core ≡ event_core authenticator.old.core now (verdict_event verdict message.now) }
     ensures latest { authenticator.new.latest ≤ now }
-    ensures keepalive { authenticator.new.keepalive_at ≡ (if event_keeps_alive authenticator.old.core now (verdict_event verdict message.now) then now else authenticator.old.keepalive_at) }
+    ensures keepalive { authenticator.new.keepalive_at
+        ≡ (if event_keeps_alive authenticator.old.core now (verdict_event verdict message.now) then now
+        else authenticator.old.keepalive_at) }
     ensures packets { outbox.new ≡ outbox.old ++ (verdict_packets verdict message.now
         ++ event_packets authenticator.old.core now (verdict_event verdict message.now)) }
     ensures reading { result ≡ reading_in (verdict_event verdict message.now) }
@@ -135,7 +138,13 @@ impl<const C: usize> Model for Machine<C> {
 
     ghost Value = { State };
 
-    ghost view = { λ s. record { now = s.latest; given = s.assembler.given; current = s.assembler.current; core = s.authenticator.core; keepalive_at = s.authenticator.keepalive_at } };
+    ghost view = { λ s. record {
+      now = s.latest;
+      given = s.assembler.given;
+      current = s.assembler.current;
+      core = s.authenticator.core;
+      keepalive_at = s.authenticator.keepalive_at;
+    } };
 
     ghost invariant = { λ s. s.authenticator.latest ≤ s.latest };
 }
@@ -144,7 +153,12 @@ impl<const C: usize> Machine<C> {
     /// No channel was given out, and no work waits.
     #[tactic(auto, unfolding(crate::specs::Machine::start_state))]
     pub(crate) fn new(config: Config, rows: Store<C>, start: u64) -> Self
-        ensures { result ≡ start_state (record { aaguid = config.aaguid; moment = start; room = C; rows = bare_rows (⟦<Store<C> as Table<C>>⟧.rows rows.entry) }) }
+        ensures { result ≡ start_state (record {
+          aaguid = config.aaguid;
+          moment = start;
+          room = C;
+          rows = bare_rows (⟦<Store<C> as Table<C>>⟧.rows rows.entry);
+        }) }
     {
         Machine {
             latest: start,

@@ -59,10 +59,15 @@ fn count(meters: Meters, held: u16, rows: u16, pending: u16, request: Option<Rea
 }
 
 impl<const C: usize> Session<C> {
-    /// A session that begins at the moment `start`, in milliseconds, with these credentials. No channel is given out, and
-    /// no work waits.
+    /// A session that begins at the moment `start`, in milliseconds, with these credentials. No channel is given out,
+    /// and no work waits.
     pub fn new(config: Config, rows: Store<C>, start: u64) -> Self
-        ensures { result ≡ session_of (record { aaguid = config.aaguid; moment = start; room = C; rows = bare_rows (⟦<Store<C> as Table<C>>⟧.rows rows.entry) }) [] }
+        ensures { result ≡ session_of (record {
+          aaguid = config.aaguid;
+          moment = start;
+          room = C;
+          rows = bare_rows (⟦<Store<C> as Table<C>>⟧.rows rows.entry);
+        }) [] }
     {
         let machine = Machine::new(config, rows, start);
         let rows = machine.credentials() as u16;
@@ -99,8 +104,10 @@ impl<const C: usize> Session<C> {
         ensures few { length outbox.new ≤ OUTBOX_CAPACITY }
         // After any history that the session stands after, it stands after the longer one, and it
         // sent just what that history names for the input.
-        ensures after { (start : Start) (h : List OneInput) → StandsAfter self.old start h → StandsAfter self.new start (record { at = at; input = input } ∷ h) }
-        ensures sent { (start : Start) (h : List OneInput) → StandsAfter self.old start h → outbox.new ≡ sent_now start h (record { at = at; input = input }) }
+        ensures after { (start : Start) (h : List OneInput) → StandsAfter self.old start h
+            → StandsAfter self.new start (record { at = at; input = input } ∷ h) }
+        ensures sent { (start : Start) (h : List OneInput) → StandsAfter self.old start h
+            → outbox.new ≡ sent_now start h (record { at = at; input = input }) }
     {
         steps_are_bounded();
         let reading = self.machine.step(at, input, outbox);
@@ -110,16 +117,17 @@ impl<const C: usize> Session<C> {
         self.meters = count(self.meters, held, rows, pending, reading);
     }
 
-    /// Whether this input at `at` would be noise: when time has passed to `at`, it would change nothing more. Noise is a CANCEL
-    /// for which no work waits; a packet on a channel that was never given out, but for an INIT on the broadcast channel; a
-    /// packet that begins a message, but for INIT and CANCEL, while another channel has an open message or any has work; a
-    /// continuation packet with no message open on its channel; and a reply of the caller that isn't needed. A tick isn't. The
-    /// session stays as it is.
+    /// Whether this input at `at` would be noise: when time has passed to `at`, it would change nothing more. Noise is
+    /// a CANCEL for which no work waits; a packet on a channel that was never given out, but for an INIT on the
+    /// broadcast channel; a packet that begins a message, but for INIT and CANCEL, while another channel has an open
+    /// message or any has work; a continuation packet with no message open on its channel; and a reply of the caller
+    /// that isn't needed. A tick isn't. The session stays as it is.
     pub fn noise(&self, at: u64, input: &Input) -> bool
         ensures state { result ≡ is_noise_at self.now.machine (record { at = at; input = input.now }) }
         // It is noise after each history that the session stands after.
         ensures history { (start : Start) (h : List OneInput) → StandsAfter self.now start h
-            → result ≡ is_noise_after start (judge start (record { at = at; input = input.now }) (judged start h)) (judged start h) }
+            → result ≡ is_noise_after start (judge start (record { at = at; input = input.now }) (judged start h))
+            (judged start h) }
     {
         self.machine.noise(at, input)
     }
@@ -128,7 +136,8 @@ impl<const C: usize> Session<C> {
     pub fn held(&self) -> u16
         ensures bytes { result ≡ held_bytes self.now.machine.current }
         ensures limit { result ≤ 7550 }
-        ensures named { (start : Start) (h : List OneInput) → StandsAfter self.now start h → result ≡ held start (judged start h) }
+        ensures named { (start : Start) (h : List OneInput) → StandsAfter self.now start h
+            → result ≡ held start (judged start h) }
     {
         self.machine.held()
     }

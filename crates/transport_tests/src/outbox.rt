@@ -58,8 +58,8 @@ fn a_full_outbox_is_filled_again(rt: HostRuntime) {
     assert_eq!(rt; outbox.pop(), None);
 }
 
-/// The ring has 8320 bytes, which 127 doesn't divide: so the messages begin at each of its places once, and its end comes at
-/// each place within a message.
+/// The ring has 8320 bytes, which 127 doesn't divide: so the messages begin at each of its places once, and its end
+/// comes at each place within a message.
 #[test]
 fn the_ring_ends_at_each_place_of_a_message(rt: HostRuntime) {
     written_packets_are_the_fewest();

@@ -1,6 +1,6 @@
-//! What the commands make of a worked log: a replay writes it again; compared with what is sent it is the same, and a packet
-//! that is changed, left out or put in is found; made quiet it sends no packet that it didn't send, and counts the same; and
-//! with what is needed it is its own log, and the log besides.
+//! What the commands make of a worked log: a replay writes it again; compared with what is sent it is the same, and a
+//! packet that is changed, left out or put in is found; made quiet it sends no packet that it didn't send, and counts
+//! the same; and with what is needed it is its own log, and the log besides.
 
 ghost use Rattle.std.specs.Prelude.{◌≤◌};
 
@@ -148,8 +148,8 @@ fn counts(log: &[u8]) -> Option<&[u8]> {
     log.split_inclusive(|byte| *byte == b'\n').last()
 }
 
-/// Whether the log made quiet stays as it is when it is made quiet again, and its replay sends packets of the log alone, in
-/// their order, and counts what the log counts.
+/// Whether the log made quiet stays as it is when it is made quiet again, and its replay sends packets of the log
+/// alone, in their order, and counts what the log counts.
 fn is_quieted<const C: usize>(alloc: Global, log: &[u8]) -> Option<bool>
     requires some { 1 ≤ C }
     requires few { C ≤ 256 }
@@ -211,8 +211,8 @@ fn restarted(snapshot: &[u8]) -> Session<64> {
     Session::new(Config { aaguid: [0; 16] }, rows, 0)
 }
 
-/// Whether a log that was recorded live, with what was needed, is what the session sends and needs: replayed, compared and
-/// played live.
+/// Whether a log that was recorded live, with what was needed, is what the session sends and needs: replayed, compared
+/// and played live.
 pub fn is_recorded(alloc: Global, snapshot: &[u8], log: &[u8]) -> bool {
     let (mut sent, mut lived, mut same) = (Vec::new(alloc), Vec::new(alloc), Vec::new(alloc));
     replay(

@@ -1,8 +1,9 @@
-//! Plays worked logs. What a replay writes is its own log, so that each file is both what is read and what is wanted: it
-//! was written by hand, from what CTAP says. A folder's name says the session that its logs are played on. Of each log the
-//! commands that compare and quieten are asked too, and the one that says what is needed. The logs of `recorded` come from
-//! tests of a service (examples/python), with what was needed; those of `restarted` begin with the credentials of its snapshot.
-//! Prints a line for each log of which a command makes something else and a count, and ends with 1 where there is one.
+//! Plays worked logs. What a replay writes is its own log, so that each file is both what is read and what is wanted:
+//! it was written by hand, from what CTAP says. A folder's name says the session that its logs are played on. Of each
+//! log the commands that compare and quieten are asked too, and the one that says what is needed. The logs of
+//! `recorded` come from tests of a service (examples/python), with what was needed; those of `restarted` begin with the
+//! credentials of its snapshot. Prints a line for each log of which a command makes something else and a count, and
+//! ends with 1 where there is one.
 #![tactic(auto)]
 
 mod commands;

@@ -1,6 +1,7 @@
 //! The lines of a worked log, and which input each packet was sent for.
 
-/// Where a packet stands: the line of the input that it was sent for, and its number after that line. Both count from 1.
+/// Where a packet stands: the line of the input that it was sent for, and its number after that line. Both count from
+/// 1.
 #[derive(Clone, Copy, Default)]
 pub struct Place {
     pub line: u64,
