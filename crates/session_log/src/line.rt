@@ -1,6 +1,7 @@
 //! What a line says.
-ghost use Rattle.std.specs.Prelude.{◌≡◌, ◌<◌, ◌≤◌, ◌-◌, ◌/◌, ◌^◌, ◌↔◌, ◌==◌, length, position, slice_index, Option, None, Some, IfSome, IsTrue, MatchOption, SomeIff};
+ghost use Rattle.std.specs.Prelude.{◌≡◌, ◌<◌, ◌≤◌, ◌-◌, ◌/◌, ◌^◌, ◌↔◌, ◌==◌, length, position, slice_index, Option, None, Some, IfSome, IsTrue, MatchBool, MatchOption, SomeIff};
 ghost use Rattle.std.specs.Str.Parse.{AllDigits, digits_value};
+ghost use Rattle.hid_packet.specs.declared.packet.Packet.{Packet as AnyPacket};
 ghost use Rattle.session_log.specs.Letters.{space};
 ghost use Rattle.session_log.specs.Said.{bytes_of, first_field, input_by, input_line, key_of, key_said, moment, presence_said, said, says, sent_line, signature_of, signature_said, tick_line, timed_line};
 
@@ -178,15 +179,23 @@ fn read_input(letter: u8, field: &[u8]) -> Option<Input>
     }
 }
 
-// Not inlined, so that a tick and a comment don't pay for the room of the other inputs.
-
 /// The packet that the field of a `<` line says.
-#[inline(never)]
 pub fn read_packet(field: &[u8]) -> Option<Packet>
-    ensures { MatchOption result (sent_line field.now ≡ None)
-        (λ packet. sent_line field.now ≡ Some (Line.Sent packet)) }
+    ensures { MatchOption result (sent_line field.now ≡ None) (λ packet. sent_line field.now ≡ Some (Line.Sent packet)) }
 {
     Some(Packet(read_bytes(field)?))
+}
+
+// The next one and `read_other` aren't inlined, so that a tick and a comment don't pay for the room of other lines.
+
+/// Whether the field of a `<` line says a packet.
+#[inline(never)]
+pub fn is_packet(field: &[u8]) -> bool
+    ensures { MatchBool result
+        ((packet : AnyPacket) × (sent_line field.now ≡ Some (Line.Sent packet)))
+        (sent_line field.now ≡ None) }
+{
+    read_packet(field).is_some()
 }
 
 /// The moment that the field of a `t` line says.

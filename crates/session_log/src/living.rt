@@ -10,7 +10,7 @@ ghost use Rattle.token_session.specs.Meters.{SessionState, StandsAfter};
 ghost use Rattle.session_log.specs.Streams.{Counts, IsAllRead, Moves};
 
 use crate::fault::LogFault;
-use crate::line::{LineKind, kind_of, read_packet, read_timed};
+use crate::line::{LineKind, is_packet, kind_of, read_timed};
 use crate::playing::{Player, play_all};
 use crate::source::Source;
 use crate::target::Target;
@@ -63,7 +63,7 @@ impl<const C: usize> Player<C> for Living {
     ) -> Result<(), LogFault> {
         match kind_of(line) {
             Some(LineKind::Count) => Ok(()),
-            Some(LineKind::Sent(field)) if read_packet(field).is_some() => Ok(()),
+            Some(LineKind::Sent(field)) if is_packet(field) => Ok(()),
             None | Some(LineKind::Sent(_)) => Err(LogFault::BadLine(number)),
             Some(LineKind::Comment) => {
                 if is_need_line(line) {
