@@ -31,6 +31,8 @@ fn is_too_many(window: &Window, number: u64) -> bool
 /// Fails with [`LogFault::TooManyLines`] where line 2^32 begins, with [`LogFault::TooLong`] at the 256th byte of a
 /// line, and with [`LogFault::Read`] where the reader failed, which is not tried again. What was read stands in the
 /// window.
+// Inlined, since most lines are held already, and then it costs less than its call.
+#[inline(always)]
 pub fn next_line<S: Source>(
     window: &mut Window,
     reader: &mut S,

@@ -39,7 +39,7 @@ play-requires g c =
     let text = c.split_at.result.0.now in
     let line = c.split_at-in-Some.result.0.now in
     let cut = cut_twice w c.as_slice.result.now text line c.in-Some.end c.as_slice.ensures.value c.split_at.ensures.front c.split_at-in-Some.ensures.front in
-    let unfailed : g.T.Target.failed c.lines.writer < 2 ^ 64 - 1 = search rules in (
+    let unfailed : g.T.Target.failed c.lines.writer < 2 ^ 64 - 1 = subst (λ (k : ℕ). k < 2 ^ 64 - 1) (sym c.lines.invariant.writes) c.requires.write in (
       search rules,
       (unfailed, (short_in_front w line c.lines.number c.in-Some.end has cut.1, (text_of_line w text line c.in-Some.end has.feed cut, (has.counted, c.lines.invariant.ready)))),
     )
@@ -52,7 +52,7 @@ play-requires-2 g c =
     let unfinished = rw c.in_default.is at c.in_ok-end.ensures.found in
     let cut = last_line_of w c.end_line.new.self text line c.len-end.result c.len-end.ensures.value c.end_line.ensures c.as_slice-text.ensures.value c.split_at-2.ensures.front in
     let some : 0 < length w = some_left (length w) (λ e. cc (c.if-is_empty.ensures.1 (is_nil w e))) in
-    let unfailed : g.T.Target.failed c.lines.writer < 2 ^ 64 - 1 = search rules in (
+    let unfailed : g.T.Target.failed c.lines.writer < 2 ^ 64 - 1 = subst (λ (k : ℕ). k < 2 ^ 64 - 1) (sym c.lines.invariant.writes) c.requires.write in (
       search rules,
       (unfailed, (subst (λ (l : List ℕ). length l < 256) (sym cut.1) unfinished.0.short, (cut.0 ∙ ap ended (sym cut.1), (in_count c.lines.number w unfinished.0.counted some, c.lines.invariant.ready)))),
     )
@@ -68,7 +68,7 @@ lines-preserved g c =
     let is_line = (cut_twice w c.as_slice.result.now c.split_at.result.0.now line c.in-Some.end c.as_slice.ensures.value c.split_at.ensures.front c.split_at-in-Some.ensures.front).1 in
     let played = c.in_ok-play.ensures.played in
     record {
-      reads = c.in_ok-end.ensures.reads ∙ c.lines.invariant.reads;
+      reads = ◌∙◌ {b = g.S.Source.failed c.lines.reader} c.in_ok-end.ensures.reads c.lines.invariant.reads;
       writes = played.3.1 ∙ c.lines.invariant.writes;
       ready = c.in_ok-play.ensures.next;
       counted = omega (arith, has.counted);
