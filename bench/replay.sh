@@ -21,7 +21,8 @@ log() {
 import sys
 kind, count = sys.argv[1], int(sys.argv[2])
 packet = {"ping": "00000001810005" + b"hello".hex(), "get_info": "0000000190000104"}.get(kind)
-line = f"> 5 {packet.ljust(128, '0')}\n" if packet else {"tick": "t 5\n", "comment": "# a comment\n"}[kind]
+line = f"> 5 {packet.ljust(128, '0')}\n" if packet else {
+    "tick": "t 5\n", "long_tick": "t 12345\n", "comment": "# a comment\n"}[kind]
 print("> 0 " + "ffffffff8600080001020304050607".ljust(128, "0"))
 sys.stdout.write(line * count)
 PYTHON
@@ -37,19 +38,27 @@ calls() {
     awk '$NF == "total" { print $4 }' "$work/calls"
 }
 
-# Processor time in nanoseconds.
+# Processor time of a line in nanoseconds, of both programs: medians of 25 runs in turn, since a machine's speed changes
+# from minute to minute. Where there are few lines they would be lost in what starting takes.
 nanoseconds() {
-    python3 - "$work/output" "$@" <<'PYTHON'
-import resource, subprocess, sys
-best = None
-for _ in range(5):
+    python3 - "$work" "$1" "$2" "$program" <<'PYTHON'
+import resource, statistics, subprocess, sys
+
+work, kind, count, program = sys.argv[1], sys.argv[2], int(sys.argv[3]), sys.argv[4]
+
+
+def took(command, lines):
     before = resource.getrusage(resource.RUSAGE_CHILDREN)
-    with open(sys.argv[2]) as log, open(sys.argv[1], "w") as out:
-        subprocess.run(sys.argv[3:], stdin=log, stdout=out, check=True)
+    with open(f"{work}/{kind}.{lines}") as log, open(f"{work}/output", "w") as out:
+        subprocess.run(command, stdin=log, stdout=out, check=True)
     after = resource.getrusage(resource.RUSAGE_CHILDREN)
-    took = after.ru_utime + after.ru_stime - before.ru_utime - before.ru_stime
-    best = took if best is None else min(best, took)
-print(int(best * 1e9))
+    return after.ru_utime + after.ru_stime - before.ru_utime - before.ru_stime
+
+
+programs = [program, "replay"], [f"{work}/replay_c"]
+rounds = [[took(it, lines) for it in programs for lines in (count, 0)] for _ in range(25)]
+whole, none, whole_c, none_c = (statistics.median(it) for it in zip(*rounds))
+print(f"  {1e9 * (whole - none) / count:10.0f} {f'({1e9 * (whole_c - none_c) / count:.0f})':>10}", end="")
 PYTHON
 }
 
@@ -61,17 +70,20 @@ per_line() {
 }
 
 printf '%-9s %7s  %21s  %21s  %21s\n' lines '' 'instructions (C)' 'system calls (C)' 'ns (C)'
-for kind in ping get_info tick comment; do
+for kind in ping get_info tick long_tick comment; do
     log "$kind" 0 >"$work/$kind.0"
     for count in 1000 100000; do
         log "$kind" "$count" >"$work/$kind.$count"
         "$program" replay <"$work/$kind.$count" >"$work/first"
         "$work/replay_c" <"$work/$kind.$count" | cmp - "$work/first"
         printf '%-9s %7s' "$kind" "$count"
-        for measure in instructions calls nanoseconds; do
+        for measure in instructions calls; do
             printf '  %10s %10s' "$(per_line $measure $kind $count "$program" replay)" \
                 "($(per_line $measure $kind $count "$work/replay_c"))"
         done
+        if [ "$count" -gt 1000 ]; then
+            nanoseconds "$kind" "$count"
+        fi
         printf '\n'
     done
 done
