@@ -13,7 +13,7 @@ def head(major, n):
         if info is None:
             if n < 24:
                 return bytes([32 * major + n])
-        elif n < 256 ** size:
+        elif n < 256**size:
             return bytes([32 * major + info]) + n.to_bytes(size, "big")
     raise ValueError(n)
 

@@ -151,6 +151,7 @@ round() {
     if [ "$2" = p ]; then quarters=4; fi
     echo $((($(instructions "$1" "$2" "$3" "$quarters") - $(instructions "$1" "$2" "$3" 0)) / (quarters * 4)))
 }
+declare -A put
 printf '%-10s %6s %8s %8s\n' call rows Listed Chained
 for rows in 1 64 256; do
     for call in find:f named:n same_user:u replace:x raise:r clear:c; do
@@ -158,7 +159,7 @@ for rows in 1 64 256; do
             "$(round l "${call#*:}" "$rows")" "$(round c "${call#*:}" "$rows")"
     done
     for table in l c; do
-        eval "put_$table=$((($(round $table p "$rows") - $(round $table c 1)) / rows))"
+        put[$table]=$((($(round $table p "$rows") - $(round $table c 1)) / rows))
     done
-    printf '%-10s %6s %8s %8s\n' put "$rows" "$put_l" "$put_c"
+    printf '%-10s %6s %8s %8s\n' put "$rows" "${put[l]}" "${put[c]}"
 done

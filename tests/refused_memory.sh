@@ -8,7 +8,7 @@
 # vector: where that one is refused memory, it is a write that fails. Tests of `.._after_refused_memory` make the
 # same call again and have to pass.
 set -u
-cd "$(dirname "$0")/.."
+cd "$(dirname "$0")/.." || exit 2
 work=$(mktemp -d)
 trap 'rm -r "$work"' EXIT
 try_crate() {

@@ -1,5 +1,5 @@
-// Made by build.sh, in base64: crates/hidlog_c as a WebAssembly module, and examples/registration.log.
-// The source's hash (source_hash.sh): ea02993677d9e00da1ee76905b03df23960408c41791ecdc1a442830fe48f640
+// Made by build.sh, in base64: release/hidlog.wasm and examples/registration.log.
+// The module's SHA-256: 725dd956404519579ab6ad8dfe9a9d8b62f965141b7236943da46511e8f308bb
 globalThis.HIDLOG_WASM = [
     "AGFzbQEAAAABngEWYAABf2AAAGADfn5+AGADfn5/AGACfn4Bf2ADfn5+AX9gBH5+f34AYAN+fn4BfmACfn4AYAZ+fn5+fn4AYAR+f35+AGAEfn",
     "5+fgBgAX4AYAV+f39+fgBgCH9/f39/f39/AX9gB35+f39/fn4AYAV+fn5+fgBgA35/fgBgAX4Bf2AEfn5+fgF/YAl+fn5+fn5+fn4AYAd+fn5+",

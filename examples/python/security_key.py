@@ -148,9 +148,7 @@ class SecurityKey(Caller):
     real_time  waits take their time, and moments are those of a clock.
     """
 
-    def __init__(
-        self, load=None, save=None, keys=None, program=PROGRAM, random=os.urandom, real_time=False
-    ):
+    def __init__(self, load=None, save=None, keys=None, program=PROGRAM, random=os.urandom, real_time=False):
         super().__init__(keys, random)
         self.log = []
         self._started = time.monotonic() if real_time else None

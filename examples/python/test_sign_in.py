@@ -55,9 +55,7 @@ class SignIn(unittest.TestCase):
             user, list(known), resident_key=discoverable, user_verification=verification
         )
         seen = (lambda _: event.set()) if event else None
-        made = self.client.make_credential(
-            asked["publicKey"], event=event or Event(), on_keepalive=seen
-        )
+        made = self.client.make_credential(asked["publicKey"], event=event or Event(), on_keepalive=seen)
         return self.server.register_complete(state, made.client_data, made.attestation_object)
 
     def sign_in(self, registered, allowed=(), account=0):

@@ -1,4 +1,4 @@
-/* Runs the commands of libhidlog_c.a from C: commands FOLDER, the folder of the worked logs. */
+/* Runs the commands of libhidlog from C: commands FOLDER, the folder of the worked logs. */
 #include "hidlog.h"
 
 #include <inttypes.h>

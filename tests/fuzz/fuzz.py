@@ -39,11 +39,12 @@ def arguments():
 
 
 def built(program):
-    """The program itself, where the launcher is named: that builds it, and takes its time to find that it has."""
+    """The program itself, where the launcher is named: that takes its time to find whether a source has changed."""
     if os.path.realpath(program) != os.path.join(TOP, "hidlog"):
         return program
     subprocess.run([program, "--help"], check=True, stdout=subprocess.DEVNULL)
-    return os.path.join(TOP, "crates", "hidlog", "out", "hidlog")
+    with open(os.path.join(TOP, "release", "out", "current"), encoding="utf-8") as file:
+        return os.path.join(TOP, file.read().split()[0])
 
 
 def runner_of(program):

@@ -197,9 +197,7 @@ def judge_live(log, output, run):
     """Looks at the log as a live session."""
     live = judge_end("live", run("live", log), None)
     lines = lines_of(live)
-    told, replayed = (
-        [it for it in found if not it.startswith(NEEDS)] for found in (lines, lines_of(output))
-    )
+    told, replayed = ([it for it in found if not it.startswith(NEEDS)] for found in (lines, lines_of(output)))
     hold(told == replayed and live[-1:] == b"\n", "live lines", "they differ")
     judge_needs(lines)
     hold(run("replay", live) == (0, live, b""), "live again", "its replay differs")

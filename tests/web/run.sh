@@ -6,16 +6,8 @@ set -euo pipefail
 top=$(cd "$(dirname "${BASH_SOURCE[0]}")/../.." && pwd)
 here=$top/tests/web
 program=${HIDLOG:-$top/hidlog}
-python=
-for each in python3 /usr/bin/python3; do
-    if command -v "$each" >/dev/null && "$each" -c 'import fido2.server' 2>/dev/null; then
-        python=$each
-    fi
-done
-if [ -z "$python" ]; then
-    echo "tests/web: python-fido2 is missing (apt-get install python3-fido2); nothing was run" >&2
-    exit 3
-fi
+with_fido2=$top/tests/with_fido2.sh
+"$with_fido2" -c '' || exit 3
 room=$(mktemp -d)
 trap 'rm -rf "$room"' EXIT
 failed=0
@@ -28,11 +20,11 @@ run_pages() {
     ran=1
     for page in viewer.html key.html; do
         mkdir -p "$room/$browser"
-        "$python" "$here/serve.py" "$room/$browser" "$page" "$@" || failed=1
+        "$with_fido2" "$here/serve.py" "$room/$browser" "$page" "$@" || failed=1
     done
     if [ "$browser" = chromium ]; then
         open_from_file
-        "$python" "$here/virtual_authenticator.py" || true
+        "$with_fido2" "$here/virtual_authenticator.py" || true
     fi
     check_logs "$room/$browser"
 }
@@ -63,10 +55,7 @@ check_logs() {
     done
 }
 
-if ! grep -q "$("$top/web/source_hash.sh")" "$top/web/wasm.js"; then
-    echo "FAILED  web/wasm.js is older than the crates: run web/build.sh"
-    failed=1
-fi
+"$top/web/build.sh" --check || failed=1
 wanted=${1:-all}
 if [ "$wanted" != firefox ]; then
     if command -v chromium >/dev/null; then

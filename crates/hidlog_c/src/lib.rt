@@ -1,6 +1,6 @@
 //! The commands on session logs as functions of C: a log and a snapshot in, a text and an outcome out
 //! (hidlog.h). The log is the state: nothing is kept between two calls, and nothing is allocated. The same
-//! source makes the WebAssembly module of the web page (web/build.sh).
+//! source makes the WebAssembly module of the web page (release/build.sh).
 #![tactic(auto)]
 
 mod commands;

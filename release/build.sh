@@ -1,0 +1,119 @@
+#!/usr/bin/env bash
+# Makes the files of release/ from what the gate has proved and built in crates/*/out: the program, the C library for
+# two processors and as a WebAssembly module, their header, their sums, and BUILD, which says what they were made from.
+#
+#     release/build.sh            writes release/ anew; run it after `rt ci`, and commit what it changed
+#     release/build.sh --check    compares release/ with what is made now, byte for byte; status 1 where it differs
+#
+# The same sources and tools give the same bytes, in any folder. It needs the toolchain (rt), gcc and libc6-dev.
+set -euo pipefail
+cd "$(dirname "${BASH_SOURCE[0]}")/.."
+top=$PWD
+kit=$(dirname "$(dirname "$(readlink -f "$(command -v rt)")")")
+work=$(mktemp -d)
+trap 'rm -rf "$work"' EXIT
+made=$work/made
+mkdir -p "$made/aarch64"
+
+stop() {
+    echo "release: $*" >&2
+    exit 1
+}
+
+# The words of a check or a build of the C library, over the libraries below it as they were built.
+words=(--crate-name hidlog_c src/lib.rt --extern "std=$kit/rlibs/std.rlib" -L "dependency=$kit/rlibs"
+    --antt-project "$kit/rattle/logic/antt-project.json" --logic-built "$kit/logic_built" --links "hidlog_c="
+    --crate-type staticlib)
+read -ra libraries < <(sed -n 's/^hidlog_c staticlib://p' crates.txt)
+for name in "${libraries[@]}"; do
+    words+=(--extern "$name=$top/crates/$name/out/rlib/$name.rlib")
+done
+for folder in $(release/sources.sh | sed -n 's|^crates/\([^/]*\)/src$|\1|p'); do
+    if [ -d "crates/$folder/out/rlib" ]; then
+        words+=(-L "dependency=$top/crates/$folder/out/rlib")
+    fi
+done
+
+# Proves the C library and builds it for a target: build_library TARGET FILE. What is the same for all is proved once.
+build_library() {
+    (cd crates/hidlog_c && "$kit/bin/rattle" build "${words[@]}" --incremental "$work/proved" --target "$1" \
+        --toolchain "$kit/toolchain" --backend llvm -o "$2") >"$work/log" 2>&1 || {
+        tail -20 "$work/log" >&2
+        stop "the C library could not be built for $1"
+    }
+}
+
+# The program that the gate linked, linked again with no shared library.
+build_program() {
+    [ -e crates/hidlog/out/hidlog.o ] || stop "crates/hidlog/out has no program: run rt ci first"
+    gcc -static -Wl,--build-id=none -s -o "$made/hidlog" crates/hidlog/out/hidlog.o "$kit/c/libos_c.a" \
+        "$kit/c/liblibc_c.a"
+}
+
+build_shared() {
+    "$kit/toolchain/bin/ld.lld" -shared -soname libhidlog.so.0 -z relro -z now --strip-all -o "$made/libhidlog.so.0" \
+        --whole-archive "$made/libhidlog.a"
+    ln -s libhidlog.so.0 "$made/libhidlog.so"
+}
+
+build_module() {
+    build_library wasm64-unknown-unknown "$work/module.a"
+    "$kit/bin/rattle-link" --target wasm64-unknown-unknown --toolchain "$kit/toolchain" --memory 134217728 \
+        --stack 524288 -o "$made/hidlog.wasm" "$work/module.a"
+}
+
+# Writes what the files are made from and with, a word and its value a line.
+write_build() {
+    {
+        echo "version: $(sed -n 's/^const VERSION: &str = "\(.*\)";/\1/p' crates/hidlog/src/command_line.rt)"
+        echo "kit: $(rt version)"
+        echo "sources: $(release/sources.sh --hash)"
+        echo "processor: x86-64-v2"
+        echo "object: $(sha256sum <crates/hidlog/out/hidlog.o | cut -c1-64)"
+        echo "linker: gcc $(gcc -dumpfullversion), $(sha256sum <"$(gcc -print-file-name=libc.a)" | cut -c1-16) libc.a"
+    } >"$made/BUILD"
+}
+
+# Compares release/ with what was made. With another linker or C library the program is compared by its object file.
+compare() {
+    local name differ=0
+    for name in "${names[@]}"; do
+        if cmp -s "release/$name" "$made/$name"; then
+            echo "same  release/$name"
+        elif [ "$name" = hidlog ] && is_linked_otherwise; then
+            echo "same  release/hidlog, by its object file: this machine's gcc or C library is another"
+        elif [ "$name" = BUILD ] && is_linked_otherwise; then
+            echo "same  release/BUILD, but for the linker"
+        else
+            echo "DIFFERS  release/$name"
+            differ=1
+        fi
+    done
+    (cd release && sha256sum --quiet --check SHA256SUMS) || differ=1
+    [ "$differ" = 0 ] || stop "release/ is not what was made now: release/build.sh writes it anew"
+}
+
+# Whether only the linker is another than the one that release/ was made with.
+is_linked_otherwise() {
+    ! diff <(grep ^linker: release/BUILD) <(grep ^linker: "$made/BUILD") >/dev/null &&
+        diff <(grep -v ^linker: release/BUILD) <(grep -v ^linker: "$made/BUILD") >/dev/null
+}
+
+names=(BUILD hidlog hidlog.h hidlog.wasm libhidlog.a libhidlog.so.0 aarch64/libhidlog.a)
+if [ $# -gt 1 ] || [ "${1---check}" != --check ]; then
+    stop "usage: release/build.sh [--check]"
+fi
+write_build
+build_program
+build_library x86_64-unknown-linux-gnu "$made/libhidlog.a"
+build_library aarch64-unknown-linux-gnu "$made/aarch64/libhidlog.a"
+build_shared
+build_module
+cp crates/hidlog_c/hidlog.h "$made/hidlog.h"
+if [ "${1-}" = --check ]; then
+    compare
+else
+    (cd "$made" && sha256sum "${names[@]}" >SHA256SUMS)
+    cp -a "$made/." release/
+    cat release/BUILD release/SHA256SUMS
+fi

@@ -1,0 +1,44 @@
+#!/bin/sh
+# Prints what release/ is made from, a path a line: crates.txt, HANDLES, and of the program, the C library and each
+# crate below them the folders of its sources, definitions and proofs.
+#
+#     release/sources.sh            prints the paths
+#     release/sources.sh --hash     prints the hash of all these files
+set -eu
+cd "$(dirname "$0")/.."
+
+paths() {
+    echo crates.txt
+    echo HANDLES
+    echo crates/hidlog_c/hidlog.h
+    awk '
+        /^#/ || !NF { next }
+        {
+            split($0, halves, ":")
+            split(halves[1], words, " ")
+            uses[words[1]] = halves[2]
+        }
+        function visit(name, libraries, count, i) {
+            if (!(name in uses) || name in seen)
+                return
+            seen[name] = 1
+            count = split(uses[name], libraries, " ")
+            for (i = 1; i <= count; i++)
+                visit(libraries[i])
+            print "crates/" name
+        }
+        END {
+            visit("hidlog")
+            visit("hidlog_c")
+        }' crates.txt | while read -r crate; do
+        for part in src specs proofs; do
+            [ ! -d "$crate/$part" ] || echo "$crate/$part"
+        done
+    done
+}
+
+if [ "${1-}" = --hash ]; then
+    paths | xargs -I{} find {} -type f | LC_ALL=C sort | xargs sha256sum | sha256sum | cut -c1-64
+else
+    paths
+fi

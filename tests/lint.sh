@@ -1,0 +1,15 @@
+#!/usr/bin/env bash
+# Holds scripts to the tools of their field: shellcheck, black and mypy --strict. Python that has no types yet is named
+# in `untyped`, which only gets shorter.
+set -euo pipefail
+cd "$(dirname "${BASH_SOURCE[0]}")/.."
+mapfile -t shell < <(git ls-files -co --exclude-standard | while read -r file; do
+    if [[ $(head -c 40 "$file" | head -1 | tr -d '\0') =~ ^#!.*[/\ ](ba)?sh$ ]]; then echo "$file"; fi
+done)
+shellcheck --severity=warning "${shell[@]}"
+mapfile -t python < <(git ls-files -co --exclude-standard '*.py')
+black --quiet --check --line-length 120 "${python[@]}"
+untyped='^(bench|examples|python|tests/(fuzz|python|web))/'
+mapfile -t typed < <(printf '%s\n' "${python[@]}" | grep -Ev "$untyped")
+mypy --strict --no-error-summary --ignore-missing-imports --follow-imports=silent --allow-untyped-calls \
+    --allow-subclassing-any --scripts-are-modules "${typed[@]}"

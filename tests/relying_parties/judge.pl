@@ -1,0 +1,35 @@
+#!/usr/bin/perl
+# Judges cases by Perl's Authen::WebAuthn: reads a JSON array, and writes a line a case, "yes" or "no: reason".
+use strict;
+use warnings;
+use Authen::WebAuthn;
+use JSON;
+
+$| = 1;
+my $cases = decode_json( do { local $/; <STDIN> } );
+for my $case (@$cases) {
+    my $service  = Authen::WebAuthn->new( rp_id => $case->{rp_id}, origin => $case->{origin} );
+    my $response = $case->{credential}{response};
+    eval {
+        if ( $case->{kind} eq 'registration' ) {
+            $service->validate_registration(
+                challenge_b64          => $case->{challenge},
+                requested_uv           => 'discouraged',
+                client_data_json_b64   => $response->{clientDataJSON},
+                attestation_object_b64 => $response->{attestationObject},
+            );
+        }
+        else {
+            $service->validate_assertion(
+                challenge_b64          => $case->{challenge},
+                credential_pubkey_b64  => $case->{public_key},
+                stored_sign_count      => $case->{counter},
+                requested_uv           => 'discouraged',
+                client_data_json_b64   => $response->{clientDataJSON},
+                authenticator_data_b64 => $response->{authenticatorData},
+                signature_b64          => $response->{signature},
+            );
+        }
+    };
+    print $@ ? 'no: ' . ( $@ =~ s/\s+/ /gr ) . "\n" : "yes\n";
+}

@@ -1,0 +1,203 @@
+#!/usr/bin/env python3
+"""Has relying parties that aren't ours judge what the key makes: registrations and sign-ins, right ones and wrong ones.
+
+    tests/relying_parties/run.py [NAME ..]     by default each library that is there: python, perl, ruby, go
+
+The key registers and signs in through python-fido2's client. Each library then gets the same cases as JSON, and has to
+say yes to the right ones and no to the wrong ones. The last line is `N passed, N failed, N skipped`. Exit status 1 where
+a library's answer is another, 3 where no library is there. It needs python3-fido2 and python3-cryptography.
+"""
+
+from __future__ import annotations
+
+import json
+import os
+import shutil
+import subprocess
+import sys
+import tempfile
+from base64 import urlsafe_b64encode
+from copy import deepcopy
+from pathlib import Path
+from typing import Any, Callable, NamedTuple
+
+HERE = Path(__file__).resolve().parent
+TOP = HERE.parent.parent
+sys.path.insert(0, str(TOP / "examples" / "python"))
+
+from as_json import data, registration, sign_in, text
+from fido2 import cbor
+from fido2.client import Fido2Client
+from security_key import SecurityKey
+
+ORIGIN, RP_ID = "https://example.com", "example.com"
+Case = dict[str, Any]
+
+
+class Library(NamedTuple):
+    """A relying party: its Debian package, whether it is there, and the command that judges cases."""
+
+    package: str
+    is_there: Callable[[], bool]
+    command: list[str]
+
+
+def runs(*words: str) -> Callable[[], bool]:
+    """Returns a test whether a command is there and ends well."""
+    return lambda: shutil.which(words[0]) is not None and not subprocess.run(words, capture_output=True).returncode
+
+
+GO_SOURCES = Path("/usr/share/gocode/src/github.com/duo-labs/webauthn")
+LIBRARIES = {
+    "python": Library("python3-fido2", lambda: True, [sys.executable, str(HERE / "judge.py")]),
+    "perl": Library("libauthen-webauthn-perl", runs("perl", "-MAuthen::WebAuthn", "-e1"), ["perl", f"{HERE}/judge.pl"]),
+    "ruby": Library("ruby-webauthn", runs("ruby", "-rwebauthn", "-e1"), ["ruby", f"{HERE}/judge.rb"]),
+    "go": Library(
+        "golang-go golang-github-duo-labs-webauthn-dev",
+        lambda: shutil.which("go") is not None and GO_SOURCES.is_dir(),
+        ["go", "run", f"{HERE}/judge.go"],
+    ),
+}
+# Libraries that fail by themselves on every key of ES256, with what they then say.
+NO_VERDICT = {"ruby": "pkeys are immutable on OpenSSL 3.0"}
+
+
+def client_of(key: SecurityKey, origin: str = ORIGIN) -> Fido2Client:
+    return Fido2Client(key.device(), origin, verify=lambda rp_id, _: True)
+
+
+def registered(key: SecurityKey, challenge: bytes, rp_id: str = RP_ID, origin: str = ORIGIN) -> Case:
+    """Registers, and returns the case of it."""
+    made = client_of(key, origin).make_credential(
+        {
+            "rp": {"id": rp_id, "name": "Example"},
+            "user": {"id": b"alice", "name": "alice", "displayName": "Alice"},
+            "challenge": challenge,
+            "pubKeyCredParams": [{"type": "public-key", "alg": -7}],
+            "authenticatorSelection": {"requireResidentKey": True},
+        }
+    )
+    public = made.attestation_object.auth_data.credential_data.public_key
+    return {
+        "kind": "registration",
+        "origin": ORIGIN,
+        "rp_id": RP_ID,
+        "challenge": text(challenge),
+        "credential": registration(made),
+        "public_key": text(cbor.encode(dict(public))),
+    }
+
+
+def signed_in(key: SecurityKey, made: Case, challenge: bytes, rp_id: str = RP_ID, origin: str = ORIGIN) -> Case:
+    """Signs in, and returns the case of it, for a service that has seen no sign-in before."""
+    asked = {"challenge": challenge, "rpId": rp_id}
+    found = client_of(key, origin).get_assertion(asked).get_response(0)
+    case = {**made, "kind": "assertion", "challenge": text(challenge), "counter": 0, "credential": sign_in(found)}
+    return case
+
+
+def changed(case: Case, **members: Any) -> Case:
+    return {**deepcopy(case), **members}
+
+
+def with_last_bit(case: Case, member: str) -> Case:
+    """Returns the case with the last bit of a member of its response flipped."""
+    other = deepcopy(case)
+    response = other["credential"]["response"]
+    bytes_of = bytearray(data(response[member]))
+    bytes_of[-1] ^= 1
+    response[member] = text(bytes(bytes_of))
+    return other
+
+
+def with_attestation_signature(case: Case) -> Case:
+    """Returns the registration with another signature of the right form in its attestation statement."""
+    other = deepcopy(case)
+    response = other["credential"]["response"]
+    made = cbor.decode(data(response["attestationObject"]))
+    signature = bytearray(made["attStmt"]["sig"])
+    signature[-1] ^= 1
+    made["attStmt"]["sig"] = bytes(signature)
+    response["attestationObject"] = urlsafe_b64encode(cbor.encode(made)).rstrip(b"=").decode()
+    return other
+
+
+def cases_of(key: SecurityKey) -> list[tuple[str, bool, Case]]:
+    """Returns each case with its name and whether it is to be taken."""
+    first, second, third = (os.urandom(32) for _ in range(3))
+    made = registered(key, first)
+    elsewhere = registered(key, first, "evil.example", ORIGIN)
+    other_origin = registered(key, first, RP_ID, "https://evil.example")
+    # The newest credential answers: so the one to sign in with is registered last.
+    made = registered(key, first)
+    found = signed_in(key, made, second)
+    again = signed_in(key, made, third)
+    other_rp = signed_in(key, made, second, "evil.example")
+    return [
+        ("a registration", True, made),
+        ("a registration with a repeated challenge", False, changed(made, challenge=text(second))),
+        ("a registration at another origin", False, other_origin),
+        ("a registration for another RP", False, elsewhere),
+        ("a registration with a wrong signature", False, with_attestation_signature(made)),
+        ("a sign-in", True, found),
+        ("a second sign-in", True, changed(again, counter=1)),
+        ("a sign-in with a wrong signature", False, with_last_bit(found, "signature")),
+        ("a sign-in with changed authenticator data", False, with_last_bit(found, "authenticatorData")),
+        ("a sign-in with a repeated challenge", False, changed(found, challenge=text(third))),
+        ("a sign-in whose counter fell", False, changed(again, counter=7)),
+        ("a sign-in whose counter did not rise", False, changed(again, counter=2)),
+        ("a sign-in at another origin", False, changed(found, origin="https://www.example.com")),
+        ("a sign-in for another RP", False, other_rp),
+    ]
+
+
+def judged(name: str, cases: list[tuple[str, bool, Case]]) -> list[str]:
+    """Returns what a library says of each case: "yes", "no: " and why, or "none: " and why it judges nothing."""
+    given = json.dumps([case for _, _, case in cases])
+    with tempfile.TemporaryDirectory() as cache:
+        # Debian's Go packages stand in a GOPATH, and nothing is fetched.
+        more = {"GOPATH": "/usr/share/gocode", "GO111MODULE": "off", "GOFLAGS": "", "GOCACHE": cache}
+        ran = subprocess.run(
+            LIBRARIES[name].command,
+            input=given,
+            capture_output=True,
+            text=True,
+            env={**os.environ, **more},
+            timeout=300,
+        )
+    said = ran.stdout.splitlines()
+    if ran.returncode or len(said) != len(cases):
+        raise SystemExit(f"{name}: status {ran.returncode}, {len(said)} answers: {ran.stderr[-900:]}")
+    return said
+
+
+def main() -> int:
+    names = sys.argv[1:] or list(LIBRARIES)
+    for name in names:
+        if name not in LIBRARIES:
+            print(f"run.py: there is no library {name}; there are {', '.join(LIBRARIES)}", file=sys.stderr)
+            return 2
+    with SecurityKey() as key:
+        cases = cases_of(key)
+    passed = failed = skipped = 0
+    for name in names:
+        if not LIBRARIES[name].is_there():
+            print(f"skipped  {name}: apt-get install {LIBRARIES[name].package}")
+            skipped += len(cases)
+            continue
+        for (title, is_right, _), said in zip(cases, judged(name, cases)):
+            if said.startswith("none: ") and NO_VERDICT.get(name, "\n") in said:
+                print(f"skipped  {name}: {title}: no verdict: {said[6:]}")
+                skipped += 1
+            elif said.startswith("yes" if is_right else "no: "):
+                print(f"ok       {name}: {title}: {said[:100]}")
+                passed += 1
+            else:
+                print(f"FAILED   {name}: {title}: {said}")
+                failed += 1
+    print(f"{passed} passed, {failed} failed, {skipped} skipped")
+    return 1 if failed else 0 if passed else 3
+
+
+if __name__ == "__main__":
+    sys.exit(main())
