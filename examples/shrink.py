@@ -107,7 +107,7 @@ class Command:
         named = LINE.search(first)
         block = block_at(blocks, int(named[1])) if named else None
         if named is None or block is None:
-            return Failure(ran.returncode, first)
+            return Failure(ran.returncode, "")
         return Failure(ran.returncode, LINE.sub("line", first), block.number, self.packet_at(blocks, block, first))
 
     def packet_at(self, blocks: list[Block], block: Block, said: str) -> bytes:

@@ -51,11 +51,15 @@ def commands_of(text: str) -> list[Shown]:
     """Returns the commands of a page, in order."""
     found: list[Shown] = []
     is_fenced = is_open = False
+    blank = 0
     for number, line in enumerate(text.splitlines(), 1):
         if line.startswith("```"):
             is_fenced, is_open = not is_fenced, False
         elif hidden := re.fullmatch(r"<!-- run: (.*) -->", line):
             found.append(Shown(number, hidden[1], is_shown=False))
+        elif not line:
+            blank += 1
+            continue
         elif not is_code(line, is_fenced):
             is_open = False
         else:
@@ -64,7 +68,9 @@ def commands_of(text: str) -> list[Shown]:
                 found.append(Shown(number, code[2:]))
                 is_open = True
             elif is_open:
-                found[-1].output.append(code)
+                # An empty line ends no block that goes on after it.
+                found[-1].output += [""] * blank + [code]
+        blank = 0
     return found
 
 
@@ -83,13 +89,19 @@ def failures_of(page: Path, folder: Path) -> list[str]:
     failures = []
     for shown in commands_of(page.read_text(encoding="utf-8")):
         ran = subprocess.run(
-            ["bash", "-c", shown.command], cwd=folder, capture_output=True, text=True, timeout=SECONDS, errors="replace"
+            ["bash", "-c", shown.command],
+            cwd=folder,
+            stdout=subprocess.PIPE,
+            stderr=subprocess.STDOUT,
+            text=True,
+            timeout=SECONDS,
+            errors="replace",
         )
-        printed = (ran.stdout + ran.stderr).splitlines()
+        printed = ran.stdout.splitlines()
         if shown.is_shown and not shown.is_printed(printed):
             failures.append(f"line {shown.line}: {shown.command}\n" + "\n".join(f"      {it}" for it in printed[:20]))
         elif not shown.is_shown and ran.returncode:
-            failures.append(f"line {shown.line}: {shown.command}: status {ran.returncode}: {ran.stderr[-300:]}")
+            failures.append(f"line {shown.line}: {shown.command}: status {ran.returncode}: {ran.stdout[-300:]}")
     return failures
 
 
