@@ -3,29 +3,31 @@ use Rattle.std.proofs.Common.{◌≡◌, ℕ, max, List, Option, Some, refl, sym
 use Rattle.authn_core.specs.declared.replies.Presence.{Presence}
 use Rattle.authn_core.specs.declared.task.Job.{Job}
 use Rattle.authn_core.specs.declared.task.Task.{Task}
-use Rattle.authn_core.specs.Ready.{Ready, TaskReady, WorkReady}
-use Rattle.authn_core.specs.State.{Answer, Event, Setup, State, Turned}
-use Rattle.authn_core.specs.Turn.{CoreState, Held, core_after, core_answer, presence_at, presence_turn, signature_at, signature_turn, turn}
+use Rattle.authn_core.specs.Ready.{TaskReady, WorkReady}
+use Rattle.authn_core.specs.State.{Answer, Event, Setup, State}
+use Rattle.authn_core.specs.Turn.{Held, core_after, core_answer, presence_at, presence_turn, signature_at, signature_turn, turn}
 
 -- the authenticator that clauses see
 abbrev pub held : Setup → State → ℕ → ℕ → Held
 held u s l steps = record { core = record { setup = u; state = s }; latest = l; last_steps = steps }
 
-module _ (u : Setup) (s : State) (l steps : ℕ) (v : Held) (is : held u s l steps ≡ v) (at t : ℕ) (moment : t ≡ max l at) where
-  pub latest_turned : t ≡ max v.latest at
-  latest_turned = moment ∙ ap (λ (w : Held). max w.latest at) is
+module _ (u : Setup) (s : State) (l steps : ℕ) (v : Held) (is : held u s l steps ≡ v) where
+  pub core_at : (n : ℕ) (e : Event) (r : State) → r ≡ (turn u s n e).state → record { setup = u; state = r } ≡ core_after v.core n e
+  core_at n e r h = (λ i. record { setup = u; state = h i }) ∙ ap (λ (w : Held). core_after w.core n e) is
 
-  pub core_turned : (e : Event) (r : State) → r ≡ (turn u s t e).state → record { setup = u; state = r } ≡ core_after v.core (max v.latest at) e
-  core_turned e r h =
-      (λ i. record { setup = u; state = h i })
-      ∙ ap (λ n. core_after (record { setup = u; state = s }) n e) moment
-      ∙ ap (λ (w : Held). core_after w.core (max w.latest at) e) is
+  pub answer_at : (n : ℕ) (e : Event) (a : Answer) → a ≡ (turn u s n e).answer → a ≡ core_answer v.core n e
+  answer_at n e a h = h ∙ ap (λ (w : Held). core_answer w.core n e) is
 
-  pub answer_turned : (e : Event) (a : Answer) → a ≡ (turn u s t e).answer → a ≡ core_answer v.core (max v.latest at) e
-  answer_turned e a h =
-      h
-      ∙ ap (λ n. core_answer (record { setup = u; state = s }) n e) moment
-      ∙ ap (λ (w : Held). core_answer w.core (max w.latest at) e) is
+  -- the moment of an event is the greatest so far
+  module _ (at t : ℕ) (moment : t ≡ max l at) where
+    pub latest_turned : t ≡ max v.latest at
+    latest_turned = moment ∙ ap (λ (w : Held). max w.latest at) is
+
+    pub core_turned : (e : Event) (r : State) → r ≡ (turn u s t e).state → record { setup = u; state = r } ≡ core_after v.core (max v.latest at) e
+    core_turned e r h = core_at t e r h ∙ ap (λ n. core_after v.core n e) latest_turned
+
+    pub answer_turned : (e : Event) (a : Answer) → a ≡ (turn u s t e).answer → a ≡ core_answer v.core (max v.latest at) e
+    answer_turned e a h = answer_at t e a h ∙ ap (λ n. core_answer v.core n e) latest_turned
 
 -- The work that was taken out is that of the state before.
 module _ (s v : State) (is : s ≡ v) (job : Job) (taken : Option Job) (was : taken ≡ s.work) (some : taken ≡ Some job) where

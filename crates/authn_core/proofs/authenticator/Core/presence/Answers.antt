@@ -18,8 +18,8 @@ returns g c =
     let u : Setup = record { aaguid = i.config.aaguid; began = i.began; room = g.row.C } in
     let at = c.max-self-inside.ensures in
     record {
-  core = core_turned u i.parts i.latest i.last_steps c.args.self.now c.self.view_is c.args.at c.max-self-inside.result at (PresenceIs c.args.reply) _ c.presence.ensures.state;
-  answer = answer_turned u i.parts i.latest i.last_steps c.args.self.now c.self.view_is c.args.at c.max-self-inside.result at (PresenceIs c.args.reply) _ c.presence.ensures.answer;
-  latest = latest_turned u i.parts i.latest i.last_steps c.args.self.now c.self.view_is c.args.at c.max-self-inside.result at;
-  steps = ap (λ (v : Held). v.last_steps) c.self.view_is;
-}
+      core = core_turned u i.parts i.latest i.last_steps c.args.self.now c.self.view_is c.args.at c.max-self-inside.result at (PresenceIs c.args.reply) _ c.presence.ensures.state;
+      answer = answer_turned u i.parts i.latest i.last_steps c.args.self.now c.self.view_is c.args.at c.max-self-inside.result at (PresenceIs c.args.reply) _ c.presence.ensures.answer;
+      latest = latest_turned u i.parts i.latest i.last_steps c.args.self.now c.self.view_is c.args.at c.max-self-inside.result at;
+      steps = ap (λ (v : Held). v.last_steps) c.self.view_is;
+    }

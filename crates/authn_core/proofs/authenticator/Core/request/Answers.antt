@@ -3,7 +3,7 @@ use Rattle.ctap_message.specs.Shown.{shown}
 use Rattle.authn_core.specs.State.{State, Setup, Request as Asks}
 use Rattle.authn_core.specs.Ready.{Ready}
 use Rattle.authn_core.proofs.Readiness.{requested_ready}
-use Rattle.authn_core.specs.Turn.{Held, turn, requested}
+use Rattle.authn_core.specs.Turn.{turn, requested}
 use Rattle.authn_core.proofs.Turning.{latest_turned, core_turned, answer_turned}
 use Rattle.authn_core.proofs.authenticator.Core.request.Goals as goal
 
@@ -21,8 +21,8 @@ returns g c =
     let at = c.max-self-inside.ensures in
     let asked = c.read_request-request.ensures.request in
     record {
-  core = core_turned u i.parts i.latest i.last_steps c.args.self.now c.self.view_is c.args.at c.max-self-inside.result at (Asks c.args.cid c.args.message.now) _ (c.request.ensures.state ∙ ap (λ q. (requested u i.parts.rows i.parts.pending c.max-self-inside.result c.args.cid q).state) asked);
-  answer = answer_turned u i.parts i.latest i.last_steps c.args.self.now c.self.view_is c.args.at c.max-self-inside.result at (Asks c.args.cid c.args.message.now) _ (c.request.ensures.answer ∙ ap (λ q. (requested u i.parts.rows i.parts.pending c.max-self-inside.result c.args.cid q).answer) asked);
-  latest = latest_turned u i.parts i.latest i.last_steps c.args.self.now c.self.view_is c.args.at c.max-self-inside.result at;
-  steps = c.read_request-request.ensures.steps;
-}
+      core = core_turned u i.parts i.latest i.last_steps c.args.self.now c.self.view_is c.args.at c.max-self-inside.result at (Asks c.args.cid c.args.message.now) _ (c.request.ensures.state ∙ ap (λ q. (requested u i.parts.rows i.parts.pending c.max-self-inside.result c.args.cid q).state) asked);
+      answer = answer_turned u i.parts i.latest i.last_steps c.args.self.now c.self.view_is c.args.at c.max-self-inside.result at (Asks c.args.cid c.args.message.now) _ (c.request.ensures.answer ∙ ap (λ q. (requested u i.parts.rows i.parts.pending c.max-self-inside.result c.args.cid q).answer) asked);
+      latest = latest_turned u i.parts i.latest i.last_steps c.args.self.now c.self.view_is c.args.at c.max-self-inside.result at;
+      steps = c.read_request-request.ensures.steps;
+    }

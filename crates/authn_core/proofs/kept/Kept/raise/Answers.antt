@@ -20,6 +20,6 @@ pub returns : goal.returns
 returns g c =
     let rows = g.T.Table.rows c.self.inside.table in
     record {
-  raised = ap bare_rows c.raise.ensures.raised ∙ raised_bare c.args.id.now rows ∙ ap (raised c.args.id.now) c.self.view_is;
-  value = c.raise.ensures.value ∙ ap (λ n. n + 1) (sym (counter_bare c.args.id.now rows) ∙ ap (counter_of c.args.id.now) c.self.view_is);
-}
+      raised = ap bare_rows c.raise.ensures.raised ∙ raised_bare c.args.id.now rows ∙ ap (raised c.args.id.now) c.self.view_is;
+      value = c.raise.ensures.value ∙ ap (λ n. n + 1) (sym (counter_bare c.args.id.now rows) ∙ ap (counter_of c.args.id.now) c.self.view_is);
+    }

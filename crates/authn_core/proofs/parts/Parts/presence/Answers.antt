@@ -11,30 +11,30 @@ pub returns-in-Resets : goal.returns-in-Resets
 returns-in-Resets g c =
     let turned = presence_is _ _ c.self.view_is _ _ c.take.ensures.value c.in-Some.is g.row.C c.args.reply ∙ ap (λ t. presence_at g.row.C (record { rows = c.self.inside.kept; pending = c.self.inside.pending; work = c.self.inside.work }) c.in-Some.field-0.cid t c.args.reply) c.in-Resets.is in
     record {
-  state = c.reset.ensures.state ∙ sym (ap (λ (t : Turned). t.state) turned);
-  answer = c.reset.ensures.answer ∙ sym (ap (λ (t : Turned). t.answer) turned);
-}
+      state = c.reset.ensures.state ∙ sym (ap (λ (t : Turned). t.state) turned);
+      answer = c.reset.ensures.answer ∙ sym (ap (λ (t : Turned). t.answer) turned);
+    }
 
 pub returns-in-Selects : goal.returns-in-Selects
 returns-in-Selects g c =
     let turned = presence_is _ _ c.self.view_is _ _ c.take.ensures.value c.in-Some.is g.row.C c.args.reply ∙ ap (λ t. presence_at g.row.C (record { rows = c.self.inside.kept; pending = c.self.inside.pending; work = c.self.inside.work }) c.in-Some.field-0.cid t c.args.reply) c.in-Selects.is in
     record {
-  state = c.select.ensures.state ∙ sym (ap (λ (t : Turned). t.state) turned);
-  answer = c.select.ensures.answer ∙ sym (ap (λ (t : Turned). t.answer) turned);
-}
+      state = c.select.ensures.state ∙ sym (ap (λ (t : Turned). t.state) turned);
+      answer = c.select.ensures.answer ∙ sym (ap (λ (t : Turned). t.answer) turned);
+    }
 
 pub returns-in-AsksMake : goal.returns-in-AsksMake
 returns-in-AsksMake g c =
     let turned = presence_is _ _ c.self.view_is _ _ c.take.ensures.value c.in-Some.is g.row.C c.args.reply ∙ ap (λ t. presence_at g.row.C (record { rows = c.self.inside.kept; pending = c.self.inside.pending; work = c.self.inside.work }) c.in-Some.field-0.cid t c.args.reply) c.in-AsksMake.is in
     record {
-  state = c.make_presence.ensures.state ∙ sym (ap (λ (t : Turned). t.state) turned);
-  answer = c.make_presence.ensures.answer ∙ sym (ap (λ (t : Turned). t.answer) turned);
-}
+      state = c.make_presence.ensures.state ∙ sym (ap (λ (t : Turned). t.state) turned);
+      answer = c.make_presence.ensures.answer ∙ sym (ap (λ (t : Turned). t.answer) turned);
+    }
 
 pub returns-in-AsksAssert : goal.returns-in-AsksAssert
 returns-in-AsksAssert g c =
     let turned = presence_is _ _ c.self.view_is _ _ c.take.ensures.value c.in-Some.is g.row.C c.args.reply ∙ ap (λ t. presence_at g.row.C (record { rows = c.self.inside.kept; pending = c.self.inside.pending; work = c.self.inside.work }) c.in-Some.field-0.cid t c.args.reply) c.in-AsksAssert.is in
     record {
-  state = c.assert_presence.ensures.state ∙ sym (ap (λ (t : Turned). t.state) turned);
-  answer = c.assert_presence.ensures.answer ∙ sym (ap (λ (t : Turned). t.answer) turned);
-}
+      state = c.assert_presence.ensures.state ∙ sym (ap (λ (t : Turned). t.state) turned);
+      answer = c.assert_presence.ensures.answer ∙ sym (ap (λ (t : Turned). t.answer) turned);
+    }
