@@ -1,4 +1,4 @@
-use Rattle.std.proofs.Common.{◌≡◌, rules, ap, refl, ◌∙◌, ◌++◌, option_map}
+use Rattle.std.proofs.Common.{◌≡◌, rules, refl, ◌∙◌, option_map}
 use Rattle.authn_core.specs.State.{Request}
 use Rattle.authn_core.specs.Turn.{waiting}
 use Rattle.authn_core.specs.Views.{status_number}

@@ -1,12 +1,8 @@
-use Rattle.std.proofs.Common.{◌≡◌, Bool, true, false, not, Option, Some, None, option_map, refl, sym, ap, ◌∙◌, append-nil, ◌++◌, arith}
-use Rattle.std.specs.Option.{option_eq}
+use Rattle.std.proofs.Common.{refl, sym, ap, ◌∙◌, append-nil, ◌++◌, arith}
 use Rattle.hid_packet.specs.Message.{written}
 use Rattle.hid_packet.proofs.Carrying.{few_written}
-use Rattle.authn_core.specs.Views.{status_number}
-use Rattle.authn_core.specs.declared.work.KeepaliveStatus.{KeepaliveStatus}
-use Rattle.authn_core.specs.declared.work.KeepaliveStatus.TheVariants.{Processing, PresenceNeeded}
 use Rattle.token_session.specs.Events.{AuthenticatorState}
-use Rattle.token_session.specs.Replies.{answer_packets, answer_keeps_alive, is_status}
+use Rattle.token_session.specs.Replies.{answer_packets, answer_keeps_alive}
 use Rattle.token_session.proofs.authenticator.Authenticator.send.Goals as goal
 
 pub put_message-requires-clause-room : goal.put_message-requires-clause-room
