@@ -1,5 +1,6 @@
 pub mod BareRows
 pub mod Readiness
+pub mod Turning
 pub mod Facts
 mod Examples
 pub mod Filtered

@@ -9,6 +9,7 @@ pub mod Few
 pub mod Effects
 pub mod Passing
 pub mod Serving
+pub mod Turning
 pub mod Metering
 mod Rows
 pub mod Carrying

@@ -23,10 +23,14 @@ abbrev pub driven_sends : ℕ → SessionState → List Timed → List (ℕ × L
 driven_sends n s [] = []
 driven_sends n s (x ∷ xs) = numbered n (sent_by s x) ++ driven_sends (n + 1) (stepped s x) xs
 
+-- how many inputs were stepped where a drive stopped
+abbrev pub done_in : DriveFault → ℕ
+done_in (Full done) = done
+
 -- how many of so many inputs were stepped
 abbrev pub done_of : {A : Type 0} → ℕ → Result A DriveFault → ℕ
 done_of n (Ok x) = n
-done_of n (Err (Full done)) = done
+done_of n (Err e) = done_in e
 
 abbrev pub first_done : {A : Type 0} → ℕ → Result A BothFault → ℕ
 first_done n (Ok x) = n

@@ -3,7 +3,8 @@ ghost use Rattle.std.specs.Prelude.{◌≡◌, ℕ, ◌+◌, ◌<◌, ◌≤◌,
 ghost use Rattle.arrayvec.specs.ArrayVec.{array_vec_len};
 ghost use Rattle.authn_core.specs.Turn.{Start};
 ghost use Rattle.token_session.specs.declared.input.Timed.{Timed as OneInput};
-ghost use Rattle.token_session.specs.Drive.{as_pair, driven, driven_sends, done_of, first_done, second_done, HadRoom};
+ghost use Rattle.token_session.specs.Drive.{as_pair, done_in, driven, driven_sends, done_of, first_done, second_done, HadRoom};
+ghost use Rattle.token_session.specs.declared.driving.BothFault.TheVariants.{Full as BothFull};
 ghost use Rattle.token_session.specs.Law.{numbered, onto, sent_from};
 ghost use Rattle.token_session.specs.Meters.{StandsAfter};
 ghost use Rattle.token_session.specs.Noise.{Quiet, quiet_from};
@@ -88,6 +89,28 @@ pub fn drive<const C: usize, const N: usize>(
     Ok(session.meters())
 }
 
+/// The fault of a drive as that of the first of two.
+fn in_first(fault: DriveFault) -> BothFault
+    ensures { result ≡ BothFull (done_in fault) 0 }
+{
+    let DriveFault::Full { done } = fault;
+    BothFault::Full {
+        first: done,
+        second: 0,
+    }
+}
+
+/// The fault of a drive as that of the second of two.
+fn in_second(first: usize, fault: DriveFault) -> BothFault
+    ensures { result ≡ BothFull first (done_in fault) }
+{
+    let DriveFault::Full { done } = fault;
+    BothFault::Full {
+        first,
+        second: done,
+    }
+}
+
 /// Drives one session, and then another. Where the second list of inputs has ticks in place of noise of
 /// the first, the sessions end alike, and the second list of packets has just those of the first, less
 /// what was sent in service of the noise.
@@ -129,18 +152,10 @@ pub fn drive_both<const C: usize, const N: usize>(
 {
     let meters = match drive(first, inputs, sent) {
         Ok(meters) => meters,
-        Err(DriveFault::Full { done }) => {
-            return Err(BothFault::Full {
-                first: done,
-                second: 0,
-            });
-        }
+        Err(fault) => return Err(in_first(fault)),
     };
     match drive(second, quiet, quiet_sent) {
         Ok(quiet_meters) => Ok((meters, quiet_meters)),
-        Err(DriveFault::Full { done }) => Err(BothFault::Full {
-            first: inputs.len(),
-            second: done,
-        }),
+        Err(fault) => Err(in_second(inputs.len(), fault)),
     }
 }

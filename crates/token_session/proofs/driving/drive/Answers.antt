@@ -1,27 +1,33 @@
-use Rattle.std.proofs.Common.{◌≡◌, ◌++◌, length, take, map, ◌∙◌, ap, arith, below_more}
+use Rattle.std.proofs.Common.{◌≡◌, ◌++◌, length, take, map, ◌∙◌, ap, refl, sym, append-nil, arith, below_more}
 use Rattle.std.proofs.lemmas.List.{length-map}
 use Rattle.arrayvec.specs.ArrayVec.{array_vec_len}
 use Rattle.token_session.specs.Drive.{as_pair}
 use Rattle.token_session.proofs.Drives.{driven_more, sends_more, room_here, driven_stands, driven_follows}
 use Rattle.token_session.proofs.driving.drive.Goals as goal
 
-pub returns-then-not-has_room-clause-after : goal.returns-then-not-has_room-clause-after
-returns-then-not-has_room-clause-after g c = λ start h b.
-    c.loop-i.invariant.state ∙ driven_stands (take c.loop-i.i c.args.inputs.now) _ start h b
+pub returns-then-not-has_room : goal.returns-then-not-has_room
+returns-then-not-has_room g c = record {
+  state = c.loop-i.invariant.state;
+  packets = c.loop-i.invariant.packets;
+  meters = tt;
+  full = (c.loop-i-test.true, omega (arith, c.if-not-has_room.ensures));
+  room = c.loop-i.invariant.room;
+  after = λ start h b. c.loop-i.invariant.state ∙ driven_stands (take c.loop-i.i c.args.inputs.now) _ start h b;
+  sent = λ start h b. c.loop-i.invariant.packets ∙ ap (λ q. map as_pair c.args.sent.now.items ++ q) (driven_follows (take c.loop-i.i c.args.inputs.now) _ start 0 h b);
+}
 
-pub returns-then-not-has_room-clause-sent : goal.returns-then-not-has_room-clause-sent
-returns-then-not-has_room-clause-sent g c = λ start h b.
-    c.loop-i.invariant.packets ∙ ap (λ q. map as_pair c.args.sent.now.items ++ q) (driven_follows (take c.loop-i.i c.args.inputs.now) _ start 0 h b)
-
-pub returns-clause-after : goal.returns-clause-after
-returns-clause-after g c = λ start h b.
+pub returns : goal.returns
+returns g c =
     let e : c.loop-i.i ≡ length c.args.inputs.now = omega arith in
-    rw (← e) (c.loop-i.invariant.state ∙ driven_stands (take c.loop-i.i c.args.inputs.now) _ start h b)
-
-pub returns-clause-sent : goal.returns-clause-sent
-returns-clause-sent g c = λ start h b.
-    let e : c.loop-i.i ≡ length c.args.inputs.now = omega arith in
-    rw (← e) (c.loop-i.invariant.packets ∙ ap (λ q. map as_pair c.args.sent.now.items ++ q) (driven_follows (take c.loop-i.i c.args.inputs.now) _ start 0 h b))
+    record {
+      state = rw (← e) c.loop-i.invariant.state;
+      packets = rw (← e) c.loop-i.invariant.packets;
+      meters = c.meters.ensures.value;
+      full = tt;
+      room = rw (← e) c.loop-i.invariant.room;
+      after = λ start h b. rw (← e) (c.loop-i.invariant.state ∙ driven_stands (take c.loop-i.i c.args.inputs.now) _ start h b);
+      sent = λ start h b. rw (← e) (c.loop-i.invariant.packets ∙ ap (λ q. map as_pair c.args.sent.now.items ++ q) (driven_follows (take c.loop-i.i c.args.inputs.now) _ start 0 h b));
+    }
 
 pub loop-i-preserved : goal.loop-i-preserved
 loop-i-preserved g c = record {
@@ -30,3 +36,14 @@ loop-i-preserved g c = record {
   room = below_more _ _ c.loop-i.invariant.room (room_here (map as_pair c.loop-i.sent.items) _ g.row.N c.loop-i.invariant.packets (let n : length (map as_pair c.loop-i.sent.items) ≡ array_vec_len c.loop-i.sent = simp length-map in omega (arith, c.if-not-has_room.ensures)));
   empty = c.take_all.ensures.empty;
 }
+
+pub loop-i-init : goal.loop-i-init
+loop-i-init g c = record {
+  state = refl;
+  packets = sym (append-nil _);
+  room = λ j less. absurd (omega arith);
+  empty = c.new-outbox.ensures;
+}
+
+pub bounds-inputs-i : goal.bounds-inputs-i
+bounds-inputs-i g c = c.loop-i-test.true

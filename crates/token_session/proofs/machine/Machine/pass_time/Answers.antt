@@ -1,10 +1,29 @@
-use Rattle.std.proofs.Common.{◌++◌, List, ℕ, [], cond, sym, ◌∙◌, ap}
+use Rattle.std.proofs.Common.{rules, ◌≡◌, ◌≤◌, ◌++◌, List, ℕ, [], length, cond, sym, ◌∙◌, ap, arith}
 use Rattle.authn_core.specs.Turn.{waiting}
 use Rattle.token_session.specs.Events.{keepalive_due, keepalive_packets}
-use Rattle.token_session.specs.Machine.{Turn}
+use Rattle.token_session.specs.Machine.{State, Turn}
 use Rattle.token_session.specs.Replies.{error}
 use Rattle.token_session.proofs.Passing.{whole, late_turn, timely_turn}
 use Rattle.token_session.proofs.machine.Machine.pass_time.Goals as goal
+
+sent_none : (ps : List (List ℕ)) → ps ≡ [] → length ps ≤ 1
+sent_none ps e = rw e (omega arith)
+
+later : (v : State) (l n t : ℕ) → l ≤ n → n ≡ v.now → v.now ≤ t → l ≤ t
+later v l n t a e b = omega arith
+
+pub put_error-requires : goal.put_error-requires
+put_error-requires g c = sent_none _ c.requires.sent
+
+pub pass_time-requires : goal.pass_time-requires
+pass_time-requires g c = (search rules, sent_none _ c.requires.sent)
+
+pub invariant_of-self : goal.invariant_of-self
+invariant_of-self g c = later c.args.self.now _ _ _ c.self.invariant (ap (λ (v : State). v.now) c.self.view_is) c.requires.later
+
+pub invariant_of-self-in-None : goal.invariant_of-self-in-None
+invariant_of-self-in-None g c =
+    rw c.pass_time.ensures.latest (later c.args.self.now _ _ _ c.self.invariant (ap (λ (v : State). v.now) c.self.view_is) c.requires.later)
 
 pub returns-in-Some-clause-state : goal.returns-in-Some-clause-state
 returns-in-Some-clause-state g c =

@@ -1,8 +1,17 @@
-use Rattle.std.proofs.Common.{◌∙◌, ap}
+use Rattle.std.proofs.Common.{rules, ℕ, ◌≤◌, List, length, subst, sym, ◌∙◌, ap}
+use Rattle.hid_packet.specs.declared.limit.TheConstants.{LONGEST_MESSAGE}
 use Rattle.token_session.specs.Machine.{Turn}
 use Rattle.token_session.specs.Readings.{reading_in}
 use Rattle.token_session.proofs.Serving.{packet_turn}
 use Rattle.token_session.proofs.machine.Machine.serve_packet.Goals as goal
+
+pub react-requires : goal.react-requires
+react-requires g c =
+    let short = subst (λ (m : List ℕ). length m ≤ LONGEST_MESSAGE) (sym c.message-message.ensures.bytes) c.message-message.ensures.limit in
+    (search rules, (c.requires, (short, c.self.invariant)))
+
+pub invariant_of-self : goal.invariant_of-self
+invariant_of-self g c = c.react.ensures.latest
 
 pub returns-clause-state : goal.returns-clause-state
 returns-clause-state g c =

@@ -1,11 +1,14 @@
-use Rattle.std.proofs.Common.{ℕ, ◌≤◌, List, length, subst, sym, ◌∙◌}
+use Rattle.std.proofs.Common.{rules, ℕ, ◌≤◌, List, length, subst, sym, ap, ◌∙◌}
 use Rattle.token_session.proofs.Few.{turn_few}
 use Rattle.token_session.proofs.Runs.{step_sends}
 use Rattle.token_session.proofs.Metering.{stepped_is, stands_longer, machine_after, counted_bounded}
-use Rattle.token_session.specs.Meters.{AreBounded}
+use Rattle.token_session.specs.Meters.{AreBounded, SessionState, sent_by}
 use Rattle.token_session.specs.Readings.{with_reading}
 use Rattle.token_session.specs.Machine.{turn}
 use Rattle.token_session.proofs.session.Session.step.Goals as goal
+
+pub step-reading-requires : goal.step-reading-requires
+step-reading-requires g c = (search rules, c.requires)
 
 pub invariant_of-self : goal.invariant_of-self
 invariant_of-self g c =
@@ -17,6 +20,11 @@ returns-clause-state g c =
     stepped_is c.self.inside.machine c.step-reading.new.self c.self.inside.meters c.count-self-inside.result c.args.self.now (record { at = c.args.at; input = c.args.input })
     c.step-reading.result c.held-held.result c.credentials-rows.result c.pending-pending.result c.self.view_is c.step-reading.ensures.state c.step-reading.ensures.reading
     c.held-held.ensures.bytes c.credentials-rows.ensures.value c.pending-pending.ensures.value c.count-self-inside.ensures
+
+pub returns-clause-packets : goal.returns-clause-packets
+returns-clause-packets g c =
+    c.step-reading.ensures.packets
+    ∙ ap (λ (v : SessionState). sent_by v (record { at = c.args.at; input = c.args.input })) c.self.view_is
 
 pub returns-clause-few : goal.returns-clause-few
 returns-clause-few g c =

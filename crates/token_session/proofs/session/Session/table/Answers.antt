@@ -1,0 +1,6 @@
+use Rattle.std.proofs.Common.{ap, ◌∙◌}
+use Rattle.token_session.specs.Meters.{SessionState}
+use Rattle.token_session.proofs.session.Session.table.Goals as goal
+
+pub returns : goal.returns
+returns g c = c.table.ensures ∙ ap (λ (v : SessionState). v.machine.core.state.rows) c.self.view_is
