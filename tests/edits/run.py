@@ -131,21 +131,22 @@ def put_edits(folder: Path, edits: list[Edit]) -> None:
 
 def call_rt(scratch: Path, crate: str) -> list[str]:
     """Calls rt must-fail for one crate, and returns the lines that it wrote. Where it is interrupted, its children end too."""
-    words = ["rt", "must-fail", crate]
     with subprocess.Popen(
-        words,
+        ["rt", "must-fail", crate],
         cwd=scratch,
+        env={**os.environ, "TMPDIR": str(scratch.parent)},
         stdin=subprocess.DEVNULL,
         stdout=subprocess.PIPE,
         stderr=subprocess.STDOUT,
         text=True,
         errors="replace",
-        start_new_session=True,
+        start_new_session=True,  # so that Ctrl-C reaches it once, from here
     ) as started:
         try:
             said, _ = started.communicate()
         except BaseException:
-            os.killpg(started.pid, signal.SIGKILL)
+            started.send_signal(signal.SIGINT)
+            started.wait()
             raise
     return said.splitlines()
 
