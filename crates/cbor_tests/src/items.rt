@@ -7,184 +7,314 @@ ghost use Rattle.ctap_cbor.specs.Head.{head};
 ghost use Rattle.ctap_cbor.specs.Grammar.{scalar_text};
 
 use ctap_cbor::*;
+use std::process::Abort;
 use std::test::Fail;
 
-fn refused(at: usize, kind: Kind, steps: u64) -> Checked {
-    Checked {
-        result: Err(Fault { at, kind }),
-        steps,
-    }
-}
-
-fn accepted(steps: u64) -> Checked {
-    Checked {
-        result: Ok(()),
-        steps,
-    }
-}
+/// A text, the place and the kind of its fault where it has one, and the steps of reading it.
+type Row<'a> = (&'a [u8], Option<(usize, Kind)>, u64);
 
 /// Texts with what a check answers.
-pub(crate) fn rows<'a>() -> [(&'a [u8], Checked); 29] {
-    [
-        (b"", refused(0, Kind::Truncated, 1)),
-        (b"\x00\x00", refused(1, Kind::Trailing, 1)),
-        (b"\x18\x05", refused(0, Kind::NotShortest, 2)),
-        (b"\xa2\x02\x00\x01\x00", refused(3, Kind::KeyOrder, 5)),
-        (b"\xa2\x01\x00\x01\x00", refused(3, Kind::KeyOrder, 5)),
-        (b"\x81\x81\x81\x81\x00", accepted(6)),
-        (b"\x81\x81\x81\x81\x81\x00", refused(4, Kind::TooDeep, 5)),
-        (b"\x61\xc3", refused(0, Kind::NotUtf8, 2)),
-        (b"\x62\xc3", refused(0, Kind::Truncated, 3)),
-        (
-            b"\xbb\xff\xff\xff\xff\xff\xff\xff\xff",
-            refused(9, Kind::Truncated, 10),
-        ),
-        (b"\xa1\xf5\x00", refused(1, Kind::KeyType, 2)),
-        (b"\x5f", refused(0, Kind::Reserved, 1)),
-        (b"\xf9\x00\x00", refused(0, Kind::Unsupported, 1)),
-        (b"\x3b\xff\xff\xff\xff\xff\xff\xff\xff", accepted(10)),
-        (b"\x80", accepted(2)),
-        (b"\x81\x81\x81\x81\x80", refused(4, Kind::TooDeep, 5)),
-        (b"\xa1\x00", refused(2, Kind::Truncated, 3)),
-        (b"\xa2\x00\x00\x01\x00", accepted(7)),
-        (b"\xa2\x18\x40\x00\x20\x00", accepted(8)),
-        (b"\xa2\x61\x62\x00\x62\x61\x61\x00", accepted(12)),
-        (
-            b"\xa2\x61\x61\x00\x41\x61\x00",
-            refused(4, Kind::KeyOrder, 8),
-        ),
-        (b"\xa1\x80\x00", refused(1, Kind::KeyType, 2)),
-        (b"\x78\x01\x61", refused(0, Kind::NotShortest, 2)),
-        (b"\xc0\x00", refused(0, Kind::Unsupported, 1)),
-        (b"\xf8\x20", refused(0, Kind::Unsupported, 1)),
-        (b"\x1c", refused(0, Kind::Reserved, 1)),
-        (b"\xa2\x00\x00\x61\xc3\x00", refused(3, Kind::NotUtf8, 5)),
-        (b"\xa2\xf5\x00\x18\x05\x00", refused(1, Kind::KeyType, 2)),
-        (
-            b"\xa2\x00\x00\x18\x05\x00",
-            refused(3, Kind::NotShortest, 5),
-        ),
-    ]
+pub(crate) const ROWS: [Row<'static>; 29] = [
+    (b"", Some((0, Kind::Truncated)), 1),
+    (b"\x00\x00", Some((1, Kind::Trailing)), 1),
+    (b"\x18\x05", Some((0, Kind::NotShortest)), 2),
+    (b"\xa2\x02\x00\x01\x00", Some((3, Kind::KeyOrder)), 5),
+    (b"\xa2\x01\x00\x01\x00", Some((3, Kind::KeyOrder)), 5),
+    (b"\x81\x81\x81\x81\x00", None, 6),
+    (b"\x81\x81\x81\x81\x81\x00", Some((4, Kind::TooDeep)), 5),
+    (b"\x61\xc3", Some((0, Kind::NotUtf8)), 2),
+    (b"\x62\xc3", Some((0, Kind::Truncated)), 3),
+    (
+        b"\xbb\xff\xff\xff\xff\xff\xff\xff\xff",
+        Some((9, Kind::Truncated)),
+        10,
+    ),
+    (b"\xa1\xf5\x00", Some((1, Kind::KeyType)), 2),
+    (b"\x5f", Some((0, Kind::Reserved)), 1),
+    (b"\xf9\x00\x00", Some((0, Kind::Unsupported)), 1),
+    (b"\x3b\xff\xff\xff\xff\xff\xff\xff\xff", None, 10),
+    (b"\x80", None, 2),
+    (b"\x81\x81\x81\x81\x80", Some((4, Kind::TooDeep)), 5),
+    (b"\xa1\x00", Some((2, Kind::Truncated)), 3),
+    (b"\xa2\x00\x00\x01\x00", None, 7),
+    (b"\xa2\x18\x40\x00\x20\x00", None, 8),
+    (b"\xa2\x61\x62\x00\x62\x61\x61\x00", None, 12),
+    (
+        b"\xa2\x61\x61\x00\x41\x61\x00",
+        Some((4, Kind::KeyOrder)),
+        8,
+    ),
+    (b"\xa1\x80\x00", Some((1, Kind::KeyType)), 2),
+    (b"\x78\x01\x61", Some((0, Kind::NotShortest)), 2),
+    (b"\xc0\x00", Some((0, Kind::Unsupported)), 1),
+    (b"\xf8\x20", Some((0, Kind::Unsupported)), 1),
+    (b"\x1c", Some((0, Kind::Reserved)), 1),
+    (b"\xa2\x00\x00\x61\xc3\x00", Some((3, Kind::NotUtf8)), 5),
+    (b"\xa2\xf5\x00\x18\x05\x00", Some((1, Kind::KeyType)), 2),
+    (b"\xa2\x00\x00\x18\x05\x00", Some((3, Kind::NotShortest)), 5),
+];
+
+/// The heads' borders, from RFC 8949's appendix A, and one below each.
+const SHORTEST_HEADS: [Row<'static>; 10] = [
+    (b"\x17", None, 2),
+    (b"\x18\x17", Some((0, Kind::NotShortest)), 2),
+    (b"\x18\x18", None, 3),
+    (b"\x19\x00\xff", Some((0, Kind::NotShortest)), 3),
+    (b"\x19\x01\x00", None, 4),
+    (b"\x1a\x00\x00\xff\xff", Some((0, Kind::NotShortest)), 5),
+    (b"\x1a\x00\x01\x00\x00", None, 6),
+    (
+        b"\x1b\x00\x00\x00\x00\xff\xff\xff\xff",
+        Some((0, Kind::NotShortest)),
+        9,
+    ),
+    (b"\x1b\x00\x00\x00\x01\x00\x00\x00\x00", None, 10),
+    (
+        b"\x1b\x00\x00\x00\x01\x00\x00\x00",
+        Some((0, Kind::Truncated)),
+        9,
+    ),
+];
+
+/// The edges of UTF-8: RFC 3629, section 4.
+const UTF8: [Row<'static>; 10] = [
+    (b"\x62\xc2\x80", None, 4),
+    (b"\x62\xc1\xbf", Some((0, Kind::NotUtf8)), 3),
+    (b"\x63\xe0\xa0\x80", None, 5),
+    (b"\x63\xe0\x9f\xbf", Some((0, Kind::NotUtf8)), 4),
+    (b"\x63\xed\x9f\xbf", None, 5),
+    (b"\x63\xed\xa0\x80", Some((0, Kind::NotUtf8)), 4),
+    (b"\x63\xed\xbf\xbf", Some((0, Kind::NotUtf8)), 4),
+    (b"\x64\xf0\x8f\xbf\xbf", Some((0, Kind::NotUtf8)), 5),
+    (b"\x64\xf4\x8f\xbf\xbf", None, 6),
+    (b"\x64\xf4\x90\x80\x80", Some((0, Kind::NotUtf8)), 5),
+];
+
+/// The place and the kind of the fault, if there is one.
+pub(crate) fn fault_of(outcome: Result<(), Fault>) -> Option<(usize, Kind)> {
+    match outcome {
+        Ok(()) => None,
+        Err(fault) => Some((fault.at, fault.kind)),
+    }
+}
+
+/// Asserts what a check of each text answers.
+fn assert_checks(rt: &impl Abort, rows: &[Row<'_>]) {
+    for (bytes, fault, steps) in rows.iter() {
+        let found = check(bytes);
+        assert_eq!(rt;
+            (fault_of(found.result), found.steps),
+            (*fault, *steps),
+            "{bytes:?}"
+        );
+    }
 }
 
 #[test]
 fn checks_rows(rt: HostRuntime) {
-    for (bytes, want) in rows().iter() {
-        assert_eq!(rt; check(bytes), *want, "{bytes:?}");
+    for rows in [ROWS.as_slice(), SHORTEST_HEADS.as_slice(), UTF8.as_slice()] {
+        assert_checks(&rt, rows);
     }
 }
 
-/// The heads' borders, from RFC 8949's appendix A, and one below each.
-#[test]
-fn checks_shortest_heads(rt: HostRuntime) {
-    let rows: [(&[u8], Checked); 10] = [
-        (b"\x17", accepted(2)),
-        (b"\x18\x17", refused(0, Kind::NotShortest, 2)),
-        (b"\x18\x18", accepted(3)),
-        (b"\x19\x00\xff", refused(0, Kind::NotShortest, 3)),
-        (b"\x19\x01\x00", accepted(4)),
-        (b"\x1a\x00\x00\xff\xff", refused(0, Kind::NotShortest, 5)),
-        (b"\x1a\x00\x01\x00\x00", accepted(6)),
-        (
-            b"\x1b\x00\x00\x00\x00\xff\xff\xff\xff",
-            refused(0, Kind::NotShortest, 9),
-        ),
-        (b"\x1b\x00\x00\x00\x01\x00\x00\x00\x00", accepted(10)),
-        (
-            b"\x1b\x00\x00\x00\x01\x00\x00\x00",
-            refused(0, Kind::Truncated, 9),
-        ),
-    ];
-    for (bytes, want) in rows.iter() {
-        assert_eq!(rt; check(bytes), *want, "{bytes:?}");
-    }
+/// An array of 6,999 items and a byte string as the 7,000th, and one byte more. Without that one they fill the longest
+/// message of CTAPHID, less its command byte.
+pub(crate) fn long_text() -> [u8; 7609] {
+    let mut bytes = [0u8; 7609];
+    bytes[..3].copy_from_slice(b"\x99\x1b\x58");
+    bytes[7002..7005].copy_from_slice(b"\x59\x02\x5b");
+    bytes
 }
 
-/// The edges of UTF-8: RFC 3629, section 4.
-#[test]
-fn checks_utf8(rt: HostRuntime) {
-    let rows: [(&[u8], Checked); 10] = [
-        (b"\x62\xc2\x80", accepted(4)),
-        (b"\x62\xc1\xbf", refused(0, Kind::NotUtf8, 3)),
-        (b"\x63\xe0\xa0\x80", accepted(5)),
-        (b"\x63\xe0\x9f\xbf", refused(0, Kind::NotUtf8, 4)),
-        (b"\x63\xed\x9f\xbf", accepted(5)),
-        (b"\x63\xed\xa0\x80", refused(0, Kind::NotUtf8, 4)),
-        (b"\x63\xed\xbf\xbf", refused(0, Kind::NotUtf8, 4)),
-        (b"\x64\xf0\x8f\xbf\xbf", refused(0, Kind::NotUtf8, 5)),
-        (b"\x64\xf4\x8f\xbf\xbf", accepted(6)),
-        (b"\x64\xf4\x90\x80\x80", refused(0, Kind::NotUtf8, 5)),
-    ];
-    for (bytes, want) in rows.iter() {
-        assert_eq!(rt; check(bytes), *want, "{bytes:?}");
-    }
-}
+/// So many bytes of it, with what a check answers.
+const CUTS: [(usize, Option<(usize, Kind)>, u64); 3] = [
+    (7608, None, 7609),
+    (7607, Some((7002, Kind::Truncated)), 7608),
+    (7609, Some((7608, Kind::Trailing)), 7608),
+];
 
-/// An array of 6,999 items and a byte string as the 7,000th fill the longest message of CTAPHID, less its command
-/// byte. With a byte less it is truncated, and with one more that one is trailing.
 #[test]
 fn checks_long_text(rt: HostRuntime) {
-    let mut bytes = [0u8; 7609];
-    bytes[0] = 0x99;
-    bytes[1] = 0x1b;
-    bytes[2] = 0x58;
-    bytes[7002] = 0x59;
-    bytes[7003] = 0x02;
-    bytes[7004] = 0x5b;
-    assert_eq!(rt; check(&bytes[..7608]), accepted(7609));
-    assert_eq!(rt; check(&bytes[..7607]), refused(7002, Kind::Truncated, 7608));
-    assert_eq!(rt; check(&bytes), refused(7608, Kind::Trailing, 7608));
+    let bytes = long_text();
+    for (len, fault, steps) in CUTS.iter() {
+        assert_checks(&rt, &[(&bytes[..(*len).min(7609)], *fault, *steps)]);
+    }
+}
+
+/// A call on a cursor, at a level of 1 to 5 where it takes one.
+#[derive(Clone, Copy)]
+enum Call {
+    Item(u8),
+    Key,
+    Skip(u8),
+    Whole(u8),
+    Map(u8),
+    Array(u8),
+    End,
+    Rewind,
+    ReadWhole,
+}
+
+/// A call, with the item that it gives, the place and the kind of its fault, and the cursor's place and steps after it.
+/// Of a map or an array that is collected the item tells how many members or entries were handed on.
+type Told<'a> = (Call, Option<Item<'a>>, Option<(usize, Kind)>, (usize, u64));
+
+/// `{1: -1, 2: h'07', "a": [false, null]}`, item by item and as a whole.
+const ITEM_BY_ITEM: [Told<'static>; 13] = [
+    (Call::Item(1), Some(Item::Map(3)), None, (1, 1)),
+    (Call::Key, Some(Item::Int(1)), None, (2, 2)),
+    (Call::Item(2), Some(Item::Int(-1)), None, (3, 3)),
+    (Call::Key, Some(Item::Int(2)), None, (4, 5)),
+    (Call::Item(2), Some(Item::Bytes(b"\x07")), None, (6, 7)),
+    (Call::Key, Some(Item::Text("a")), None, (8, 11)),
+    (Call::Item(2), Some(Item::Array(2)), None, (9, 12)),
+    (Call::Item(3), Some(Item::Bool(false)), None, (10, 13)),
+    (Call::Item(3), Some(Item::Null), None, (11, 14)),
+    (Call::End, None, None, (11, 15)),
+    (Call::Rewind, None, None, (0, 15)),
+    (Call::Skip(1), None, None, (11, 29)),
+    (Call::End, None, None, (11, 30)),
+];
+
+/// `[[1], true]` and a byte after it.
+const WHOLE_ITEMS: [Told<'static>; 7] = [
+    (Call::Whole(1), Some(Item::Array(2)), None, (4, 4)),
+    (Call::End, None, Some((4, Kind::Trailing)), (4, 4)),
+    (Call::Rewind, None, None, (0, 4)),
+    (Call::Item(1), Some(Item::Array(2)), None, (1, 5)),
+    (Call::Skip(2), None, None, (3, 7)),
+    (Call::Rewind, None, None, (0, 7)),
+    (Call::ReadWhole, None, Some((4, Kind::Trailing)), (4, 11)),
+];
+
+/// `[{1: h'07', 2: []}, [0, {}]]` and 0 after it.
+const COLLECTED: [Told<'static>; 7] = [
+    (Call::Item(1), Some(Item::Array(2)), None, (1, 1)),
+    (Call::Map(2), Some(Item::Map(2)), None, (7, 8)),
+    (Call::Map(2), None, None, (10, 11)),
+    (Call::Rewind, None, None, (0, 11)),
+    (Call::Array(1), Some(Item::Array(2)), None, (10, 22)),
+    (Call::Array(1), None, None, (11, 23)),
+    (Call::End, None, None, (11, 24)),
+];
+
+/// After a fault the cursor stands after what counts as passed.
+const TRUNCATED: [Told<'static>; 1] = [(Call::Skip(1), None, Some((1, Kind::Truncated)), (3, 4))];
+
+const RESERVED: [Told<'static>; 1] = [(Call::Skip(1), None, Some((1, Kind::Reserved)), (2, 2))];
+
+const NOT_SHORTEST: [Told<'static>; 1] = [(
+    Call::Skip(1),
+    None,
+    Some((1, Kind::NotShortest)),
+    (4, 4),
+)];
+
+const NOT_UTF8: [Told<'static>; 1] = [(Call::Skip(1), None, Some((1, Kind::NotUtf8)), (3, 3))];
+
+const KEY_ORDER: [Told<'static>; 1] = [(Call::Skip(1), None, Some((3, Kind::KeyOrder)), (4, 5))];
+
+/// Texts with calls on a cursor.
+const LISTS: [(&[u8], &[Told<'static>]); 8] = [
+    (
+        b"\xa3\x01\x20\x02\x41\x07\x61\x61\x82\xf4\xf6",
+        &ITEM_BY_ITEM,
+    ),
+    (b"\x82\x81\x01\xf5\x00", &WHOLE_ITEMS),
+    (b"\x82\xa2\x01\x41\x07\x02\x80\x82\x00\xa0\x00", &COLLECTED),
+    (b"\x82\x62\x61", &TRUNCATED),
+    (b"\x82\x1c\x00", &RESERVED),
+    (b"\x82\x19\x00\x05\x00", &NOT_SHORTEST),
+    (b"\x82\x61\xff\x00", &NOT_UTF8),
+    (b"\xa2\x01\x00\x00\x00", &KEY_ORDER),
+];
+
+/// Calls on a cursor: the bytes of the key before, if there was one.
+#[derive(Drop)]
+struct Walk<'a> {
+    cursor: Cursor<'a>,
+    previous: Option<&'a [u8]>,
+}
+
+impl<'a> Walk<'a> {
+    /// A call that gives an item.
+    fn item(&mut self, rt: &impl Abort, call: Call) -> Result<Option<Item<'a>>, Fault> {
+        match call {
+            Call::Item(level) => Ok(Some(self.cursor.item(level_of(rt, level))?)),
+            Call::Whole(level) => Ok(Some(self.cursor.whole(level_of(rt, level))?)),
+            Call::Key => {
+                let key = self.cursor.key(self.previous)?;
+                self.previous = Some(key.bytes);
+                Ok(Some(key.item))
+            }
+            _ => self.collected(rt, call),
+        }
+    }
+
+    /// A call that collects members or entries.
+    fn collected(&mut self, rt: &impl Abort, call: Call) -> Result<Option<Item<'a>>, Fault> {
+        let mut counted = Counted { count: 0 };
+        match call {
+            Call::Map(level) => {
+                let is_map = read_map(&mut counted, &mut self.cursor, level_of(rt, level))?;
+                Ok(is_map.then_some(Item::Map(counted.count)))
+            }
+            Call::Array(level) => {
+                let is_array = read_array(&mut counted, &mut self.cursor, level_of(rt, level))?;
+                Ok(is_array.then_some(Item::Array(counted.count)))
+            }
+            _ => self.passed(rt, call),
+        }
+    }
+
+    /// A call that gives nothing.
+    fn passed(&mut self, rt: &impl Abort, call: Call) -> Result<Option<Item<'a>>, Fault> {
+        match call {
+            Call::Skip(level) => self.cursor.skip(level_of(rt, level))?,
+            Call::End => self.cursor.end()?,
+            Call::ReadWhole => read_whole(&mut self.cursor)?,
+            _ => self.cursor.rewind(),
+        }
+        Ok(None)
+    }
+}
+
+/// The level, which has to be one that a cursor takes.
+fn level_of(rt: &impl Abort, level: u8) -> u8
+    ensures low { 1 ≤ result }
+    ensures high { result ≤ 5 }
+{
+    assert!(rt; 1 <= level);
+    assert!(rt; level <= 5);
+    level
+}
+
+/// Makes calls on a cursor over a text, and asserts what each tells.
+fn assert_told(rt: &impl Abort, bytes: &[u8], calls: &[Told<'_>]) {
+    let mut walk = Walk {
+        cursor: Cursor::new(bytes),
+        previous: None,
+    };
+    for (place, (call, item, fault, after)) in calls.iter().enumerate() {
+        let told = match walk.item(rt, *call) {
+            Ok(item) => (item, None),
+            Err(fault) => (None, Some((fault.at, fault.kind))),
+        };
+        let stands = (walk.cursor.place(), walk.cursor.steps());
+        assert_eq!(rt;
+            (told, stands),
+            ((*item, *fault), *after),
+            "{bytes:?}, call {place}"
+        );
+        assert!(rt; bytes.starts_with(walk.cursor.since(0)));
+    }
 }
 
 #[test]
-fn reads_item_by_item(rt: HostRuntime) -> Result<(), Fail> {
-    let message = b"\xa3\x01\x20\x02\x41\x07\x61\x61\x82\xf4\xf6";
-    let mut cursor = Cursor::new(message);
-    assert_eq!(rt; cursor.item(1)?, Item::Map(3));
-    let first = cursor.key(None)?;
-    assert_eq!(rt; first.item, Item::Int(1));
-    assert_eq!(rt; cursor.item(2)?, Item::Int(-1));
-    let second = cursor.key(Some(first.bytes))?;
-    assert_eq!(rt; second.bytes, b"\x02".as_slice());
-    assert_eq!(rt; cursor.item(2)?, Item::Bytes(b"\x07"));
-    let third = cursor.key(Some(second.bytes))?;
-    assert_eq!(rt; third.item, Item::Text("a"));
-    assert_eq!(rt; cursor.place(), 8);
-    assert_eq!(rt; cursor.item(2)?, Item::Array(2));
-    assert_eq!(rt; cursor.item(3)?, Item::Bool(false));
-    assert_eq!(rt; cursor.item(3)?, Item::Null);
-    cursor.end()?;
-    assert_eq!(rt; cursor.steps(), 15);
-    cursor.rewind();
-    assert_eq!(rt; cursor.place(), 0);
-    assert_eq!(rt; cursor.steps(), 15);
-    cursor.skip(1)?;
-    cursor.end()?;
-    assert_eq!(rt; cursor.steps(), 30);
-    Ok(())
-}
-
-#[test]
-fn passes_whole_items(rt: HostRuntime) -> Result<(), Fail> {
-    let message = b"\x82\x81\x01\xf5\x00";
-    let mut cursor = Cursor::new(message);
-    assert_eq!(rt; cursor.whole(1)?, Item::Array(2));
-    assert_eq!(rt; cursor.since(0), b"\x82\x81\x01\xf5".as_slice());
-    assert_eq!(rt;
-        cursor.end(),
-        Err(Fault {
-            at: 4,
-            kind: Kind::Trailing
-        })
-    );
-    assert_eq!(rt; cursor.place(), 4);
-    cursor.rewind();
-    assert_eq!(rt; cursor.item(1)?, Item::Array(2));
-    cursor.skip(2)?;
-    assert_eq!(rt; cursor.place(), 3);
-    cursor.rewind();
-    read_whole(&mut cursor).expect_err(&rt, "a byte is left");
-    Ok(())
+fn cursors_tell(rt: HostRuntime) {
+    for (bytes, calls) in LISTS.iter() {
+        assert_told(&rt, bytes, calls);
+    }
 }
 
 /// How many members or entries there are.
@@ -211,42 +341,6 @@ impl<'a> Entries<'a> for Counted {
     }
 }
 
-#[test]
-fn collects_members_and_entries(rt: HostRuntime) -> Result<(), Fail> {
-    let mut cursor = Cursor::new(b"\x82\xa2\x01\x41\x07\x02\x80\x82\x00\xa0\x00");
-    cursor.item(1)?;
-    let mut members = Counted { count: 0 };
-    assert!(rt; read_map(&mut members, &mut cursor, 2)?);
-    assert_eq!(rt; members.count, 2);
-    assert!(rt; !read_map(&mut members, &mut cursor, 2)?);
-    assert_eq!(rt; cursor.place(), 10);
-    cursor.rewind();
-    let mut entries = Counted { count: 0 };
-    assert!(rt; read_array(&mut entries, &mut cursor, 1)?);
-    assert_eq!(rt; entries.count, 2);
-    assert!(rt; !read_array(&mut entries, &mut cursor, 1)?);
-    assert_eq!(rt; entries.count, 2);
-    cursor.end()?;
-    Ok(())
-}
-
-/// After a fault the cursor stands after what counts as passed.
-#[test]
-fn stands_after_faults(rt: HostRuntime) {
-    let rows: [(&[u8], usize); 5] = [
-        (b"\x82\x62\x61", 3),
-        (b"\x82\x1c\x00", 2),
-        (b"\x82\x19\x00\x05\x00", 4),
-        (b"\x82\x61\xff\x00", 3),
-        (b"\xa2\x01\x00\x00\x00", 4),
-    ];
-    for (bytes, want) in rows.iter() {
-        let mut cursor = Cursor::new(bytes);
-        assert!(rt; cursor.skip(1).is_err());
-        assert_eq!(rt; cursor.place(), *want, "{bytes:?}");
-    }
-}
-
 /// Writes each sort of item once: `{-1: 65536, "ä": [h'07', true, null, -2^64]}`.
 fn write_sample(out: &mut [u8]) -> usize
     requires { 24 ≤ length out.old }
@@ -268,36 +362,37 @@ fn write_sample(out: &mut [u8]) -> usize
     sink.len()
 }
 
+/// What it writes, and a byte that was there before.
+const SAMPLE: &[u8; 25] = b"\xa2\x20\x1a\x00\x01\x00\x00\x62\xc3\xa4\x84\x41\x07\xf5\xf6\
+    \x3b\xff\xff\xff\xff\xff\xff\xff\xff\xee";
+
 #[test]
-fn writes_shortest(rt: HostRuntime) -> Result<(), Fail> {
-    let mut buffer = [0xeeu8; 64];
-    assert!(rt; Sink::new(&mut buffer).is_empty());
-    assert_eq!(rt; write_sample(&mut buffer), 24);
-    let text = buffer.get(..24).ok_or("24 bytes")?;
-    let want =
-        b"\xa2\x20\x1a\x00\x01\x00\x00\x62\xc3\xa4\x84\x41\x07\xf5\xf6\x3b\xff\xff\xff\xff\xff\xff\xff\xff";
-    assert_eq!(rt; text, want.as_slice());
-    assert_eq!(rt; buffer.get(24), Some(&0xee));
-    assert_eq!(rt; check(text), accepted(28));
-    Ok(())
+fn writes_shortest(rt: HostRuntime) {
+    let mut buffer = [0xee; 25];
+    let is_empty = Sink::new(&mut buffer).is_empty();
+    let len = write_sample(&mut buffer);
+    assert_eq!(rt; (is_empty, len, buffer), (true, 24, *SAMPLE));
+    assert_checks(&rt, &[(&SAMPLE[..24], None, 28)]);
 }
+
+/// The kinds in the order of their numbers.
+const KINDS: [Kind; 10] = [
+    Kind::Truncated,
+    Kind::Reserved,
+    Kind::NotShortest,
+    Kind::TooDeep,
+    Kind::KeyType,
+    Kind::KeyOrder,
+    Kind::NotUtf8,
+    Kind::Unsupported,
+    Kind::Trailing,
+    Kind::Memory,
+];
 
 #[test]
 fn kinds_have_numbers(rt: HostRuntime) {
-    let kinds = [
-        Kind::Truncated,
-        Kind::Reserved,
-        Kind::NotShortest,
-        Kind::TooDeep,
-        Kind::KeyType,
-        Kind::KeyOrder,
-        Kind::NotUtf8,
-        Kind::Unsupported,
-        Kind::Trailing,
-        Kind::Memory,
-    ];
-    for (i, kind) in kinds.iter().enumerate() {
-        assert_eq!(rt; kind.number() as usize, i + 1);
+    for (place, kind) in KINDS.iter().enumerate() {
+        assert_eq!(rt; usize::from(kind.number()), place + 1);
     }
 }
 

@@ -5,7 +5,7 @@
 //! changes, and the same call with memory succeeds. `tests/refused_memory.sh` has each of the first allocations fail in
 //! turn.
 
-use crate::items::rows;
+use crate::items::{ROWS, fault_of, long_text};
 use ctap_cbor::*;
 use std::alloc::{AllocError, Global};
 use std::process::Abort;
@@ -13,55 +13,34 @@ use std::test::Fail;
 
 #[test]
 fn decodes_rows(rt: HostRuntime) {
-    for (bytes, want) in rows().iter() {
-        let got = match decode_value(rt.alloc(), bytes) {
-            Ok(_) => Ok(()),
-            Err(fault) => Err(fault),
-        };
-        assert_eq!(rt; got, want.result, "{bytes:?}");
+    for (bytes, fault, _) in ROWS.iter() {
+        let got = decode_value(rt.alloc(), bytes).map(|_| ());
+        assert_eq!(rt; fault_of(got), *fault, "{bytes:?}");
     }
 }
 
 /// `{1: [h'07', "a"], -1: {"b": true}, "c": null}`: each type of value once.
 const SAMPLE: &[u8] = b"\xa3\x01\x82\x41\x07\x61\x61\x20\xa1\x61\x62\xf5\x61\x63\xf6";
 
-#[test]
-fn decodes_and_encodes(rt: HostRuntime) -> Result<(), Fail> {
-    let value = decode_value(rt.alloc(), SAMPLE)?;
-    let mut out = Vec::new(rt.alloc());
+/// Decodes a text, and asserts that it is what encodes the value.
+fn assert_both_ways(rt: &impl Abort, alloc: Global, bytes: &[u8]) -> Result<(), Fail> {
+    let value = decode_value(alloc, bytes)?;
+    let mut out = Vec::new(alloc);
     encode_value(&value, &mut out)?;
-    assert_eq!(rt; out.as_slice(), SAMPLE);
-    encode_value(&value, &mut out)?;
-    assert_eq!(rt; out.get(15..), Some(SAMPLE));
+    assert_eq!(rt; out.as_slice(), bytes);
     Ok(())
 }
 
 #[test]
-fn takes_lowest_integer(rt: HostRuntime) -> Result<(), Fail> {
-    let bytes = b"\x3b\xff\xff\xff\xff\xff\xff\xff\xff";
-    let lowest = Value::Int(-18446744073709551616);
-    assert_eq!(rt; decode_value(rt.alloc(), bytes)?, lowest);
-    let mut out = Vec::new(rt.alloc());
-    encode_value(&lowest, &mut out)?;
-    assert_eq!(rt; out.as_slice(), bytes.as_slice());
-    Ok(())
+fn decodes_and_encodes(rt: HostRuntime) -> Result<(), Fail> {
+    assert_both_ways(&rt, rt.alloc(), SAMPLE)
 }
 
 /// The longest message of CTAPHID, less its command byte: an array of 6,999 integers and a byte string.
 #[test]
 fn takes_the_longest_text(rt: HostRuntime) -> Result<(), Fail> {
-    let mut bytes = [0u8; 7608];
-    bytes[0] = 0x99;
-    bytes[1] = 0x1b;
-    bytes[2] = 0x58;
-    bytes[7002] = 0x59;
-    bytes[7003] = 0x02;
-    bytes[7004] = 0x5b;
-    let value = decode_value(rt.alloc(), &bytes)?;
-    let mut out = Vec::new(rt.alloc());
-    encode_value(&value, &mut out)?;
-    assert_eq!(rt; out.as_slice(), bytes.as_slice());
-    Ok(())
+    let long = long_text();
+    assert_both_ways(&rt, rt.alloc(), &long[..long.len().min(7608)])
 }
 
 /// Decodes, once more where memory was refused.
@@ -116,14 +95,19 @@ fn one_byte(alloc: Global) -> Result<Vec<u8>, AllocError> {
     Ok(out)
 }
 
-fn pair_of(alloc: Global, first: Value, second: Value) -> Result<Value, Fail> {
+/// `{1: null, second: null}`, where the second key is true if it isn't an integer.
+fn pair_of(alloc: Global, second: Option<i128>) -> Result<Value, AllocError> {
+    let second = match second {
+        Some(number) => Value::Int(number),
+        None => Value::Bool(true),
+    };
     let mut pairs = Vec::new(alloc);
-    pairs.push((first, Value::Null))?;
+    pairs.push((Value::Int(1), Value::Null))?;
     pairs.push((second, Value::Null))?;
     Ok(Value::Map(pairs))
 }
 
-fn nested(alloc: Global, levels: usize) -> Result<Value, Fail> {
+fn nested(alloc: Global, levels: usize) -> Result<Value, AllocError> {
     let mut value = Value::Array(Vec::new(alloc));
     for _ in 1..levels {
         let mut items = Vec::new(alloc);
@@ -133,26 +117,66 @@ fn nested(alloc: Global, levels: usize) -> Result<Value, Fail> {
     Ok(value)
 }
 
-#[test]
-fn refuses_what_has_no_encoding(rt: HostRuntime) -> Result<(), Fail> {
-    let alloc = rt.alloc();
+/// What encoding answers, and what a vector then holds that had the byte ee.
+type Encoded<'a> = (Result<(), Kind>, &'a [u8]);
+
+/// Asserts what encoding answers after one byte, and what the vector then holds.
+fn assert_encoded(
+    rt: &impl Abort,
+    alloc: Global,
+    value: &Value,
+    expected: Encoded<'_>,
+) -> Result<(), Fail> {
     let mut out = one_byte(alloc)?;
-    let high = Value::Int(18446744073709551616);
-    assert_eq!(rt; encode_value(&high, &mut out), Err(Kind::Unsupported));
-    let low = Value::Int(-18446744073709551617);
-    assert_eq!(rt; encode_value(&low, &mut out), Err(Kind::Unsupported));
-    let falling = pair_of(alloc, Value::Int(1), Value::Int(0))?;
-    assert_eq!(rt; encode_value(&falling, &mut out), Err(Kind::KeyOrder));
-    let repeated = pair_of(alloc, Value::Int(1), Value::Int(1))?;
-    assert_eq!(rt; encode_value(&repeated, &mut out), Err(Kind::KeyOrder));
-    let flags = pair_of(alloc, Value::Int(1), Value::Bool(true))?;
-    assert_eq!(rt; encode_value(&flags, &mut out), Err(Kind::KeyType));
-    let deep = nested(alloc, 5)?;
-    assert_eq!(rt; encode_value(&deep, &mut out), Err(Kind::TooDeep));
-    assert_eq!(rt; out.as_slice(), b"\xee".as_slice());
-    let deepest = nested(alloc, 4)?;
-    assert_eq!(rt; encode_value(&deepest, &mut out), Ok(()));
-    assert_eq!(rt; out.as_slice(), b"\xee\x81\x81\x81\x80".as_slice());
+    let answer = encode_value(value, &mut out);
+    assert_eq!(rt; (answer, out.as_slice()), expected);
+    Ok(())
+}
+
+const INTEGERS: [(i128, Encoded<'static>); 3] = [
+    (18446744073709551616, (Err(Kind::Unsupported), b"\xee")),
+    (-18446744073709551617, (Err(Kind::Unsupported), b"\xee")),
+    (
+        -18446744073709551616,
+        (Ok(()), b"\xee\x3b\xff\xff\xff\xff\xff\xff\xff\xff"),
+    ),
+];
+
+#[test]
+fn takes_integers_of_64_bits(rt: HostRuntime) -> Result<(), Fail> {
+    for (number, expected) in INTEGERS.iter() {
+        assert_encoded(&rt, rt.alloc(), &Value::Int(*number), *expected)?;
+    }
+    Ok(())
+}
+
+/// Keys behind the key 1.
+const KEYS: [(Option<i128>, Kind); 3] = [
+    (Some(0), Kind::KeyOrder),
+    (Some(1), Kind::KeyOrder),
+    (None, Kind::KeyType),
+];
+
+#[test]
+fn refuses_keys(rt: HostRuntime) -> Result<(), Fail> {
+    for (second, kind) in KEYS.iter() {
+        let value = pair_of(rt.alloc(), *second)?;
+        assert_encoded(&rt, rt.alloc(), &value, (Err(*kind), b"\xee"))?;
+    }
+    Ok(())
+}
+
+const LEVELS: [(usize, Encoded<'static>); 2] = [
+    (5, (Err(Kind::TooDeep), b"\xee")),
+    (4, (Ok(()), b"\xee\x81\x81\x81\x80")),
+];
+
+#[test]
+fn takes_four_levels(rt: HostRuntime) -> Result<(), Fail> {
+    for (levels, expected) in LEVELS.iter() {
+        let value = nested(rt.alloc(), *levels)?;
+        assert_encoded(&rt, rt.alloc(), &value, *expected)?;
+    }
     Ok(())
 }
 
@@ -160,17 +184,11 @@ fn refuses_what_has_no_encoding(rt: HostRuntime) -> Result<(), Fail> {
 #[test]
 fn takes_many_siblings(rt: HostRuntime) -> Result<(), Fail> {
     let mut bytes = [0u8; 4003];
-    bytes[0] = 0x99;
-    bytes[1] = 0x03;
-    bytes[2] = 0xe8;
+    bytes[..3].copy_from_slice(b"\x99\x03\xe8");
     for i in 0..1000 {
         bytes[4 * i + 3] = 0x81;
         bytes[4 * i + 4] = 0xa1;
         bytes[4 * i + 6] = 0xf6;
     }
-    let value = decode_value(rt.alloc(), &bytes)?;
-    let mut out = one_byte(rt.alloc())?;
-    encode_value(&value, &mut out)?;
-    assert_eq!(rt; out.get(1..), Some(bytes.as_slice()));
-    Ok(())
+    assert_both_ways(&rt, rt.alloc(), &bytes)
 }

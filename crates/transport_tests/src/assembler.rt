@@ -1,211 +1,288 @@
 //! Calls whose answers were worked out by hand.
 
+use crate::packets::pad;
 use hid_assemble::{Assembler, ErrorCode, LAST_CHANNEL, Verdict};
-use hid_packet::{BROADCAST, Packet};
+use hid_packet::BROADCAST;
 use std::process::Abort;
 
-/// The bytes, at most 64, and zeros after them.
-fn pad(bytes: &[u8]) -> Packet {
-    let mut packet = [0; 64];
-    let len = bytes.len().min(64);
-    packet[..len].copy_from_slice(&bytes[..len]);
-    Packet(packet)
-}
+/// A call: its moment, the packet's first bytes, which zeros follow, and its verdict. Then what the assembler says: the
+/// bytes held, the open channel, and the length of the finished message.
+type Call<'a> = (u64, &'a [u8], Verdict, (u16, Option<u32>, usize));
 
-/// PING of `len` bytes on a channel below 256.
-fn ping(cid: u8, len: u16) -> Packet {
-    let [high, low] = len.to_be_bytes();
-    pad(&[0, 0, 0, cid, 0x81, high, low])
-}
+/// Nothing is open, and no message is finished.
+const NONE: (u16, Option<u32>, usize) = (0, None, 0);
 
-/// Continuation packet `number` on a channel below 256.
-fn more(cid: u8, number: u8) -> Packet {
-    pad(&[0, 0, 0, cid, number])
-}
+/// A message of two packets or more is open on channel 1, and one of them has come.
+const OPEN: (u16, Option<u32>, usize) = (57, Some(1), 0);
 
-/// INIT with 8 bytes of nonce, all of them `nonce`.
-fn init(channel: [u8; 4], nonce: u8) -> Packet {
-    let [a, b, c, d] = channel;
-    let n = nonce;
-    pad(&[a, b, c, d, 0x86, 0, 8, n, n, n, n, n, n, n, n])
-}
+/// PING of 100 bytes on channel 1, and its second packet.
+const PING: &[u8] = &[0, 0, 0, 1, 0x81, 0, 100];
 
-fn refuse(cid: u32, code: ErrorCode) -> Verdict {
-    Verdict::Refuse { cid, code }
-}
+const MORE: &[u8] = &[0, 0, 0, 1, 0];
 
-/// An assembler whose verdicts are asserted.
-#[derive(Drop)]
-struct Trial<'a, R> {
-    rt: &'a R,
-    assembler: Assembler,
-    /// The channel for which work waits.
+/// INIT with the nonce 08..08 on all channels.
+const INIT: &[u8] = &[255, 255, 255, 255, 0x86, 0, 8, 8, 8, 8, 8, 8, 8, 8, 8];
+
+const FINISHED: Verdict = Verdict::Finished { cid: 1, cmd: 1 };
+
+const BROKEN_OFF: Verdict = Verdict::Refuse {
+    cid: 1,
+    code: ErrorCode::InvalidSequence,
+};
+
+const TOO_LONG_OR_SHORT: Verdict = Verdict::Refuse {
+    cid: 1,
+    code: ErrorCode::InvalidLength,
+};
+
+/// Channel 2 is told that channel 1 is served.
+const BUSY: Verdict = Verdict::Refuse {
+    cid: 2,
+    code: ErrorCode::ChannelBusy,
+};
+
+const TWO_HOSTS: [Call<'static>; 4] = [
+    (0, PING, Verdict::Kept, OPEN),
+    (10, &[0, 0, 0, 2, 0x81, 0, 1], BUSY, OPEN),
+    (20, MORE, FINISHED, (0, None, 100)),
+    (30, &[0, 0, 0, 1, 1], Verdict::Ignored, NONE),
+];
+
+const WRONG_SEQUENCE_NUMBER: [Call<'static>; 4] = [
+    (0, PING, Verdict::Kept, OPEN),
+    (0, &[0, 0, 0, 2, 0], Verdict::Ignored, OPEN),
+    (0, &[0, 0, 0, 1, 1], BROKEN_OFF, NONE),
+    (0, MORE, Verdict::Ignored, NONE),
+];
+
+/// INIT while a message is open on channel 1: there, there with a length of 7, and on all channels.
+const INITS: [Call<'static>; 9] = [
+    (0, PING, Verdict::Kept, OPEN),
+    (
+        0,
+        &[0, 0, 0, 1, 0x86, 0, 8, 8, 8, 8, 8, 8, 8, 8, 8],
+        Verdict::Greet {
+            on: 1,
+            channel: 1,
+            nonce: [8; 8],
+        },
+        NONE,
+    ),
+    (0, MORE, Verdict::Ignored, NONE),
+    (0, PING, Verdict::Kept, OPEN),
+    (
+        0,
+        &[0, 0, 0, 1, 0x86, 0, 7, 8, 8, 8, 8, 8, 8, 8],
+        TOO_LONG_OR_SHORT,
+        NONE,
+    ),
+    (0, MORE, Verdict::Ignored, NONE),
+    (0, PING, Verdict::Kept, OPEN),
+    (
+        0,
+        INIT,
+        Verdict::Greet {
+            on: BROADCAST,
+            channel: 3,
+            nonce: [8; 8],
+        },
+        OPEN,
+    ),
+    (0, MORE, FINISHED, (0, None, 100)),
+];
+
+/// CANCEL leaves the open message, and another message on its channel breaks it off.
+const BREAKS: [Call<'static>; 4] = [
+    (0, PING, Verdict::Kept, OPEN),
+    (10, &[0, 0, 0, 1, 0x91, 0, 0], Verdict::Ignored, OPEN),
+    (20, &[0, 0, 0, 1, 0x81, 0, 0], BROKEN_OFF, NONE),
+    (30, &[0, 0, 0, 1, 0x81, 0, 0], FINISHED, NONE),
+];
+
+/// Of 57, 7610 and 58 bytes.
+const LENGTHS: [Call<'static>; 4] = [
+    (0, &[0, 0, 0, 1, 0x81, 0, 57], FINISHED, (0, None, 57)),
+    (0, &[0, 0, 0, 1, 0x81, 0x1d, 0xba], TOO_LONG_OR_SHORT, NONE),
+    (0, &[0, 0, 0, 1, 0x81, 0, 58], Verdict::Kept, OPEN),
+    (0, MORE, FINISHED, (0, None, 58)),
+];
+
+/// INIT where one channel is left, and again; and channels that no host has.
+const LAST_CHANNELS: [Call<'static>; 4] = [
+    (
+        0,
+        INIT,
+        Verdict::Greet {
+            on: BROADCAST,
+            channel: LAST_CHANNEL,
+            nonce: [8; 8],
+        },
+        NONE,
+    ),
+    (
+        0,
+        INIT,
+        Verdict::Refuse {
+            cid: BROADCAST,
+            code: ErrorCode::Other,
+        },
+        NONE,
+    ),
+    (
+        0,
+        &[0, 0, 0, 0, 0x81, 0, 0],
+        Verdict::Refuse {
+            cid: 0,
+            code: ErrorCode::InvalidChannel,
+        },
+        NONE,
+    ),
+    (
+        0,
+        &[255, 255, 255, 255, 0x81, 0, 0],
+        Verdict::Refuse {
+            cid: BROADCAST,
+            code: ErrorCode::InvalidChannel,
+        },
+        NONE,
+    ),
+];
+
+/// The rows of the table while work waits on channel 1.
+const WORK_WAITS: [Call<'static>; 7] = [
+    (0, &[0, 0, 0, 2, 0x91, 0, 0], Verdict::Ignored, NONE),
+    (0, &[0, 0, 0, 1, 0x91, 0, 0], Verdict::CancelWork, NONE),
+    (0, &[0, 0, 0, 2, 0x81, 0, 1], BUSY, NONE),
+    (
+        0,
+        &[0, 0, 0, 1, 0x81, 0, 1],
+        Verdict::Refuse {
+            cid: 1,
+            code: ErrorCode::ChannelBusy,
+        },
+        NONE,
+    ),
+    (0, MORE, Verdict::Ignored, NONE),
+    (
+        0,
+        &[0, 0, 0, 1, 0x86, 0, 8, 9, 9, 9, 9, 9, 9, 9, 9],
+        Verdict::GreetAndDrop {
+            on: 1,
+            channel: 1,
+            nonce: [9; 8],
+        },
+        NONE,
+    ),
+    (
+        0,
+        &[0, 0, 0, 2, 0x86, 0, 8, 9, 9, 9, 9, 9, 9, 9, 9],
+        Verdict::Greet {
+            on: 2,
+            channel: 2,
+            nonce: [9; 8],
+        },
+        NONE,
+    ),
+];
+
+/// A command that isn't served, an empty CBOR message, and one of a byte.
+const COMMANDS: [Call<'static>; 3] = [
+    (
+        0,
+        &[0, 0, 0, 1, 0x83, 0, 0],
+        Verdict::Refuse {
+            cid: 1,
+            code: ErrorCode::InvalidCommand,
+        },
+        NONE,
+    ),
+    (0, &[0, 0, 0, 1, 0x90, 0, 0], TOO_LONG_OR_SHORT, NONE),
+    (
+        0,
+        &[0, 0, 0, 1, 0x90, 0, 1, 4],
+        Verdict::Finished { cid: 1, cmd: 0x10 },
+        (0, None, 1),
+    ),
+];
+
+/// Lists of calls: a name, how many channels were given at the start and are at the end, the channel for which work
+/// waits, and the calls.
+const LISTS: [(&str, (u32, u32), Option<u32>, &[Call<'static>]); 8] = [
+    ("two hosts", (2, 2), None, &TWO_HOSTS),
+    ("a wrong number", (2, 2), None, &WRONG_SEQUENCE_NUMBER),
+    ("INIT", (2, 3), None, &INITS),
+    ("broken off", (1, 1), None, &BREAKS),
+    ("lengths", (1, 1), None, &LENGTHS),
+    (
+        "the last channel",
+        (0xffff_fffd, LAST_CHANNEL),
+        None,
+        &LAST_CHANNELS,
+    ),
+    ("work waits", (2, 2), Some(1), &WORK_WAITS),
+    ("commands", (1, 1), None, &COMMANDS),
+];
+
+/// Makes calls, and asserts what each gives.
+fn play(
+    rt: &impl Abort,
+    assembler: &mut Assembler,
     working: Option<u32>,
-}
-
-impl<'a, R: Abort> Trial<'a, R> {
-    /// No work waits.
-    fn new(rt: &'a R, assembler: Assembler) -> Self {
-        Trial {
-            rt,
-            assembler,
-            working: None,
-        }
-    }
-
-    /// Takes a packet at a moment, and asserts its verdict.
-    fn gives(&mut self, at: u64, packet: &Packet, expected: Verdict) {
-        assert_eq!(self.rt; self.assembler.accept(at, packet, self.working), expected);
+    calls: &[Call<'_>],
+    name: &str,
+) {
+    for (place, (at, bytes, verdict, told)) in calls.iter().enumerate() {
+        let given = assembler.accept(*at, &pad(bytes), working);
+        let tells = (
+            assembler.held(),
+            assembler.open_on(),
+            assembler.message().len(),
+        );
+        assert_eq!(rt; (given, tells), (*verdict, *told), "{name}, call {place}");
     }
 }
 
-/// A message of the open channel, by packets of which none is late.
 #[test]
-fn two_hosts(rt: HostRuntime) {
-    let mut key = Trial::new(&rt, Assembler::with_given(2));
-    key.gives(0, &ping(1, 100), Verdict::Kept);
-    assert_eq!(rt;
-        (key.assembler.held(), key.assembler.open_on()),
-        (57, Some(1))
-    );
-    key.gives(10, &ping(2, 1), refuse(2, ErrorCode::ChannelBusy));
-    key.gives(20, &more(1, 0), Verdict::Finished { cid: 1, cmd: 1 });
-    assert_eq!(rt; key.assembler.message().len(), 100);
-    assert_eq!(rt; (key.assembler.held(), key.assembler.open_on()), (0, None));
-    key.gives(30, &more(1, 1), Verdict::Ignored);
-    assert_eq!(rt; key.assembler.message().len(), 0);
-}
-
-#[test]
-fn a_wrong_sequence_number_drops_the_message(rt: HostRuntime) {
-    let mut key = Trial::new(&rt, Assembler::with_given(2));
-    key.gives(0, &ping(1, 100), Verdict::Kept);
-    key.gives(0, &more(2, 0), Verdict::Ignored);
-    key.gives(0, &more(1, 1), refuse(1, ErrorCode::InvalidSequence));
-    key.gives(0, &more(1, 0), Verdict::Ignored);
-}
-
-#[test]
-fn init_on_the_open_channel_and_on_another(rt: HostRuntime) {
-    let greet = |on, channel| Verdict::Greet {
-        on,
-        channel,
-        nonce: [8; 8],
-    };
-    let mut key = Trial::new(&rt, Assembler::with_given(2));
-    key.gives(0, &ping(1, 100), Verdict::Kept);
-    key.gives(0, &init([0, 0, 0, 1], 8), greet(1, 1));
-    key.gives(0, &more(1, 0), Verdict::Ignored);
-
-    key.gives(0, &ping(1, 100), Verdict::Kept);
-    let short = pad(&[0, 0, 0, 1, 0x86, 0, 7, 8, 8, 8, 8, 8, 8, 8]);
-    key.gives(0, &short, refuse(1, ErrorCode::InvalidLength));
-    key.gives(0, &more(1, 0), Verdict::Ignored);
-
-    key.gives(0, &ping(1, 100), Verdict::Kept);
-    key.gives(0, &init([255; 4], 8), greet(BROADCAST, 3));
-    key.gives(0, &more(1, 0), Verdict::Finished { cid: 1, cmd: 1 });
-    assert_eq!(rt; key.assembler.given(), 3);
-}
-
-#[test]
-fn an_open_message_is_broken_off(rt: HostRuntime) {
-    let mut key = Trial::new(&rt, Assembler::with_given(1));
-    key.gives(0, &ping(1, 100), Verdict::Kept);
-    let cancel = pad(&[0, 0, 0, 1, 0x91, 0, 0]);
-    key.gives(10, &cancel, Verdict::Ignored);
-    key.gives(20, &ping(1, 0), refuse(1, ErrorCode::InvalidSequence));
-    key.gives(30, &ping(1, 0), Verdict::Finished { cid: 1, cmd: 1 });
-    assert_eq!(rt; key.assembler.message().len(), 0);
-}
-
-#[test]
-fn lengths(rt: HostRuntime) {
-    let mut key = Trial::new(&rt, Assembler::with_given(1));
-    key.gives(0, &ping(1, 57), Verdict::Finished { cid: 1, cmd: 1 });
-    assert_eq!(rt; key.assembler.message().len(), 57);
-    key.gives(0, &ping(1, 7610), refuse(1, ErrorCode::InvalidLength));
-    key.gives(0, &ping(1, 58), Verdict::Kept);
-    key.gives(0, &more(1, 0), Verdict::Finished { cid: 1, cmd: 1 });
-    assert_eq!(rt; key.assembler.message().len(), 58);
-    key.gives(0, &ping(1, 7609), Verdict::Kept);
-    for number in 0..127 {
-        key.gives(0, &more(1, number), Verdict::Kept);
+fn lists_of_calls(rt: HostRuntime) {
+    for (name, (given, finally), working, calls) in LISTS.iter() {
+        assert!(rt; *given <= LAST_CHANNEL);
+        let mut assembler = Assembler::with_given(*given);
+        play(&rt, &mut assembler, *working, calls, name);
+        assert_eq!(rt; assembler.given(), *finally, "{name}");
     }
-    assert_eq!(rt; key.assembler.held(), 7550);
-    key.gives(0, &more(1, 127), Verdict::Finished { cid: 1, cmd: 1 });
-    assert_eq!(rt; key.assembler.message().len(), 7609);
 }
+
+/// The two packets of a message of 200 bytes.
+const TWO_PACKETS: [Call<'static>; 2] = [
+    (1000, &[0, 0, 0, 1, 0x81, 0, 200], Verdict::Kept, OPEN),
+    (1499, MORE, Verdict::Kept, (116, Some(1), 0)),
+];
+
+/// Moments after them: whether the message is overdue, and the channel of what is dropped.
+const PASSES: [(u64, bool, Option<u32>); 3] = [
+    (1998, false, None),
+    (1999, true, Some(1)),
+    (1999, false, None),
+];
 
 #[test]
 fn a_message_is_given_up_after_500_ms(rt: HostRuntime) {
-    let mut key = Trial::new(&rt, Assembler::with_given(1));
-    key.gives(1000, &ping(1, 200), Verdict::Kept);
-    key.gives(1499, &more(1, 0), Verdict::Kept);
-    assert!(rt; !key.assembler.overdue(1998));
-    assert_eq!(rt; key.assembler.pass(1998), None);
-    assert!(rt; key.assembler.overdue(1999));
-    assert_eq!(rt; key.assembler.pass(1999), Some(1));
-    assert_eq!(rt; key.assembler.pass(1999), None);
-    assert_eq!(rt; key.assembler.open_on(), None);
-}
-
-#[test]
-fn the_last_channel(rt: HostRuntime) {
-    let mut key = Trial::new(&rt, Assembler::with_given(0xffff_fffd));
-    let greeting = Verdict::Greet {
-        on: BROADCAST,
-        channel: LAST_CHANNEL,
-        nonce: [1; 8],
-    };
-    key.gives(0, &init([255; 4], 1), greeting);
-    key.gives(0, &init([255; 4], 1), refuse(BROADCAST, ErrorCode::Other));
-    let none = pad(&[0, 0, 0, 0, 0x81, 0, 0]);
-    key.gives(0, &none, refuse(0, ErrorCode::InvalidChannel));
-    let broadcast = pad(&[255, 255, 255, 255, 0x81, 0, 0]);
-    key.gives(0, &broadcast, refuse(BROADCAST, ErrorCode::InvalidChannel));
+    let mut assembler = Assembler::with_given(1);
+    play(&rt, &mut assembler, None, &TWO_PACKETS, "two packets");
+    for (at, overdue, dropped) in PASSES.iter() {
+        let told = (assembler.overdue(*at), assembler.pass(*at));
+        assert_eq!(rt; told, (*overdue, *dropped), "at {at}");
+    }
+    assert_eq!(rt; assembler.open_on(), None);
 }
 
 #[test]
 fn no_channel_at_first(rt: HostRuntime) {
-    let mut key = Trial::new(&rt, Assembler::new());
-    key.gives(0, &ping(1, 1), refuse(1, ErrorCode::InvalidChannel));
-    assert_eq!(rt; ErrorCode::InvalidChannel.number(), 0x0b);
-}
-
-/// The rows of the table while work waits on channel 1.
-#[test]
-fn work_waits(rt: HostRuntime) {
-    let mut key = Trial::new(&rt, Assembler::with_given(2));
-    key.working = Some(1);
-    let cancel = |cid| pad(&[0, 0, 0, cid, 0x91, 0, 0]);
-    key.gives(0, &cancel(2), Verdict::Ignored);
-    key.gives(0, &cancel(1), Verdict::CancelWork);
-    key.gives(0, &ping(2, 1), refuse(2, ErrorCode::ChannelBusy));
-    key.gives(0, &ping(1, 1), refuse(1, ErrorCode::ChannelBusy));
-    key.gives(0, &more(1, 0), Verdict::Ignored);
-    let greeting = Verdict::GreetAndDrop {
-        on: 1,
-        channel: 1,
-        nonce: [9; 8],
+    let verdict = Assembler::new().accept(0, &pad(PING), None);
+    let refused = Verdict::Refuse {
+        cid: 1,
+        code: ErrorCode::InvalidChannel,
     };
-    key.gives(0, &init([0, 0, 0, 1], 9), greeting);
-    let other = Verdict::Greet {
-        on: 2,
-        channel: 2,
-        nonce: [9; 8],
-    };
-    key.gives(0, &init([0, 0, 0, 2], 9), other);
-}
-
-#[test]
-fn commands_and_lengths_that_are_refused(rt: HostRuntime) {
-    let mut key = Trial::new(&rt, Assembler::with_given(1));
-    let message = pad(&[0, 0, 0, 1, 0x83, 0, 0]);
-    key.gives(0, &message, refuse(1, ErrorCode::InvalidCommand));
-    let empty = pad(&[0, 0, 0, 1, 0x90, 0, 0]);
-    key.gives(0, &empty, refuse(1, ErrorCode::InvalidLength));
-    let request = pad(&[0, 0, 0, 1, 0x90, 0, 1, 4]);
-    key.gives(0, &request, Verdict::Finished { cid: 1, cmd: 0x10 });
-    assert_eq!(rt; key.assembler.message(), [4].as_slice());
+    let code = ErrorCode::InvalidChannel.number();
+    assert_eq!(rt; (verdict, code), (refused, 0x0b));
 }

@@ -1,78 +1,119 @@
 //! What no clause says: that the calls succeed on packets written out by hand.
 
 use hid_packet::{Fragments, Packet, View, packets_for};
-use std::test::Fail;
 
 /// The bytes, at most 64, and zeros after them.
-fn pad(bytes: &[u8]) -> Packet {
+pub(crate) fn pad(bytes: &[u8]) -> Packet {
     let mut packet = [0; 64];
     let len = bytes.len().min(64);
     packet[..len].copy_from_slice(&bytes[..len]);
     Packet(packet)
 }
 
-#[test]
-fn fields_are_read(rt: HostRuntime) {
-    let ping = pad(&[0, 0, 0, 1, 0x81, 0, 3, b'a', b'b', b'c']);
-    match ping.view() {
+/// The first bytes of packets, which zeros follow. Then their fields: the channel, the length where it is an
+/// initialization packet, the command or the sequence number, how many data bytes there are, and the first of them.
+const FIELDS: [(&[u8], (u32, Option<u16>, u8, usize), &[u8]); 3] = [
+    (
+        b"\x00\x00\x00\x01\x81\x00\x03abc",
+        (1, Some(3), 1, 57),
+        b"abc\0",
+    ),
+    (
+        b"\x01\x02\x03\x04\x7f\x09",
+        (0x0102_0304, None, 127, 59),
+        b"\x09\x00",
+    ),
+    (b"", (0, None, 0, 59), b"\x00"),
+];
+
+/// What a packet's view tells: its fields, and the data bytes.
+fn told(packet: &Packet) -> ((u32, Option<u16>, u8, usize), &[u8]) {
+    match packet.view() {
         View::Start {
             cid,
             cmd,
             len,
             part,
-        } => {
-            assert_eq!(rt; (cid, cmd, len), (1, 1, 3));
-            assert_eq!(rt; part.len(), 57);
-            assert!(rt; part.starts_with(b"abc\0"));
-        }
-        View::More { .. } => assert!(rt; false, "a PING is an initialization packet"),
+        } => ((cid, Some(len), cmd, part.len()), part),
+        View::More { cid, seq, part } => ((cid, None, seq, part.len()), part),
     }
-    match pad(&[1, 2, 3, 4, 0x7f, 9]).view() {
-        View::More { cid, seq, part } => {
-            assert_eq!(rt; (cid, seq), (0x01020304, 127));
-            assert_eq!(rt; part.len(), 59);
-            assert!(rt; part.starts_with(&[9, 0]));
-        }
-        View::Start { .. } => assert!(rt; false, "bit 7 of byte 4 is clear"),
+}
+
+#[test]
+fn fields_are_read(rt: HostRuntime) {
+    for (bytes, fields, data) in FIELDS.iter() {
+        let packet = pad(bytes);
+        let (found, part) = told(&packet);
+        assert_eq!(rt;
+            (found, part.starts_with(data)),
+            (*fields, true),
+            "{bytes:?}"
+        );
     }
     assert_eq!(rt; Packet::default(), pad(&[]));
 }
 
+/// Lengths of messages, how many packets each takes, and how the first and the last one begin. All bytes of a message
+/// are 61, and its channel and its command are 1.
+const WRITTEN: [(u16, u16, &[u8], &[u8]); 6] = [
+    (
+        0,
+        1,
+        b"\x00\x00\x00\x01\x81\x00\x00\x00",
+        b"\x00\x00\x00\x01\x81\x00\x00\x00",
+    ),
+    (
+        57,
+        1,
+        b"\x00\x00\x00\x01\x81\x00\x39a",
+        b"\x00\x00\x00\x01\x81\x00\x39a",
+    ),
+    (
+        58,
+        2,
+        b"\x00\x00\x00\x01\x81\x00\x3aa",
+        b"\x00\x00\x00\x01\x00a\x00",
+    ),
+    (
+        116,
+        2,
+        b"\x00\x00\x00\x01\x81\x00\x74a",
+        b"\x00\x00\x00\x01\x00aa",
+    ),
+    (
+        117,
+        3,
+        b"\x00\x00\x00\x01\x81\x00\x75a",
+        b"\x00\x00\x00\x01\x01a\x00",
+    ),
+    (
+        7609,
+        129,
+        b"\x00\x00\x00\x01\x81\x1d\xb9a",
+        b"\x00\x00\x00\x01\x7faaaaaaaaaaaaaaaaaaaaaaaaaaaaaaaaaaaaaaaaaaaaaaaaaaaaaaaaaaa",
+    ),
+];
+
 #[test]
-fn packets_are_counted(rt: HostRuntime) {
-    for (len, count) in [(0, 1), (57, 1), (58, 2), (116, 2), (117, 3), (7609, 129)] {
-        assert_eq!(rt; packets_for(len), count, "at {len}");
+fn messages_are_written(rt: HostRuntime) {
+    let message = [b'a'; 7609];
+    for (len, count, first, last) in WRITTEN.iter() {
+        assert!(rt; *len <= 7609);
+        let mut number: u16 = 0;
+        let mut packets = [Packet::default(), Packet::default()];
+        for packet in Fragments::new(1, 1, &message[..usize::from(*len)]) {
+            packets[1] = packet;
+            if number == 0 {
+                packets[0] = packet;
+            }
+            number = number.saturating_add(1);
+        }
+        let begin = packets[0].0.starts_with(first) && packets[1].0.starts_with(last);
+        let counted = (number, packets_for(*len));
+        assert_eq!(rt;
+            (counted, begin),
+            ((*count, *count), true),
+            "of {len} bytes"
+        );
     }
-}
-
-#[test]
-fn a_message_of_58_bytes_takes_two_packets(rt: HostRuntime) {
-    let mut packets = Fragments::new(1, 1, &[9; 58]);
-    let first = packets.next();
-    let mut whole = [9; 64];
-    whole[..7].copy_from_slice(&[0, 0, 0, 1, 0x81, 0, 0x3a]);
-    assert_eq!(rt; first, Some(Packet(whole)));
-    assert_eq!(rt; packets.next(), Some(pad(&[0, 0, 0, 1, 0, 9])));
-    assert_eq!(rt; packets.next(), None);
-}
-
-#[test]
-fn short_messages_take_one_packet(rt: HostRuntime) {
-    let mut empty = Fragments::new(1, 1, &[]);
-    assert_eq!(rt; empty.next(), Some(pad(&[0, 0, 0, 1, 0x81, 0, 0])));
-    assert_eq!(rt; empty.next(), None);
-    let mut full = Fragments::new(1, 1, &[9; 57]);
-    assert!(rt; full.next().is_some());
-    assert_eq!(rt; full.next(), None);
-}
-
-#[test]
-fn the_longest_message_ends_with_sequence_127(rt: HostRuntime) -> Result<(), Fail> {
-    let last = Fragments::new(1, 1, &[9; 7609]).last().ok_or("no packet")?;
-    // 57 + 59 * 127 = 7550 bytes stand in the packets before.
-    assert_eq!(rt;
-        last,
-        pad(&[&[0, 0, 0, 1, 0x7f], [9; 59].as_slice()].concat(rt.alloc())?)
-    );
-    Ok(())
 }
