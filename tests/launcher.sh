@@ -11,8 +11,9 @@ mkdir -p "$copy/crates" "$work/bin"
 cp -a "$top"/{hidlog,crates.txt,HANDLES,release} "$copy/"
 rm -rf "$copy/release/out"
 (cd "$top" && release/sources.sh | grep ^crates/ | xargs cp -a --parents -t "$copy")
+every_path=$PATH
 # A path with the base system's programs and no rt.
-for name in sh bash env ln awk basename cat cmp cp cut date dirname find grep head ls mkdir mktemp mv od readlink realpath rm \
+for name in sh bash env ln awk basename cat chmod cmp cp cut date dirname find grep head ls mkdir mktemp mv od readlink realpath rm \
     sed sha256sum sort tail touch tr uname wc xargs; do
     ln -s "$(command -v "$name")" "$work/bin/$name"
 done
@@ -78,4 +79,33 @@ rm "$copy/release/hidlog"
 call 3 "$copy/hidlog" replay
 cp -p "$work/program" "$copy/release/hidlog"
 replays "$copy/hidlog"
+
+# With a toolchain a changed source is built, once; here a script stands for it.
+python=$(PATH=$every_path python3 -c "import sys; print(sys.executable)" 2>/dev/null || true)
+if [ -n "$python" ]; then
+    ln -s "$python" "$work/bin/python3"
+    cat >"$work/bin/rt" <<'RT'
+#!/bin/sh
+echo "${PWD##*/} $*" >>"$CALLS"
+[ ! -e "$FAILS" ] || { echo "fn x: not proved"; exit 1; }
+[ "${PWD##*/}" != hidlog ] || cp ../../release/hidlog out/hidlog
+RT
+    chmod +x "$work/bin/rt"
+    export CALLS=$work/calls FAILS=$work/fails
+    echo '// changed' >>"$source"
+    touch "$FAILS"
+    call 3 "$copy/hidlog" replay
+    grep -q 'hid_packet could not be built\|ctap_cbor could not be built\|fido_authdata could not' "$work/said" ||
+        fail "a failed build: $(cat "$work/said")"
+    rm "$FAILS" "$CALLS"
+    call 0 "$copy/hidlog" replay
+    cmp "$work/out" "$log" || fail "the program that was built does not replay"
+    grep -q 'a source has changed .* about .* minutes (11 of 11 crates)' "$work/said" ||
+        fail "a build: $(cat "$work/said")"
+    [ "$(sort -u "$CALLS" | wc -l)" = 11 ] || fail "crates were built twice, or left out: $(cat "$CALLS")"
+    replays "$copy/hidlog"
+    [ "$(wc -l <"$CALLS")" = 11 ] || fail "a second call built something"
+    cp -p "$work/source" "$source"
+    replays "$copy/hidlog"
+fi
 echo "the launcher does as it says"
