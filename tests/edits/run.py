@@ -6,9 +6,9 @@
     tests/edits/run.py --here [NAME ..]  takes the files as they are here, and not as they are committed
     tests/edits/run.py --applies         proves nothing: says in a second whether each edit still fits its file
 
-It is run before each release. All edits take about an hour and a half of processor time, at one job, where the
-libraries are built (`out/rlib` is taken over where its text is the same), and half an hour more from nothing. One crate
-takes one proof of it, and then 10 to 40 seconds an edit.
+It is run before each release. A crate takes one proof of it from nothing, then 10 to 40 seconds of processor time an
+edit, and one more look at the whole; all edits outside the gate take about an hour and a half at one job. Libraries
+that were built here (`out/rlib`) are taken over where their text is the same; without them it is half an hour more.
 
 The edits are put in place in a scratch folder, which is removed at the end, also when the run is interrupted; nothing
 changes here. A line is printed for each edit, and at the end 'N passed, M failed'. The status is 0 only if all passed.
@@ -130,7 +130,7 @@ def put_edits(folder: Path, edits: list[Edit]) -> None:
 
 
 def call_rt(scratch: Path, crate: str) -> list[str]:
-    """Calls rt must-fail for one crate, and returns the lines that it wrote. Where it is interrupted, its children end too."""
+    """Calls rt must-fail for one crate, and returns what it wrote. Where this is interrupted, rt and its checks end."""
     with subprocess.Popen(
         ["rt", "must-fail", crate],
         cwd=scratch,

@@ -238,7 +238,7 @@ fn play(
             assembler.open_on(),
             assembler.message().len(),
         );
-        assert_eq!(rt; (given, tells), (*verdict, *told), "{name}, call {place}");
+        assert!(rt; (given, tells) == (*verdict, *told), "{name}, call {place}");
     }
 }
 
@@ -248,7 +248,7 @@ fn lists_of_calls(rt: HostRuntime) {
         assert!(rt; *given <= LAST_CHANNEL);
         let mut assembler = Assembler::with_given(*given);
         play(&rt, &mut assembler, *working, calls, name);
-        assert_eq!(rt; assembler.given(), *finally, "{name}");
+        assert!(rt; assembler.given() == *finally, "{name}");
     }
 }
 
@@ -271,9 +271,9 @@ fn a_message_is_given_up_after_500_ms(rt: HostRuntime) {
     play(&rt, &mut assembler, None, &TWO_PACKETS, "two packets");
     for (at, overdue, dropped) in PASSES.iter() {
         let told = (assembler.overdue(*at), assembler.pass(*at));
-        assert_eq!(rt; told, (*overdue, *dropped), "at {at}");
+        assert!(rt; told == (*overdue, *dropped), "at {at}");
     }
-    assert_eq!(rt; assembler.open_on(), None);
+    assert!(rt; assembler.open_on() == None);
 }
 
 #[test]
@@ -284,5 +284,5 @@ fn no_channel_at_first(rt: HostRuntime) {
         code: ErrorCode::InvalidChannel,
     };
     let code = ErrorCode::InvalidChannel.number();
-    assert_eq!(rt; (verdict, code), (refused, 0x0b));
+    assert!(rt; (verdict, code) == (refused, 0x0b));
 }
