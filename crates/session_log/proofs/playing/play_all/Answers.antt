@@ -103,7 +103,7 @@ returns-in_err-end g c =
       reach = as_err r e (λ (q : Ending). ReadsTo world s0 (left c.args.reader.now) (left c.next_line.new.reader) all q) is
           (none_bad world (left c.args.reader.now) (left c.next_line.new.reader) s0 s before.0 before.1 w c.lines.number all e c.lines.invariant.counted read before.4 stopped);
       reads = as_err r e (λ (q : Ending). Counts g.S.Source.failed (c.args.reader.now, c.next_line.new.reader) (read_fails q)) is
-          (counts_on (g.S.Source.failed c.lines.reader) (g.S.Source.failed c.args.reader.now) _ _ c.lines.invariant.reads c.in_err-end.ensures.reads);
+          (counts_on (g.S.Source.failed c.lines.reader) (g.S.Source.failed c.args.reader.now) (g.S.Source.failed c.next_line.new.reader) (read_fails (ended_by e)) c.lines.invariant.reads c.in_err-end.ensures.reads);
       writes = as_err r e (λ (q : Ending). Counts g.T.Target.failed (c.args.writer.now, c.lines.writer) (write_fails q)) is
           (counts_none _ _ _ (stops_unwritten c.lines.number w e stopped) c.lines.invariant.writes);
     }
