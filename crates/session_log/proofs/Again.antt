@@ -139,28 +139,29 @@ written_are v w wrote g s [] h sends = tt
 written_are v w wrote g s (line ∷ more) h sends =
     AreLines-append (wrote s line (said line)) (written v wrote (after v s line) more) (g.are s line (said line) h.0 sends.0) (written_are v w wrote g (after v s line) more h.1 sends.1)
 
+-- Six words, each with a number after it.
+words_feedless : (a h b r c p d q e y f s : List ℕ) → feedless a ≡ true → feedless h ≡ true → feedless b ≡ true → feedless r ≡ true → feedless c ≡ true → feedless p ≡ true → feedless d ≡ true → feedless q ≡ true → feedless e ≡ true → feedless y ≡ true → feedless f ≡ true → feedless s ≡ true
+    → feedless (a ++ h ++ b ++ r ++ c ++ p ++ d ++ q ++ e ++ y ++ f ++ s) ≡ true
+words_feedless a h b r c p d q e y f s is_a is_h is_b is_r is_c is_p is_d is_q is_e is_y is_f is_s =
+    let glue = feedless-append in
+    glue (a ++ h ++ b ++ r ++ c ++ p ++ d ++ q ++ e ++ y ++ f) s
+    (glue (a ++ h ++ b ++ r ++ c ++ p ++ d ++ q ++ e ++ y) f
+    (glue (a ++ h ++ b ++ r ++ c ++ p ++ d ++ q ++ e) y
+    (glue (a ++ h ++ b ++ r ++ c ++ p ++ d ++ q) e
+    (glue (a ++ h ++ b ++ r ++ c ++ p ++ d) q
+    (glue (a ++ h ++ b ++ r ++ c ++ p) d
+    (glue (a ++ h ++ b ++ r ++ c) p
+    (glue (a ++ h ++ b ++ r) c
+    (glue (a ++ h ++ b) r
+    (glue (a ++ h) b
+    (glue a h is_a is_h) is_b) is_r) is_c) is_p) is_d) is_q) is_e) is_y) is_f) is_s
+
 counts_feedless : (m : Meters) → FitsMeters m → feedless (61 ∷ counts_of m) ≡ true
 counts_feedless m h =
-    let f = feedless-append in
-    f (codes "= held " ++ decimal m.held ++ codes " rows " ++ decimal m.rows ++ codes " pending " ++ decimal m.pending ++ codes " requests " ++ decimal m.requests ++ codes " bytes " ++ decimal m.bytes ++ codes " steps ") (decimal m.steps)
-    (f (codes "= held " ++ decimal m.held ++ codes " rows " ++ decimal m.rows ++ codes " pending " ++ decimal m.pending ++ codes " requests " ++ decimal m.requests ++ codes " bytes " ++ decimal m.bytes) (codes " steps ")
-    (f (codes "= held " ++ decimal m.held ++ codes " rows " ++ decimal m.rows ++ codes " pending " ++ decimal m.pending ++ codes " requests " ++ decimal m.requests ++ codes " bytes ") (decimal m.bytes)
-    (f (codes "= held " ++ decimal m.held ++ codes " rows " ++ decimal m.rows ++ codes " pending " ++ decimal m.pending ++ codes " requests " ++ decimal m.requests) (codes " bytes ")
-    (f (codes "= held " ++ decimal m.held ++ codes " rows " ++ decimal m.rows ++ codes " pending " ++ decimal m.pending ++ codes " requests ") (decimal m.requests)
-    (f (codes "= held " ++ decimal m.held ++ codes " rows " ++ decimal m.rows ++ codes " pending " ++ decimal m.pending) (codes " requests ")
-    (f (codes "= held " ++ decimal m.held ++ codes " rows " ++ decimal m.rows ++ codes " pending ") (decimal m.pending)
-    (f (codes "= held " ++ decimal m.held ++ codes " rows " ++ decimal m.rows) (codes " pending ")
-    (f (codes "= held " ++ decimal m.held ++ codes " rows ") (decimal m.rows)
-    (f (codes "= held " ++ decimal m.held) (codes " rows ") (f (codes "= held ") (decimal m.held) refl (decimal_feedless m.held h.held)) refl)
-    (decimal_feedless m.rows h.rows))
-    refl)
-    (decimal_feedless m.pending h.pending))
-    refl)
-    (decimal_feedless m.requests h.requests))
-    refl)
-    (decimal_feedless m.bytes h.bytes))
-    refl)
-    (decimal_feedless m.steps h.steps)
+    words_feedless (codes "= held ") (decimal m.held) (codes " rows ") (decimal m.rows) (codes " pending ") (decimal m.pending)
+    (codes " requests ") (decimal m.requests) (codes " bytes ") (decimal m.bytes) (codes " steps ") (decimal m.steps)
+    refl (decimal_feedless m.held h.held) refl (decimal_feedless m.rows h.rows) refl (decimal_feedless m.pending h.pending)
+    refl (decimal_feedless m.requests h.requests) refl (decimal_feedless m.bytes h.bytes) refl (decimal_feedless m.steps h.steps)
 
 counts_short : (m : Meters) → FitsMeters m → length (61 ∷ counts_of m) < 256
 counts_short m h =

@@ -5,6 +5,7 @@ pub mod Gathering
 pub mod Cutting
 pub mod Through
 pub mod Exits
+pub mod Failures
 pub mod Lasts
 pub mod Worlds
 pub mod Histories

@@ -1,14 +1,15 @@
-use Rattle.std.proofs.Common.{rules, ◌≡◌, ◌<◌, ◌-◌, ◌^◌, ℕ, List, [], ◌++◌, length, Err, refl, sym, ap, ◌∙◌, subst, arith}
+use Rattle.std.proofs.Common.{rules, ◌≡◌, ◌<◌, ◌+◌, ◌-◌, ◌^◌, ℕ, List, [], ◌∷◌, ◌++◌, length, length-append, Err, refl, sym, ap, ◌∙◌, subst, arith}
 use Rattle.std.specs.Io.KnownBytes.{Consumes}
 use Rattle.std.proofs.KnownBytes.{Consumes-nil, Appends-nil}
 use Rattle.std.proofs.lemmas.Result.{err_from_is_err_and}
-use Rattle.session_log.specs.Ending.{Ending}
+use Rattle.session_log.specs.Ending.{Ending, ended_by, ending_of, read_fails, write_fails}
 use Rattle.session_log.specs.Replay.{Plays, ReadsTo}
-use Rattle.session_log.specs.Streams.{IsAllRead, Moves}
+use Rattle.session_log.specs.Streams.{Counts, IsAllRead, Moves}
 use Rattle.session_log.specs.Window.{IsUnfinished}
 use Rattle.session_log.specs.declared.fault.LogFault.{LogFault}
 use Rattle.session_log.proofs.Through.{through_none, played_none}
 use Rattle.session_log.proofs.Exits.{as_err, read_on, goes_on, stops_reading, short_in_front, stops_in_front, ends, is_nil, some_left}
+use Rattle.session_log.proofs.Failures.{on_any, on_err, on_ok, counts_none, counts_on, plays_counts, plays_unread, stops_unwritten}
 use Rattle.session_log.proofs.Lasts.{faulty_in_front, faulty_last, none_bad}
 use Rattle.session_log.specs.Text.{ended}
 use Rattle.session_log.proofs.Cutting.{cut_twice, last_line_of, text_of_line}
@@ -78,105 +79,176 @@ lines-preserved g c =
           before.3 before.4 has is_line c.drop_front.ensures played;
     }
 
-pub returns-in_err-end-clause-played : goal.returns-in_err-end-clause-played
-returns-in_err-end-clause-played g c =
-    let state = g.P.Player.state in
+pub returns-in_err-end : goal.returns-in_err-end
+returns-in_err-end g c =
+    let world = g.P.Player.world in
     let left = g.S.Source.left in
     let taken = g.T.Target.taken in
+    let s0 = g.P.Player.state c.args.player.now c.args.session.now in
+    let s = g.P.Player.state c.lines.player c.lines.session in
     let before = c.lines.invariant.done in
     let e = c.in_err-end.field-0.0 in
+    let r = c.from_residual.result in
     let w = c.next_line.new.window in
-    let from = err_from_is_err_and c.from_residual.result c.from_residual.ensures.1 in
-    as_err c.from_residual.result e (λ (q : Ending). Moves (left c.args.reader.now) (left c.next_line.new.reader) (taken c.args.writer.now) (taken c.lines.writer) (λ bytes text. Plays g.P.Player.world (state c.args.player.now c.args.session.now) (state c.lines.player c.lines.session) bytes text q))
-    (from.1 ∙ ap (λ (f : LogFault). Err f) from.2)
-    (stops_reading g.P.Player.world (left c.args.reader.now) (left c.next_line.new.reader) (taken c.args.writer.now) (taken c.lines.writer) (state c.args.player.now c.args.session.now) (state c.lines.player c.lines.session) before.0 before.1 w c.lines.number e
-    (read_on (left c.args.reader.now) (left c.lines.reader) (left c.next_line.new.reader) before.0 c.lines.window w before.2 c.in_err-end.ensures.bytes) before.3 before.4 c.in_err-end.ensures.stopped)
+    let all = IsAllRead left g.S.Source.ended c.next_line.new.reader in
+    let stopped = c.in_err-end.ensures.stopped in
+    let from = err_from_is_err_and r c.from_residual.ensures.1 in
+    let is : r ≡ Err e = from.1 ∙ ap (λ (f : LogFault). Err f) from.2 in
+    let read = read_on (left c.args.reader.now) (left c.lines.reader) (left c.next_line.new.reader) before.0 c.lines.window w before.2 c.in_err-end.ensures.bytes in
+    record {
+      played = as_err r e (λ (q : Ending). Moves (left c.args.reader.now) (left c.next_line.new.reader) (taken c.args.writer.now) (taken c.lines.writer) (λ bytes text. Plays world s0 s bytes text q)) is
+          (stops_reading world (left c.args.reader.now) (left c.next_line.new.reader) (taken c.args.writer.now) (taken c.lines.writer) s0 s before.0 before.1 w c.lines.number e read before.3 before.4 stopped);
+      end = on_err all r e is;
+      ready = on_err _ r e is;
+      reach = as_err r e (λ (q : Ending). ReadsTo world s0 (left c.args.reader.now) (left c.next_line.new.reader) all q) is
+          (none_bad world (left c.args.reader.now) (left c.next_line.new.reader) s0 s before.0 before.1 w c.lines.number all e c.lines.invariant.counted read before.4 stopped);
+      reads = as_err r e (λ (q : Ending). Counts g.S.Source.failed (c.args.reader.now, c.next_line.new.reader) (read_fails q)) is
+          (counts_on (g.S.Source.failed c.lines.reader) (g.S.Source.failed c.args.reader.now) (g.S.Source.failed c.next_line.new.reader) (read_fails (ended_by e)) c.lines.invariant.reads c.in_err-end.ensures.reads);
+      writes = as_err r e (λ (q : Ending). Counts g.T.Target.failed (c.args.writer.now, c.lines.writer) (write_fails q)) is
+          (counts_none _ _ _ (stops_unwritten c.lines.number w e stopped) c.lines.invariant.writes);
+    }
 
-pub returns-in_err-play-clause-played : goal.returns-in_err-play-clause-played
-returns-in_err-play-clause-played g c =
-    let state = g.P.Player.state in
+pub returns-in_err-play : goal.returns-in_err-play
+returns-in_err-play g c =
+    let world = g.P.Player.world in
     let left = g.S.Source.left in
     let taken = g.T.Target.taken in
+    let failed = g.T.Target.failed in
+    let s0 = g.P.Player.state c.args.player.now c.args.session.now in
+    let s = g.P.Player.state c.lines.player c.lines.session in
+    let t = g.P.Player.state c.play.new.self c.play.new.session in
     let before = c.lines.invariant.done in
     let e = c.in_err-play.field-0.0 in
+    let r = c.from_residual-in_err-play.result in
     let w = c.next_line.new.window in
+    let all = IsAllRead left g.S.Source.ended c.next_line.new.reader in
     let has = rw c.in-Some.is at c.in_ok-end.ensures.found in
     let line = c.split_at-in-Some.result.0.now in
     let is_line = (cut_twice w c.as_slice.result.now c.split_at.result.0.now line c.in-Some.end c.as_slice.ensures.value c.split_at.ensures.front c.split_at-in-Some.ensures.front).1 in
-    let from = err_from_is_err_and c.from_residual-in_err-play.result c.from_residual-in_err-play.ensures.1 in
-    as_err c.from_residual-in_err-play.result e (λ (q : Ending). Moves (left c.args.reader.now) (left c.next_line.new.reader) (taken c.args.writer.now) (taken c.play.new.writer) (λ bytes text. Plays g.P.Player.world (state c.args.player.now c.args.session.now) (state c.play.new.self c.play.new.session) bytes text q))
-    (from.1 ∙ ap (λ (f : LogFault). Err f) from.2)
-    (stops_in_front g.P.Player.world taken g.T.Target.failed (left c.args.reader.now) (left c.next_line.new.reader) (taken c.args.writer.now) (c.lines.writer, c.play.new.writer)
-    (state c.args.player.now c.args.session.now) (state c.lines.player c.lines.session) (state c.play.new.self c.play.new.session) before.0 before.1 w line c.lines.number c.in-Some.end e
-    (read_on (left c.args.reader.now) (left c.lines.reader) (left c.next_line.new.reader) before.0 c.lines.window w before.2 c.in_ok-end.ensures.bytes)
-    before.3 before.4 has is_line c.in_err-play.ensures.played)
+    let played = c.in_err-play.ensures.played in
+    let from = err_from_is_err_and r c.from_residual-in_err-play.ensures.1 in
+    let is : r ≡ Err e = from.1 ∙ ap (λ (f : LogFault). Err f) from.2 in
+    let read = read_on (left c.args.reader.now) (left c.lines.reader) (left c.next_line.new.reader) before.0 c.lines.window w before.2 c.in_ok-end.ensures.bytes in
+    record {
+      played = as_err r e (λ (q : Ending). Moves (left c.args.reader.now) (left c.next_line.new.reader) (taken c.args.writer.now) (taken c.play.new.writer) (λ bytes text. Plays world s0 t bytes text q)) is
+          (stops_in_front world taken failed (left c.args.reader.now) (left c.next_line.new.reader) (taken c.args.writer.now) (c.lines.writer, c.play.new.writer)
+          s0 s t before.0 before.1 w line c.lines.number c.in-Some.end e read before.3 before.4 has is_line played);
+      end = on_err all r e is;
+      ready = on_err _ r e is;
+      reach = as_err r e (λ (q : Ending). ReadsTo world s0 (left c.args.reader.now) (left c.next_line.new.reader) all q) is
+          (faulty_in_front world (left c.args.reader.now) (left c.next_line.new.reader) s0 s before.0 before.1 w c.lines.number c.in-Some.end all e c.in_err-play.ensures.own read before.4 has);
+      reads = as_err r e (λ (q : Ending). Counts g.S.Source.failed (c.args.reader.now, c.next_line.new.reader) (read_fails q)) is
+          (counts_none _ _ _ (plays_unread world taken failed c.lines.number s t line (c.lines.writer, c.play.new.writer) (ended_by e) played)
+          (◌∙◌ {b = g.S.Source.failed c.lines.reader} c.in_ok-end.ensures.reads c.lines.invariant.reads));
+      writes = as_err r e (λ (q : Ending). Counts failed (c.args.writer.now, c.play.new.writer) (write_fails q)) is
+          (counts_on (failed c.lines.writer) (failed c.args.writer.now) _ _ c.lines.invariant.writes
+          (plays_counts world taken failed c.lines.number s t line (c.lines.writer, c.play.new.writer) (ended_by e) played));
+    }
 
-pub returns-then-is_empty-clause-played : goal.returns-then-is_empty-clause-played
-returns-then-is_empty-clause-played g c =
+pub returns-then-is_empty : goal.returns-then-is_empty
+returns-then-is_empty g c =
     let state = g.P.Player.state in
     let left = g.S.Source.left in
     let before = c.lines.invariant.done in
     let w = c.next_line.new.window in
-    let none : w ≡ [] = c.if-is_empty.ensures.0 refl in (
-      before.0 ++ [],
-      before.1,
-      subst (λ (l : List ℕ). Consumes (left c.args.reader.now) (left c.next_line.new.reader) (before.0 ++ l)) none
-          (read_on (left c.args.reader.now) (left c.lines.reader) (left c.next_line.new.reader) before.0 c.lines.window w before.2 c.in_ok-end.ensures.bytes),
-      before.3,
-      played_none g.P.Player.world (state c.args.player.now c.args.session.now) before.0 before.1 (state c.lines.player c.lines.session) c.lines.number before.4,
-    )
+    let none : w ≡ [] = c.if-is_empty.ensures.0 refl in
+    let at = rw c.in_default.is at c.in_ok-end.ensures.found in
+    record {
+      played = (
+        before.0 ++ [],
+        before.1,
+        subst (λ (l : List ℕ). Consumes (left c.args.reader.now) (left c.next_line.new.reader) (before.0 ++ l)) none
+            (read_on (left c.args.reader.now) (left c.lines.reader) (left c.next_line.new.reader) before.0 c.lines.window w before.2 c.in_ok-end.ensures.bytes),
+        before.3,
+        played_none g.P.Player.world (state c.args.player.now c.args.session.now) before.0 before.1 (state c.lines.player c.lines.session) c.lines.number before.4,
+      );
+      end = at.1;
+      ready = (c.lines.number, c.lines.invariant.counted, c.lines.invariant.ready);
+      reach = tt;
+      reads = ◌∙◌ {b = g.S.Source.failed c.lines.reader} c.in_ok-end.ensures.reads c.lines.invariant.reads;
+      writes = c.lines.invariant.writes;
+    }
 
-pub returns-clause-played : goal.returns-clause-played
-returns-clause-played g c =
-    let state = g.P.Player.state in
+pub returns : goal.returns
+returns g c =
+    let world = g.P.Player.world in
     let left = g.S.Source.left in
     let taken = g.T.Target.taken in
+    let failed = g.T.Target.failed in
+    let s0 = g.P.Player.state c.args.player.now c.args.session.now in
+    let s = g.P.Player.state c.lines.player c.lines.session in
+    let t = g.P.Player.state c.play-2.new.self c.play-2.new.session in
     let before = c.lines.invariant.done in
+    let r = c.play-2.result in
+    let window = c.next_line.new.window in
     let w = c.split_at-2.result.0.now in
-    let is = (last_line_of c.next_line.new.window c.end_line.new.self c.as_slice-text.result.now w c.len-end.result c.len-end.ensures.value c.end_line.ensures c.as_slice-text.ensures.value c.split_at-2.ensures.front).1 in
-    let unfinished = rw c.in_default.is at c.in_ok-end.ensures.found in
-    let some : 0 < length w = some_left (length w) (λ e. cc (c.if-is_empty.ensures.1 (sym is ∙ is_nil w e))) in
-    ends g.P.Player.world taken g.T.Target.failed c.play-2.result (left c.args.reader.now) (left c.next_line.new.reader) (taken c.args.writer.now) (c.lines.writer, c.play-2.new.writer)
-    (state c.args.player.now c.args.session.now) (state c.lines.player c.lines.session) (state c.play-2.new.self c.play-2.new.session) before.0 before.1 w c.lines.number
-    (subst (λ (l : List ℕ). Consumes (left c.args.reader.now) (left c.next_line.new.reader) (before.0 ++ l)) (sym is)
-    (read_on (left c.args.reader.now) (left c.lines.reader) (left c.next_line.new.reader) before.0 c.lines.window c.next_line.new.window before.2 c.in_ok-end.ensures.bytes))
-    before.3 before.4 (subst (IsUnfinished c.lines.number) (sym is) unfinished.0) some c.play-2.ensures.played
-
-pub returns-in_err-end-clause-reach : goal.returns-in_err-end-clause-reach
-returns-in_err-end-clause-reach g c =
-    let state = g.P.Player.state in
-    let left = g.S.Source.left in
-    let before = c.lines.invariant.done in
-    let e = c.in_err-end.field-0.0 in
-    let all = IsAllRead left g.S.Source.ended c.next_line.new.reader in
-    let from = err_from_is_err_and c.from_residual.result c.from_residual.ensures.1 in
-    as_err c.from_residual.result e (λ (q : Ending). ReadsTo g.P.Player.world (state c.args.player.now c.args.session.now) (left c.args.reader.now) (left c.next_line.new.reader) all q) (from.1 ∙ ap (λ (f : LogFault). Err f) from.2)
-    (none_bad g.P.Player.world (left c.args.reader.now) (left c.next_line.new.reader) (state c.args.player.now c.args.session.now) (state c.lines.player c.lines.session) before.0 before.1 c.next_line.new.window c.lines.number all e c.lines.invariant.counted
-    (read_on (left c.args.reader.now) (left c.lines.reader) (left c.next_line.new.reader) before.0 c.lines.window c.next_line.new.window before.2 c.in_err-end.ensures.bytes) before.4 c.in_err-end.ensures.stopped)
-
-pub returns-in_err-play-clause-reach : goal.returns-in_err-play-clause-reach
-returns-in_err-play-clause-reach g c =
-    let state = g.P.Player.state in
-    let left = g.S.Source.left in
-    let before = c.lines.invariant.done in
-    let e = c.in_err-play.field-0.0 in
-    let w = c.next_line.new.window in
-    let line = c.split_at-in-Some.result.0.now in
-    let all = IsAllRead left g.S.Source.ended c.next_line.new.reader in
-    let has = rw c.in-Some.is at c.in_ok-end.ensures.found in
-    let from = err_from_is_err_and c.from_residual-in_err-play.result c.from_residual-in_err-play.ensures.1 in
-    as_err c.from_residual-in_err-play.result e (λ (q : Ending). ReadsTo g.P.Player.world (state c.args.player.now c.args.session.now) (left c.args.reader.now) (left c.next_line.new.reader) all q) (from.1 ∙ ap (λ (f : LogFault). Err f) from.2)
-    (faulty_in_front g.P.Player.world (left c.args.reader.now) (left c.next_line.new.reader) (state c.args.player.now c.args.session.now) (state c.lines.player c.lines.session) before.0 before.1 w c.lines.number c.in-Some.end all e c.in_err-play.ensures.own
-    (read_on (left c.args.reader.now) (left c.lines.reader) (left c.next_line.new.reader) before.0 c.lines.window w before.2 c.in_ok-end.ensures.bytes) before.4 has)
-
-pub returns-clause-reach : goal.returns-clause-reach
-returns-clause-reach g c =
-    let state = g.P.Player.state in
-    let left = g.S.Source.left in
-    let before = c.lines.invariant.done in
-    let w = c.next_line.new.window in
-    let all = IsAllRead left g.S.Source.ended c.next_line.new.reader in
+    let is = (last_line_of window c.end_line.new.self c.as_slice-text.result.now w c.len-end.result c.len-end.ensures.value c.end_line.ensures c.as_slice-text.ensures.value c.split_at-2.ensures.front).1 in
     let at = rw c.in_default.is at c.in_ok-end.ensures.found in
-    let small : length w < 256 = at.0.short in
-    faulty_last g.P.Player.world c.play-2.result (left c.args.reader.now) (left c.next_line.new.reader) (state c.args.player.now c.args.session.now) (state c.lines.player c.lines.session) before.0 before.1 w c.lines.number all c.play-2.ensures.own
-    (read_on (left c.args.reader.now) (left c.lines.reader) (left c.next_line.new.reader) before.0 c.lines.window w before.2 c.in_ok-end.ensures.bytes) before.4 (omega (arith, small)) at.1
+    let some : 0 < length w = some_left (length w) (λ e. cc (c.if-is_empty.ensures.1 (sym is ∙ is_nil w e))) in
+    let small : length window < 256 = at.0.short in
+    let all = IsAllRead left g.S.Source.ended c.next_line.new.reader in
+    let read = read_on (left c.args.reader.now) (left c.lines.reader) (left c.next_line.new.reader) before.0 c.lines.window window before.2 c.in_ok-end.ensures.bytes in
+    let last = subst (IsUnfinished c.lines.number) (sym is) at.0 in
+    let few : c.lines.number < 2 ^ 32 = in_count c.lines.number w last.counted some in
+    let played = c.play-2.ensures.played in
+    record {
+      played = ends world taken failed r (left c.args.reader.now) (left c.next_line.new.reader) (taken c.args.writer.now) (c.lines.writer, c.play-2.new.writer)
+          s0 s t before.0 before.1 w c.lines.number
+          (subst (λ (l : List ℕ). Consumes (left c.args.reader.now) (left c.next_line.new.reader) (before.0 ++ l)) (sym is) read)
+          before.3 before.4 last some played;
+      end = on_any r at.1;
+      ready = on_ok r (λ h. (c.lines.number + 1, omega (arith, few), h)) c.play-2.ensures.next;
+      reach = faulty_last world r (left c.args.reader.now) (left c.next_line.new.reader) s0 s before.0 before.1 window c.lines.number all c.play-2.ensures.own
+          read before.4 (omega (arith, small)) at.1;
+      reads = counts_none _ _ _ (plays_unread world taken failed c.lines.number s t w (c.lines.writer, c.play-2.new.writer) (ending_of r) played)
+          (◌∙◌ {b = g.S.Source.failed c.lines.reader} c.in_ok-end.ensures.reads c.lines.invariant.reads);
+      writes = counts_on (failed c.lines.writer) (failed c.args.writer.now) _ _ c.lines.invariant.writes
+          (plays_counts world taken failed c.lines.number s t w (c.lines.writer, c.play-2.new.writer) (ending_of r) played);
+    }
+
+pub next_line-requires : goal.next_line-requires
+next_line-requires g c = subst (λ (k : ℕ). k < 2 ^ 64 - 1) (sym c.lines.invariant.reads) c.requires.read
+
+pub overflow_add-end : goal.overflow_add-end
+overflow_add-end g c =
+    let has = rw c.in-Some.is at c.in_ok-end.ensures.found in
+    omega (arith, has.within, has.short)
+
+pub split_at-requires : goal.split_at-requires
+split_at-requires g c =
+    let has = rw c.in-Some.is at c.in_ok-end.ensures.found in
+    omega (arith, ap length c.as_slice.ensures.value, has.within)
+
+pub split_at-requires-in-Some : goal.split_at-requires-in-Some
+split_at-requires-in-Some g c = omega (arith, c.split_at.ensures.front_len)
+
+pub overflow_add-end-in-Some : goal.overflow_add-end-in-Some
+overflow_add-end-in-Some g c =
+    let has = rw c.in-Some.is at c.in_ok-end.ensures.found in
+    omega (arith, has.within, has.short)
+
+pub drop_front-requires : goal.drop_front-requires
+drop_front-requires g c =
+    let has = rw c.in-Some.is at c.in_ok-end.ensures.found in
+    omega (arith, has.within)
+
+pub overflow_add-number : goal.overflow_add-number
+overflow_add-number g c =
+    let has = rw c.in-Some.is at c.in_ok-end.ensures.found in
+    omega (arith, has.counted)
+
+pub lines-smaller : goal.lines-smaller
+lines-smaller g c =
+    let has = rw c.in-Some.is at c.in_ok-end.ensures.found in
+    omega (arith, has.counted)
+
+pub end_line-requires : goal.end_line-requires
+end_line-requires g c =
+    let unfinished = rw c.in_default.is at c.in_ok-end.ensures.found in
+    unfinished.0.short
+
+pub split_at-requires-2 : goal.split_at-requires-2
+split_at-requires-2 g c =
+    let w = c.next_line.new.window in
+    let whole : length c.as_slice-text.result.now ≡ length (ended w) = ap length (c.as_slice-text.ensures.value ∙ c.end_line.ensures) in
+    omega (arith, length-append w (10 ∷ []), whole, c.len-end.ensures.value)

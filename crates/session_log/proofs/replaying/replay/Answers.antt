@@ -1,15 +1,17 @@
-use Rattle.std.proofs.Common.{Ok, Err, refl, sym, ap, ◌∙◌, subst}
+use Rattle.std.proofs.Common.{◌≡◌, true, Ok, Err, refl, sym, ap, ◌∙◌, subst}
 use Rattle.std.specs.Io.KnownBytes.{Appends}
 use Rattle.std.proofs.lemmas.Result.{err_from_is_err_and}
 use Rattle.token_session.specs.declared.input.Meters.{Meters}
-use Rattle.session_log.specs.Ending.{ended_by}
-use Rattle.session_log.specs.Replay.{IsDone, IsPlayed, Means}
+use Rattle.session_log.specs.Ending.{Ending, ended_by, read_fails, write_fails}
+use Rattle.session_log.specs.Replay.{IsDone, IsPlayed, Means, ReadsTo}
 use Rattle.session_log.specs.Sent.{FitsMeters}
 use Rattle.session_log.specs.Session.{machine}
-use Rattle.session_log.specs.Streams.{IsBroken, IsTaken, Moves}
+use Rattle.session_log.specs.Streams.{Counts, IsAllRead, IsBroken, IsTaken, Moves}
 use Rattle.session_log.specs.Text.{meters_line}
 use Rattle.session_log.specs.declared.fault.LogFault.{LogFault}
-use Rattle.session_log.proofs.Exits.{closes, closes_not, fails_with}
+use Rattle.session_log.specs.declared.fault.LogFault.TheVariants.{Write}
+use Rattle.session_log.proofs.Exits.{as_err, closes, closes_not, fails_with}
+use Rattle.session_log.proofs.Failures.{counts_on, on_err}
 use Rattle.session_log.proofs.Histories.{replays_history}
 use Rattle.session_log.proofs.Repeating.{repeats}
 use Rattle.session_log.proofs.replaying.replay.Goals as goal
@@ -80,3 +82,103 @@ returns-clause-history g c =
     let left = g.S.Source.left in
     let taken = g.T.Target.taken in
     replays_history (left c.args.reader.now) (left c.play_all.new.reader) (taken c.args.writer.now) (taken c.put_meters.new.writer) c.args.session.now c.play_all.new.session (Ok c.meters-meters.result) (returns-clause-replayed g c)
+
+pub returns-in_err-play_all-clause-end : goal.returns-in_err-play_all-clause-end
+returns-in_err-play_all-clause-end g c =
+    let r = c.from_residual.result in
+    let e = c.in_err-play_all.field-0.0 in
+    let from = err_from_is_err_and r c.from_residual.ensures.1 in
+    let is : r ≡ Err e = from.1 ∙ ap (λ (f : LogFault). Err f) from.2 in
+    on_err _ r e is
+
+pub returns-in_err-put_meters-clause-end : goal.returns-in_err-put_meters-clause-end
+returns-in_err-put_meters-clause-end g c =
+    let r = c.from_residual-in_err-put_meters.result in
+    let from = err_from_is_err_and r c.from_residual-in_err-put_meters.ensures.1 in
+    let put = c.in_err-put_meters.ensures.puts in
+    let is : r ≡ Err Write = from.1 ∙ ap (λ (f : LogFault). Err f) (from.2 ∙ put.0) in
+    on_err _ r Write is
+
+pub returns-in_err-play_all-clause-again : goal.returns-in_err-play_all-clause-again
+returns-in_err-play_all-clause-again g c =
+    let r = c.from_residual.result in
+    let e = c.in_err-play_all.field-0.0 in
+    let from = err_from_is_err_and r c.from_residual.ensures.1 in
+    let is : r ≡ Err e = from.1 ∙ ap (λ (f : LogFault). Err f) from.2 in
+    on_err _ r e is
+
+pub returns-in_err-put_meters-clause-again : goal.returns-in_err-put_meters-clause-again
+returns-in_err-put_meters-clause-again g c =
+    let r = c.from_residual-in_err-put_meters.result in
+    let from = err_from_is_err_and r c.from_residual-in_err-put_meters.ensures.1 in
+    let put = c.in_err-put_meters.ensures.puts in
+    let is : r ≡ Err Write = from.1 ∙ ap (λ (f : LogFault). Err f) (from.2 ∙ put.0) in
+    on_err _ r Write is
+
+pub returns-in_err-play_all-clause-reach : goal.returns-in_err-play_all-clause-reach
+returns-in_err-play_all-clause-reach g c =
+    let left = g.S.Source.left in
+    let r = c.from_residual.result in
+    let e = c.in_err-play_all.field-0.0 in
+    let from = err_from_is_err_and r c.from_residual.ensures.1 in
+    let is : r ≡ Err e = from.1 ∙ ap (λ (f : LogFault). Err f) from.2 in
+    as_err r e (λ (q : Ending). ReadsTo machine c.args.session.now (left c.args.reader.now) (left c.play_all.new.reader) (IsAllRead left g.S.Source.ended c.play_all.new.reader) q) is c.in_err-play_all.ensures.reach
+
+pub returns-in_err-put_meters-clause-reach : goal.returns-in_err-put_meters-clause-reach
+returns-in_err-put_meters-clause-reach g c =
+    let left = g.S.Source.left in
+    let r = c.from_residual-in_err-put_meters.result in
+    let from = err_from_is_err_and r c.from_residual-in_err-put_meters.ensures.1 in
+    let put = c.in_err-put_meters.ensures.puts in
+    let is : r ≡ Err Write = from.1 ∙ ap (λ (f : LogFault). Err f) (from.2 ∙ put.0) in
+    as_err r Write (λ (q : Ending). ReadsTo machine c.args.session.now (left c.args.reader.now) (left c.play_all.new.reader) (IsAllRead left g.S.Source.ended c.play_all.new.reader) q) is tt
+
+pub returns-in_err-play_all-clause-reads : goal.returns-in_err-play_all-clause-reads
+returns-in_err-play_all-clause-reads g c =
+    let r = c.from_residual.result in
+    let e = c.in_err-play_all.field-0.0 in
+    let from = err_from_is_err_and r c.from_residual.ensures.1 in
+    let is : r ≡ Err e = from.1 ∙ ap (λ (f : LogFault). Err f) from.2 in
+    as_err r e (λ (q : Ending). Counts g.S.Source.failed (c.args.reader.now, c.play_all.new.reader) (read_fails q)) is c.in_err-play_all.ensures.reads
+
+pub returns-in_err-put_meters-clause-reads : goal.returns-in_err-put_meters-clause-reads
+returns-in_err-put_meters-clause-reads g c =
+    let r = c.from_residual-in_err-put_meters.result in
+    let from = err_from_is_err_and r c.from_residual-in_err-put_meters.ensures.1 in
+    let put = c.in_err-put_meters.ensures.puts in
+    let is : r ≡ Err Write = from.1 ∙ ap (λ (f : LogFault). Err f) (from.2 ∙ put.0) in
+    as_err r Write (λ (q : Ending). Counts g.S.Source.failed (c.args.reader.now, c.play_all.new.reader) (read_fails q)) is c.in_ok-play_all.ensures.reads
+
+pub returns-in_err-play_all-clause-writes : goal.returns-in_err-play_all-clause-writes
+returns-in_err-play_all-clause-writes g c =
+    let r = c.from_residual.result in
+    let e = c.in_err-play_all.field-0.0 in
+    let from = err_from_is_err_and r c.from_residual.ensures.1 in
+    let is : r ≡ Err e = from.1 ∙ ap (λ (f : LogFault). Err f) from.2 in
+    as_err r e (λ (q : Ending). Counts g.T.Target.failed (c.args.writer.now, c.play_all.new.writer) (write_fails q)) is c.in_err-play_all.ensures.writes
+
+pub returns-in_err-put_meters-clause-writes : goal.returns-in_err-put_meters-clause-writes
+returns-in_err-put_meters-clause-writes g c =
+    let r = c.from_residual-in_err-put_meters.result in
+    let from = err_from_is_err_and r c.from_residual-in_err-put_meters.ensures.1 in
+    let put = c.in_err-put_meters.ensures.puts in
+    let is : r ≡ Err Write = from.1 ∙ ap (λ (f : LogFault). Err f) (from.2 ∙ put.0) in
+    let failed = g.T.Target.failed in
+    as_err r Write (λ (q : Ending). Counts failed (c.args.writer.now, c.put_meters.new.writer) (write_fails q)) is
+    (counts_on (failed c.play_all.new.writer) (failed c.args.writer.now) (failed c.put_meters.new.writer) true c.in_ok-play_all.ensures.writes put.1.1)
+
+pub returns-clause-end : goal.returns-clause-end
+returns-clause-end g c =
+    c.in_ok-play_all.ensures.end
+
+pub returns-clause-reach : goal.returns-clause-reach
+returns-clause-reach g c =
+    tt
+
+pub returns-clause-reads : goal.returns-clause-reads
+returns-clause-reads g c =
+    c.in_ok-play_all.ensures.reads
+
+pub returns-clause-writes : goal.returns-clause-writes
+returns-clause-writes g c =
+    c.in_ok-put_meters.ensures.puts.1 ∙ c.in_ok-play_all.ensures.writes
