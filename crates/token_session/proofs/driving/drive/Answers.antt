@@ -1,4 +1,4 @@
-use Rattle.std.proofs.Common.{◌≡◌, ◌++◌, length, take, map, ◌∙◌, ap, refl, sym, append-nil, arith, below_more}
+use Rattle.std.proofs.Common.{rules, ◌≡◌, ◌++◌, length, take, map, ◌∙◌, ap, refl, sym, append-nil, arith, below_more}
 use Rattle.std.proofs.lemmas.List.{length-map}
 use Rattle.arrayvec.specs.ArrayVec.{array_vec_len}
 use Rattle.token_session.specs.Drive.{as_pair}
@@ -47,3 +47,6 @@ loop-i-init g c = record {
 
 pub bounds-inputs-i : goal.bounds-inputs-i
 bounds-inputs-i g c = c.loop-i-test.true
+
+pub step-requires : goal.step-requires
+step-requires g c = (search rules, c.loop-i.invariant.empty)

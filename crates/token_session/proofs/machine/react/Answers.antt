@@ -24,6 +24,15 @@ ignored_still V bytes (inr e) = record { sends = rw e refl; does = rw e refl }
 other_still : (V : Verdict) (bytes : List ℕ) (a b k l : ℕ) → V ≡ Finished a b → V ≡ Finished k l → (b ≡ PING → ⊥) → (l ≡ CBOR → ⊥) → Still V bytes
 other_still V bytes a b k l e e' p q = record { sends = rw (e, ne_eqb b PING p) refl; does = rw (e', ne_eqb l CBOR q) refl }
 
+pub put_error-requires : goal.put_error-requires
+put_error-requires g c = c.requires.room
+
+pub put_greeting-requires : goal.put_greeting-requires
+put_greeting-requires g c = c.requires.room
+
+pub put_message-requires-clause-short : goal.put_message-requires-clause-short
+put_message-requires-clause-short g c = c.requires.short
+
 pub put_message-requires-clause-room : goal.put_message-requires-clause-room
 put_message-requires-clause-room g c = let few = few_written c.in-Finished.cid 1 c.args.message.now in omega arith
 

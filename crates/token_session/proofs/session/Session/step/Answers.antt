@@ -1,4 +1,4 @@
-use Rattle.std.proofs.Common.{rules, ℕ, ◌≤◌, List, length, subst, sym, ap, ◌∙◌}
+use Rattle.std.proofs.Common.{rules, ℕ, ◌≤◌, List, length, subst, sym, ap, ◌∙◌, arith}
 use Rattle.token_session.proofs.Few.{turn_few}
 use Rattle.token_session.proofs.Runs.{step_sends}
 use Rattle.token_session.proofs.Metering.{stepped_is, stands_longer, machine_after, counted_bounded}
@@ -9,6 +9,12 @@ use Rattle.token_session.proofs.session.Session.step.Goals as goal
 
 pub step-reading-requires : goal.step-reading-requires
 step-reading-requires g c = (search rules, c.requires)
+
+pub overflow_cast-rows : goal.overflow_cast-rows
+overflow_cast-rows g c = let few = c.credentials-rows.ensures.few in omega (arith, few.0, few.1)
+
+pub overflow_cast-pending : goal.overflow_cast-pending
+overflow_cast-pending g c = let few = c.pending-pending.ensures.few in let room = c.credentials-rows.ensures.few.1 in omega (arith, few, room)
 
 pub invariant_of-self : goal.invariant_of-self
 invariant_of-self g c =
