@@ -5,59 +5,47 @@
 
 mod changed_bytes;
 
+use crate::messages::joined;
 use arrayvec::ArrayVec;
 use cred_table::*;
 use std::alloc::Global;
 use std::process::Abort;
 use std::test::Fail;
 
-/// The SHA-256 hash of `example.com`.
-const RP: [u8; 32] = [
-    0xA3, 0x79, 0xA6, 0xF6, 0xEE, 0xAF, 0xB9, 0xA5, 0x5E, 0x37, 0x8C, 0x11, 0x80, 0x34, 0xE2, 0x75,
-    0x1E, 0x68, 0x2F, 0xAB, 0x9F, 0x2D, 0x30, 0xAB, 0x13, 0xD2, 0x12, 0x55, 0x86, 0xCE, 0x19, 0x47,
-];
+/// The RP and the id of a row of `example.com`, less the last byte of the id.
+const RP_AND_ID: &[u8] = b"\x01\x58\x20\
+    \xa3\x79\xa6\xf6\xee\xaf\xb9\xa5\x5e\x37\x8c\x11\x80\x34\xe2\x75\
+    \x1e\x68\x2f\xab\x9f\x2d\x30\xab\x13\xd2\x12\x55\x86\xce\x19\x47\
+    \x02\x58\x20\
+    \xaa\xaa\xaa\xaa\xaa\xaa\xaa\xaa\xaa\xaa\xaa\xaa\xaa\xaa\xaa\xaa\
+    \xaa\xaa\xaa\xaa\xaa\xaa\xaa\xaa\xaa\xaa\xaa\xaa\xaa\xaa\xaa";
 
-/// A text of a test, which takes no memory.
-type Bytes = ArrayVec<u8, 512>;
+/// The two coordinates, and the head of a user handle of one byte.
+const COORDINATES: &[u8] = b"\x03\x58\x20\
+    \xbb\xbb\xbb\xbb\xbb\xbb\xbb\xbb\xbb\xbb\xbb\xbb\xbb\xbb\xbb\xbb\
+    \xbb\xbb\xbb\xbb\xbb\xbb\xbb\xbb\xbb\xbb\xbb\xbb\xbb\xbb\xbb\xbb\
+    \x04\x58\x20\
+    \xcc\xcc\xcc\xcc\xcc\xcc\xcc\xcc\xcc\xcc\xcc\xcc\xcc\xcc\xcc\xcc\
+    \xcc\xcc\xcc\xcc\xcc\xcc\xcc\xcc\xcc\xcc\xcc\xcc\xcc\xcc\xcc\xcc\
+    \x05\x41";
 
-fn push(rt: &impl Abort, out: &mut Bytes, bytes: &[u8]) {
-    out.try_extend_from_slice(bytes).expect(rt, "a short text");
+/// A text with a row of `example.com` and user 01: what stands before the row's members, and after its user handle.
+fn one_row(rt: &impl Abort, heads: &[u8], rest: &[u8]) -> ArrayVec<u8, 400> {
+    joined(rt, &[heads, RP_AND_ID, b"\xaa", COORDINATES, b"\x01", rest])
 }
 
-fn push_hash(rt: &impl Abort, out: &mut Bytes, key: u8, hash: &[u8; 32]) {
-    push(rt, out, &[key, 0x58, 0x20]);
-    push(rt, out, hash);
-}
-
-/// A row of `example.com` and user 01, after its head and up to its user handle.
-fn push_row(rt: &impl Abort, out: &mut Bytes) {
-    push_hash(rt, out, 1, &RP);
-    push_hash(rt, out, 2, &[0xAA; 32]);
-    push_hash(rt, out, 3, &[0xBB; 32]);
-    push_hash(rt, out, 4, &[0xCC; 32]);
-    push(rt, out, b"\x05\x41\x01");
-}
-
-/// What stands before a row's members, the row, and what stands after its user handle.
-fn one_row(rt: &impl Abort, heads: &[u8], rest: &[u8]) -> Bytes {
-    let mut out = ArrayVec::new();
-    push(rt, &mut out, heads);
-    push_row(rt, &mut out);
-    push(rt, &mut out, rest);
-    out
-}
-
-/// Loads into a table that has a row of its own, and gives the result and the number of rows.
-fn loaded<T: Table<N>, const N: usize>(
+/// Asserts what loading into a table that has a row of its own answers, and how many rows it then has.
+fn assert_loaded<T: Table<N>, const N: usize>(
     rt: &impl Abort,
     table: &mut T,
     bytes: &[u8],
-) -> (Result<(), SnapshotFault>, usize) {
+    expected: Loaded,
+) {
     assert!(rt; N > 0);
     table.clear();
     table.put(Row::default());
-    let result = load(bytes, table);
-    (result, table.len())
+    let answer = load(bytes, table);
+    assert!(rt; (answer, table.len()) == expected, "{bytes:?}");
 }
 
 /// Saves after one byte, once more where memory was refused.
@@ -72,185 +60,140 @@ fn saved<T: Table<N>, const N: usize>(
     }
     let first = save(table, &mut out);
     if first.is_err() {
-        assert_eq!(rt; first, Err(SnapshotFault::Memory));
-        assert_eq!(rt; out.as_slice(), b"\xee".as_slice());
+        assert!(rt; first == Err(SnapshotFault::Memory));
+        assert!(rt; out.as_slice() == b"\xee".as_slice());
         save(table, &mut out)?;
     }
     out.remove(0);
     Ok(out)
 }
 
-/// Loads texts whose heads alone matter.
-fn load_heads<T: Table<64>>(rt: &impl Abort, table: &mut T) {
-    let refused = (Err(SnapshotFault::NotSnapshot), 1);
-    for (text, want) in [
-        (b"\xa0".as_slice(), refused),
-        (b"\xa2\x01\x00\x02\x80", refused),
-        (b"\xa2\x01\x03\x02\x80", refused),
-        (b"\xa2\x01\x01\x02\x80\x00", refused),
-        (b"\xa2\x01\x01\x02\x80", (Ok(()), 0)),
-        (b"\xa2\x01\x02\x02\x80", (Ok(()), 0)),
-    ] {
-        assert_eq!(rt; loaded(rt, table, text), want);
+/// What loading answers, and how many rows the table then has.
+type Loaded = (Result<(), SnapshotFault>, usize);
+
+const NOT_SNAPSHOT: Loaded = (Err(SnapshotFault::NotSnapshot), 1);
+
+const FIRST_BROKEN: Loaded = (Err(SnapshotFault::RowBroken(0)), 1);
+
+/// Texts without rows.
+const HEADS: [(&[u8], Loaded); 6] = [
+    (b"\xa0", NOT_SNAPSHOT),
+    (b"\xa2\x01\x00\x02\x80", NOT_SNAPSHOT),
+    (b"\xa2\x01\x03\x02\x80", NOT_SNAPSHOT),
+    (b"\xa2\x01\x01\x02\x80\x00", NOT_SNAPSHOT),
+    (b"\xa2\x01\x01\x02\x80", (Ok(()), 0)),
+    (b"\xa2\x01\x02\x02\x80", (Ok(()), 0)),
+];
+
+/// The heads of a row of version 1 without and with a name, and of version 2.
+const OLD: &[u8] = b"\xa2\x01\x01\x02\x81\xa7";
+
+const OLD_NAMED: &[u8] = b"\xa2\x01\x01\x02\x81\xa8";
+
+const UNNAMED: &[u8] = b"\xa2\x01\x02\x02\x81\xa7";
+
+const NAMED: &[u8] = b"\xa2\x01\x02\x02\x81\xa8";
+
+/// Texts of a row: the heads, and what stands after the user handle. The last two have names of 64 and 65 bytes.
+const ROWS: [(&[u8], &[u8], Loaded); 7] = [
+    (OLD_NAMED, b"\x06\xf5\x07\x00\x08\x60", FIRST_BROKEN),
+    (UNNAMED, b"\x06\xf5\x07\x00", FIRST_BROKEN),
+    (
+        OLD,
+        b"\x06\xf5\x07\x1b\x00\x00\x00\x01\x00\x00\x00\x00",
+        FIRST_BROKEN,
+    ),
+    (OLD, b"\x06\xf5\x07\x18\x05", NOT_SNAPSHOT),
+    (NAMED, b"\x06\xf5\x07\x00\x08\x40", FIRST_BROKEN),
+    (
+        NAMED,
+        b"\x06\xf5\x07\x00\x08\x78\x40aaaaaaaaaaaaaaaaaaaaaaaaaaaaaaaaaaaaaaaaaaaaaaaaaaaaaaaaaaaaaaaa",
+        (Ok(()), 1),
+    ),
+    (
+        NAMED,
+        b"\x06\xf5\x07\x00\x08\x78\x41aaaaaaaaaaaaaaaaaaaaaaaaaaaaaaaaaaaaaaaaaaaaaaaaaaaaaaaaaaaaaaaaa",
+        FIRST_BROKEN,
+    ),
+];
+
+/// The row twice, of version 1.
+fn twice(rt: &impl Abort) -> ArrayVec<u8, 400> {
+    let second = one_row(
+        rt,
+        b"\x06\xf5\x07\x1a\xff\xff\xff\xff\xa7",
+        b"\x06\xf5\x07\x1a\xff\xff\xff\xff",
+    );
+    one_row(rt, b"\xa2\x01\x01\x02\x82\xa7", second.as_slice())
+}
+
+/// Loads each text.
+fn load_each<T: Table<64>>(rt: &impl Abort, table: &mut T) {
+    for (text, expected) in HEADS.iter() {
+        assert_loaded(rt, table, text, *expected);
     }
+    for (heads, rest, expected) in ROWS.iter() {
+        let text = one_row(rt, heads, rest);
+        assert_loaded(rt, table, text.as_slice(), *expected);
+    }
+    let second = (Err(SnapshotFault::RowBroken(1)), 1);
+    assert_loaded(rt, table, twice(rt).as_slice(), second);
 }
 
 #[test]
-fn refuses_heads(rt: HostRuntime) {
-    load_heads(&rt, &mut Listed::new());
-    load_heads(&rt, &mut Chained::new());
-}
-
-/// The row's entry twice, of version 1.
-fn twice(rt: &impl Abort) -> Bytes {
-    let mut text = one_row(
-        rt,
-        b"\xa2\x01\x01\x02\x82\xa7",
-        b"\x06\xf5\x07\x1a\xff\xff\xff\xff\xa7",
-    );
-    push_row(rt, &mut text);
-    push(rt, &mut text, b"\x06\xf5\x07\x1a\xff\xff\xff\xff");
-    text
+fn refuses_what_is_no_snapshot(rt: HostRuntime) {
+    load_each(&rt, &mut Listed::new());
+    load_each(&rt, &mut Chained::new());
 }
 
 #[test]
 fn refuses_too_many(rt: HostRuntime) {
     let text = twice(&rt);
     let refused = (Err(SnapshotFault::TooMany), 1);
-    assert_eq!(rt; loaded(&rt, &mut Listed::<1>::new(), &text), refused);
-    assert_eq!(rt; loaded(&rt, &mut Chained::<1>::new(), &text), refused);
+    assert_loaded(&rt, &mut Listed::<1>::new(), text.as_slice(), refused);
+    assert_loaded(&rt, &mut Chained::<1>::new(), text.as_slice(), refused);
 }
 
-/// Loads texts of rows that can't stand where they stand.
-fn load_rows<T: Table<64>>(rt: &impl Abort, table: &mut T) {
-    let text = twice(rt);
-    let second = (Err(SnapshotFault::RowBroken(1)), 1);
-    assert_eq!(rt; loaded(rt, table, &text), second);
+/// Snapshots of a row that are loaded, and as what each is saved: one of version 1 as one of version 2, which is
+/// loaded and saved as itself, with a name too.
+const SAVED: [((&[u8], &[u8]), (&[u8], &[u8])); 3] = [
+    (
+        (OLD, b"\x06\xf5\x07\x1a\xff\xff\xff\xff"),
+        (NAMED, b"\x06\xf5\x07\x1a\xff\xff\xff\xff\x08\x60"),
+    ),
+    (
+        (NAMED, b"\x06\xf5\x07\x1a\xff\xff\xff\xff\x08\x60"),
+        (NAMED, b"\x06\xf5\x07\x1a\xff\xff\xff\xff\x08\x60"),
+    ),
+    (
+        (NAMED, b"\x06\xf5\x07\x00\x08\x61\x62"),
+        (NAMED, b"\x06\xf5\x07\x00\x08\x61\x62"),
+    ),
+];
 
-    let first = (Err(SnapshotFault::RowBroken(0)), 1);
-    let name_of_version_1 = b"\xa2\x01\x01\x02\x81\xa8";
-    let no_name = b"\xa2\x01\x02\x02\x81\xa7";
-    let one = b"\xa2\x01\x01\x02\x81\xa7";
-    let named = b"\xa2\x01\x02\x02\x81\xa8";
-    for (heads, rest, want) in [
-        (
-            name_of_version_1,
-            b"\x06\xf5\x07\x00\x08\x60".as_slice(),
-            first,
-        ),
-        (no_name, b"\x06\xf5\x07\x00", first),
-        (
-            one,
-            b"\x06\xf5\x07\x1b\x00\x00\x00\x01\x00\x00\x00\x00",
-            first,
-        ),
-        (
-            one,
-            b"\x06\xf5\x07\x18\x05",
-            (Err(SnapshotFault::NotSnapshot), 1),
-        ),
-        (named, b"\x06\xf5\x07\x00\x08\x40", first),
-    ] {
-        let text = one_row(rt, heads, rest);
-        assert_eq!(rt; loaded(rt, table, &text), want);
+/// Loads each snapshot and saves it.
+fn save_each<T: Table<64>>(rt: &impl Abort, alloc: Global, table: &mut T) -> Result<(), Fail> {
+    for (old, new) in SAVED.iter() {
+        let text = one_row(rt, old.0, old.1);
+        load(text.as_slice(), table)?;
+        let written = saved(rt, alloc, table)?;
+        let expected = one_row(rt, new.0, new.1);
+        assert!(rt; written.as_slice() == expected.as_slice());
+        table.clear();
     }
-}
-
-#[test]
-fn refuses_rows(rt: HostRuntime) {
-    load_rows(&rt, &mut Listed::new());
-    load_rows(&rt, &mut Chained::new());
-}
-
-/// Loads a row with a name of so many letters.
-fn load_name<T: Table<2>>(
-    rt: &impl Abort,
-    table: &mut T,
-    letters: usize,
-) -> Result<(), SnapshotFault> {
-    assert!(rt; letters < 256);
-    let heads = b"\xa2\x01\x02\x02\x81\xa8";
-    let mut text = one_row(rt, heads, b"\x06\xf5\x07\x00\x08\x78");
-    push(rt, &mut text, &[letters as u8]);
-    for _ in 0..letters {
-        push(rt, &mut text, b"a");
-    }
-    load(&text, table)
-}
-
-#[test]
-fn refuses_long_names(rt: HostRuntime) {
-    let mut table = Store::<2>::new();
-    assert_eq!(rt; load_name(&rt, &mut table, 64), Ok(()));
-    let first = Err(SnapshotFault::RowBroken(0));
-    assert_eq!(rt; load_name(&rt, &mut table, 65), first);
-}
-
-/// A snapshot of version 1 is saved as one of version 2, which is loaded again.
-fn migrate<T: Table<64>>(rt: &impl Abort, alloc: Global, table: &mut T) -> Result<(), Fail> {
-    let old = one_row(
-        rt,
-        b"\xa2\x01\x01\x02\x81\xa7",
-        b"\x06\xf5\x07\x1a\xff\xff\xff\xff",
-    );
-    assert_eq!(rt; old.len(), 157);
-    load(&old, table)?;
-    let new = saved(rt, alloc, table)?;
-    let want = one_row(
-        rt,
-        b"\xa2\x01\x02\x02\x81\xa8",
-        b"\x06\xf5\x07\x1a\xff\xff\xff\xff\x08\x60",
-    );
-    assert_eq!(rt; new.len(), 159);
-    assert_eq!(rt; new.as_slice(), want.as_slice());
-
-    table.clear();
-    let empty = saved(rt, alloc, table)?;
-    assert_eq!(rt; empty.as_slice(), b"\xa2\x01\x02\x02\x80".as_slice());
-    load(&new, table)?;
-    let same = saved(rt, alloc, table)?;
-    assert_eq!(rt; same.as_slice(), want.as_slice());
     Ok(())
 }
 
 #[test]
 fn migrates(rt: HostRuntime) -> Result<(), Fail> {
-    migrate(&rt, rt.alloc(), &mut Listed::new())?;
-    migrate(&rt, rt.alloc(), &mut Chained::new())
-}
-
-#[test]
-fn keeps_names(rt: HostRuntime) -> Result<(), Fail> {
-    let mut table = Store::<256>::new();
-    let text = one_row(
-        &rt,
-        b"\xa2\x01\x02\x02\x81\xa8",
-        b"\x06\xf5\x07\x00\x08\x61\x62",
-    );
-    assert_eq!(rt; text.len(), 156);
-    load(&text, &mut table)?;
-    let same = saved(&rt, rt.alloc(), &table)?;
-    assert_eq!(rt; same.as_slice(), text.as_slice());
-    Ok(())
-}
-
-#[test]
-fn keeps_counters(rt: HostRuntime) -> Result<(), Fail> {
-    let mut table = Store::<64>::new();
-    let old = one_row(&rt, b"\xa2\x01\x01\x02\x81\xa7", b"\x06\xf5\x07\x00");
-    load(&old, &mut table)?;
-    let counter = table.find(&[0xAA; 32]).map(|row| row.counter);
-    assert_eq!(rt; counter, Some(0));
-    assert_eq!(rt; table.raise(&[0xAA; 32]), 1);
-    let new = saved(&rt, rt.alloc(), &table)?;
-    assert!(rt; new.as_slice().ends_with(b"\x07\x01\x08\x60"));
-    Ok(())
+    save_each(&rt, rt.alloc(), &mut Listed::new())?;
+    save_each(&rt, rt.alloc(), &mut Chained::new())
 }
 
 /// With ample memory a call is made once, into an empty vector too.
 #[test]
 fn saves_at_once(rt: HostRuntime) {
     let mut out = Vec::new(rt.alloc());
-    assert_eq!(rt; save(&Store::<2>::new(), &mut out), Ok(()));
-    assert_eq!(rt; out.as_slice(), b"\xa2\x01\x02\x02\x80".as_slice());
+    let written = save(&Store::<2>::new(), &mut out);
+    assert!(rt; (written, out.as_slice()) == (Ok(()), b"\xa2\x01\x02\x02\x80".as_slice()));
 }

@@ -16,8 +16,7 @@ fn the_page(rt: HostRuntime) -> Result<(), Fail> {
     save(&table, &mut snapshot)?;
 
     let mut copy = Store::<4>::new();
-    let loaded = load(snapshot.as_slice(), &mut copy);
-    assert!(rt; loaded.is_ok());
-    assert_eq!(rt; copy.len(), 1);
+    load(snapshot.as_slice(), &mut copy)?;
+    assert!(rt; copy.len() == 1);
     Ok(())
 }

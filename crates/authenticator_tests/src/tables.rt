@@ -48,14 +48,14 @@ fn put<T: Table<N>, const N: usize>(rt: &impl Abort, table: &mut T, row: Row) {
 fn replace<T: Table<N>, const N: usize>(rt: &impl Abort, table: &mut T, old: &[u8; 32], new: Row) {
     let taken = table.find(&new.id).is_some();
     assert!(rt; !taken);
-    assert_eq!(rt; table.same_user(&new.rp, new.user.as_slice()), Some(*old));
+    assert!(rt; table.same_user(&new.rp, new.user.as_slice()) == Some(*old));
     table.replace(old, new);
 }
 
 /// Raises the counter of a row, where the table's conditions hold.
 fn raise<T: Table<N>, const N: usize>(rt: &impl Abort, table: &mut T, id: &[u8; 32]) -> u32 {
     let counter = table.find(id).map(|row| row.counter);
-    assert_eq!(rt; counter, Some(0));
+    assert!(rt; counter == Some(0));
     table.raise(id)
 }
 
@@ -66,61 +66,61 @@ fn lists<T: Table<N>, const N: usize>(rt: &impl Abort, table: &T, ids: &[[u8; 32
         listed.push([0xFF; 32]);
     }
     table.rows_of(&RP, &mut listed);
-    assert_eq!(rt; listed.as_slice(), ids);
+    assert!(rt; listed.as_slice() == ids);
 }
 
 /// The row B is found by its id, whole and under its RP alone.
 fn names_b<T: Table<N>, const N: usize>(rt: &impl Abort, table: &T) {
-    assert!(rt; table.named(&RP, &B).is_some());
-    assert!(rt; table.named(&RP, &B[..31]).is_none());
-    assert!(rt; table.named(&[0; 32], &B).is_none());
+    let found = (
+        table.named(&RP, &B).is_some(),
+        table.named(&RP, &B[..31]).is_some(),
+        table.named(&[0; 32], &B).is_some(),
+    );
+    assert!(rt; found == (true, false, false));
 }
 
 /// Three rows come and go. The second one is discoverable or not.
 fn come_and_go<T: Table<2>>(rt: &impl Abort, table: &mut T, discoverable: bool) {
+    table.clear();
     put(rt, table, made(A, 1, true));
     put(rt, table, made(B, 2, discoverable));
-    assert_eq!(rt; table.len(), 2);
-    assert_eq!(rt; table.same_user(&RP, &[1]), Some(A));
-    assert_eq!(rt; table.same_user(&RP, &[2]).is_some(), discoverable);
+    let users = (table.same_user(&RP, &[1]), table.same_user(&RP, &[2]));
+    assert!(rt; (table.len(), users) == (2, (Some(A), discoverable.then_some(B))));
 
     replace(rt, table, &A, made(C, 1, true));
     let count = if discoverable { 2 } else { 1 };
     lists(rt, table, &[C, B][..count]);
-    assert!(rt; table.find(&A).is_none());
-    assert_eq!(rt; raise(rt, table, &B), 1);
-    assert_eq!(rt; table.find(&B).map(|row| row.counter), Some(1));
-    assert_eq!(rt; table.find(&B).map(|row| row.name.as_str()), Some("Zoë"));
+    assert!(rt; raise(rt, table, &B) == 1);
+    let named = table.find(&B).map(|row| (row.counter, row.name.as_str()));
+    assert!(rt; (named, table.find(&A).is_some()) == (Some((1, "Zoë")), false));
     names_b(rt, table);
-
-    table.clear();
-    assert_eq!(rt; table.len(), 0);
-}
-
-#[test]
-fn rows_come_and_go(rt: HostRuntime) {
-    come_and_go(&rt, &mut Listed::<2>::new(), true);
-    come_and_go(&rt, &mut Listed::<2>::new(), false);
-    come_and_go(&rt, &mut Chained::<2>::new(), true);
-    come_and_go(&rt, &mut Chained::<2>::new(), false);
 }
 
 /// A row that isn't discoverable takes the place of one that is.
 fn hides<T: Table<2>>(rt: &impl Abort, table: &mut T) {
+    table.clear();
     put(rt, table, made(A, 1, true));
     put(rt, table, made(B, 2, true));
     replace(rt, table, &A, made(C, 1, false));
     lists(rt, table, &[B]);
-    assert_eq!(rt; table.len(), 2);
-    assert_eq!(rt; table.row(1).id, C);
-    assert!(rt; table.find(&A).is_none());
-    assert!(rt; table.same_user(&RP, &[1]).is_none());
+    assert!(rt; table.len() == 2);
+    let gone = table.find(&A).is_none() && table.same_user(&RP, &[1]).is_none();
+    assert!(rt; (gone, table.row(1).id) == (true, C));
+    table.clear();
+    assert!(rt; table.len() == 0);
+}
+
+/// Each of these on one table.
+fn each<T: Table<2>>(rt: &impl Abort, table: &mut T) {
+    come_and_go(rt, table, true);
+    come_and_go(rt, table, false);
+    hides(rt, table);
 }
 
 #[test]
-fn hidden_rows_replace(rt: HostRuntime) {
-    hides(&rt, &mut Listed::new());
-    hides(&rt, &mut Chained::new());
+fn rows_come_and_go(rt: HostRuntime) {
+    each(&rt, &mut Listed::<2>::new());
+    each(&rt, &mut Chained::<2>::new());
 }
 
 /// Fills a table with one discoverable row for each of its places.
@@ -129,12 +129,12 @@ fn fill<T: Table<N>, const N: usize>(rt: &impl Abort, table: &mut T) {
         let number = (place % 256) as u8;
         put(rt, table, made([number; 32], number, true));
     }
-    assert_eq!(rt; table.len(), N);
+    assert!(rt; table.len() == N);
     let mut listed = ArrayVec::new();
     table.rows_of(&RP, &mut listed);
-    assert_eq!(rt; listed.len(), N);
+    assert!(rt; listed.len() == N);
     for (place, id) in listed.as_slice().iter().rev().enumerate() {
-        assert_eq!(rt; usize::from(id[0]), place);
+        assert!(rt; usize::from(id[0]) == place);
     }
 }
 
@@ -146,15 +146,9 @@ fn fills_to_the_limit(rt: HostRuntime) {
     fill(&rt, &mut Chained::<256>::new());
 }
 
-/// What a call of the fixed list answered.
-#[derive(Clone, Copy, Debug, PartialEq, Eq)]
-enum Answer {
-    Put,
-    Replaced([u8; 32]),
-    Raised(u32),
-    Cleared,
-    Refused,
-}
+/// What a call of the fixed list answered: the id of the row that was replaced, the raised counter, and whether a row
+/// was made.
+type Answer = (Option<[u8; 32]>, Option<u32>, bool);
 
 /// A row of the fixed list: its id is one of 256, its user one of 16, and three of four are discoverable.
 fn listed_row(seed: u32) -> Row {
@@ -167,14 +161,14 @@ fn listed_row(seed: u32) -> Row {
 fn call<T: Table<N>, const N: usize>(rt: &impl Abort, table: &mut T, seed: u32) -> Answer {
     if seed / 1024 % 256 == 0 {
         table.clear();
-        return Answer::Cleared;
+        return (None, None, false);
     }
     let row = listed_row(seed);
     if let Some(counter) = table.find(&row.id).map(|row| row.counter) {
         if counter == u32::MAX {
-            return Answer::Refused;
+            return (None, None, false);
         }
-        return Answer::Raised(table.raise(&row.id));
+        return (None, Some(table.raise(&row.id)), false);
     }
     // Some rows that aren't discoverable replace one as well.
     let taken = table.same_user(&row.rp, row.user.as_slice());
@@ -182,13 +176,13 @@ fn call<T: Table<N>, const N: usize>(rt: &impl Abort, table: &mut T, seed: u32) 
         && let Some(old) = taken
     {
         replace(rt, table, &old, row);
-        return Answer::Replaced(old);
+        return (Some(old), None, true);
     }
     if table.len() >= N {
-        return Answer::Refused;
+        return (None, None, false);
     }
     put(rt, table, row);
-    Answer::Put
+    (None, None, true)
 }
 
 /// Both tables list the same rows, name the same one, and have the same one at a place.
@@ -198,20 +192,22 @@ fn look_alike<const N: usize>(
     chained: &Chained<N>,
     seed: u32,
 ) {
-    assert_eq!(rt; listed.len(), chained.len());
     let mut first = ArrayVec::new();
     listed.rows_of(&RP, &mut first);
     let mut second = ArrayVec::new();
     chained.rows_of(&RP, &mut second);
-    assert_eq!(rt; first.as_slice(), second.as_slice());
-
     let id = listed_row(seed.rotate_left(8)).id;
-    let named = listed.named(&RP, &id).map(|row| row.counter);
-    assert_eq!(rt; named, chained.named(&RP, &id).map(|row| row.counter));
+    let named = (listed.named(&RP, &id), chained.named(&RP, &id));
+    let counters = (
+        named.0.map(|row| row.counter),
+        named.1.map(|row| row.counter),
+    );
+    assert!(rt; (first.as_slice(), counters.0) == (second.as_slice(), counters.1));
+
+    assert!(rt; listed.len() == chained.len());
     if listed.len() > 0 {
         let place = seed as usize % listed.len();
-        assert!(rt; place < chained.len());
-        assert_eq!(rt; listed.row(place).id, chained.row(place).id);
+        assert!(rt; listed.row(place).id == chained.row(place).id);
     }
 }
 
@@ -235,13 +231,13 @@ fn agree<const N: usize>(
     let mut seed: u32 = 1;
     for _ in 0..2000 {
         seed = seed.wrapping_mul(1_103_515_245).wrapping_add(12_345);
-        assert_eq!(rt; call(rt, listed, seed), call(rt, chained, seed));
+        assert!(rt; call(rt, listed, seed) == call(rt, chained, seed));
         look_alike(rt, listed, chained, seed);
         first.clear();
         save(listed, &mut first)?;
         second.clear();
         save(chained, &mut second)?;
-        assert_eq!(rt; first.as_slice(), second.as_slice());
+        assert!(rt; first.as_slice() == second.as_slice());
     }
     Ok(())
 }

@@ -102,9 +102,8 @@ pub(crate) fn fault_of(outcome: Result<(), Fault>) -> Option<(usize, Kind)> {
 fn assert_checks(rt: &impl Abort, rows: &[Row<'_>]) {
     for (bytes, fault, steps) in rows.iter() {
         let found = check(bytes);
-        assert_eq!(rt;
-            (fault_of(found.result), found.steps),
-            (*fault, *steps),
+        assert!(rt;
+            (fault_of(found.result), found.steps) == (*fault, *steps),
             "{bytes:?}"
         );
     }
@@ -301,9 +300,8 @@ fn assert_told(rt: &impl Abort, bytes: &[u8], calls: &[Told<'_>]) {
             Err(fault) => (None, Some((fault.at, fault.kind))),
         };
         let stands = (walk.cursor.place(), walk.cursor.steps());
-        assert_eq!(rt;
-            (told, stands),
-            ((*item, *fault), *after),
+        assert!(rt;
+            (told, stands) == ((*item, *fault), *after),
             "{bytes:?}, call {place}"
         );
         assert!(rt; bytes.starts_with(walk.cursor.since(0)));
@@ -371,7 +369,7 @@ fn writes_shortest(rt: HostRuntime) {
     let mut buffer = [0xee; 25];
     let is_empty = Sink::new(&mut buffer).is_empty();
     let len = write_sample(&mut buffer);
-    assert_eq!(rt; (is_empty, len, buffer), (true, 24, *SAMPLE));
+    assert!(rt; (is_empty, len, buffer) == (true, 24, *SAMPLE));
     assert_checks(&rt, &[(&SAMPLE[..24], None, 28)]);
 }
 
@@ -392,7 +390,7 @@ const KINDS: [Kind; 10] = [
 #[test]
 fn kinds_have_numbers(rt: HostRuntime) {
     for (place, kind) in KINDS.iter().enumerate() {
-        assert_eq!(rt; usize::from(kind.number()), place + 1);
+        assert!(rt; usize::from(kind.number()) == place + 1);
     }
 }
 
@@ -402,9 +400,6 @@ fn shows_faults(rt: HostRuntime) -> Result<(), Fail> {
         at: 4,
         kind: Kind::TooDeep,
     };
-    assert_eq!(rt;
-        fault.to_string(rt.alloc())?.as_str(),
-        "more than four levels deep at byte 4"
-    );
+    assert!(rt; fault.to_string(rt.alloc())?.as_str() == "more than four levels deep at byte 4");
     Ok(())
 }

@@ -10,7 +10,7 @@ const MESSAGE: &[u8] = b"\xa2\x01\x63usb\x02\x81\xf5";
 fn the_page_checks_and_reads(rt: HostRuntime) -> Result<(), Fail> {
     assert!(rt; check(MESSAGE).result.is_ok());
     let mut cursor = Cursor::new(MESSAGE);
-    assert_eq!(rt; cursor.item(1)?, Item::Map(2));
+    assert!(rt; cursor.item(1)? == Item::Map(2));
     let first = cursor.key(None)?;
     cursor.skip(2)?;
     cursor.key(Some(first.bytes))?; // has to stand above the first
@@ -25,7 +25,7 @@ fn the_page_writes_and_decodes(rt: HostRuntime) -> Result<(), Fail> {
     let mut sink = Sink::new(&mut buffer);
     sink.array(1);
     sink.flag(true);
-    assert_eq!(rt; buffer, [0x81, 0xf5]);
+    assert!(rt; buffer == [0x81, 0xf5]);
 
     let value = decode_value(rt.alloc(), MESSAGE)?;
     let mut copy = Vec::new(rt.alloc());

@@ -15,7 +15,7 @@ use std::test::Fail;
 fn decodes_rows(rt: HostRuntime) {
     for (bytes, fault, _) in ROWS.iter() {
         let got = decode_value(rt.alloc(), bytes).map(|_| ());
-        assert_eq!(rt; fault_of(got), *fault, "{bytes:?}");
+        assert!(rt; fault_of(got) == *fault, "{bytes:?}");
     }
 }
 
@@ -27,7 +27,7 @@ fn assert_both_ways(rt: &impl Abort, alloc: Global, bytes: &[u8]) -> Result<(), 
     let value = decode_value(alloc, bytes)?;
     let mut out = Vec::new(alloc);
     encode_value(&value, &mut out)?;
-    assert_eq!(rt; out.as_slice(), bytes);
+    assert!(rt; out.as_slice() == bytes);
     Ok(())
 }
 
@@ -48,7 +48,7 @@ fn decoded(rt: &impl Abort, alloc: Global, bytes: &[u8]) -> Result<Value, Fault>
     let first = decode_value(alloc, bytes);
     match first {
         Err(fault) if fault.kind == Kind::Memory => {
-            assert_eq!(rt; fault.at, 0);
+            assert!(rt; fault.at == 0);
             decode_value(alloc, bytes)
         }
         _ => first,
@@ -61,7 +61,7 @@ fn encoded(rt: &impl Abort, value: &Value, out: &mut Vec<u8>) -> Result<(), Kind
     let first = encode_value(value, out);
     match first {
         Err(Kind::Memory) => {
-            assert_eq!(rt; out.len(), len);
+            assert!(rt; out.len() == len);
             encode_value(value, out)
         }
         _ => first,
@@ -73,7 +73,7 @@ fn decodes_after_refused_memory(rt: HostRuntime) -> Result<(), Fail> {
     let value = decoded(&rt, rt.alloc(), SAMPLE)?;
     let mut out = Vec::new(rt.alloc());
     encoded(&rt, &value, &mut out)?;
-    assert_eq!(rt; out.as_slice(), SAMPLE);
+    assert!(rt; out.as_slice() == SAMPLE);
     Ok(())
 }
 
@@ -82,10 +82,7 @@ fn encodes_after_refused_memory(rt: HostRuntime) -> Result<(), Fail> {
     let mut out = Vec::new(rt.alloc());
     encoded(&rt, &Value::Int(0x1_0000_0000), &mut out)?;
     encoded(&rt, &Value::Bool(true), &mut out)?;
-    assert_eq!(rt;
-        out.as_slice(),
-        b"\x1b\x00\x00\x00\x01\x00\x00\x00\x00\xf5".as_slice()
-    );
+    assert!(rt; out.as_slice() == b"\x1b\x00\x00\x00\x01\x00\x00\x00\x00\xf5".as_slice());
     Ok(())
 }
 
@@ -129,7 +126,7 @@ fn assert_encoded(
 ) -> Result<(), Fail> {
     let mut out = one_byte(alloc)?;
     let answer = encode_value(value, &mut out);
-    assert_eq!(rt; (answer, out.as_slice()), expected);
+    assert!(rt; (answer, out.as_slice()) == expected);
     Ok(())
 }
 

@@ -1,14 +1,14 @@
 //! Requests and packets that are cut and changed, and hosts that speak at once.
 
 use crate::counters::with_counter;
-use crate::registration::{ask, get_assertion, join, keepalive, make_credential};
+use crate::registration::{MEMBERS, ask, get_assertion, join, keepalive, make_credential};
 use crate::transport::{INIT, error, greeting, pad, refused, step, two_channels};
 use arrayvec::ArrayVec;
 use authn_core::{Need, NewKey, Presence, Signature};
 use hid_packet::command::CBOR;
 use hid_packet::{Fragments, Outbox, Packet, packets_for};
 use std::process::Abort;
-use token_session::{Input, Meters, Session};
+use token_session::{Input, Session};
 
 /// A key that no other credential has.
 const KEY: NewKey = NewKey {
@@ -38,7 +38,7 @@ fn assert_served(rt: &impl Abort, session: &mut Session<4>, most: usize) {
     last_sent(session, 10, Input::Presence(Presence::Granted));
     last_sent(session, 20, Input::Key(Some(KEY)));
     last_sent(session, 30, Input::Signature(Signature::new(&[0xdd; 70])));
-    assert_eq!(rt; session.need(), Need::None);
+    assert!(rt; session.need() == Need::None);
     assert!(rt; session.credentials() <= most);
     assert_few_steps(rt, session);
 }
@@ -54,61 +54,64 @@ fn assert_answered(rt: &impl Abort, session: &mut Session<4>, request: &[u8]) {
         panic!(rt; "neither answered nor waiting");
     };
     if session.need() == Need::Presence {
-        assert_eq!(rt; packet, keepalive(2));
+        assert!(rt; packet == keepalive(2));
     } else {
-        assert_eq!(rt; session.need(), Need::None);
+        assert!(rt; session.need() == Need::None);
         let status = packet.0[7];
         assert!(rt; status != 0);
-        assert_eq!(rt; packet, refused(status));
+        assert!(rt; packet == refused(status));
     }
+}
+
+/// Reads a request on channel 1 of a new session, and asserts that it is answered with this packet, and how many steps
+/// that took.
+fn assert_asked(rt: &impl Abort, request: &[&[u8]], answer: Packet, steps: Option<u64>) {
+    let mut session = two_channels(rt);
+    ask(rt, &mut session, 0, &join(request), answer);
+    let counted = session.meters().steps;
+    assert!(rt; counted == steps.unwrap_or(counted));
+    assert_few_steps(rt, &session);
 }
 
 #[test]
 fn a_registration_cut_short(rt: HostRuntime) {
     let whole = make_credential();
     for len in 1..whole.len() {
-        let mut session = two_channels(&rt);
-        let cut = join(&[&whole.as_slice()[..len]]);
-        ask(&rt, &mut session, 0, &cut, refused(0x12));
-        assert_few_steps(&rt, &session);
-        if len == 1 {
-            assert_eq!(rt; session.meters().steps, 1);
-        }
-        if len == 90 {
-            assert_eq!(rt; session.meters().steps, 99);
-        }
+        let steps = match len {
+            1 => Some(1),
+            90 => Some(99),
+            _ => None,
+        };
+        assert_asked(&rt, &[&whole.as_slice()[..len]], refused(0x12), steps);
     }
 }
 
+/// Requests with a large head, a long key, and a member of four levels and of five. Then the status of a refusal, or
+/// none where the user's presence is asked for; and the steps, where they were worked out.
+const LARGE: [(&[&[u8]], Option<u8>, Option<u64>); 4] = [
+    (&[b"\x01\xbb", &[0xff; 8]], Some(0x12), Some(10)),
+    (
+        &[b"\x01\xa2\x00\x00\x59\x01\x00", &[0; 256], b"\x00"],
+        Some(0x14),
+        Some(1046),
+    ),
+    (&[b"\x01\xa6", MEMBERS, b"\x18\x40\x81\x81\x80"], None, None),
+    (
+        &[b"\x01\xa6", MEMBERS, b"\x18\x40\x81\x81\x81\x80"],
+        Some(0x12),
+        Some(107),
+    ),
+];
+
 #[test]
 fn large_heads_long_keys_and_deep_values(rt: HostRuntime) {
-    let mut session = two_channels(&rt);
-    let head = join(&[b"\x01\xbb", &[0xff; 8]]);
-    ask(&rt, &mut session, 0, &head, refused(0x12));
-    assert_eq!(rt; session.meters().steps, 10);
-
-    let mut session = two_channels(&rt);
-    let key = join(&[b"\x01\xa2\x00\x00\x59\x01\x00", &[0; 256], b"\x00"]);
-    ask(&rt, &mut session, 0, &key, refused(0x14));
-    let meters = Meters {
-        held: 234,
-        rows: 0,
-        pending: 0,
-        requests: 1,
-        bytes: 263,
-        steps: 1046,
-    };
-    assert_eq!(rt; session.meters(), meters);
-
-    // A registration with one more member: of four levels, and of five.
-    let plain = make_credential();
-    let [1, 0xa5, members @ ..] = plain.as_slice() else {
-        panic!(rt; "it has five members");
-    };
-    let four = join(&[b"\x01\xa6", members, b"\x18\x40\x81\x81\x80"]);
-    ask(&rt, &mut two_channels(&rt), 0, &four, keepalive(2));
-    let five = join(&[b"\x01\xa6", members, b"\x18\x40\x81\x81\x81\x80"]);
-    ask(&rt, &mut two_channels(&rt), 0, &five, refused(0x12));
+    for (request, status, steps) in LARGE.iter() {
+        let answer = match status {
+            Some(status) => refused(*status),
+            None => keepalive(2),
+        };
+        assert_asked(&rt, request, answer, *steps);
+    }
 }
 
 /// Each byte of the request is changed to each other value, with a new session for each.
@@ -233,5 +236,5 @@ fn three_hosts_in_every_order(rt: HostRuntime) {
         }
     }
     // 6! / (2! 2! 2!)
-    assert_eq!(rt; orders, 90);
+    assert!(rt; orders == 90);
 }

@@ -3,6 +3,7 @@
 use crate::transport::{pad, refused, step_by, two_channels};
 use arrayvec::ArrayVec;
 use authn_core::{Need, NewKey, Presence, Signature};
+use cred_table::Table;
 use hid_packet::command::CBOR;
 use hid_packet::{Fragments, Outbox, Packet};
 use std::process::Abort;
@@ -23,14 +24,15 @@ pub(crate) fn join(parts: &[&[u8]]) -> ArrayVec<u8, 300> {
     bytes
 }
 
-/// authenticatorMakeCredential for user 01 of `example.com`, discoverable.
+/// The members of an authenticatorMakeCredential for user 01 of `example.com`, discoverable.
+pub(crate) const MEMBERS: &[u8] = b"\x01\x58\x20\
+    \x11\x11\x11\x11\x11\x11\x11\x11\x11\x11\x11\x11\x11\x11\x11\x11\
+    \x11\x11\x11\x11\x11\x11\x11\x11\x11\x11\x11\x11\x11\x11\x11\x11\
+    \x02\xa1\x62id\x6bexample.com\x03\xa1\x62id\x41\x01\x04\x81\xa2\x63alg\x26\
+    \x64type\x6apublic-key\x07\xa1\x62rk\xf5";
+
 pub(crate) fn make_credential() -> ArrayVec<u8, 300> {
-    join(&[
-        b"\x01\xa5\x01\x58\x20",
-        &[0x11; 32],
-        b"\x02\xa1\x62id\x6bexample.com\x03\xa1\x62id\x41\x01\x04\x81\xa2\x63alg\x26",
-        b"\x64type\x6apublic-key\x07\xa1\x62rk\xf5",
-    ])
+    join(&[b"\x01\xa5", MEMBERS])
 }
 
 /// authenticatorGetAssertion for `example.com`, with no allow list.
@@ -77,13 +79,13 @@ pub(crate) fn ask(
 ) {
     let mut sent = None;
     for packet in Fragments::new(1, CBOR, message.as_slice()) {
-        assert_eq!(rt; sent, None);
+        assert!(rt; sent == None);
         let mut outbox = Outbox::new();
         session.step(at, Input::Packet(packet), &mut outbox);
         sent = outbox.pop();
         assert!(rt; outbox.is_empty());
     }
-    assert_eq!(rt; sent, Some(expected));
+    assert!(rt; sent == Some(expected));
 }
 
 /// Steps the session by an input, and asserts that it sends just this CBOR message on channel 1.
@@ -97,52 +99,69 @@ fn answers(
     let mut outbox = Outbox::new();
     session.step(at, input, &mut outbox);
     for packet in Fragments::new(1, CBOR, message.as_slice()) {
-        assert_eq!(rt; outbox.pop(), Some(packet), "at {at}");
+        assert!(rt; outbox.pop() == Some(packet), "at {at}");
     }
     assert!(rt; outbox.is_empty(), "at {at}");
 }
 
+/// Steps the session by a reply, and asserts that it sends KEEPALIVEs with these statuses.
+fn keeps_alive(rt: &impl Abort, session: &mut Session<4>, at: u64, input: Input, statuses: &[u8]) {
+    let mut outbox = Outbox::new();
+    session.step(at, input, &mut outbox);
+    for status in statuses {
+        assert!(rt; outbox.pop() == Some(keepalive(*status)), "at {at}");
+    }
+    assert!(rt; outbox.is_empty(), "at {at}");
+}
+
+/// Asserts that a signature by the credential over these bytes is needed, and hands it in.
+fn signs(
+    rt: &impl Abort,
+    session: &mut Session<4>,
+    at: u64,
+    signed: &ArrayVec<u8, 300>,
+    answer: &ArrayVec<u8, 300>,
+) {
+    let needed = Need::Sign {
+        id: &[0xaa; 32],
+        signed: signed.as_slice(),
+    };
+    assert!(rt; session.need() == needed);
+    answers(rt, session, at, signature(), answer);
+}
+
+/// What is handed in up to the key, and the KEEPALIVEs that are sent.
+const REPLIES: [(u64, Input, &[u8]); 4] = [
+    (100, Input::Tick, &[2]),
+    (150, Input::Tick, &[]),
+    (200, Input::Presence(Presence::Granted), &[2, 1]),
+    (250, Input::Key(Some(KEY)), &[]),
+];
+
 fn register(rt: &impl Abort, session: &mut Session<4>) {
     ask(rt, session, 0, &make_credential(), keepalive(2));
-    assert_eq!(rt; session.need(), Need::Presence);
-    step_by(rt, session, 100, Input::Tick, &[keepalive(2)]);
-    step_by(rt, session, 150, Input::Tick, &[]);
-    let granted = Input::Presence(Presence::Granted);
-    step_by(rt, session, 200, granted, &[keepalive(2), keepalive(1)]);
-    assert_eq!(rt; session.need(), Need::Key);
-    step_by(rt, session, 250, Input::Key(Some(KEY)), &[]);
+    assert!(rt; session.need() == Need::Presence);
+    for (at, input, statuses) in REPLIES.iter() {
+        keeps_alive(rt, session, *at, *input, statuses);
+    }
     let data = created_data();
     let signed = join(&[data.as_slice(), &[0x11; 32]]);
-    assert_eq!(rt;
-        session.need(),
-        Need::Sign {
-            id: &[0xaa; 32],
-            signed: signed.as_slice()
-        }
-    );
     let answer = join(&[
         b"\x00\xa3\x01\x66packed\x02\x58\xa4",
         data.as_slice(),
         b"\x03\xa2\x63alg\x26\x63sig\x58\x46",
         &[0xdd; 70],
     ]);
-    answers(rt, session, 260, signature(), &answer);
+    signs(rt, session, 260, &signed, &answer);
 }
 
 /// Signs in from `at` on, which raises the counter to this number.
 fn sign_in(rt: &impl Abort, session: &mut Session<4>, at: u64, counter: u8) {
     ask(rt, session, at, &get_assertion(), keepalive(2));
     let granted = Input::Presence(Presence::Granted);
-    step_by(rt, session, at.saturating_add(10), granted, &[keepalive(1)]);
+    keeps_alive(rt, session, at.saturating_add(10), granted, &[1]);
     let data = join(&[&RP_HASH, &[0x01, 0, 0, 0, counter]]);
     let signed = join(&[data.as_slice(), &[0x22; 32]]);
-    assert_eq!(rt;
-        session.need(),
-        Need::Sign {
-            id: &[0xaa; 32],
-            signed: signed.as_slice()
-        }
-    );
     let answer = join(&[
         b"\x00\xa4\x01\xa2\x62id\x58\x20",
         &[0xaa; 32],
@@ -152,72 +171,53 @@ fn sign_in(rt: &impl Abort, session: &mut Session<4>, at: u64, counter: u8) {
         &[0xdd; 70],
         b"\x04\xa1\x62id\x41\x01",
     ]);
-    answers(rt, session, at.saturating_add(20), signature(), &answer);
+    signs(rt, session, at.saturating_add(20), &signed, &answer);
+}
+
+/// The meters of a session with one credential, which has read so many requests.
+fn read(requests: u64, bytes: u64, steps: u64) -> Meters {
+    Meters {
+        held: 57,
+        rows: 1,
+        pending: 0,
+        requests,
+        bytes,
+        steps,
+    }
 }
 
 #[test]
 fn registration_and_sign_in(rt: HostRuntime) {
     let mut session = two_channels(&rt);
     register(&rt, &mut session);
-    let meters = Meters {
-        held: 57,
-        rows: 1,
-        pending: 0,
-        requests: 1,
-        bytes: 90,
-        steps: 200,
-    };
-    assert_eq!(rt; session.meters(), meters);
-    assert_eq!(rt; session.credentials(), 1);
-    assert_eq!(rt; session.pending(), 0);
-
+    assert!(rt; session.meters() == read(1, 90, 200));
     sign_in(&rt, &mut session, 300, 1);
     sign_in(&rt, &mut session, 400, 2);
-    let meters = Meters {
-        requests: 3,
-        bytes: 188,
-        steps: 404,
-        ..meters
-    };
-    assert_eq!(rt; session.meters(), meters);
+    assert!(rt; session.meters() == read(3, 188, 404));
+    let counters = session.table().iter().map(|row| row.counter);
+    assert!(rt; counters.eq([2]));
+    let held = (session.held(), session.credentials(), session.pending());
+    assert!(rt; held == (0, 1, 0));
 }
+
+/// Replies to an authenticatorSelection, with the status of the answer.
+const SELECTIONS: [(Presence, u8); 3] = [
+    (Presence::Granted, 0x00),
+    (Presence::Denied, 0x27),
+    (Presence::TimedOut, 0x2f),
+];
 
 #[test]
 fn selection(rt: HostRuntime) {
     let mut session = two_channels(&rt);
-    let select = join(&[&[0x0b]]);
-    ask(&rt, &mut session, 0, &select, keepalive(2));
-    step_by(&rt, &mut session, 40, signature(), &[]);
-    assert_eq!(rt; session.need(), Need::Presence);
-    step_by(
-        &rt,
-        &mut session,
-        50,
-        Input::Presence(Presence::Granted),
-        &[refused(0)],
-    );
-    ask(&rt, &mut session, 60, &select, keepalive(2));
-    step_by(
-        &rt,
-        &mut session,
-        70,
-        Input::Presence(Presence::Denied),
-        &[refused(0x27)],
-    );
-    ask(&rt, &mut session, 80, &select, keepalive(2));
-    step_by(
-        &rt,
-        &mut session,
-        90,
-        Input::Presence(Presence::TimedOut),
-        &[refused(0x2f)],
-    );
-    step_by(
-        &rt,
-        &mut session,
-        100,
-        Input::Presence(Presence::Granted),
-        &[],
-    );
-    assert_eq!(rt; session.need(), Need::None);
+    for (presence, status) in SELECTIONS.iter() {
+        ask(&rt, &mut session, 0, &join(&[&[0x0b]]), keepalive(2));
+        step_by(
+            &rt,
+            &mut session,
+            50,
+            Input::Presence(*presence),
+            &[refused(*status)],
+        );
+    }
 }
