@@ -1,5 +1,5 @@
 -- What follows from the rules of `clap` for the words of the program.
-use Rattle.std.proofs.Common.{◌≡◌, ℕ, Bool, true, false, not, ◌&&◌, List, [], ◌∷◌, Option, Some, None, is_some, codes, option_and_then, option_map, refl, sym, ◌∙◌, ap, subst, cond, if◌then◌else◌, ◌||◌}
+use Rattle.std.proofs.Common.{◌≡◌, ℕ, Bool, true, false, not, ◌&&◌, List, [], ◌∷◌, Option, Some, None, is_some, codes, option_and_then, option_map, Result, Ok, Err, IfOk, refl, sym, ◌∙◌, ap, subst, cond, if◌then◌else◌, ◌||◌}
 use Rattle.std.specs.List.{fold, slice_index_or}
 use Rattle.std.specs.Str.{bytes_eq}
 use Rattle.std.proofs.lemmas.Slice.Eq.{bytes_eq-Decides}
@@ -9,7 +9,6 @@ use Rattle.clap.specs.Lexer.{long_of, short_of}
 use Rattle.clap.specs.Kinds.{Kinds, or_else, check_kinds}
 use Rattle.clap.specs.Faults.{fault_of, check_fault, defaults_fault, entered_fault, level_fault, other_fault, settle_fault, step_fault, turn_fault, walk_fault, word_fault, is_simple_and_free}
 use Rattle.clap.specs.Simple.{App, HasMatchesOf, Shape, is_simple, subcommand_of, argument_words, built, entered, help_shape, names_of, rows_at, shape_of, app_of, subcommand_rows_of, with_subcommand}
-use Rattle.clap.specs.Built.{AddsSubcommand}
 use Rattle.clap.specs.Matches.{first_value, subcommand_name_of}
 use Rattle.clap.proofs.WalkLemmas.{first_value-rows}
 use Rattle.clap.specs.declared.builder.command.Command.{Command}
@@ -17,7 +16,7 @@ use Rattle.clap.specs.declared.builder.command.Command.TheViews.{out-Command as 
 use Rattle.clap.specs.declared.parser.matches.ArgMatches.{ArgMatches}
 use Rattle.clap.specs.declared.parser.matches.Found.{Found}
 use Rattle.clap.specs.declared.error.kind.ErrorKind.TheVariants as kind
-use Rattle.hidlog.specs.CommandLine.{ask_of, asked_by, grammar, answers_to}
+use Rattle.hidlog.specs.CommandLine.{AddsCommand, ask_of, asked_by, grammar, answers_to}
 
 -- the rules of which clap's clauses speak
 is_simple_grammar : is_simple_and_free grammar ≡ true
@@ -189,11 +188,20 @@ asked_some app words m is has faultless =
 
 -- ---- what the code meets
 
--- a command with one more subcommand
-pub one_more : (old sub new : Command) (app : App) (shape : Shape) → AddsSubcommand old sub new → (fields_of sub).has_globals ≡ false
-    → app_of old ≡ app → shape_of sub ≡ shape → app_of new ≡ with_subcommand app shape
-one_more old sub new app shape added local is sub_is =
-    added.shape local ∙ ap (λ a. with_subcommand a (shape_of sub)) is ∙ ap (with_subcommand app) sub_is
+-- the grammar of a program with one more command
+pub one_more : {E : Type 0} (old new : Command) (made : Result Command E) (app : App) (shape : Shape) → AddsCommand old made new
+    → IfOk made (λ sub. shape_of sub ≡ shape) → IfOk made (λ sub. (fields_of sub).has_globals ≡ false)
+    → app_of old ≡ app → app_of new ≡ with_subcommand app shape
+one_more old new (Err e) app shape adds sub_is local is = absurd adds
+one_more old new (Ok sub) app shape adds sub_is local is =
+    adds local ∙ ap (λ a. with_subcommand a (shape_of sub)) is ∙ ap (with_subcommand app) sub_is
+
+-- the same, where there was memory for it
+pub last_one : {E : Type 0} (old : Command) (result made : Result Command E) (app : App) (shape : Shape) → IfOk result (AddsCommand old made)
+    → IfOk made (λ sub. shape_of sub ≡ shape) → IfOk made (λ sub. (fields_of sub).has_globals ≡ false)
+    → app_of old ≡ app → IfOk result (λ new. app_of new ≡ with_subcommand app shape)
+last_one old (Err e) made app shape adds sub_is local is = tt
+last_one old (Ok new) made app shape adds sub_is local is = one_more old new made app shape adds sub_is local is
 
 name_first : {X A B : Type 0} (f : X → A) (g : X → B) (o : Option X) → option_map (λ (p : A × B). p.0) (option_map (λ x. (f x, g x)) o) ≡ option_map f o
 name_first f g None = refl

@@ -1,8 +1,10 @@
 -- Which words ask for what, by the rules of `clap`.
-use Rattle.std.specs.Prelude.{ℕ, true, false, List, [], ◌∷◌, Option, Some, None, codes, option_map, option_and_then, map, if◌then◌else◌}
+use Rattle.std.specs.Prelude.{◌≡◌, ℕ, Result, IsOkAnd, true, false, List, [], ◌∷◌, Option, Some, None, codes, option_map, option_and_then, map, if◌then◌else◌}
 use Rattle.std.specs.Borrow.{Bor}
 use Rattle.std.specs.Str.{bytes_eq}
-use Rattle.clap.specs.Simple.{App, Shape, new_rule, new_shape, subcommand_of}
+use Rattle.clap.specs.Simple.{App, Shape, app_of, new_rule, new_shape, shape_of, subcommand_of, with_subcommand}
+use Rattle.clap.specs.declared.builder.command.Command.{Command}
+use Rattle.clap.specs.declared.builder.command.Command.TheViews.{out-Command as fields_of}
 use Rattle.clap.specs.Kinds.{Kinds}
 use Rattle.clap.specs.Faults.{fault_of}
 use Rattle.clap.specs.Walk.{Row, Rule, first_of}
@@ -35,6 +37,11 @@ grammar = record {
 -- are a command line
 unfoldable pub answers_to : List (List ℕ) → Kinds
 answers_to words = fault_of grammar words
+
+-- a program with this command more, which hands no option on to others
+abbrev pub AddsCommand : {E : Type 0} → Command → Result Command E → Command → Type 0
+AddsCommand program command more = IsOkAnd command (λ sub. (fields_of sub).has_globals ≡ false
+    → app_of more ≡ with_subcommand (app_of program) (shape_of sub))
 
 -- ---- what is asked
 

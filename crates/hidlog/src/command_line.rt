@@ -2,7 +2,8 @@
 ghost use Rattle.std.specs.Prelude.{◌≡◌, [], ◌∷◌, false, Some, codes, IfOk, IfErr, option_map, option_and_then};
 ghost use Rattle.clap.specs.Words.{HasKind, app_of, rule_of, shape_of, subcommand_rows_of};
 ghost use Rattle.clap.specs.declared.builder.command.Command.TheViews.{out-Command as fields_of};
-ghost use Rattle.hidlog.specs.CommandLine.{answers_to, ask_of, asked_by, asks, command, grammar, path_option, texts_of};
+ghost use Rattle.hidlog.specs.CommandLine.{AddsCommand, command, grammar, path_option};
+ghost use Rattle.hidlog.specs.CommandLine.{answers_to, ask_of, asked_by, asks, texts_of};
 
 use clap::error::ErrorKind;
 use clap::{Arg, ArgMatches, Command, Error};
@@ -112,21 +113,27 @@ fn show<'a>(alloc: Global) -> Command<'a>
     Command::new(alloc, "show").about("Writes what the log's lines say, line by line")
 }
 
+/// The program with one more command, where there was memory for it.
+fn with_command<'a>(
+    program: Command<'a>,
+    command: Result<Command<'a>, AllocError>,
+) -> Result<Command<'a>, AllocError>
+    ensures { IfOk result (AddsCommand program.entry command.entry) }
+{
+    program.subcommand(command?)
+}
+
 /// The command line's grammar.
 fn program<'a>(alloc: Global) -> Result<Command<'a>, AllocError>
     ensures { IfOk result (λ program. app_of program ≡ grammar) }
 {
-    Ok(
-        Command::new(alloc, "hidlog")
-            .version(VERSION)
-            .about("Replays text logs of CTAPHID sessions on a FIDO2 security key")
-            .subcommand_required(true)
-            .subcommand(replay(alloc)?)?
-            .subcommand(live(alloc)?)?
-            .subcommand(check(alloc)?)?
-            .subcommand(quiet(alloc)?)?
-            .subcommand(show(alloc))?,
-    )
+    let named = Command::new(alloc, "hidlog")
+        .version(VERSION)
+        .about("Replays text logs of CTAPHID sessions on a FIDO2 security key")
+        .subcommand_required(true);
+    let played = with_command(with_command(named, replay(alloc))?, live(alloc))?;
+    let read = with_command(with_command(played, check(alloc))?, quiet(alloc))?;
+    with_command(read, Ok(show(alloc)))
 }
 
 /// What the command that was met asks for.

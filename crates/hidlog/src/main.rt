@@ -3,9 +3,9 @@
 
 ghost use Rattle.std.specs.Prelude.{◌<◌, ◌-◌, ◌^◌};
 
-mod command_line;
 #[cfg(test)]
-mod command_tests;
+mod cases;
+mod command_line;
 mod files;
 mod process;
 mod program;

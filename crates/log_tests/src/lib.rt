@@ -3,6 +3,8 @@
 #![tactic(auto)]
 
 #[cfg(test)]
+mod cases;
+#[cfg(test)]
 mod checking;
 #[cfg(test)]
 mod living;
@@ -14,3 +16,5 @@ mod quieting;
 mod replaying;
 #[cfg(test)]
 mod showing;
+#[cfg(test)]
+mod streams;

@@ -1,110 +1,272 @@
-//! What no clause says: the texts, readers and writers that fail in mid-stream, and refused memory.
+//! What is shown of logs, worked out by hand: what no clause says; and refused memory.
 //!
 //! The test `shows_after_refused_memory` is for allocations that fail (`rt try --test --fail-alloc N`): whichever
 //! it is, the texts of the lines before were written, and the same call with memory succeeds.
+use crate::cases::{assert_case, assert_cases, texts};
+use crate::streams::{Drip, assert_written};
 use arrayvec::ArrayVec;
 use ctap_cbor::{Fault, decode_value};
-use session_log::{FromRead, LogFault, SliceIn, SliceOut, ToWrite};
+use session_log::{FromRead, LogFault, SliceIn, SliceOut};
 use session_show::{Diagnostic, show};
 use std::alloc::{AllocError, Global};
-use std::io::{self, ErrorKind, Read, Write};
+use std::io::Write;
 use std::process::Abort;
-use std::test::Fail;
 
-const INIT: &str = "ffffffff8600080001020304050607";
+/// An authenticatorGetInfo, after an INIT, and its answer in two packets.
+const INFO: &str = "\
+-> 0 ffffffff8600080001020304050607..
+-< ffffffff860011000102030405060700000001020100000c..
+-> 0 0000000190000104..
+-< 0000000190005100a60181684649444f5f325f3003500000000000000000000000000000000004a362726bf5627570f564706c6174f405\
+    191db9098163757362
+-< 00000001000a81a263616c672664747970656a7075626c69632d6b6579..
+-= held 0 rows 0 pending 0 requests 1 bytes 0 steps 0
++1 > 0 ffffffff INIT 8
++2 < ffffffff INIT 17
++3 > 0 00000001 CBOR 1
++3   request 04
++4 < 00000001 CBOR 81
++5 < 00000001 +0
++5   answer 00 {1: [\"FIDO_2_0\"], 3: h'00000000000000000000000000000000', 4: {\"rk\": true, \"up\": true, \"plat\
+    \": false}, 5: 7609, 9: [\"usb\"], 10: [{\"alg\": -7, \"type\": \"public-key\"}]}";
 
-const GREETING: &str = "ffffffff860011000102030405060700000001020100000c";
+/// Replies and comments, and the data byte of ERROR and KEEPALIVE, which stands there whatever the length is.
+const LINES: &str = "\
+show
+-t 7
+-p 8 denied
+-k 9 no
+-s 10 dddd
+-> 11 00000001910000..
+-< 00000001bf000106..
+-< 00000001bb000102..
++1 t 7
++2 p 8 denied
++3 k 9 no
++4 s 10 yes
++5 > 11 00000001 CANCEL 0
++6 < 00000001 ERROR 1 06
++7 < 00000001 KEEPALIVE 1 02
 
-const GET_INFO: &str = "0000000190000104";
+show
+-# a comment
+-
+-= anything
+-p 3 granted
+-p 18446744073709551615 timeout
+-s 0 no
+-k 5 Aa00000000000000000000000000000000000000000000000000000000000000 Aa00000000000000000000000000000000000000000\
+    000000000000000000000 Aa00000000000000000000000000000000000000000000000000000000000000
+!
++4 p 3 granted
++5 p 18446744073709551615 timeout
++6 s 0 no
++7 k 5 yes
 
-/// The two packets of the answer.
-const INFO: &str = "00000001900051\
-    00a60181684649444f5f325f3003500000000000000000000000000000000004a362726bf5627570f564706c6174f4051\
-    91db9098163757362";
+show
+-< 00000001bf0000..
+-> 1 000000017f..
++1 < 00000001 ERROR 0 00
++2 > 1 00000001 +127";
 
-const MORE_INFO: &str = "00000001000a81a263616c672664747970656a7075626c69632d6b6579";
+/// Messages of the two directions; one that another initialization packet breaks off; continuation packets of another
+/// channel, out of turn and after the whole message, which are passed over; and an empty message.
+const MESSAGES: &str = "\
+show
+-< 0000000190005100a60181684649444f5f325f3003500000000000000000000000000000000004a362726bf5627570f564706c6174f405\
+    191db9098163757362
+-> 0 0000000190005b01a5015820111111111111111111111111111111111111111111111111111111111111111102a16269646b6578616d\
+    706c652e636f6d03a162
+-< 00000001bb000102..
+-< 0000000190005100a60181684649444f5f325f3003500000000000000000000000000000000004a362726bf5627570f564706c6174f405\
+    191db9098163757362
+-> 0 0000000100696441010481a263616c672664747970656a7075626c69632d6b657907a162726bf5..
+-< 00000001000a81a263616c672664747970656a7075626c69632d6b6579..
++1 < 00000001 CBOR 81
++2 > 0 00000001 CBOR 91
++3 < 00000001 KEEPALIVE 1 02
++4 < 00000001 CBOR 81
++5 > 0 00000001 +0
++5   request 01 {1: h'1111111111111111111111111111111111111111111111111111111111111111', 2: {\"id\": \"example.co\
+    m\"}, 3: {\"id\": h'01'}, 4: [{\"alg\": -7, \"type\": \"public-key\"}], 7: {\"rk\": true}}
++6 < 00000001 +0
++6   answer 00 {1: [\"FIDO_2_0\"], 3: h'00000000000000000000000000000000', 4: {\"rk\": true, \"up\": true, \"plat\
+    \": false}, 5: 7609, 9: [\"usb\"], 10: [{\"alg\": -7, \"type\": \"public-key\"}]}
 
-const INFO_TEXT: &str = "{1: [\"FIDO_2_0\"], 3: h'00000000000000000000000000000000', \
-    4: {\"rk\": true, \"up\": true, \"plat\": false}, 5: 7609, 9: [\"usb\"], \
-    10: [{\"alg\": -7, \"type\": \"public-key\"}]}";
+show
+-> 0 0000000190005b01a5015820111111111111111111111111111111111111111111111111111111111111111102a16269646b6578616d\
+    706c652e636f6d03a162
+-> 0 00000001910000..
+-> 0 0000000100696441010481a263616c672664747970656a7075626c69632d6b657907a162726bf5..
++1 > 0 00000001 CBOR 91
++2 > 0 00000001 CANCEL 0
++3 > 0 00000001 +0
 
-/// The two packets of a request.
-const MAKE: &str = "0000000190005b\
-    01a5015820111111111111111111111111111111111111111111111111111111111111111102a16269646b6578616d706\
-    c652e636f6d03a162";
+show
+-> 0 0000000190005b01a5015820111111111111111111111111111111111111111111111111111111111111111102a16269646b6578616d\
+    706c652e636f6d03a162
+-> 0 0000000190005b01a5015820111111111111111111111111111111111111111111111111111111111111111102a16269646b6578616d\
+    706c652e636f6d03a162
+-> 0 0000000200ff..
+-> 0 0000000101ff..
+-> 0 0000000100696441010481a263616c672664747970656a7075626c69632d6b657907a162726bf5..
+-> 0 0000000100696441010481a263616c672664747970656a7075626c69632d6b657907a162726bf5..
+-> 0 0000000101ff..
++1 > 0 00000001 CBOR 91
++2 > 0 00000001 CBOR 91
++3 > 0 00000002 +0
++4 > 0 00000001 +1
++5 > 0 00000001 +0
++5   request 01 {1: h'1111111111111111111111111111111111111111111111111111111111111111', 2: {\"id\": \"example.co\
+    m\"}, 3: {\"id\": h'01'}, 4: [{\"alg\": -7, \"type\": \"public-key\"}], 7: {\"rk\": true}}
++6 > 0 00000001 +0
++7 > 0 00000001 +1
 
-const MORE_MAKE: &str =
-    "0000000100696441010481a263616c672664747970656a7075626c69632d6b657907a162726bf5";
+show
+-> 0 00000001900000..
++1 > 0 00000001 CBOR 0";
 
-const MAKE_TEXT: &str = "{1: h'1111111111111111111111111111111111111111111111111111111111111111', \
-    2: {\"id\": \"example.com\"}, 3: {\"id\": h'01'}, 4: [{\"alg\": -7, \"type\": \"public-key\"}], \
-    7: {\"rk\": true}}";
+/// Faults leave the texts of the lines before.
+const FAULTS: &str = "\
+show: line 3: not a log line
+-t 0
+-t 1
+-x
+-t 2
++1 t 0
++2 t 1
 
-const CANCEL: &str = "00000001910000";
+show: line 2: not a log line
+-t 0
+-< 00
+!
++1 t 0
 
-const KEEPALIVE: &str = "00000001bb000102";
+show: line 3: longer than 255 bytes
+-t 0
+-#
+-################################################################################################################\
+    #############################################################################################################\
+    ###################################
++1 t 0";
 
-/// A reader that gives a byte a call, and fails after its last one.
-#[derive(Drop)]
-struct Broken<'a> {
-    rest: &'a [u8],
+/// Items, each with its diagnostic notation: those of RFC 8949, appendix A, and then the bounds of what is escaped,
+/// four levels, and keys of each type.
+const ITEMS: &str = "\
+00 0
+1864 100
+1b000000e8d4a51000 1000000000000
+1bffffffffffffffff 18446744073709551615
+3bffffffffffffffff -18446744073709551616
+20 -1
+3863 -100
+f4 false
+f5 true
+f6 null
+40 h''
+4401020304 h'01020304'
+60 \"\"
+6449455446 \"IETF\"
+62225c \"\\\"\\\\\"
+62c3bc \"\u{fc}\"
+63e6b0b4 \"\u{6c34}\"
+64f0908591 \"\u{10151}\"
+80 []
+83010203 [1, 2, 3]
+8301820203820405 [1, [2, 3], [4, 5]]
+a0 {}
+a201020304 {1: 2, 3: 4}
+a26161016162820203 {\"a\": 1, \"b\": [2, 3]}
+826161a161626163 [\"a\", {\"b\": \"c\"}]
+6400090a1f \"\\u0000\\u0009\\u000a\\u001f\"
+65207e7fc280 \" ~\\u007f\u{80}\"
+8282a12081f680a0 [[{-1: [null]}, []], {}]
+a320f441abf5612ff6 {-1: false, h'ab': true, \"/\": null}";
+
+/// Requests of one packet. Faults are counted from the byte after the first one.
+const REQUESTS: &str = "\
+2d 2d
+01 01
+0100 01 0
+010000 01 fault 9 at 1
+02a202000100 02 fault 6 at 3
+01a1f500 01 fault 5 at 1
+01818181818100 01 fault 4 at 4
+0162c3 01 fault 1 at 0
+ff1805 ff fault 3 at 0
+01f90000 01 fault 8 at 0";
+
+#[test]
+fn logs_are_shown(rt: HostRuntime) -> Result<(), AllocError> {
+    let alloc = rt.alloc();
+    let info = format!(in alloc; "show\n{INFO}")?;
+    assert_case(&rt, alloc, info.as_str())?;
+    assert_cases(&rt, alloc, LINES)?;
+    assert_cases(&rt, alloc, MESSAGES)?;
+    assert_cases(&rt, alloc, FAULTS)
 }
 
-impl Read for Broken<'_> {
-    fn read(&mut self, out: &mut [u8]) -> io::Result<usize> {
-        match (self.rest, out) {
-            ([first, rest @ ..], [place, ..]) => {
-                *place = *first;
-                self.rest = rest;
-                Ok(1)
-            }
-            _ => Err(io::Error::from(ErrorKind::BrokenPipe)),
-        }
+/// The name of a command with what stands after it, for a message of 65535 bytes that begins with a0.
+fn shown_command(number: u8) -> &'static str {
+    match number {
+        0x01 => "PING 65535",
+        0x03 => "MSG 65535",
+        0x04 => "LOCK 65535",
+        0x06 => "INIT 65535",
+        0x08 => "WINK 65535",
+        0x10 => "CBOR 65535",
+        0x11 => "CANCEL 65535",
+        0x3b => "KEEPALIVE 65535 a0",
+        0x3f => "ERROR 65535 a0",
+        _ => "",
     }
 }
 
-/// A writer that takes a byte a call, and fails after this many calls.
-#[derive(Drop)]
-struct Narrow {
-    taken: ArrayVec<u8, 1024>,
-    calls: usize,
-}
-
-impl Write for Narrow {
-    fn write(&mut self, piece: &[u8]) -> io::Result<usize> {
-        let n = piece.len().min(1);
-        if self.calls == 0 || self.taken.try_extend_from_slice(&piece[..n]).is_err() {
-            return Err(io::Error::from(ErrorKind::BrokenPipe));
-        }
-        self.calls -= 1;
-        Ok(n)
+#[test]
+fn commands_by_name(rt: HostRuntime) -> Result<(), AllocError> {
+    let alloc = rt.alloc();
+    for number in 0..128u8 {
+        let (first, name) = (number | 128, shown_command(number));
+        let case = if name.is_empty() {
+            format!(in alloc;
+                "show\n-< 0123abcd{first:02x}ffffa0..\n+1 < 0123abcd 0x{number:02x} 65535"
+            )?
+        } else {
+            format!(in alloc; "show\n-< 0123abcd{first:02x}ffffa0..\n+1 < 0123abcd {name}")?
+        };
+        assert_case(&rt, alloc, case.as_str())?;
     }
-
-    fn flush(&mut self) -> io::Result<()> {
-        Ok(())
-    }
-}
-
-/// What is shown of a log has to be this text.
-fn assert_shown(rt: &impl Abort, alloc: Global, log: &str, want: &str) -> Result<(), Fail> {
-    let mut text = Vec::new(alloc);
-    let answer = show(
-        alloc,
-        &mut SliceIn::new(log.as_bytes()),
-        &mut ToWrite::new(&mut text),
-    );
-    assert_eq!(rt; answer, Ok(()));
-    assert_eq!(rt; str::from_utf8(text.as_slice())?, want);
     Ok(())
 }
 
-/// What was written has to be the text of the lines before this one.
-fn assert_stops_before(rt: &impl Abort, text: &[u8], written: &[u8], line: u64) {
-    let mut front = ArrayVec::<u8, 32>::new();
-    let _ = write!(front, "{line} ");
-    let rest = text.get(written.len()..).unwrap_or(b"");
-    assert!(rt; text.starts_with(written));
-    assert!(rt; !front.is_empty() && rest.starts_with(front.as_slice()));
+/// What is shown of a CBOR message of one packet.
+fn assert_request<R: Abort>(
+    rt: &R,
+    alloc: Global,
+    message: &str,
+    want: &str,
+) -> Result<(), AllocError> {
+    let len = message.len() / 2;
+    let case = format!(in alloc;
+        "show\n-> 0 0000000190{len:04x}{message}..\n+1 > 0 00000001 CBOR {len}\n+1   request {want}"
+    )?;
+    assert_case(rt, alloc, case.as_str())
+}
+
+#[test]
+fn items_in_diagnostic_notation(rt: HostRuntime) -> Result<(), AllocError> {
+    let alloc = rt.alloc();
+    for item in ITEMS.split('\n') {
+        let (bytes, want) = item.split_once(' ').unwrap_or((item, ""));
+        let message = format!(in alloc; "01{bytes}")?;
+        let shown = format!(in alloc; "01 {want}")?;
+        assert_request(&rt, alloc, message.as_str(), shown.as_str())?;
+    }
+    for request in REQUESTS.split('\n') {
+        let (message, want) = request.split_once(' ').unwrap_or((request, ""));
+        assert_request(&rt, alloc, message, want)?;
+    }
+    Ok(())
 }
 
 /// An item's text, or the fault of its bytes.
@@ -115,273 +277,65 @@ fn text_of(alloc: Global, bytes: &[u8]) -> Result<String, Fault> {
     Ok(text)
 }
 
-/// An authenticatorGetInfo, after an INIT.
-fn info_log(alloc: Global) -> Result<(String, String), AllocError> {
-    let log = format!(in alloc;
-        "> 0 {INIT:0<128}\n< {GREETING:0<128}\n> 0 {GET_INFO:0<128}\n< {INFO:0<128}\n< {MORE_INFO:0<128}\n\
-        = held 0 rows 0 pending 0 requests 1 bytes 0 steps 0\n"
-    )?;
-    let text = format!(in alloc;
-        "1 > 0 ffffffff INIT 8\n\
-        2 < ffffffff INIT 17\n\
-        3 > 0 00000001 CBOR 1\n\
-        3   request 04\n\
-        4 < 00000001 CBOR 81\n\
-        5 < 00000001 +0\n\
-        5   answer 00 {INFO_TEXT}\n"
-    )?;
-    Ok((log, text))
-}
-
 #[test]
-fn a_request_and_its_answer(rt: HostRuntime) -> Result<(), Fail> {
-    let alloc = rt.alloc();
-    let (log, text) = info_log(alloc)?;
-    assert_shown(&rt, alloc, log.as_str(), text.as_str())
-}
-
-#[test]
-fn replies_and_comments(rt: HostRuntime) -> Result<(), Fail> {
-    let alloc = rt.alloc();
-    let error = "00000001bf000106";
-    let log = format!(in alloc;
-        "t 7\np 8 denied\nk 9 no\ns 10 dddd\n> 11 {CANCEL:0<128}\n< {error:0<128}\n< {KEEPALIVE:0<128}\n"
-    )?;
-    let want = "1 t 7\n2 p 8 denied\n3 k 9 no\n4 s 10 yes\n5 > 11 00000001 CANCEL 0\n\
-        6 < 00000001 ERROR 1 06\n7 < 00000001 KEEPALIVE 1 02\n";
-    assert_shown(&rt, alloc, log.as_str(), want)?;
-    let bytes = "Aa";
-    let log = format!(in alloc;
-        "# a comment\n\n= anything\np 3 granted\np 18446744073709551615 timeout\ns 0 no\n\
-        k 5 {bytes:0<64} {bytes:0<64} {bytes:0<64}"
-    )?;
-    let want = "4 p 3 granted\n5 p 18446744073709551615 timeout\n6 s 0 no\n7 k 5 yes\n";
-    assert_shown(&rt, alloc, log.as_str(), want)
-}
-
-#[test]
-fn commands_by_name(rt: HostRuntime) -> Result<(), Fail> {
-    let alloc = rt.alloc();
-    for number in 0..128u8 {
-        let name = match number {
-            0x01 => "PING 65535",
-            0x03 => "MSG 65535",
-            0x04 => "LOCK 65535",
-            0x06 => "INIT 65535",
-            0x08 => "WINK 65535",
-            0x10 => "CBOR 65535",
-            0x11 => "CANCEL 65535",
-            0x3b => "KEEPALIVE 65535 a0",
-            0x3f => "ERROR 65535 a0",
-            _ => "",
-        };
-        let packet = format!(in alloc; "0123abcd{:02x}ffffa0", number | 128)?;
-        let log = format!(in alloc; "< {packet:0<128}\n")?;
-        let want = if name.is_empty() {
-            format!(in alloc; "1 < 0123abcd 0x{number:02x} 65535\n")?
-        } else {
-            format!(in alloc; "1 < 0123abcd {name}\n")?
-        };
-        assert_shown(&rt, alloc, log.as_str(), want.as_str())?;
-    }
-    // The data byte of ERROR and KEEPALIVE stands there whatever the length is, and a sequence number is decimal.
-    let (empty, last) = ("00000001bf0000", "000000017f");
-    let log = format!(in alloc; "< {empty:0<128}\n> 1 {last:0<128}\n")?;
-    let want = "1 < 00000001 ERROR 0 00\n2 > 1 00000001 +127\n";
-    assert_shown(&rt, alloc, log.as_str(), want)
-}
-
-#[test]
-fn items_in_diagnostic_notation(rt: HostRuntime) -> Result<(), Fail> {
-    let cases = [
-        // RFC 8949, appendix A.
-        (b"\x00".as_slice(), "0"),
-        (b"\x18\x64", "100"),
-        (b"\x1b\x00\x00\x00\xe8\xd4\xa5\x10\x00", "1000000000000"),
-        (
-            b"\x1b\xff\xff\xff\xff\xff\xff\xff\xff",
-            "18446744073709551615",
-        ),
-        (
-            b"\x3b\xff\xff\xff\xff\xff\xff\xff\xff",
-            "-18446744073709551616",
-        ),
-        (b"\x20", "-1"),
-        (b"\x38\x63", "-100"),
-        (b"\xf4", "false"),
-        (b"\xf5", "true"),
-        (b"\xf6", "null"),
-        (b"\x40", "h''"),
-        (b"\x44\x01\x02\x03\x04", "h'01020304'"),
-        (b"\x60", "\"\""),
-        (b"\x64IETF", "\"IETF\""),
-        (b"\x62\"\\", "\"\\\"\\\\\""),
-        (b"\x62\xc3\xbc", "\"\u{fc}\""),
-        (b"\x63\xe6\xb0\xb4", "\"\u{6c34}\""),
-        (b"\x64\xf0\x90\x85\x91", "\"\u{10151}\""),
-        (b"\x80", "[]"),
-        (b"\x83\x01\x02\x03", "[1, 2, 3]"),
-        (b"\x83\x01\x82\x02\x03\x82\x04\x05", "[1, [2, 3], [4, 5]]"),
-        (b"\xa0", "{}"),
-        (b"\xa2\x01\x02\x03\x04", "{1: 2, 3: 4}"),
-        (
-            b"\xa2\x61a\x01\x61b\x82\x02\x03",
-            "{\"a\": 1, \"b\": [2, 3]}",
-        ),
-        (b"\x82\x61a\xa1\x61b\x61c", "[\"a\", {\"b\": \"c\"}]"),
-        // The bounds of what is escaped, four levels, and keys of each type.
-        (b"\x64\x00\x09\x0a\x1f", "\"\\u0000\\u0009\\u000a\\u001f\""),
-        (b"\x65 ~\x7f\xc2\x80", "\" ~\\u007f\u{80}\""),
-        (
-            b"\x82\x82\xa1\x20\x81\xf6\x80\xa0",
-            "[[{-1: [null]}, []], {}]",
-        ),
-        (
-            b"\xa3\x20\xf4\x41\xab\xf5\x61/\xf6",
-            "{-1: false, h'ab': true, \"/\": null}",
-        ),
-    ];
-    for (bytes, want) in cases {
-        let text = text_of(rt.alloc(), bytes)?;
-        assert_eq!(rt; text.as_str(), want);
-    }
+fn an_item_as_text(rt: HostRuntime) -> Result<(), Fault> {
+    let text = text_of(rt.alloc(), b"\x82\x61a\xa1\x61b\x61c")?;
+    assert_eq!(rt; text.as_str(), "[\"a\", {\"b\": \"c\"}]");
     Ok(())
-}
-
-/// A CBOR message of one packet, with what is shown after the packet's own line.
-fn assert_request(rt: &impl Abort, alloc: Global, message: &str, want: &str) -> Result<(), Fail> {
-    let len = message.len() / 2;
-    let packet = format!(in alloc; "0000000190{len:04x}{message}")?;
-    let log = format!(in alloc; "> 0 {packet:0<128}\n")?;
-    let text = format!(in alloc; "1 > 0 00000001 CBOR {len}\n{want}")?;
-    assert_shown(rt, alloc, log.as_str(), text.as_str())
-}
-
-#[test]
-fn messages_of_one_packet(rt: HostRuntime) -> Result<(), Fail> {
-    let cases = [
-        ("", ""),
-        ("2d", "1   request 2d\n"),
-        ("01", "1   request 01\n"),
-        ("0100", "1   request 01 0\n"),
-        // Faults are counted from the byte after the first one.
-        ("010000", "1   request 01 fault 9 at 1\n"),
-        ("02a202000100", "1   request 02 fault 6 at 3\n"),
-        ("01a1f500", "1   request 01 fault 5 at 1\n"),
-        ("01818181818100", "1   request 01 fault 4 at 4\n"),
-        ("0162c3", "1   request 01 fault 1 at 0\n"),
-        ("ff1805", "1   request ff fault 3 at 0\n"),
-        ("01f90000", "1   request 01 fault 8 at 0\n"),
-    ];
-    for (message, want) in cases {
-        assert_request(&rt, rt.alloc(), message, want)?;
-    }
-    Ok(())
-}
-
-#[test]
-fn directions_interleave(rt: HostRuntime) -> Result<(), Fail> {
-    let alloc = rt.alloc();
-    let log = format!(in alloc;
-        "< {INFO:0<128}\n> 0 {MAKE:0<128}\n< {KEEPALIVE:0<128}\n< {INFO:0<128}\n> 0 {MORE_MAKE:0<128}\n\
-        < {MORE_INFO:0<128}\n"
-    )?;
-    let text = format!(in alloc;
-        "1 < 00000001 CBOR 81\n\
-        2 > 0 00000001 CBOR 91\n\
-        3 < 00000001 KEEPALIVE 1 02\n\
-        4 < 00000001 CBOR 81\n\
-        5 > 0 00000001 +0\n\
-        5   request 01 {MAKE_TEXT}\n\
-        6 < 00000001 +0\n\
-        6   answer 00 {INFO_TEXT}\n"
-    )?;
-    assert_shown(&rt, alloc, log.as_str(), text.as_str())
-}
-
-#[test]
-fn messages_are_broken_off(rt: HostRuntime) -> Result<(), Fail> {
-    let alloc = rt.alloc();
-    // Any initialization packet of the direction begins anew.
-    let log = format!(in alloc; "> 0 {MAKE:0<128}\n> 0 {CANCEL:0<128}\n> 0 {MORE_MAKE:0<128}\n")?;
-    let want = "1 > 0 00000001 CBOR 91\n2 > 0 00000001 CANCEL 0\n3 > 0 00000001 +0\n";
-    assert_shown(&rt, alloc, log.as_str(), want)?;
-    // Another channel's continuation packet, and one out of turn, are passed over; so is one after the whole message.
-    let (other, later) = ("0000000200ff", "0000000101ff");
-    let log = format!(in alloc;
-        "> 0 {MAKE:0<128}\n> 0 {MAKE:0<128}\n> 0 {other:0<128}\n> 0 {later:0<128}\n> 0 {MORE_MAKE:0<128}\n\
-        > 0 {MORE_MAKE:0<128}\n> 0 {later:0<128}\n"
-    )?;
-    let text = format!(in alloc;
-        "1 > 0 00000001 CBOR 91\n\
-        2 > 0 00000001 CBOR 91\n\
-        3 > 0 00000002 +0\n\
-        4 > 0 00000001 +1\n\
-        5 > 0 00000001 +0\n\
-        5   request 01 {MAKE_TEXT}\n\
-        6 > 0 00000001 +0\n\
-        7 > 0 00000001 +1\n"
-    )?;
-    assert_shown(&rt, alloc, log.as_str(), text.as_str())
 }
 
 /// A CBOR message of this length in 129 packets, which is a byte string of zeros after its first byte, and its text
 /// without the item.
-fn long_log(alloc: Global, len: u16) -> Result<(String, String), AllocError> {
+fn long_case(alloc: Global, len: u16) -> Result<String, AllocError> {
     let string = len.saturating_sub(4);
-    let packet = format!(in alloc; "0000000190{len:04x}0059{string:04x}")?;
-    let mut log = format!(in alloc; "< {packet:0<128}\n")?;
-    let mut text = format!(in alloc; "1 < 00000001 CBOR {len}\n")?;
+    let mut case = format!(in alloc;
+        "show\n-< 0000000190{len:04x}0059{string:04x}..\n+1 < 00000001 CBOR {len}"
+    )?;
     for number in 0..128u8 {
-        let packet = format!(in alloc; "00000001{number:02x}")?;
-        writeln!(log, "< {packet:0<128}")?;
         let line = number.saturating_add(2);
-        writeln!(text, "{line} < 00000001 +{number}")?;
+        let packet = format!(in alloc;
+            "\n-< 00000001{number:02x}..\n+{line} < 00000001 +{number}"
+        )?;
+        case.push_str(packet.as_str())?;
     }
-    Ok((log, text))
+    Ok(case)
 }
 
 #[test]
-fn messages_of_at_most_7609_bytes(rt: HostRuntime) -> Result<(), Fail> {
+fn messages_of_at_most_7609_bytes(rt: HostRuntime) -> Result<(), AllocError> {
     let alloc = rt.alloc();
-    let (log, text) = long_log(alloc, 7609)?;
+    let case = long_case(alloc, 7609)?;
     let zeros = "";
-    let want = format!(in alloc; "{text}129   answer 00 h'{zeros:0<15210}'\n")?;
-    assert_shown(&rt, alloc, log.as_str(), want.as_str())?;
-    let (log, text) = long_log(alloc, 7610)?;
-    assert_shown(&rt, alloc, log.as_str(), text.as_str())
+    let whole = format!(in alloc; "{case}\n+129   answer 00 h'{zeros:0<15210}'")?;
+    assert_case(&rt, alloc, whole.as_str())?;
+    let case = long_case(alloc, 7610)?;
+    assert_case(&rt, alloc, case.as_str())
+}
+
+/// What was written has to be the text of the lines before this one.
+fn assert_stops_before<R: Abort>(rt: &R, text: &[u8], written: &[u8], line: u64) {
+    let mut front = ArrayVec::<u8, 32>::new();
+    let _ = write!(front, "{line} ");
+    let rest = text.get(written.len()..).unwrap_or(b"");
+    let stops = !front.is_empty() && rest.starts_with(front.as_slice());
+    assert!(rt; stops && text.starts_with(written));
 }
 
 #[test]
-fn line_faults_leave_the_lines_before(rt: HostRuntime) -> Result<(), Fail> {
-    let long = "#";
-    let too_long = format!(in rt.alloc(); "t 0\n#\n{long:#<256}\n")?;
-    let cases = [
-        ("t 0\nt 1\nx\nt 2\n", LogFault::BadLine(3), "1 t 0\n2 t 1\n"),
-        ("t 0\n< 00", LogFault::BadLine(2), "1 t 0\n"),
-        (too_long.as_str(), LogFault::TooLong(3), "1 t 0\n"),
-    ];
-    for (log, fault, want) in cases {
-        let mut text = Vec::new(rt.alloc());
-        let mut target = ToWrite::new(&mut text);
-        let answer = show(rt.alloc(), &mut SliceIn::new(log.as_bytes()), &mut target);
-        assert_eq!(rt; answer, Err(fault));
-        assert_eq!(rt; text.as_slice(), want.as_bytes());
-    }
-    Ok(())
-}
-
-#[test]
-fn readers_fail(rt: HostRuntime) -> Result<(), Fail> {
-    let (log, text) = info_log(rt.alloc())?;
+fn streams_fail(rt: HostRuntime) -> Result<(), AllocError> {
+    let alloc = rt.alloc();
+    assert_written(&rt, alloc, "show", INFO)?;
+    let (log, text) = texts(alloc, INFO)?;
     let starts = [0, 133, 264, 397, 528, 659];
     for given in 0..659usize {
         let mut room = [0; 1024];
         let mut target = SliceOut::new(&mut room);
-        let mut source = FromRead::new(Broken {
+        let mut source = FromRead::new(Drip {
             rest: log.as_bytes().get(..given).unwrap_or(b""),
+            step: 1,
+            fails: true,
         });
-        let answer = show(rt.alloc(), &mut source, &mut target);
+        let answer = show(alloc, &mut source, &mut target);
         let line = starts.iter().filter(|start| **start <= given).count() as u64;
         assert_eq!(rt; answer, Err(LogFault::Read(line)));
         assert_stops_before(&rt, text.as_bytes(), target.written(), line);
@@ -389,60 +343,43 @@ fn readers_fail(rt: HostRuntime) -> Result<(), Fail> {
     Ok(())
 }
 
-#[test]
-fn writers_fail(rt: HostRuntime) -> Result<(), Fail> {
-    let (log, text) = info_log(rt.alloc())?;
-    for calls in 0..=text.len() {
-        let mut narrow = Narrow {
-            taken: ArrayVec::new(),
-            calls,
-        };
-        let mut target = ToWrite::new(&mut narrow);
-        let answer = show(rt.alloc(), &mut SliceIn::new(log.as_bytes()), &mut target);
-        let want = if calls < text.len() {
-            Err(LogFault::Write)
-        } else {
-            Ok(())
-        };
-        assert_eq!(rt; answer, want);
-        assert_eq!(rt; narrow.taken.len(), calls);
-        assert!(rt; text.as_bytes().starts_with(narrow.taken.as_slice()));
-    }
-    Ok(())
-}
+/// A log and its text, for a test in which nothing but `show` allocates.
+const SMALL_LOG: &str = "\
+t 0
+> 0 000000019000010400000000000000000000000000000000000000000000000000000000000000000000000000000000\
+    00000000000000000000000000000000
+< 0000000190005100a60181684649444f5f325f3003500000000000000000000000000000000004a362726bf5627570f564\
+    706c6174f405191db9098163757362
+< 00000001000a81a263616c672664747970656a7075626c69632d6b65790000000000000000000000000000000000000000\
+    000000000000000000000000000000
+t 1";
 
-/// The same log and text, where nothing but `show` allocates.
-fn small_log() -> (ArrayVec<u8, 1024>, ArrayVec<u8, 1024>) {
-    let (mut log, mut text) = (ArrayVec::new(), ArrayVec::new());
-    let _ = write!(
-        log,
-        "t 0\n> 0 {GET_INFO:0<128}\n< {INFO:0<128}\n< {MORE_INFO:0<128}\nt 1"
-    );
-    let _ = write!(
-        text,
-        "1 t 0\n2 > 0 00000001 CBOR 1\n2   request 04\n3 < 00000001 CBOR 81\n"
-    );
-    let _ = write!(text, "4 < 00000001 +0\n4   answer 00 {INFO_TEXT}\n5 t 1\n");
-    (log, text)
-}
+const SMALL_TEXT: &str = "\
+1 t 0
+2 > 0 00000001 CBOR 1
+2   request 04
+3 < 00000001 CBOR 81
+4 < 00000001 +0
+4   answer 00 {1: [\"FIDO_2_0\"], 3: h'00000000000000000000000000000000', \
+    4: {\"rk\": true, \"up\": true, \"plat\": false}, 5: 7609, 9: [\"usb\"], \
+    10: [{\"alg\": -7, \"type\": \"public-key\"}]}
+5 t 1
+";
 
 #[test]
 fn shows_after_refused_memory(rt: HostRuntime) {
-    let (log, text) = small_log();
+    let (log, text) = (SMALL_LOG.as_bytes(), SMALL_TEXT.as_bytes());
     let mut room = [0; 1024];
     let mut target = SliceOut::new(&mut room);
-    let answer = show(rt.alloc(), &mut SliceIn::new(log.as_slice()), &mut target);
+    let answer = show(rt.alloc(), &mut SliceIn::new(log), &mut target);
     match answer {
-        Ok(()) => assert_eq!(rt; target.written(), text.as_slice()),
+        Ok(()) => assert!(rt; target.written() == text),
         Err(LogFault::Memory(line)) => {
-            assert_stops_before(&rt, text.as_slice(), target.written(), line);
+            assert_stops_before(&rt, text, target.written(), line);
             let mut room = [0; 1024];
             let mut again = SliceOut::new(&mut room);
-            assert_eq!(rt;
-                show(rt.alloc(), &mut SliceIn::new(log.as_slice()), &mut again),
-                Ok(())
-            );
-            assert_eq!(rt; again.written(), text.as_slice());
+            let answer = show(rt.alloc(), &mut SliceIn::new(log), &mut again);
+            assert!(rt; answer == Ok(()) && again.written() == text);
         }
         Err(_) => assert!(rt; false),
     }

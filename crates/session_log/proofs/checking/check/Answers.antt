@@ -1,10 +1,14 @@
-use Rattle.std.proofs.Common.{Err, refl, ap, ◌∙◌}
+use Rattle.std.proofs.Common.{◌≡◌, Err, refl, ap, ◌∙◌, subst}
 use Rattle.std.proofs.lemmas.Result.{err_from_is_err_and}
-use Rattle.session_log.specs.Check.{begun, check_machine, compared, due_packets}
-use Rattle.session_log.specs.Ending.{ending_of}
-use Rattle.session_log.specs.Streams.{IsAllRead}
+use Rattle.session_log.specs.Check.{Compared, begun, check_machine, compared, due_packets}
+use Rattle.session_log.specs.Ending.{Ending, ended_by, ending_of, read_fails, write_fails}
+use Rattle.session_log.specs.Replay.{ReadsTo}
+use Rattle.token_session.specs.Meters.{SessionState}
+use Rattle.session_log.specs.Streams.{Counts, IsAllRead}
 use Rattle.session_log.specs.declared.fault.LogFault.{LogFault}
 use Rattle.session_log.proofs.Checks.{fails_so, ends_so, ends_reach, ends_read, ends_written}
+use Rattle.session_log.proofs.Exits.{as_err}
+use Rattle.session_log.proofs.Failures.{on_any, on_err}
 use Rattle.session_log.proofs.Histories.{checks_history}
 use Rattle.session_log.proofs.checking.check.Goals as goal
 
@@ -91,3 +95,41 @@ returns-clause-writes g c =
     let from = compared s0 p0.lines p0.input p0.found (due_packets p0.awaited p0.outbox) p0.inputs p0.packets in
     let to = compared s p.lines p.input p.found (due_packets p.awaited p.outbox) p.inputs p.packets in
     ends_written check_machine to taken g.T.Target.failed c.args.writer.now (c.play_all.new.writer, c.finish.new.writer) (ending_of c.finish.result) (c.finish.ensures s) c.in_ok-play_all.ensures.writes
+
+pub returns-in_err-play_all-clause-end : goal.returns-in_err-play_all-clause-end
+returns-in_err-play_all-clause-end g c =
+    let r = c.from_residual.result in
+    let e = c.in_err-play_all.field-0.0 in
+    let from = err_from_is_err_and r c.from_residual.ensures.1 in
+    let is : r ≡ Err e = from.1 ∙ ap (λ (f : LogFault). Err f) from.2 in
+    on_err _ r e is
+
+pub returns-in_err-play_all-clause-reach : goal.returns-in_err-play_all-clause-reach
+returns-in_err-play_all-clause-reach g c =
+    let r = c.from_residual.result in
+    let e = c.in_err-play_all.field-0.0 in
+    let from = err_from_is_err_and r c.from_residual.ensures.1 in
+    let is : r ≡ Err e = from.1 ∙ ap (λ (f : LogFault). Err f) from.2 in
+    let left = g.S.Source.left in
+    let all = IsAllRead left g.S.Source.ended c.play_all.new.reader in
+    as_err r e (λ (q : Ending). ReadsTo check_machine (begun c.args.session.now) (left c.args.reader.now) (left c.play_all.new.reader) all q) is
+    (subst (λ (b : Compared SessionState). ReadsTo check_machine b (left c.args.reader.now) (left c.play_all.new.reader) all (ended_by e)) (c.new-player.ensures.begun c.args.session.now) c.in_err-play_all.ensures.reach)
+
+pub returns-in_err-play_all-clause-reads : goal.returns-in_err-play_all-clause-reads
+returns-in_err-play_all-clause-reads g c =
+    let r = c.from_residual.result in
+    let e = c.in_err-play_all.field-0.0 in
+    let from = err_from_is_err_and r c.from_residual.ensures.1 in
+    let is : r ≡ Err e = from.1 ∙ ap (λ (f : LogFault). Err f) from.2 in
+    as_err r e (λ (q : Ending). Counts g.S.Source.failed (c.args.reader.now, c.play_all.new.reader) (read_fails q)) is c.in_err-play_all.ensures.reads
+
+pub returns-in_err-play_all-clause-writes : goal.returns-in_err-play_all-clause-writes
+returns-in_err-play_all-clause-writes g c =
+    let r = c.from_residual.result in
+    let e = c.in_err-play_all.field-0.0 in
+    let from = err_from_is_err_and r c.from_residual.ensures.1 in
+    let is : r ≡ Err e = from.1 ∙ ap (λ (f : LogFault). Err f) from.2 in
+    as_err r e (λ (q : Ending). Counts g.T.Target.failed (c.args.writer.now, c.play_all.new.writer) (write_fails q)) is c.in_err-play_all.ensures.writes
+
+pub returns-clause-end : goal.returns-clause-end
+returns-clause-end g c = on_any c.finish.result c.in_ok-play_all.ensures.end

@@ -4,6 +4,7 @@ use Rattle.session_log.specs.Said.{said, says}
 use Rattle.session_log.specs.Text.{ended, tick_text}
 use Rattle.session_log.specs.declared.line.Line.TheVariants.{Input, Comment}
 use Rattle.session_log.proofs.Exits.{writes_for}
+use Rattle.session_log.proofs.Failures.{on_any, puts_own}
 use Rattle.session_log.proofs.quieting.QuietingPlayer.play.Goals as goal
 
 pub returns-in-Some-Comment-clause-played : goal.returns-in-Some-Comment-clause-played
@@ -31,3 +32,24 @@ returns-else-noise-clause-played g c =
     let noise = sym c.if-noise.false ∙ c.noise-noise.ensures.state in
     writes_for quiet_machine g.T.Target.taken g.T.Target.failed c.args.number c.args.session.now c.step.new.self line (Input x) (c.args.writer.now, c.put_text-else-noise.new.writer) c.put_text-else-noise.result
     c.args.text.now is refl c.step.ensures.state tt (c.requires.ended ∙ ap (λ (b : Bool). ended (cond b (tick_text x.at) line)) noise) c.put_text-else-noise.ensures
+
+pub returns-in-Some-Comment-clause-own : goal.returns-in-Some-Comment-clause-own
+returns-in-Some-Comment-clause-own g c =
+    puts_own g.T.Target.taken g.T.Target.failed (c.args.writer.now, c.put_text.new.writer) c.args.text.now c.args.number c.put_text.result c.put_text.ensures
+
+pub returns-in-Some-Comment-clause-next : goal.returns-in-Some-Comment-clause-next
+returns-in-Some-Comment-clause-next g c = on_any c.put_text.result c.requires.ready
+
+pub returns-then-noise-clause-own : goal.returns-then-noise-clause-own
+returns-then-noise-clause-own g c =
+    puts_own g.T.Target.taken g.T.Target.failed (c.args.writer.now, c.put_tick.new.writer) (ended (tick_text c.in-Some.timed.at)) c.args.number c.put_tick.result c.put_tick.ensures
+
+pub returns-then-noise-clause-next : goal.returns-then-noise-clause-next
+returns-then-noise-clause-next g c = on_any c.put_tick.result c.drop_packets.ensures
+
+pub returns-else-noise-clause-own : goal.returns-else-noise-clause-own
+returns-else-noise-clause-own g c =
+    puts_own g.T.Target.taken g.T.Target.failed (c.args.writer.now, c.put_text-else-noise.new.writer) c.args.text.now c.args.number c.put_text-else-noise.result c.put_text-else-noise.ensures
+
+pub returns-else-noise-clause-next : goal.returns-else-noise-clause-next
+returns-else-noise-clause-next g c = on_any c.put_text-else-noise.result c.drop_packets.ensures

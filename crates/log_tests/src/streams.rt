@@ -1,0 +1,257 @@
+//! Readers and writers that fail in mid-stream, and when a log is read and written.
+use crate::cases::{play, texts};
+use crate::replaying::METERS;
+use arrayvec::ArrayVec;
+use session_log::{FromRead, LogFault, SliceIn, SliceOut, Source, Target, ToWrite};
+use std::alloc::{AllocError, Global};
+use std::cell::Cell;
+use std::io::{self, ErrorKind, Read, Write};
+use std::process::Abort;
+
+type Text = ArrayVec<u8, 1024>;
+
+/// An INIT and a PING, replayed.
+const REPLAYED: &str = "\
+|> 0 ffffffff8600080001020304050607..
++< ffffffff860011000102030405060700000001020100000c..
+|> 5 00000001810003616263..
++< 00000001810003616263..
++= held 0 rows 0 pending 0 requests 0 bytes 0 steps 0";
+
+/// A reader that gives at most `step` bytes a call, and may fail after its last one.
+#[derive(Drop)]
+pub struct Drip<'a> {
+    pub rest: &'a [u8],
+    pub step: usize,
+    pub fails: bool,
+}
+
+impl Read for Drip<'_> {
+    fn read(&mut self, out: &mut [u8]) -> io::Result<usize> {
+        if self.fails && self.rest.is_empty() {
+            return Err(io::Error::from(ErrorKind::BrokenPipe));
+        }
+        let n = self.rest.len().min(out.len()).min(self.step);
+        out[..n].copy_from_slice(&self.rest[..n]);
+        self.rest = &self.rest[n..];
+        Ok(n)
+    }
+}
+
+/// A writer that takes at most `step` bytes a call, and fails after this many calls.
+#[derive(Drop)]
+struct Narrow {
+    taken: Text,
+    step: usize,
+    calls: usize,
+}
+
+impl Write for Narrow {
+    fn write(&mut self, piece: &[u8]) -> io::Result<usize> {
+        let n = piece.len().min(self.step);
+        if self.calls == 0 || self.taken.try_extend_from_slice(&piece[..n]).is_err() {
+            return Err(io::Error::from(ErrorKind::BrokenPipe));
+        }
+        self.calls -= 1;
+        Ok(n)
+    }
+
+    fn flush(&mut self) -> io::Result<()> {
+        Ok(())
+    }
+}
+
+/// A reader that gives a piece a call, and notes how much a writer had taken by then.
+#[derive(Drop)]
+struct Watching<'a> {
+    pieces: &'a [&'a str],
+    taken: &'a Cell<usize>,
+    seen: ArrayVec<usize, 9>,
+}
+
+impl Read for Watching<'_> {
+    fn read(&mut self, out: &mut [u8]) -> io::Result<usize> {
+        let _ = self.seen.try_push(self.taken.get());
+        if self.pieces.is_empty() {
+            return Ok(0);
+        }
+        let piece = self.pieces[0].as_bytes();
+        let n = piece.len().min(out.len());
+        out[..n].copy_from_slice(&piece[..n]);
+        self.pieces = &self.pieces[1..];
+        Ok(n)
+    }
+}
+
+/// A writer that knows how much it took, in how many calls.
+#[derive(Drop)]
+struct Watched<'a> {
+    taken: &'a Cell<usize>,
+    calls: &'a Cell<usize>,
+}
+
+impl Write for Watched<'_> {
+    fn write(&mut self, piece: &[u8]) -> io::Result<usize> {
+        self.taken.set(self.taken.get().saturating_add(piece.len()));
+        self.calls.set(self.calls.get().saturating_add(1));
+        Ok(piece.len())
+    }
+
+    fn flush(&mut self) -> io::Result<()> {
+        Ok(())
+    }
+}
+
+/// Of a log whose first so many bytes come one by one, this is answered, and this much of the text written.
+fn assert_read<R: Abort>(
+    rt: &R,
+    alloc: Global,
+    command: &str,
+    given: usize,
+    fails: bool,
+    wanted: (Result<(), LogFault>, usize),
+) -> Result<(), AllocError> {
+    let (log, whole) = texts(alloc, REPLAYED)?;
+    let mut written = Vec::new(alloc);
+    let reader = Drip {
+        rest: log.as_bytes().get(..given).unwrap_or(b""),
+        step: 1,
+        fails,
+    };
+    let mut reader = FromRead::new(reader);
+    let answer = play(alloc, command, &mut reader, &mut ToWrite::new(&mut written));
+    assert_eq!(rt; (answer, written.len()), wanted);
+    assert!(rt; whole.as_bytes().starts_with(written.as_slice()));
+    Ok(())
+}
+
+#[test]
+fn readers_fail(rt: HostRuntime) -> Result<(), AllocError> {
+    let alloc = rt.alloc();
+    assert_read(&rt, alloc, "replay", 266, false, (Ok(()), 581))?;
+    let fault = LogFault::Read(2);
+    assert_read(&rt, alloc, "replay", 133, true, (Err(fault), 264))?;
+    assert_read(&rt, alloc, "replay", 200, true, (Err(fault), 264))?;
+    // A packet is missing where the reader fails, which no end says.
+    assert_read(&rt, alloc, "check", 200, true, (Err(fault), 0))
+}
+
+/// Into a writer that takes a byte a call and fails after any number of calls, so much of the text is written.
+pub fn assert_written<R: Abort>(
+    rt: &R,
+    alloc: Global,
+    command: &str,
+    lines: &str,
+) -> Result<(), AllocError> {
+    let (log, text) = texts(alloc, lines)?;
+    for calls in 0..=text.len() {
+        let mut narrow = Narrow {
+            taken: ArrayVec::new(),
+            step: 1,
+            calls,
+        };
+        let reader = &mut SliceIn::new(log.as_bytes());
+        let answer = play(alloc, command, reader, &mut ToWrite::new(&mut narrow));
+        let wanted = if calls < text.len() {
+            Err(LogFault::Write)
+        } else {
+            Ok(())
+        };
+        let same = narrow.taken.len() == calls
+            && text.as_bytes().starts_with(narrow.taken.as_slice());
+        assert!(rt; same && answer == wanted, "{command}, {calls}: {answer:?}");
+    }
+    Ok(())
+}
+
+#[test]
+fn writers_fail(rt: HostRuntime) -> Result<(), AllocError> {
+    let alloc = rt.alloc();
+    assert_written(&rt, alloc, "replay", REPLAYED)?;
+    assert_written(&rt, alloc, "check", "-t 5\n+same 1 inputs 0 packets")?;
+    assert_written(&rt, alloc, "quiet", "|t 7\n|t 8")?;
+    let lived = format!(in alloc; "|t 5\n+# need nothing\n|t 7\n+# need nothing\n+{METERS}")?;
+    assert_written(&rt, alloc, "live", lived.as_str())
+}
+
+/// When so many pieces of a log were asked for, so much was written, and all in so many calls.
+fn assert_watched<R: Abort>(
+    rt: &R,
+    alloc: Global,
+    command: &str,
+    pieces: &[&str],
+    wanted: (&[usize], usize, usize),
+) {
+    let (taken, calls) = (Cell::new(0), Cell::new(0));
+    let mut watching = Watching {
+        pieces,
+        taken: &taken,
+        seen: ArrayVec::new(),
+    };
+    let mut writer = ToWrite::new(Watched {
+        taken: &taken,
+        calls: &calls,
+    });
+    let answer = play(
+        alloc,
+        command,
+        &mut FromRead::new(&mut watching),
+        &mut writer,
+    );
+    assert_eq!(rt; answer, Ok(()));
+    assert_eq!(rt;
+        (watching.seen.as_slice(), taken.get(), calls.get()),
+        wanted
+    );
+}
+
+#[test]
+fn a_line_is_answered_before_more_is_read(rt: HostRuntime) -> Result<(), AllocError> {
+    let alloc = rt.alloc();
+    let (greeting, _) = texts(alloc, "|> 0 ffffffff8600080001020304050607..")?;
+    let end = METERS.len() + 1;
+    // The INIT, half a tick, its other half with a comment and the front of another. One write for each line and its
+    // packets, and one for the meters.
+    let pieces = [greeting.as_str(), "t ", "5\n# a\n#", " b\n"];
+    let seen = [0, 264, 264, 272, 276];
+    assert_watched(&rt, alloc, "replay", &pieces, (&seen, 276 + end, 5));
+    // With what is needed: a line of 133 bytes, one of 131 and one of 15; then 4 and 15; then 4.
+    let pieces = [greeting.as_str(), "t ", "5\n# a\n"];
+    let seen = [0, 279, 279, 302];
+    assert_watched(&rt, alloc, "live", &pieces, (&seen, 302 + end, 4));
+    Ok(())
+}
+
+#[test]
+fn failures_are_counted(rt: HostRuntime) {
+    let mut room = [0; 4];
+    let mut target = SliceOut::new(&mut room);
+    let put = [
+        target.put(b"abc").ok(),
+        target.put(b"def").ok(),
+        target.put(b"").ok(),
+        target.put(b"ef").ok(),
+    ];
+    assert_eq!(rt;
+        (put, target.failures()),
+        ([Some(3), Some(1), Some(0), None], 1)
+    );
+    assert!(rt; target.written() == b"abcd".as_slice());
+    let mut source = FromRead::new(Drip {
+        rest: b"a",
+        step: 1,
+        fails: true,
+    });
+    let mut out = [0; 2];
+    let got = (source.get(&mut out).ok(), source.get(&mut out).ok());
+    assert_eq!(rt; (got, source.failures()), ((Some(1), None), 1));
+    let mut source = SliceIn::new(b"abc");
+    let got = source.get(&mut out).ok();
+    assert_eq!(rt; (got, out, source.failures()), (Some(2), *b"ab", 0));
+    let mut target = ToWrite::new(Narrow {
+        taken: ArrayVec::new(),
+        step: 0,
+        calls: 9,
+    });
+    assert_eq!(rt; (target.put(b"a").ok(), target.failures()), (None, 1));
+}
