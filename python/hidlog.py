@@ -6,7 +6,7 @@
     print(result.text.decode())
 
 The log is the state: to hand the key one more input, put its line after the log and call again, as in_process.py does.
-The library is release/libhidlog.so, or the one that the variable HIDLOG_LIBRARY names.
+The library is release/libhidlog.so.0, or the one that the variable HIDLOG_LIBRARY names.
 """
 
 import ctypes
@@ -14,7 +14,7 @@ import os
 from typing import NamedTuple, Optional
 
 _TOP = os.path.join(os.path.dirname(os.path.abspath(__file__)), "..")
-_PATH = os.environ.get("HIDLOG_LIBRARY") or os.path.join(_TOP, "release", "libhidlog.so")
+_PATH = os.environ.get("HIDLOG_LIBRARY") or os.path.join(_TOP, "release", "libhidlog.so.0")
 _WRITE = 5
 _TEXTS = {
     1: "line {line}: not a log line",

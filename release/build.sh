@@ -53,7 +53,6 @@ build_program() {
 build_shared() {
     "$kit/toolchain/bin/ld.lld" -shared -soname libhidlog.so.0 -z relro -z now --strip-all -o "$made/libhidlog.so.0" \
         --whole-archive "$made/libhidlog.a"
-    ln -s libhidlog.so.0 "$made/libhidlog.so"
 }
 
 build_module() {

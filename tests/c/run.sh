@@ -24,7 +24,7 @@ for library in libhidlog.a aarch64/libhidlog.a; do
 done
 gcc "${options[@]}" -o "$room/commands" "$top/tests/c/commands.c" "$top/release/libhidlog.a"
 run "the static library"
-gcc "${options[@]}" -o "$room/commands" "$top/tests/c/commands.c" -L "$top/release" -lhidlog \
+gcc "${options[@]}" -o "$room/commands" "$top/tests/c/commands.c" -L "$top/release" -l:libhidlog.so.0 \
     "-Wl,-rpath,$top/release"
 run "the shared library"
 if command -v aarch64-linux-gnu-gcc >/dev/null && command -v qemu-aarch64-static >/dev/null; then
