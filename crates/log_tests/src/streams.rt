@@ -120,7 +120,8 @@ fn assert_read<R: Abort>(
     };
     let mut reader = FromRead::new(reader);
     let answer = play(alloc, command, &mut reader, &mut ToWrite::new(&mut written));
-    assert_eq!(rt; (answer, written.len()), wanted);
+    assert_eq!(rt; answer, wanted.0);
+    assert_eq!(rt; written.len(), wanted.1);
     assert!(rt; whole.as_bytes().starts_with(written.as_slice()));
     Ok(())
 }
