@@ -1,0 +1,99 @@
+"""Cuts messages into packets of CTAPHID and joins them again (CTAP 2.1, 11.2.4)."""
+
+from __future__ import annotations
+
+from dataclasses import dataclass
+from typing import Dict, List, Optional
+
+BROADCAST = 0xFFFFFFFF
+PING, MSG, LOCK, INIT, WINK, CBOR, CANCEL, KEEPALIVE, ERROR = 0x01, 0x03, 0x04, 0x06, 0x08, 0x10, 0x11, 0x3B, 0x3F
+NAMES = {PING: "PING", MSG: "MSG", LOCK: "LOCK", INIT: "INIT", WINK: "WINK", CBOR: "CBOR", CANCEL: "CANCEL"}
+NAMES.update({KEEPALIVE: "KEEPALIVE", ERROR: "ERROR"})
+LONGEST = 7609
+
+
+def packets_of(channel: int, command: int, data: bytes, length: Optional[int] = None) -> List[bytes]:
+    """Writes the packets of a message; its length is as it is, unless another one is named."""
+    front = channel.to_bytes(4, "big")
+    named = len(data) if length is None else length
+    pieces = [front + bytes([0x80 | command]) + named.to_bytes(2, "big") + data[:57]]
+    rest = data[57:]
+    for number in range((len(rest) + 58) // 59):
+        pieces.append(front + bytes([number & 0x7F]) + rest[59 * number : 59 * number + 59])
+    return [piece.ljust(64, b"\0") for piece in pieces]
+
+
+@dataclass
+class Message:
+    """A whole message, or what is wrong with a packet (`problem`)."""
+
+    channel: int
+    command: int
+    data: bytes
+    problem: str = ""
+    padding: bytes = b""
+
+    def shown(self) -> str:
+        """Says for people what came."""
+        if self.problem:
+            return self.problem
+        name = NAMES.get(self.command, f"command {self.command:02x}")
+        data = self.data.hex() if len(self.data) <= 40 else self.data[:40].hex() + ".."
+        return f"{name} of {len(self.data)} bytes on {self.channel:08x}: {data}"
+
+
+@dataclass
+class Part:
+    """A message of which packets are missing."""
+
+    command: int
+    length: int
+    data: bytes
+    due: int = 0
+
+
+class Collector:
+    """Joins packets to messages, a channel at a time. A host may begin anew inside of a message, a device may not."""
+
+    def __init__(self, of_host: bool = False) -> None:
+        self.open: Dict[int, Part] = {}
+        self.of_host = of_host
+
+    def feed(self, packet: bytes) -> Optional[Message]:
+        """Takes a packet; returns the message that it ends, or says what is wrong with it."""
+        if len(packet) != 64:
+            return Message(0, 0, b"", f"a packet of {len(packet)} bytes")
+        channel = int.from_bytes(packet[:4], "big")
+        if packet[4] & 0x80:
+            return self.begin(channel, packet)
+        part = self.open.get(channel)
+        if part is None:
+            return Message(channel, 0, b"", f"a continuation packet on {channel:08x}, where no message is open")
+        if packet[4] != part.due:
+            del self.open[channel]
+            return Message(
+                channel, 0, b"", f"sequence number {packet[4]:02x} on {channel:08x} in place of {part.due:02x}"
+            )
+        part.due += 1
+        part.data += packet[5:]
+        return self.ended(channel, part)
+
+    def begin(self, channel: int, packet: bytes) -> Optional[Message]:
+        """Takes an initialization packet; CANCEL leaves an open message as it is."""
+        if packet[4] & 0x7F == CANCEL:
+            return Message(channel, CANCEL, packet[7 : 7 + int.from_bytes(packet[5:7], "big")])
+        broken = self.open.pop(channel, None)
+        part = Part(packet[4] & 0x7F, int.from_bytes(packet[5:7], "big"), packet[7:])
+        if broken and not self.of_host:
+            return Message(channel, part.command, b"", f"a message begins on {channel:08x} inside of another one")
+        if part.length > LONGEST:
+            return Message(channel, part.command, b"", f"a length of {part.length} on {channel:08x}")
+        self.open[channel] = part
+        return self.ended(channel, part)
+
+    def ended(self, channel: int, part: Part) -> Optional[Message]:
+        """Returns the message where it is whole."""
+        if len(part.data) < part.length:
+            return None
+        del self.open[channel]
+        return Message(channel, part.command, part.data[: part.length], padding=part.data[part.length :])

@@ -1,0 +1,71 @@
+"""Writes what came of the cases: as text for people, as TAP and as JUnit XML."""
+
+from __future__ import annotations
+
+from typing import Dict, List
+from xml.sax.saxutils import escape, quoteattr
+
+from player import Outcome
+
+
+def totals(outcomes: List[Outcome]) -> str:
+    """Returns the last line."""
+    counts: Dict[str, int] = {"ok": 0, "not ok": 0, "skip": 0}
+    for outcome in outcomes:
+        counts[outcome.status] += 1
+    return f"{counts['ok']} passed, {counts['not ok']} failed, {counts['skip']} skipped"
+
+
+def details(outcome: Outcome) -> List[str]:
+    """Returns what a person reads of a case that failed."""
+    head = outcome.session.head
+    lines = [f"rule: {head['rule']}", f"says: {head['shows']}", f"expected: {outcome.wanted}", f"came: {outcome.came}"]
+    if outcome.session.lenient:
+        lines.append(f"kind: {outcome.session.lenient}")
+    return lines + [f"at: line {outcome.line} of conformance/sessions/{outcome.session.name}.log"]
+
+
+def text(outcomes: List[Outcome]) -> None:
+    """Writes failed and skipped cases, and the totals."""
+    for outcome in outcomes:
+        if outcome.status == "skip":
+            print(f"skipped  {outcome.session.name}: {outcome.reason}")
+    for outcome in outcomes:
+        if outcome.status == "not ok":
+            print(f"failed   {outcome.session.name}")
+            print("\n".join(f"         {line}" for line in details(outcome)))
+    print(totals(outcomes))
+
+
+def tap(outcomes: List[Outcome]) -> None:
+    """Writes TAP, version 13."""
+    print(f"TAP version 13\n1..{len(outcomes)}")
+    for number, outcome in enumerate(outcomes, 1):
+        skip = f" # SKIP {outcome.reason}" if outcome.status == "skip" else ""
+        print(f"{'ok' if skip else outcome.status} {number} - {outcome.session.name}{skip}")
+        if outcome.status == "not ok":
+            print("\n".join(f"# {line}" for line in details(outcome)))
+    print(f"# {totals(outcomes)}")
+
+
+def junit(outcomes: List[Outcome]) -> None:
+    """Writes JUnit XML."""
+    failed = sum(outcome.status == "not ok" for outcome in outcomes)
+    skipped = sum(outcome.status == "skip" for outcome in outcomes)
+    print('<?xml version="1.0" encoding="UTF-8"?>')
+    print(f'<testsuite name="CTAP 2.1" tests="{len(outcomes)}" failures="{failed}" skipped="{skipped}">')
+    for outcome in outcomes:
+        chapter, _, name = outcome.session.name.partition("/")
+        print(f"  <testcase classname={quoteattr(chapter)} name={quoteattr(name)}>")
+        if outcome.status == "skip":
+            print(f"    <skipped message={quoteattr(outcome.reason)}/>")
+        if outcome.status == "not ok":
+            told = escape("\n".join(details(outcome)))
+            print(f"    <failure message={quoteattr(outcome.wanted)}>{told}</failure>")
+        print("  </testcase>")
+    print(f"</testsuite>\n<!-- {totals(outcomes)} -->")
+
+
+def write(kind: str, outcomes: List[Outcome]) -> None:
+    """Writes a report."""
+    {"text": text, "tap": tap, "junit": junit}[kind](outcomes)

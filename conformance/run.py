@@ -1,0 +1,99 @@
+#!/usr/bin/env python3
+"""Plays the corpus against an authenticator, and reports which rules of CTAP 2.1 it breaks.
+
+    conformance/run.py                                    the sessions against release/hidlog
+    conformance/run.py --device "COMMAND .." --touch      against a command that speaks packets as lines
+    conformance/run.py --device /dev/hidraw3 --touch      against a device of Linux
+
+docs/CONFORMANCE.md has the rest. The last line is `N passed, N failed, N skipped`; status 1 where a case failed.
+"""
+
+from __future__ import annotations
+
+import argparse
+import os
+import sys
+from typing import List, Tuple
+
+import keys
+import report
+from devices import Device, HidrawDevice, LiveDevice, PipeDevice
+from offers import Offers, prepare
+from player import Outcome, Player
+from session_file import Session, read_session
+
+HERE = os.path.dirname(os.path.abspath(__file__))
+SESSIONS = os.path.join(HERE, "sessions")
+
+
+def all_sessions(only: str = "", paths: Tuple[str, ...] = ()) -> List[Session]:
+    """Reads the sessions, or those of some files, whose names or rules have a word."""
+    found = list(paths)
+    for folder, _, files in os.walk(SESSIONS) if not paths else ():
+        found += [os.path.join(folder, name) for name in files if name.endswith(".log")]
+    sessions = [read_session(path, os.path.relpath(path, SESSIONS)[:-4]) for path in sorted(found)]
+    return [session for session in sessions if only.lower() in (session.name + " " + session.head["rule"]).lower()]
+
+
+def device_of(options: argparse.Namespace) -> Device:
+    """Returns the device that the words name."""
+    if not options.device:
+        return LiveDevice()
+    if options.device.startswith("/dev/"):
+        return HidrawDevice(options.device, options.touch)
+    return PipeDevice(options.device, options.touch)
+
+
+def play_one(device: Device, session: Session, options: argparse.Namespace, offers: Offers) -> Outcome:
+    """Plays a session, or skips it with its reason."""
+    reason = offers.lacking(session, device, options.touch, options.reset)
+    if not reason and "reset" in session.needs and not device.fresh:
+        reason = prepare(device)
+    if reason:
+        return Outcome(session, "skip", reason)
+    outcome = Player(device, session, options.strict).play()
+    if outcome.status == "not ok" and session.lenient and not options.strict:
+        return Outcome(session, "skip", f"differs ({session.lenient}): {outcome.came} for {outcome.wanted}")
+    return outcome
+
+
+def words_of(arguments: List[str]) -> argparse.Namespace:
+    """Reads the command's words."""
+    parser = argparse.ArgumentParser(description="Plays the conformance corpus against an authenticator.")
+    parser.add_argument("--device", default="", help="a command, or /dev/hidrawN; without it release/hidlog live")
+    parser.add_argument("--touch", action="store_true", help="a person is there to touch the device")
+    parser.add_argument("--reset", action="store_true", help="the device may be reset: ALL ITS CREDENTIALS ARE LOST")
+    parser.add_argument("--strict", action="store_true", help="count this project's choices and what is only a should")
+    parser.add_argument("--only", default="", metavar="WORD", help="cases whose name or rule has the word")
+    parser.add_argument("--report", choices=("text", "tap", "junit"), default="text")
+    parser.add_argument("sessions", nargs="*", metavar="SESSION", help="files; without them the whole corpus")
+    options = parser.parse_args(arguments)
+    options.strict = options.strict or not options.device
+    return options
+
+
+def main(arguments: List[str]) -> int:
+    """Plays the cases and writes the report."""
+    options = words_of(arguments)
+    try:
+        sessions = all_sessions(options.only, tuple(options.sessions))
+        device = device_of(options)
+        offers = Offers.ask(device, options.touch)
+    except (OSError, ValueError) as fault:
+        print(f"run.py: {fault}", file=sys.stderr)
+        return 2
+    if not keys.THERE:
+        print("skipped: signatures aren't checked, python3-cryptography is missing", file=sys.stderr)
+    if options.reset and not device.fresh:
+        print("this RESETS the device: its credentials are lost", file=sys.stderr)
+    outcomes = []
+    for session in sessions:
+        if options.device and options.report == "text":
+            print(f"playing {session.name}", file=sys.stderr)
+        outcomes.append(play_one(device, session, options, offers))
+    report.write(options.report, outcomes)
+    return 1 if any(outcome.status == "not ok" for outcome in outcomes) else 0
+
+
+if __name__ == "__main__":
+    sys.exit(main(sys.argv[1:]))
