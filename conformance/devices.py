@@ -134,6 +134,8 @@ class RealTimeDevice(Device):
 
     def __init__(self, say_touch: bool) -> None:
         self.say_touch = say_touch
+        # The line that stands for a touch in the input of a command.
+        self.touch_line = b""
         self.latest: Optional[int] = None
 
     def start(self) -> None:
@@ -153,7 +155,9 @@ class RealTimeDevice(Device):
     def presence(self, at: int, word: str) -> None:
         """Asks a person to touch the device."""
         self.wait_until(at)
-        if self.say_touch:
+        if self.touch_line:
+            self.write_line(self.touch_line)
+        elif self.say_touch:
             print("touch the key now", file=sys.stderr, flush=True)
 
     def send(self, at: int, packet: bytes) -> None:
@@ -163,6 +167,10 @@ class RealTimeDevice(Device):
 
     def write(self, packet: bytes) -> None:
         """Writes a packet to the device."""
+        raise NotImplementedError
+
+    def write_line(self, line: bytes) -> None:
+        """Writes a line to a command."""
         raise NotImplementedError
 
 
@@ -186,8 +194,9 @@ class HidrawDevice(RealTimeDevice):
 class PipeDevice(RealTimeDevice):
     """Plays a command that reads packets as lines of 128 hexadecimal digits and writes such lines."""
 
-    def __init__(self, command: str, say_touch: bool) -> None:
+    def __init__(self, command: str, say_touch: bool, touch_line: str = "") -> None:
         super().__init__(say_touch)
+        self.touch_line = touch_line.encode()
         self.command = shlex.split(command)
         self.process: Optional[subprocess.Popen[bytes]] = None
         self.rest = b""
@@ -202,17 +211,23 @@ class PipeDevice(RealTimeDevice):
         """Closes the command's input and waits for its end."""
         if self.process is not None:
             assert self.process.stdin is not None
-            self.process.stdin.close()
             try:
+                self.process.stdin.close()
                 self.process.wait(2)
+            except BrokenPipeError:
+                self.process.wait()
             except subprocess.TimeoutExpired:
                 self.process.kill()
             self.process = None
 
     def write(self, packet: bytes) -> None:
         """Writes a packet as a line."""
+        self.write_line(packet.hex().encode())
+
+    def write_line(self, line: bytes) -> None:
+        """Writes a line to the command."""
         assert self.process is not None and self.process.stdin is not None
-        self.process.stdin.write(packet.hex().encode() + b"\n")
+        self.process.stdin.write(line + b"\n")
         self.process.stdin.flush()
 
     def read(self, seconds: float) -> Optional[bytes]:

@@ -66,6 +66,8 @@ class Player:
         except Differs as differs:
             line = step.line if step else 0
             return Outcome(self.session, "not ok", "", differs.wanted, differs.came, line)
+        except OSError as fault:
+            return Outcome(self.session, "not ok", "", "a device that goes on", str(fault), step.line if step else 0)
         finally:
             self.leave()
             self.device.close()
@@ -75,9 +77,12 @@ class Player:
         """Ends what still waits in a device that goes on."""
         if self.device.virtual:
             return
-        for channel in self.given:
-            self.device.send(0, hid.packets_of(channel, hid.CANCEL, b"")[0])
-        while self.device.read(0.3) is not None:
+        try:
+            for channel in self.given:
+                self.device.send(0, hid.packets_of(channel, hid.CANCEL, b"")[0])
+            while self.device.read(0.1) is not None:
+                pass
+        except OSError:
             pass
 
     def channel(self, number: int) -> int:

@@ -41,7 +41,7 @@ def device_of(options: argparse.Namespace) -> Device:
         return LiveDevice()
     if options.device.startswith("/dev/"):
         return HidrawDevice(options.device, options.touch)
-    return PipeDevice(options.device, options.touch)
+    return PipeDevice(options.device, options.touch, options.touch_line)
 
 
 def play_one(device: Device, session: Session, options: argparse.Namespace, offers: Offers) -> Outcome:
@@ -62,12 +62,14 @@ def words_of(arguments: List[str]) -> argparse.Namespace:
     parser = argparse.ArgumentParser(description="Plays the conformance corpus against an authenticator.")
     parser.add_argument("--device", default="", help="a command, or /dev/hidrawN; without it release/hidlog live")
     parser.add_argument("--touch", action="store_true", help="a person is there to touch the device")
+    parser.add_argument("--touch-line", default="", metavar="LINE", help="what a command reads in place of a touch")
     parser.add_argument("--reset", action="store_true", help="the device may be reset: ALL ITS CREDENTIALS ARE LOST")
     parser.add_argument("--strict", action="store_true", help="count this project's choices and what is only a should")
     parser.add_argument("--only", default="", metavar="WORD", help="cases whose name or rule has the word")
     parser.add_argument("--report", choices=("text", "tap", "junit"), default="text")
     parser.add_argument("sessions", nargs="*", metavar="SESSION", help="files; without them the whole corpus")
     options = parser.parse_args(arguments)
+    options.touch = options.touch or bool(options.touch_line)
     options.strict = options.strict or not options.device
     return options
 

@@ -1,0 +1,68 @@
+#!/usr/bin/env python3
+"""Plays hidlog live as a command of packets in real time: an example of what `run.py --device COMMAND` speaks to.
+
+It reads a packet a line, 128 hexadecimal digits, and writes such lines. The line `touch` stands for the user's consent.
+"""
+
+from __future__ import annotations
+
+import os
+import select
+import sys
+import time
+
+from devices import LiveDevice
+
+START = time.monotonic()
+
+
+def now() -> int:
+    """Returns the moment in milliseconds."""
+    return int((time.monotonic() - START) * 1000)
+
+
+def serve(device: LiveDevice) -> None:
+    """Makes keys and signatures as they are needed, and writes the packets."""
+    while device.need != "nothing" and device.need != "presence":
+        if device.need == "key":
+            device.key(now(), ["yes"])
+        else:
+            device.signature(now(), ["yes"])
+    packet = device.read(0)
+    while packet is not None:
+        print(packet.hex(), flush=True)
+        packet = device.read(0)
+
+
+def take(device: LiveDevice, line: bytes) -> None:
+    """Hands on a line of the input."""
+    if line == b"touch":
+        device.presence(now(), "granted")
+    else:
+        device.send(now(), bytes.fromhex(line.decode()))
+    serve(device)
+
+
+def main() -> int:
+    """Serves until the input ends."""
+    device = LiveDevice()
+    device.start()
+    rest = b""
+    while True:
+        ready, _, _ = select.select([sys.stdin], [], [], 0.05)
+        if not ready:
+            device.tick(now())
+            serve(device)
+            continue
+        piece = os.read(sys.stdin.fileno(), 4096)
+        if not piece:
+            break
+        *lines, rest = (rest + piece).split(b"\n")
+        for line in lines:
+            take(device, line)
+    device.close()
+    return 0
+
+
+if __name__ == "__main__":
+    sys.exit(main())

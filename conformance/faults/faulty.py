@@ -1,0 +1,163 @@
+"""Makes authenticators wrong: a filter between the runner and hidlog live, one small fault each."""
+
+from __future__ import annotations
+
+from typing import Any, Callable, Dict, List, NamedTuple, Optional, Tuple
+
+import ctap_cbor
+import hid_packets as hid
+from devices import LiveDevice
+from hid_packets import Message
+
+Sent = List[Message]
+Hook = Callable[["Faulty", Message], Optional[Sent]]
+HostHook = Callable[["Faulty", int, bytes], Optional[bytes]]
+RequestHook = Callable[["Faulty", bytes], Optional[bytes]]
+
+
+class Fault(NamedTuple):
+    """Names a fault, the section that it breaks, and what makes it."""
+
+    name: str
+    section: str
+    says: str
+    # Changes what the authenticator sends: the messages in the place of one, or None for that one as it is.
+    answer: Optional[Hook] = None
+    # Changes what it gets: the packet in the place of one, or None where it gets nothing.
+    packet: Optional[HostHook] = None
+    # Changes a CBOR request that came whole: the request in its place, or None where the hook answered.
+    request: Optional[RequestHook] = None
+    # Changes packets as they are cut.
+    cut: Optional[Callable[[List[bytes]], List[bytes]]] = None
+    # Changes the user's reply.
+    reply: Optional[Callable[[str], str]] = None
+    # Changes the moment of an input.
+    clock: Optional[Callable[["Faulty", int], int]] = None
+    # The case that has to name it, where not any case of the section will do.
+    by: str = ""
+
+
+class Faulty(LiveDevice):
+    """Plays hidlog live with a fault."""
+
+    def __init__(self, fault: Fault) -> None:
+        super().__init__()
+        self.fault = fault
+        self.restart()
+
+    def restart(self) -> None:
+        """Forgets what a session left."""
+        self.host = hid.Collector(of_host=True)
+        self.guest = hid.Collector()
+        self.held: List[Tuple[int, bytes]] = []
+        self.asked: Dict[int, bytes] = {}
+        self.last: Dict[str, Any] = {}
+
+    def start(self) -> None:
+        """Starts a new authenticator."""
+        super().start()
+        self.restart()
+
+    def play(self, line: str) -> None:
+        """Hands the line on, and makes the fault in what comes."""
+        super().play(line)
+        packets = list(self.packets)
+        fresh = packets[self.last.get("kept", 0) :] if self.last.get("kept", 0) <= len(packets) else packets
+        for _ in fresh:
+            self.packets.pop()
+        for packet in fresh:
+            message = self.guest.feed(packet)
+            if message is not None:
+                self.put(message)
+        self.last["kept"] = len(self.packets)
+
+    def put(self, message: Message) -> None:
+        """Sends a message, changed by the fault."""
+        changed = self.fault.answer(self, message) if self.fault.answer else None
+        for each in [message] if changed is None else changed:
+            self.emit(each.channel, each.command, each.data)
+
+    def emit(self, channel: int, command: int, data: bytes) -> None:
+        """Sends a message as it is."""
+        packets = hid.packets_of(channel, command, data)
+        self.packets.extend(self.fault.cut(packets) if self.fault.cut else packets)
+        self.last["kept"] = len(self.packets)
+
+    def read(self, seconds: float) -> Optional[bytes]:
+        """Returns the next packet."""
+        packet = super().read(seconds)
+        self.last["kept"] = len(self.packets)
+        return packet
+
+    def send(self, at: int, packet: bytes) -> None:
+        """Hands a packet on, changed by the fault; of a request to be changed only once it is whole."""
+        at = self.fault.clock(self, at) if self.fault.clock else at
+        message = self.host.feed(packet)
+        if message is not None and message.command == hid.CBOR and not message.problem:
+            self.asked[message.data[0] if message.data else 0] = message.data
+        if self.fault.packet is not None:
+            changed = self.fault.packet(self, at, packet)
+            if changed is not None:
+                super().send(at, changed)
+        elif self.fault.request is not None:
+            self.hold(at, packet, message)
+        else:
+            super().send(at, packet)
+
+    def hold(self, at: int, packet: bytes, message: Optional[Message]) -> None:
+        """Keeps the packets of a CBOR message until it is whole, and then hands on what the fault makes of it."""
+        assert self.fault.request is not None
+        if message is not None and message.command == hid.CBOR and not message.problem and message.data:
+            self.last["channel"] = message.channel
+            changed = self.fault.request(self, message.data)
+            packets = self.held + [(at, packet)]
+            self.held = []
+            if changed is None:
+                return
+            if changed != message.data:
+                packets = [(at, piece) for piece in hid.packets_of(message.channel, hid.CBOR, changed)]
+            for moment, piece in packets:
+                super().send(moment, piece)
+        elif packet[4] == 0x80 | hid.CBOR or (not packet[4] & 0x80 and self.held):
+            self.held.append((at, packet))
+        else:
+            super().send(at, packet)
+
+    def presence(self, at: int, word: str) -> None:
+        """Lets the user answer, changed by the fault."""
+        super().presence(at, self.fault.reply(word) if self.fault.reply else word)
+
+    def resigned(self, auth: bytes, client_hash: bytes, credential: bytes) -> bytes:
+        """Signs changed authenticator data."""
+        return self.keys.sign(credential, auth + client_hash)
+
+
+def parts_of(request: bytes) -> Dict[Any, Any]:
+    """Returns the parameters of a request, empty where it has none that can be read."""
+    try:
+        item = ctap_cbor.decode(request[1:])
+    except ctap_cbor.CborFault:
+        return {}
+    return dict(item) if isinstance(item, dict) else {}
+
+
+def answered(message: Message) -> Dict[Any, Any]:
+    """Returns the map of a successful answer, empty where it is none."""
+    if message.command != hid.CBOR or message.problem or message.data[:1] != b"\0" or len(message.data) < 2:
+        return {}
+    return parts_of(message.data)
+
+
+def is_assertion(item: Dict[Any, Any]) -> bool:
+    """Says whether a map is the answer of a sign-in."""
+    return isinstance(item.get(3), bytes) and isinstance(item.get(2), bytes)
+
+
+def is_made(item: Dict[Any, Any]) -> bool:
+    """Says whether a map is the answer of a registration."""
+    return item.get(1) == "packed"
+
+
+def with_data(message: Message, data: bytes) -> Sent:
+    """Returns a message with other bytes."""
+    return [Message(message.channel, message.command, data)]

@@ -1,0 +1,225 @@
+"""Faults of packets, channels, KEEPALIVEs and CANCEL."""
+
+from __future__ import annotations
+
+from typing import List, Optional
+
+import hid_packets as hid
+from faulty import Fault, Faulty, Hook, Sent, with_data
+from hid_packets import Message
+
+
+def init_changed(place: int, new: bytes) -> Hook:
+    """Returns what changes bytes of the INIT answer."""
+
+    def hook(device: Faulty, message: Message) -> Optional[Sent]:
+        if message.command != hid.INIT or message.channel != hid.BROADCAST:
+            return None
+        return with_data(message, message.data[:place] + new + message.data[place + len(new) :])
+
+    return hook
+
+
+def other_channel(device: Faulty, message: Message) -> Optional[Sent]:
+    """Names another channel in the answer of INIT on a channel."""
+    if message.command == hid.INIT and message.channel != hid.BROADCAST:
+        return with_data(message, message.data[:8] + b"\0\0\0\x63" + message.data[12:])
+    return None
+
+
+def dropped(command: int, *first: int) -> Hook:
+    """Returns what loses messages of a command, with these first bytes."""
+
+    def hook(device: Faulty, message: Message) -> Optional[Sent]:
+        return [] if message.command == command and (not first or message.data[:1] in map(single, first)) else None
+
+    return hook
+
+
+def renamed(command: int, old: int, new: int) -> Hook:
+    """Returns what puts another byte in the place of a code."""
+
+    def hook(device: Faulty, message: Message) -> Optional[Sent]:
+        return with_data(message, bytes([new])) if message.command == command and message.data == bytes([old]) else None
+
+    return hook
+
+
+def single(number: int) -> bytes:
+    """Returns a byte."""
+    return bytes([number])
+
+
+def init_on_new(device: Faulty, message: Message) -> Optional[Sent]:
+    """Sends the INIT answer on the new channel."""
+    if message.command == hid.INIT and message.channel == hid.BROADCAST:
+        return [Message(int.from_bytes(message.data[8:12], "big"), hid.INIT, message.data)]
+    return None
+
+
+def keepalive_elsewhere(device: Faulty, message: Message) -> Optional[Sent]:
+    """Sends KEEPALIVEs on the broadcast channel."""
+    return [Message(hid.BROADCAST, hid.KEEPALIVE, message.data)] if message.command == hid.KEEPALIVE else None
+
+
+def keepalive_once(device: Faulty, message: Message) -> Optional[Sent]:
+    """Sends one KEEPALIVE alone."""
+    if message.command != hid.KEEPALIVE:
+        return None
+    seen = device.last.get("keepalive", False)
+    device.last["keepalive"] = True
+    return [] if seen else None
+
+
+def keepalive_long(device: Faulty, message: Message) -> Optional[Sent]:
+    """Sends KEEPALIVEs of two bytes."""
+    return with_data(message, message.data + b"\0") if message.command == hid.KEEPALIVE else None
+
+
+def keepalive_after(device: Faulty, message: Message) -> Optional[Sent]:
+    """Sends a KEEPALIVE behind each answer."""
+    return [message, Message(message.channel, hid.KEEPALIVE, b"\1")] if message.command == hid.CBOR else None
+
+
+def cancel_by_error(device: Faulty, message: Message) -> Optional[Sent]:
+    """Answers a cancelled request by an ERROR."""
+    if message.command == hid.CBOR and message.data == b"\x2d":
+        return [Message(message.channel, hid.ERROR, b"\x7f")]
+    return None
+
+
+def cancel_ignored(device: Faulty, at: int, packet: bytes) -> Optional[bytes]:
+    """Takes no CANCEL."""
+    return None if packet[4] == 0x80 | hid.CANCEL else packet
+
+
+def cancel_answered(device: Faulty, at: int, packet: bytes) -> Optional[bytes]:
+    """Answers a CANCEL for which nothing waits."""
+    if packet[4] == 0x80 | hid.CANCEL and device.need == "nothing":
+        device.emit(int.from_bytes(packet[:4], "big"), hid.ERROR, b"\1")
+    return packet
+
+
+def cancel_of_all(device: Faulty, at: int, packet: bytes) -> Optional[bytes]:
+    """Takes a CANCEL of any channel for that of the request, which is the first one."""
+    return b"\0\0\0\1" + packet[4:] if packet[4] == 0x80 | hid.CANCEL else packet
+
+
+def sequence_taken(device: Faulty, at: int, packet: bytes) -> Optional[bytes]:
+    """Takes continuation packets under any number."""
+    if packet[4] & 0x80:
+        device.last["due"] = 0
+        return packet
+    device.last["due"] = device.last.get("due", 0) + 1
+    return packet[:4] + bytes([device.last["due"] - 1]) + packet[5:]
+
+
+def stray_answered(device: Faulty, at: int, packet: bytes) -> Optional[bytes]:
+    """Answers a continuation packet where no message is open."""
+    if not packet[4] & 0x80 and not device.last.get("open", False):
+        device.emit(int.from_bytes(packet[:4], "big"), hid.ERROR, b"\4")
+        return None
+    if packet[4] & 0x80:
+        device.last["open"] = int.from_bytes(packet[5:7], "big") > 57
+    return packet
+
+
+def any_channel(device: Faulty, at: int, packet: bytes) -> Optional[bytes]:
+    """Takes a continuation packet of any channel for the open message."""
+    if packet[4] & 0x80:
+        device.last["front"] = packet[:4]
+        return packet
+    return bytes(device.last.get("front", packet[:4])) + packet[4:]
+
+
+def init_keeps(device: Faulty, at: int, packet: bytes) -> Optional[bytes]:
+    """Answers INIT on a channel and keeps its message and work."""
+    if packet[4:7] == bytes([0x80 | hid.INIT, 0, 8]) and packet[:4] != b"\xff" * 4:
+        device.emit(int.from_bytes(packet[:4], "big"), hid.INIT, packet[7:15] + packet[:4] + bytes([2, 1, 0, 0, 12]))
+        return None
+    return packet
+
+
+def any_channel_served(device: Faulty, at: int, packet: bytes) -> Optional[bytes]:
+    """Serves a channel that was never given out as the first one."""
+    number = int.from_bytes(packet[:4], "big")
+    return b"\0\0\0\1" + packet[4:] if number > 0x1000 and number != hid.BROADCAST else packet
+
+
+def ping_cut(device: Faulty, message: Message) -> Optional[Sent]:
+    """Answers a PING by its first packet's bytes."""
+    return with_data(message, message.data[:57]) if message.command == hid.PING else None
+
+
+def ping_last_byte(device: Faulty, message: Message) -> Optional[Sent]:
+    """Changes the last byte of a message that fills its packets."""
+    if message.command == hid.PING and len(message.data) in (57, 116, 175):
+        return with_data(message, message.data[:-1] + b"\0")
+    return None
+
+
+def busy_elsewhere(device: Faulty, message: Message) -> Optional[Sent]:
+    """Says to the wrong host that the key is busy."""
+    if message.command == hid.ERROR and message.data == b"\6":
+        return [Message(3 - message.channel if message.channel < 3 else 1, hid.ERROR, b"\6")]
+    return None
+
+
+def from_one(packets: List[bytes]) -> List[bytes]:
+    """Counts continuation packets from 1."""
+    return [packet if packet[4] & 0x80 else packet[:4] + bytes([packet[4] + 1]) + packet[5:] for packet in packets]
+
+
+def last_lost(packets: List[bytes]) -> List[bytes]:
+    """Loses the last of several packets."""
+    return packets[:-1] if len(packets) > 1 else packets
+
+
+def not_zero(packets: List[bytes]) -> List[bytes]:
+    """Leaves old bytes behind a message."""
+    return [packet[:-2] + b"\xde\xad" if packet.endswith(b"\0\0") else packet for packet in packets]
+
+
+INIT, CANCEL, KEEP, SEQUENCE = "11.2.9.1.3", "11.2.9.1.5", "11.2.9.1.7", "11.2.5.4"
+ERRORS, BUSY, TIME, ABORT, PACKETS, PING = "11.2.9.1.6", "11.2.5.1", "11.2.5.2", "11.2.5.3", "11.2.4", "11.2.9.1.4"
+
+WIRE: List[Fault] = [
+    Fault("wrong_nonce", INIT, "The INIT answer has another nonce.", init_changed(0, b"\xee")),
+    Fault("channel_reused", INIT, "Each host gets the same channel.", init_changed(8, b"\0\0\0\1")),
+    Fault("channel_reserved", INIT, "A host gets the broadcast channel.", init_changed(8, b"\xff" * 4)),
+    Fault("init_too_long", INIT, "The INIT answer has 18 bytes.", init_changed(17, b"\0")),
+    Fault("init_on_new_channel", INIT, "The INIT answer comes on the new channel.", init_on_new),
+    Fault("wrong_version", INIT, "The protocol version is 1.", init_changed(12, b"\1")),
+    Fault("no_capability", INIT, "The capability CBOR isn't named.", init_changed(16, b"\0")),
+    Fault("other_channel_kept", INIT, "INIT on a channel names another.", other_channel, by="init/on_its_own_channel"),
+    Fault("init_keeps_message", ABORT, "INIT leaves message and work as they are.", None, init_keeps),
+    Fault("sequence_taken", SEQUENCE, "Continuation packets count under any number.", None, sequence_taken),
+    Fault("stray_answered", SEQUENCE, "A stray continuation packet is answered.", None, stray_answered),
+    Fault("any_channels_packet", SEQUENCE, "Another host's continuation packet is taken.", None, any_channel),
+    Fault("sequence_not_named", SEQUENCE, "A wrong number isn't answered.", dropped(hid.ERROR, 4)),
+    Fault("busy_silent", BUSY, "A second host isn't told to wait.", dropped(hid.ERROR, 6)),
+    Fault("busy_wrong_code", BUSY, "A second host is told another code.", renamed(hid.ERROR, 6, 0x7F)),
+    Fault("busy_elsewhere", BUSY, "The wrong host is told to wait.", busy_elsewhere),
+    Fault("timeout_silent", TIME, "A message that is given up isn't answered.", dropped(hid.ERROR, 5)),
+    Fault("timeout_wrong_code", TIME, "A message that is given up has another code.", renamed(hid.ERROR, 5, 4)),
+    Fault("no_keepalive", KEEP, "KEEPALIVEs don't come.", dropped(hid.KEEPALIVE)),
+    Fault("keepalive_once", KEEP, "One KEEPALIVE comes alone.", keepalive_once),
+    Fault("keepalive_status", KEEP, "KEEPALIVEs don't say that the user is needed.", renamed(hid.KEEPALIVE, 2, 1)),
+    Fault("keepalive_elsewhere", KEEP, "KEEPALIVEs go to all channels.", keepalive_elsewhere),
+    Fault("keepalive_long", KEEP, "KEEPALIVEs have two bytes.", keepalive_long),
+    Fault("keepalive_after", KEEP, "A KEEPALIVE comes behind the answer.", keepalive_after),
+    Fault("cancel_answered", CANCEL, "CANCEL is answered where nothing waits.", None, cancel_answered),
+    Fault("cancel_ignored", CANCEL, "CANCEL is ignored.", None, cancel_ignored),
+    Fault("cancel_by_error", CANCEL, "A cancelled request gets an ERROR.", cancel_by_error),
+    Fault("cancel_of_all", CANCEL, "CANCEL ends another host's request.", None, cancel_of_all),
+    Fault("cancel_success", CANCEL, "A cancelled request is answered by 00.", renamed(hid.CBOR, 0x2D, 0)),
+    Fault("ping_cut", PING, "A PING comes back cut.", ping_cut),
+    Fault("ping_last_byte", PING, "A full packet's last byte is lost.", ping_last_byte),
+    Fault("from_one", PACKETS, "Continuation packets count from 1.", cut=from_one),
+    Fault("last_lost", PACKETS, "The last packet of a message is lost.", cut=last_lost),
+    Fault("not_zero", PACKETS, "Old bytes are left behind a message.", cut=not_zero),
+    Fault("unknown_silent", ERRORS, "An unknown command isn't answered.", dropped(hid.ERROR, 1)),
+    Fault("length_wrong_code", ERRORS, "A wrong length has another code.", renamed(hid.ERROR, 3, 4)),
+    Fault("channel_silent", ERRORS, "A strange channel isn't answered.", dropped(hid.ERROR, 0x0B)),
+    Fault("channel_served", ERRORS, "A strange channel is served.", None, any_channel_served),
+]
