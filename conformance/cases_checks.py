@@ -186,6 +186,12 @@ def values() -> List[Case]:
         if name == "none":
             case.comment("profile: an empty list is a list of which nothing is served")
         cases.append(case.greet().make(p4=entries).expect("status 26").alive())
+    return cases
+
+
+def good_values() -> List[Case]:
+    """Values that are good, and options and PINs that are not."""
+    cases = []
     both = [{"alg": -65535, "type": KIND}, {"alg": -7, "type": "other"}, {"alg": -7, "type": KIND}]
     case = Case("make/algorithms_last", "make", "The first algorithm that is served is taken.", needs=["touch"])
     case.comment("uses: algorithm -7")
@@ -243,4 +249,4 @@ def cases() -> List[Case]:
     """Returns the cases of this file."""
     found = types("make", MAKE, make_request(), MAKE_TYPES) + types("get", GET, get_request(), GET_TYPES)
     found += ordered("make", MAKE, make_request, MAKE_ORDER) + ordered("get", GET, get_request, GET_ORDER)
-    return found + inside() + values()
+    return found + inside() + values() + good_values()

@@ -8,6 +8,7 @@ import hid_packets as hid
 from corpus import INFO, KIND, NEXT, RESET, SELECTION, Case, descriptor
 
 TOUCH: Dict[str, Any] = {"needs": ["touch"]}
+ANEW: Dict[str, Any] = {"needs": ["touch", "reset"]}
 EMPTY: Dict[str, Any] = {"needs": ["touch", "reset"], "uses": ["rk"]}
 RISES = "rp example.com up counter-rises"
 
@@ -64,6 +65,12 @@ def registrations() -> List[Case]:
     for word, status in (("denied", "27"), ("timeout", "27")):
         case = Case(f"make/user_{word}", "make", "Without the user's consent nothing is made.", needs=["denial"])
         cases.append(case.greet().make().presence(word).expect(f"status {status}").alive())
+    return cases
+
+
+def without_keys() -> List[Case]:
+    """Registrations for which there is no key, no signature or no room."""
+    cases = []
     case = Case("make/no_key", "make", "Where no key could be made an error is answered.", needs=["refusal"])
     case.comment("profile: the standard doesn't say which")
     case.greet().make().presence()
@@ -110,6 +117,12 @@ def exclude_lists() -> List[Case]:
         case = Case(f"lists/exclude_{word}", "make", "An excluded registration has this status whatever the user does.")
         case.comment("needs: denial")
         cases.append(case.greet().register(1).make(p5=[descriptor(1)]).presence(word).expect("status 19"))
+    return cases
+
+
+def exclude_nothing() -> List[Case]:
+    """Exclude lists that name no credential of the RP, and what comes before the refusal."""
+    cases = []
     passes: Dict[str, List[Any]] = {"empty": [], "unknown": [descriptor(9)], "other_type": [descriptor(1, "other")]}
     for name, exclude in passes.items():
         case = Case(
@@ -148,6 +161,12 @@ def allow_lists() -> List[Case]:
     for name, allow in found.items():
         case = Case(f"lists/allow_{name}", "get", "The credential of this RP that the list names signs.", **TOUCH)
         cases.append(case.greet().register(1).get(p3=allow).asserted(RISES + " no-uv no-number"))
+    return cases
+
+
+def allow_missing() -> List[Case]:
+    """Allow lists that name no credential of the RP."""
+    cases = []
     missing: Dict[str, List[Any]] = {
         "unknown": [descriptor(9)],
         "other_type": [descriptor(1, "other")],
@@ -163,6 +182,12 @@ def allow_lists() -> List[Case]:
     for name, rp in (("capital", "Example.com"), ("longer", "example.com."), ("empty", "")):
         case = Case(f"lists/allow_rp_{name}", "get", "The RP is compared byte by byte.", **TOUCH)
         cases.append(case.greet().register(1).get(p1=rp, p3=[descriptor(1)]).expect("status 2e").alive())
+    return cases
+
+
+def allow_several() -> List[Case]:
+    """Allow lists of several credentials, and empty ones."""
+    cases = []
     case = Case(
         "lists/allow_two", "get", "Where the list names two, one of them signs and no number is answered.", **TOUCH
     )
@@ -219,6 +244,12 @@ def sign_ins() -> List[Case]:
     )
     case = Case("get/up_true_uv_false", "get", "The option uv false changes nothing.", **TOUCH)
     cases.append(case.greet().register(1).get(p3=[descriptor(1)], p5={"uv": False}).asserted(RISES + " no-uv"))
+    return cases
+
+
+def found_alone() -> List[Case]:
+    """Sign-ins that are refused, and credentials that are found without a list."""
+    cases = []
     for word in ("denied", "timeout"):
         case = Case(f"get/user_{word}", "get", "Without the user's consent nothing is signed.", needs=["denial"])
         cases.append(case.greet().register(1).get(p3=[descriptor(1)]).presence(word).expect("status 27").alive())
@@ -237,6 +268,12 @@ def sign_ins() -> List[Case]:
         "get/discoverable_by_list", "get", "A discoverable credential is found by a list too, with its user.", **EMPTY
     )
     cases.append(case.greet().register(1, rk=True).get(p3=[descriptor(1)]).asserted(RISES + " user 01 no-name"))
+    return cases
+
+
+def same_users() -> List[Case]:
+    """The same user once more, and other RPs."""
+    cases = []
     case = Case("get/same_user_again", "get", "A discoverable credential replaces that of its RP and user.", **EMPTY)
     case.greet().register(1, rk=True).register(2, rk=True).get().asserted(
         f"{RISES} no-number id {descriptor(2)['id'].hex()}"
@@ -276,6 +313,12 @@ def nexts() -> List[Case]:
     cases.append(case.greet().cbor(NEXT).expect("status 30").alive())
     case = Case("next/one_credential", "next", "After a sign-in with one credential nothing is pending.", **EMPTY)
     cases.append(case.greet().register(1, rk=True).get().asserted(RISES).cbor(NEXT).expect("status 30"))
+    return cases
+
+
+def next_times() -> List[Case]:
+    """How long assertions are pending."""
+    cases = []
     case = three(
         Case(
             "next/after_30_seconds", "next", "More than 30 seconds after the last assertion the status is 30.", **EMPTY
@@ -292,6 +335,12 @@ def nexts() -> List[Case]:
         case.comment("profile: no clock of another authenticator is so exact")
         three(case).wait(wait).cbor(NEXT)
         cases.append(case.expect("status 30") if late else case.asserted(f"{RISES} user 02", presence=False))
+    return cases
+
+
+def next_between() -> List[Case]:
+    """What comes between, and new sign-ins."""
+    cases = []
     case = three(Case("next/ping_between", "next", "A PING between changes nothing.", **EMPTY))
     cases.append(case.alive().cbor(NEXT).asserted(f"{RISES} user 02", presence=False))
     case = three(
@@ -319,6 +368,12 @@ def nexts() -> List[Case]:
         .cbor(NEXT, 2)
         .expect("status 30 on 2")
     )
+    return cases
+
+
+def next_anew() -> List[Case]:
+    """New sign-ins, and the flags of the first."""
+    cases = []
     case = three(Case("next/new_sign_in", "next", "A new sign-in begins anew, with the newest.", **EMPTY))
     case.cbor(NEXT).asserted(f"{RISES} user 02", presence=False).get().asserted(f"{RISES} user 03 number 3")
     cases.append(case.cbor(NEXT).asserted(f"{RISES} user 02", presence=False))
@@ -337,17 +392,16 @@ def nexts() -> List[Case]:
 def resets() -> List[Case]:
     """authenticatorReset and authenticatorSelection."""
     cases = []
-    more: Dict[str, Any] = {"needs": ["touch", "reset"]}
-    case = Case("reset/granted", "reset", "A reset that the user consents to is answered by 00.", **more)
+    case = Case("reset/granted", "reset", "A reset that the user consents to is answered by 00.", **ANEW)
     cases.append(case.greet().cbor(RESET).presence().expect("status 00").alive())
-    case = Case("reset/forgets", "reset", "After a reset no credential is left.", **more, uses=["rk"])
+    case = Case("reset/forgets", "reset", "After a reset no credential is left.", **ANEW, uses=["rk"])
     case.greet().register(1).register(2, rk=True).cbor(RESET).presence().expect("status 00")
     cases.append(case.get(p3=[descriptor(1)]).expect("status 2e").get().expect("status 2e"))
-    case = Case("reset/serves_again", "reset", "After a reset credentials can be made.", **more)
+    case = Case("reset/serves_again", "reset", "After a reset credentials can be made.", **ANEW)
     cases.append(
         case.greet().cbor(RESET).presence().expect("status 00").register(1).get(p3=[descriptor(1)]).asserted(RISES)
     )
-    case = Case("reset/asks_for_the_user", "reset", "A reset waits for the user.", **more)
+    case = Case("reset/asks_for_the_user", "reset", "A reset waits for the user.", **ANEW)
     cases.append(
         case.greet().cbor(RESET).expect("keepalive 02").tick(100).expect("nothing").presence().expect("status 00")
     )
@@ -357,10 +411,16 @@ def resets() -> List[Case]:
         )
         case.greet().register(1).cbor(RESET).presence(word).expect(f"status {status}")
         cases.append(case.get(p3=[descriptor(1)]).asserted(RISES))
-    case = Case("reset/cancelled", "reset", "After a CANCEL nothing is lost.", **more)
+    case = Case("reset/cancelled", "reset", "After a CANCEL nothing is lost.", **ANEW)
     case.greet().register(1).cbor(RESET).expect("keepalive 02").send(1, hid.CANCEL).expect("status 2d")
     cases.append(case.get(p3=[descriptor(1)]).asserted(RISES))
-    case = Case("reset/too_late", "reset", "More than 10 seconds after the start a reset is refused.", **more)
+    return cases
+
+
+def late_resets() -> List[Case]:
+    """Resets too long after the start."""
+    cases = []
+    case = Case("reset/too_late", "reset", "More than 10 seconds after the start a reset is refused.", **ANEW)
     cases.append(case.greet().wait(10500).cbor(RESET).expect("status 30").alive())
     for wait, answer in ((10000, "keepalive 02"), (10001, "status 30")):
         case = Case(
@@ -368,6 +428,12 @@ def resets() -> List[Case]:
         )
         case.comment("profile: no clock of another authenticator is so exact")
         cases.append(case.greet().wait(wait).cbor(RESET).expect(answer))
+    return cases
+
+
+def selections() -> List[Case]:
+    """authenticatorSelection."""
+    cases = []
     for word, status in (("granted", "00"), ("denied", "27"), ("timeout", "2f")):
         need = "touch" if word == "granted" else "denial"
         case = Case(
@@ -390,4 +456,6 @@ def resets() -> List[Case]:
 def cases() -> List[Case]:
     """Returns the cases of this file."""
     assert KIND == "public-key"
-    return infos() + registrations() + exclude_lists() + allow_lists() + sign_ins() + nexts() + resets()
+    found = infos() + registrations() + without_keys() + exclude_lists() + exclude_nothing()
+    found += allow_lists() + allow_missing() + allow_several() + sign_ins() + found_alone() + same_users()
+    return found + nexts() + next_times() + next_between() + next_anew() + resets() + late_resets() + selections()

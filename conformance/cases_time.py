@@ -8,6 +8,7 @@ import hid_packets as hid
 from corpus import INFO, RESET, SELECTION, Case, counted, descriptor
 
 OURS = "the time is 500 ms after the message's last packet, judged at the next input"
+TOUCH: Dict[str, Any] = {"needs": ["touch"]}
 EXACT: Dict[str, Any] = {"needs": ["exact time"], "profile": OURS}
 
 
@@ -50,12 +51,11 @@ def timeouts() -> List[Case]:
 def keepalives() -> List[Case]:
     """KEEPALIVEs while a request waits."""
     cases = []
-    touch: Dict[str, Any] = {"needs": ["touch"]}
     case = Case(
         "keepalive/asks_for_the_user",
         "keepalive",
         "A request that waits for the user has KEEPALIVEs of status 02.",
-        **touch,
+        **TOUCH,
     )
     cases.append(case.greet().make().expect("keepalive 02").send(1, hid.CANCEL).expect("status 2d"))
     case = Case(
@@ -78,16 +78,22 @@ def keepalives() -> List[Case]:
     case.comment("needs: exact time")
     case.comment("profile: the standard names the longest time between two, not the shortest")
     cases.append(case.greet().make().expect("keepalive 02").tick(99).expect("silence").tick(1).expect("keepalive 02"))
+    return cases
+
+
+def keepalive_ends() -> List[Case]:
+    """Which KEEPALIVEs come, where they go, and when they end."""
+    cases = []
     case = Case("keepalive/status_changes", "keepalive", "As the status changes a KEEPALIVE says so.")
     case.comment("needs: exact time")
     case.comment("profile: keys and signatures take no time in other devices")
     case.greet().make().expect("keepalive 02").presence().expect("keepalive 01").tick(100).expect("keepalive 01")
     cases.append(case.key(1).expect("nothing").tick(100).expect("keepalive 01").sign().expect("made up"))
-    case = Case("keepalive/ends_with_the_answer", "keepalive", "After the answer none comes.", **touch)
+    case = Case("keepalive/ends_with_the_answer", "keepalive", "After the answer none comes.", **TOUCH)
     cases.append(case.greet().register(1).tick(250).expect("silence").alive())
     case = Case("keepalive/none_for_get_info", "keepalive", "What is answered at once has none afterwards.")
     cases.append(case.greet().cbor(INFO).expect("info").tick(250).expect("silence"))
-    case = Case("keepalive/on_the_channel_that_asked", "keepalive", "It goes to the channel that asked.", **touch)
+    case = Case("keepalive/on_the_channel_that_asked", "keepalive", "It goes to the channel that asked.", **TOUCH)
     case.greet(3).make(2).expect("keepalive 02 on 2").tick(100).expect("keepalive 02 on 2")
     cases.append(case.send(2, hid.CANCEL).expect("status 2d on 2"))
     return cases
@@ -129,6 +135,12 @@ def cancels() -> List[Case]:
     case = Case("cancel/with_bytes", "cancel", "A CANCEL with bytes cancels too.", needs=["touch"])
     case.comment("profile: its length isn't looked at")
     cases.append(case.greet().make().expect("keepalive 02").send(1, hid.CANCEL, b"abc").expect("status 2d"))
+    return cases
+
+
+def cancels_ignored() -> List[Case]:
+    """CANCEL for which nothing waits."""
+    cases = []
     for place, channel in (("own", 1), ("strange", 9), ("broadcast", hid.BROADCAST)):
         case = Case(f"cancel/nothing_waits_{place}", "cancel", "A CANCEL for which nothing waits is ignored.")
         cases.append(case.greet().send(channel, hid.CANCEL).expect("silence").alive())
@@ -171,6 +183,12 @@ def hosts() -> List[Case]:
             "error 06 on 2"
         )
         cases.append(case.made(1))
+    return cases
+
+
+def hosts_afterwards() -> List[Case]:
+    """Hosts that are served after others."""
+    cases = []
     case = Case("hosts/served_after_the_wait", "busy", "The other host is served once the transaction is over.")
     case.greet(2).begin(1).send(2, hid.PING, b"a").expect("error 06 on 2").go_on(1).expect("echo")
     cases.append(case.alive(2))
@@ -199,4 +217,5 @@ def hosts() -> List[Case]:
 
 def cases() -> List[Case]:
     """Returns the cases of this file."""
-    return timeouts() + keepalives() + cancels() + hosts()
+    found = timeouts() + keepalives() + keepalive_ends() + cancels() + cancels_ignored()
+    return found + hosts() + hosts_afterwards()

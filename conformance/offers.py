@@ -41,11 +41,13 @@ def greet(device: Device) -> bytes:
 def prepare(device: Device) -> str:
     """Resets a device; returns why that wasn't possible, or nothing."""
     channel = int.from_bytes(greet(device)[8:12], "big")
-    device.presence(0, "granted")
-    answer = ask(device, channel, hid.CBOR, bytes([answers.RESET]), 30)
-    while answer is not None and answer.command == hid.KEEPALIVE:
-        collector_answer = device.read(30)
-        answer = hid.Collector().feed(collector_answer) if collector_answer else None
+    answer = ask(device, channel, hid.CBOR, bytes([answers.RESET]))
+    if answer is not None and answer.command == hid.KEEPALIVE:
+        device.presence(0, "granted")
+    end = time.monotonic() + 30
+    while answer is not None and answer.command == hid.KEEPALIVE and time.monotonic() < end:
+        packet = device.read(3)
+        answer = hid.Collector().feed(packet) if packet else None
     device.close()
     if answer is None or answer.data != b"\0":
         came = answer.data.hex() if answer else "nothing"
