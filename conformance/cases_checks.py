@@ -125,10 +125,10 @@ def types(chapter: str, command: bytes, good: Asked, known: Dict[int, Tuple[str,
     for key, name, other, value in wrong_types(known):
         shows = f"{name} that is of another type ({other}) is refused."
         case = Case(f"{chapter}/type_{key}_{other}", section, shows)
-        cases.append(case.greet().cbor(command + with_value(good, key, value)).expect("status 11").alive())
+        cases.append(case.greet().cbor(command + with_value(good, key, value)).expect("refused 11").alive())
     for name, item in (("integer", 1), ("bytes", b"x"), ("text", "x"), ("array", []), ("true", True), ("null", None)):
         case = Case(f"{chapter}/parameters_{name}", section, f"Parameters that are no map ({name}) are refused.")
-        cases.append(case.greet().cbor(command + encode(item)).expect("status 11").alive())
+        cases.append(case.greet().cbor(command + encode(item)).expect("refused 11").alive())
     case = Case(f"{chapter}/parameters_absent", section, "A command without its parameters is refused.")
     cases.append(case.greet().cbor(command).expect("refused 12").alive())
     for key in [key for key in good if isinstance(key, int)]:
@@ -236,7 +236,8 @@ def ordered(chapter: str, command: bytes, good: Callable[[], Asked], checks: Lis
         case = Case(f"{chapter}/alone_{check.name}", chapter, shows, uses=check.uses, profile=check.profile)
         asked = good()
         check.spoil(asked)
-        cases.append(case.greet().cbor(command + encode(asked)).expect(f"status {check.status}").alive())
+        word = "refused" if check.name == "type" else "status"
+        cases.append(case.greet().cbor(command + encode(asked)).expect(f"{word} {check.status}").alive())
         shows = "What isn't whole CBOR is refused before it is looked into."
         case = Case(f"{chapter}/first_cbor_then_{check.name}", chapter, shows)
         cases.append(case.greet().cbor(command + encode(asked)[:-1]).expect("refused 12").alive())

@@ -142,7 +142,7 @@ def commands() -> List[Case]:
         cases.append(case.greet().send(1, hid.CBOR, INFO, length).expect("error 03").alive())
     case = Case("commands/cbor_length_0", "cbor command", "A CBOR message has at least its command byte.")
     cases.append(case.greet().send(1, hid.CBOR, b"").expect("error 03").alive())
-    for command in (0x00, 0x03, 0x05, 0x0E, 0x3F, 0x7F, 0xFF):
+    for command in (0x00, 0x03, 0x05, 0x0E, 0x3F, 0xFF):
         case = Case(
             f"commands/ctap_{command:02x}", "commands", "A command byte that the standard doesn't know is refused."
         )

@@ -1,15 +1,15 @@
 #!/usr/bin/env python3
-"""Writes the sessions of the corpus into conformance/sessions.
+"""Writes the sessions of the corpus into conformance/sessions, and their table into docs/CONFORMANCE.md.
 
     conformance/make.py            writes them
-    conformance/make.py --check    fails where the folder isn't what it would write
+    conformance/make.py --check    fails where the folder or the table isn't what it would write
 """
 
 from __future__ import annotations
 
 import os
 import sys
-from typing import Dict, List
+from typing import Dict, List, Tuple
 
 import cases_cbor
 import cases_checks
@@ -21,6 +21,9 @@ from corpus import Case
 
 HERE = os.path.dirname(os.path.abspath(__file__))
 SESSIONS = os.path.join(HERE, "sessions")
+PAGE_NAME = "docs/CONFORMANCE.md"
+PAGE = os.path.join(HERE, "..", PAGE_NAME)
+FROM, TO = "<!-- written by conformance/make.py -->", "<!-- to here -->"
 
 
 def corpus() -> Dict[str, str]:
@@ -46,6 +49,33 @@ def there() -> Dict[str, str]:
     return found
 
 
+def table(corpus_texts: Dict[str, str]) -> str:
+    """Returns how many cases each section has, and how many of them don't bind others."""
+    counts: Dict[str, List[int]] = {}
+    for text in corpus_texts.values():
+        rule = text.partition("\n")[0].partition(", ")[2]
+        row = counts.setdefault(rule, [0, 0, 0])
+        row[0] += 1
+        row[1] += "\n# profile: " in text
+        row[2] += "\n# level: should" in text
+    rows = [f"| {rule} | {row[0]} | {row[1]} | {row[2]} |\n" for rule, row in sorted(counts.items(), key=place)]
+    head = "| Section of CTAP 2.1 | Cases | Of these a choice of ours | A should |\n|---|---|---|---|\n"
+    return FROM + "\n" + head + "".join(rows) + "\n"
+
+
+def place(row: Tuple[str, List[int]]) -> List[int]:
+    """Returns a section's number as a list, to sort by."""
+    return [int(part) for part in row[0].split(" ")[0].split(".")]
+
+
+def page_with(rows: str) -> Tuple[str, str]:
+    """Returns the page as it is, and with this table."""
+    with open(PAGE, encoding="utf-8") as file:
+        text = file.read()
+    before, _, rest = text.partition(FROM)
+    return text, before + rows + TO + rest.partition(TO)[2]
+
+
 def main(words: List[str]) -> int:
     """Writes or compares the folder."""
     if words not in ([], ["--check"]):
@@ -53,11 +83,18 @@ def main(words: List[str]) -> int:
         return 2
     wanted, found = corpus(), there()
     differing = sorted(name for name in {*wanted, *found} if wanted.get(name) != found.get(name))
+    page, page_wanted = page_with(table(wanted))
+    if page != page_wanted:
+        differing.append(PAGE_NAME)
     if words:
         print("\n".join(f"differs: {name}" for name in differing) or f"the same, {len(wanted)} sessions")
         return 1 if differing else 0
     for name in differing:
         path = os.path.join(SESSIONS, name + ".log")
+        if name == PAGE_NAME:
+            with open(PAGE, "w", encoding="utf-8") as file:
+                file.write(page_wanted)
+            continue
         if name not in wanted:
             os.remove(path)
             continue
