@@ -84,8 +84,10 @@ class Offers:
 
     def has(self, use: str) -> bool:
         """Says whether the device offers something that a case uses."""
-        options = self.info.get(4, {})
-        algorithms = [entry.get("alg") for entry in self.info.get(10, [{"alg": -7}])]
+        options = self.info.get(4)
+        options = options if isinstance(options, dict) else {}
+        algorithms = self.info.get(10, [{"alg": -7}])
+        entries = [entry for entry in algorithms if isinstance(entry, dict)] if isinstance(algorithms, list) else []
         known = {
             "rk": options.get("rk", False),
             "selection": self.selects,
@@ -93,7 +95,7 @@ class Offers:
             "no uv": not options.get("uv", False),
             "no ep": "ep" not in options,
             "up": options.get("up", True),
-            "algorithm -7": -7 in algorithms,
+            "algorithm -7": any(entry.get("alg") == -7 for entry in entries),
             "no msg": bool(self.capabilities & 0x08),
             "no wink": not self.capabilities & 0x01,
             "messages of 7609": self.info.get(5, 1024) >= 7609,

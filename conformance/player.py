@@ -66,6 +66,10 @@ class Player:
         except Differs as differs:
             line = step.line if step else 0
             return Outcome(self.session, "not ok", "", differs.wanted, differs.came, line)
+        except (KeyError, TypeError, ValueError, IndexError, AttributeError) as fault:
+            # A map of another shape than any that was looked for.
+            line = step.line if step else 0
+            return Outcome(self.session, "not ok", "", "an answer of the standard's shape", repr(fault), line)
         except OSError as fault:
             return Outcome(self.session, "not ok", "", "a device that goes on", str(fault), step.line if step else 0)
         finally:

@@ -79,6 +79,8 @@ def main(arguments: List[str]) -> int:
     options = words_of(arguments)
     try:
         sessions = all_sessions(options.only, tuple(options.sessions))
+        if not sessions:
+            raise ValueError(f"no case has the word {options.only}")
         device = device_of(options)
         offers = Offers.ask(device, options.touch)
     except (OSError, ValueError) as fault:
