@@ -146,7 +146,8 @@ def stripped(command: int, key: int) -> RequestHook:
         if request[0] != command or key not in asked:
             return request
         del asked[key]
-        return request[:1] + encode(asked)
+        left: bytes = request[:1] + encode(asked)
+        return left
 
     return hook
 

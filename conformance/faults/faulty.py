@@ -85,7 +85,7 @@ class Faulty(LiveDevice):
 
     def read(self, seconds: float) -> Optional[bytes]:
         """Returns the next packet."""
-        packet = super().read(seconds)
+        packet: Optional[bytes] = super().read(seconds)
         self.last["kept"] = len(self.packets)
         return packet
 
@@ -129,7 +129,8 @@ class Faulty(LiveDevice):
 
     def resigned(self, auth: bytes, client_hash: bytes, credential: bytes) -> bytes:
         """Signs changed authenticator data."""
-        return self.keys.sign(credential, auth + client_hash)
+        signature: bytes = self.keys.sign(credential, auth + client_hash)
+        return signature
 
 
 def parts_of(request: bytes) -> Dict[Any, Any]:
