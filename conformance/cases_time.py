@@ -168,15 +168,13 @@ def hosts() -> List[Case]:
     cases.append(case)
     for name, length, command in (("ping", 1, hid.PING), ("long_ping", 100, hid.PING), ("cbor", 1, hid.CBOR)):
         data = INFO if command == hid.CBOR else counted(length)
-        case = Case(
-            f"hosts/{name}_into_a_message", "busy", "While a host's message is open, another host is told to wait."
-        )
+        case = Case(f"hosts/{name}_into_a_message", "busy", "While a host's message is open, another host has to wait.")
         case.greet(2).begin(1).packets(hid.packets_of(2, command, data)[:1]).expect("error 06 on 2")
         cases.append(case.go_on(1).expect("echo"))
         case = Case(
             f"hosts/{name}_into_a_request",
             "busy",
-            "While a host's request waits, another is told to wait.",
+            "While a host's request waits, another has to wait.",
             needs=["touch"],
         )
         case.greet(2).make().expect("keepalive 02").packets(hid.packets_of(2, command, data)[:1]).expect(

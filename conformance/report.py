@@ -60,8 +60,8 @@ def junit(outcomes: List[Outcome]) -> None:
         if outcome.status == "skip":
             print(f"    <skipped message={quoteattr(outcome.reason)}/>")
         if outcome.status == "not ok":
-            told = escape("\n".join(details(outcome)))
-            print(f"    <failure message={quoteattr(outcome.wanted)}>{told}</failure>")
+            said = escape("\n".join(details(outcome)))
+            print(f"    <failure message={quoteattr(outcome.wanted)}>{said}</failure>")
         print("  </testcase>")
     print(f"</testsuite>\n<!-- {totals(outcomes)} -->")
 
