@@ -1,5 +1,5 @@
 /* Session logs of a security key: the commands of `hidlog` as functions over bytes (docs/LOG_FORMAT.md). Link with
- * libhidlog.a or libhidlog.so of release/, which release/build.sh makes from crates/hidlog_c.
+ * libhidlog.a or libhidlog.so.0 of release/, which release/build.sh makes from crates/hidlog_c.
  *
  * Each function reads a whole log and a snapshot (0 bytes of it: no credentials), and writes what the command writes to
  * the front of `out`, at most `room` bytes. What came of it stands in *outcome. The log is the state: nothing is kept

@@ -11,8 +11,10 @@ a copy of the repository. Links between files are looked at too. The last line i
 
 from __future__ import annotations
 
+import os
 import re
 import shutil
+import signal
 import subprocess
 import sys
 import tempfile
@@ -84,24 +86,36 @@ def copy_to(folder: Path) -> None:
             shutil.copy2(TOP / name, folder / name, follow_symlinks=False)
 
 
+def run(command: str, folder: Path) -> tuple[int, str]:
+    """Runs a command in a folder, and returns its status and all that it printed. Ends it with its children in time."""
+    with subprocess.Popen(
+        ["bash", "-c", command],
+        cwd=folder,
+        stdin=subprocess.DEVNULL,
+        stdout=subprocess.PIPE,
+        stderr=subprocess.STDOUT,
+        text=True,
+        errors="replace",
+        start_new_session=True,
+    ) as started:
+        try:
+            printed, _ = started.communicate(timeout=SECONDS)
+        except subprocess.TimeoutExpired:
+            os.killpg(started.pid, signal.SIGKILL)
+            printed = f"not ended after {SECONDS} seconds"
+    return started.returncode, printed
+
+
 def failures_of(page: Path, folder: Path) -> list[str]:
     """Runs a page's commands in a folder, and returns what is otherwise than the page says."""
     failures = []
     for shown in commands_of(page.read_text(encoding="utf-8")):
-        ran = subprocess.run(
-            ["bash", "-c", shown.command],
-            cwd=folder,
-            stdout=subprocess.PIPE,
-            stderr=subprocess.STDOUT,
-            text=True,
-            timeout=SECONDS,
-            errors="replace",
-        )
-        printed = ran.stdout.splitlines()
+        status, text = run(shown.command, folder)
+        printed = text.splitlines()
         if shown.is_shown and not shown.is_printed(printed):
             failures.append(f"line {shown.line}: {shown.command}\n" + "\n".join(f"      {it}" for it in printed[:20]))
-        elif not shown.is_shown and ran.returncode:
-            failures.append(f"line {shown.line}: {shown.command}: status {ran.returncode}: {ran.stdout[-300:]}")
+        elif not shown.is_shown and status:
+            failures.append(f"line {shown.line}: {shown.command}: status {status}: {text[-300:]}")
     return failures
 
 
