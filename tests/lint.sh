@@ -12,7 +12,5 @@ black --quiet --check --line-length 120 "${python[@]}"
 untyped='^(bench|examples|python|tests/(fuzz|python|web))/'
 mapfile -t typed < <(printf '%s\n' "${python[@]}" | grep -Ev "$untyped")
 # One call a file, since two of them may have one name.
-for file in "${typed[@]}"; do
-    mypy --strict --no-error-summary --ignore-missing-imports --follow-imports=silent --allow-untyped-calls \
-        --allow-subclassing-any "$file"
-done
+printf '%s\0' "${typed[@]}" | xargs -0 -n 1 -P "$(nproc)" mypy --strict --no-error-summary --ignore-missing-imports \
+    --follow-imports=silent --allow-untyped-calls --allow-subclassing-any
