@@ -1,3 +1,10 @@
 pub mod Numbers
 pub mod Begin
 pub mod Commands
+pub mod Key
+pub mod Words
+pub mod Switched
+pub mod Reports
+pub mod Owned
+pub mod Lending
+pub mod Held

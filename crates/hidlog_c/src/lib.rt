@@ -3,9 +3,17 @@
 //! source makes the WebAssembly module of the web page (release/build.sh).
 #![tactic(auto)]
 
+mod calls;
 mod commands;
+mod device;
+mod fault;
+mod holding;
+mod key;
+mod lending;
 mod lent;
+mod memory;
 mod outcome;
+mod reports;
 mod started;
 
 ghost use Rattle.hidlog_c.specs.Commands.{Answers, Checks, Lives, Quiets, Replays};

@@ -1,32 +1,46 @@
-//! The session that a log is played on.
+//! The session that a log is played on, or that a key holds.
 ghost use Rattle.std.specs.Prelude.{◌≡◌, ◌≢◌, [], List, IfOk, IfErr};
 ghost use Rattle.cred_table.specs.declared.row.Row.{Row as AnyRow};
 ghost use Rattle.cred_table.specs.Snapshots.{Refuses};
 ghost use Rattle.token_session.specs.Meters.{StandsAfter};
 ghost use Rattle.session_log.specs.Command.{start_with};
 ghost use Rattle.hidlog_c.specs.Begin.{Opens};
+ghost use Rattle.hidlog_c.specs.Switched.{start_of};
 
 use authn_core::Config;
 use cred_table::{SnapshotFault, Store, Table, load};
 use session_log::CAPACITY;
 use token_session::Session;
 
-/// A session at its start with these credentials: its AAGUID is zero, and its moment 0.
-fn session_with(rows: Store<CAPACITY>) -> Session<CAPACITY>
-    ensures { StandsAfter result (start_with (⟦<Store<CAPACITY> as Table<CAPACITY>>⟧.rows rows)) [] }
+/// Returns a session at its start with these credentials.
+fn session_with(aaguid: [u8; 16], start: u64, rows: Store<CAPACITY>) -> Session<CAPACITY>
+    ensures { StandsAfter result (start_of aaguid start (⟦<Store<CAPACITY> as Table<CAPACITY>>⟧.rows rows)) [] }
 {
-    Session::new(Config { aaguid: [0; 16] }, rows, 0)
+    Session::new(Config { aaguid }, rows, start)
 }
 
-/// A session at its start with the credentials of the snapshot, or with none where the snapshot is empty.
-pub fn started(snapshot: &[u8]) -> Result<Session<CAPACITY>, SnapshotFault>
+/// Returns a session at its start with the credentials of the snapshot, or with none where the snapshot is empty.
+pub fn switched_on(
+    aaguid: [u8; 16],
+    start: u64,
+    snapshot: &[u8],
+) -> Result<Session<CAPACITY>, SnapshotFault>
     ensures begins { IfOk result (λ session. (rows : List AnyRow) × Opens snapshot.now rows
-        × StandsAfter session (start_with rows) []) }
+        × StandsAfter session (start_of aaguid start rows) []) }
     ensures refused { IfErr result (λ fault. (snapshot.now ≢ []) × Refuses 64 snapshot.now fault) }
 {
     let mut rows = Store::new();
     if !snapshot.is_empty() {
         load(snapshot, &mut rows)?;
     }
-    Ok(session_with(rows))
+    Ok(session_with(aaguid, start, rows))
+}
+
+/// Returns such a session with an AAGUID of zeros, which begins at the moment 0.
+pub fn started(snapshot: &[u8]) -> Result<Session<CAPACITY>, SnapshotFault>
+    ensures begins { IfOk result (λ session. (rows : List AnyRow) × Opens snapshot.now rows
+        × StandsAfter session (start_with rows) []) }
+    ensures refused { IfErr result (λ fault. (snapshot.now ≢ []) × Refuses 64 snapshot.now fault) }
+{
+    switched_on([0; 16], 0, snapshot)
 }

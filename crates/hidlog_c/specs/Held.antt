@@ -1,0 +1,8 @@
+-- What a key holds.
+use Rattle.std.specs.Prelude.{ℕ, Bool, Option, Some, None, if◌then◌else◌, nat_eq}
+use Rattle.hidlog_c.specs.Key.{DeviceState}
+use Rattle.hidlog_c.specs.declared.key.Key.{Key}
+
+-- the device of a key that is made
+abbrev pub held : Key → Option DeviceState
+held k = if nat_eq k.state 1 then k.memory.device else None

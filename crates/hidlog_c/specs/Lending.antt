@@ -1,0 +1,15 @@
+-- What memory is after its device was lent.
+use Rattle.std.specs.Borrow.{Lends, MutBor, Fml}
+use Rattle.std.specs.Prelude.{Some}
+use Rattle.hidlog_c.specs.contracts.device.Device.{the_row as device_row}
+use Rattle.hidlog_c.specs.Key.{DeviceState}
+use Rattle.hidlog_c.specs.declared.memory.Memory.{Memory}
+use Rattle.hidlog_c.specs.contracts.memory.Memory.{the_row}
+
+-- the memory with a device in another state
+abbrev pub with_device : Memory → DeviceState → Memory
+with_device m d = record m { device = Some d }
+
+-- the memory ends with the last state behind r
+abbrev pub LendsDevice : MutBor Memory → MutBor DeviceState → Fml
+LendsDevice m r = Lends the_row device_row m r (with_device m.now)

@@ -1,0 +1,39 @@
+-- A key that is switched on.
+use Rattle.std.specs.Prelude.{◌≡◌, ◌≢◌, ◌⊎◌, ℕ, ℤ, pos, List, [], Option, Some, None}
+use Rattle.authn_core.specs.Bare.{bare_rows}
+use Rattle.authn_core.specs.Turn.{Start}
+use Rattle.cred_table.specs.declared.fault.SnapshotFault.{SnapshotFault}
+use Rattle.cred_table.specs.declared.fault.SnapshotFault.TheVariants.{NotSnapshot, TooMany, RowBroken, Memory}
+use Rattle.cred_table.specs.declared.row.Row.{Row}
+use Rattle.cred_table.specs.Snapshots.{Refuses}
+use Rattle.token_session.specs.Meters.{StandsAfter}
+use Rattle.hidlog_c.specs.Begin.{Opens}
+use Rattle.hidlog_c.specs.declared.fault.TheConstants.{ALREADY_MADE, NOT_SNAPSHOT, TOO_MANY_ROWS, ROW_BROKEN, NO_MEMORY}
+use Rattle.hidlog_c.specs.Key.{DeviceState}
+
+-- the start of a session with room for 64 credentials
+abbrev pub start_of : (aaguid : List ℕ) → (moment : ℕ) → List Row → Start
+start_of aaguid moment rows = record { aaguid = aaguid; moment = moment; room = 64; rows = bare_rows rows }
+
+abbrev pub refusal : SnapshotFault → ℤ
+refusal NotSnapshot = NOT_SNAPSHOT
+refusal TooMany = TOO_MANY_ROWS
+refusal (RowBroken place) = ROW_BROKEN
+refusal Memory = NO_MEMORY
+
+-- The key holds a session at its start with the credentials of the snapshot, and no packet waits.
+abbrev pub Begins : (aaguid : List ℕ) → (moment : ℕ) → (snapshot : List ℕ) → Option DeviceState → Type 0
+Begins aaguid moment snapshot after = (rows : List Row) × (d : DeviceState) × Opens snapshot rows
+    × (after ≡ Some d) × (d.waiting ≡ []) × StandsAfter d.session (start_of aaguid moment rows) []
+
+-- The snapshot is refused, and the key isn't made.
+abbrev pub IsRefused : (snapshot : List ℕ) → Option DeviceState → ℤ → Type 0
+IsRefused snapshot after result = (fault : SnapshotFault) × (snapshot ≢ []) × Refuses 64 snapshot fault
+    × (after ≡ None) × (result ≡ refusal fault)
+
+-- What making a key does. One that is made stays as it is.
+abbrev pub Makes : (before after : Option DeviceState) → (aaguid : List ℕ) → (moment : ℕ) → (snapshot : List ℕ) → ℤ
+    → Type 0
+Makes (Some d) after aaguid moment snapshot result = (after ≡ Some d) × (result ≡ ALREADY_MADE)
+Makes None after aaguid moment snapshot result =
+    (Begins aaguid moment snapshot after × (result ≡ pos 0)) ⊎ IsRefused snapshot after result

@@ -1,0 +1,210 @@
+//! The calls on a key, as functions of C.
+ghost use Rattle.std.specs.Prelude.{◌≡◌, None, Some, option_map};
+ghost use Rattle.token_session.specs.declared.input.Input.TheVariants as inputs;
+ghost use Rattle.hidlog_c.specs.Held.{held};
+ghost use Rattle.hidlog_c.specs.Key.{Answers, Sends};
+ghost use Rattle.hidlog_c.specs.Words.{AnswersWord, presence_of, signature_input};
+ghost use Rattle.hidlog_c.specs.Reports.{ReportsCredential, ReportsMeters, ReportsNeed, count_or, credential_count, pending_assertions, waiting_packets};
+ghost use Rattle.hidlog_c.specs.Switched.{Makes};
+
+use crate::device::Device;
+use crate::fault::{ALREADY_MADE, NO_MEMORY, NOT_MADE, NOT_SNAPSHOT, ROW_BROKEN, TOO_MANY_ROWS};
+use crate::key::Key;
+use crate::reports::{Credential, MetersReport, NeedReport};
+use crate::started::switched_on;
+use authn_core::{NewKey, Presence, Signature};
+use cred_table::SnapshotFault;
+use hid_packet::Packet;
+use token_session::Input;
+
+/// Returns the reply that a number says.
+fn presence_of(presence: u32) -> Option<Presence>
+    ensures { result ≡ presence_of presence }
+{
+    match presence {
+        0 => Some(Presence::Granted),
+        1 => Some(Presence::Denied),
+        2 => Some(Presence::TimedOut),
+        _ => None,
+    }
+}
+
+/// Returns how many bytes a key takes.
+#[unsafe(no_mangle)]
+pub extern "C" fn hidlog_key_size() -> usize {
+    std::mem::size_of::<Device>()
+}
+
+/// Makes a key that is switched on at `at`, with the credentials of the snapshot, or with none where it is empty.
+#[unsafe(no_mangle)]
+pub extern "C" fn hidlog_key_make(key: &mut Key, aaguid: &[u8; 16], at: u64, snapshot: &[u8]) -> i32
+    ensures { Makes (held key.old) (held key.new) aaguid.now at snapshot.now result }
+{
+    if key.is_made() {
+        return ALREADY_MADE;
+    }
+    match switched_on(*aaguid, at, snapshot) {
+        Ok(session) => {
+            key.hold(Device::new(session));
+            0
+        }
+        Err(SnapshotFault::NotSnapshot) => NOT_SNAPSHOT,
+        Err(SnapshotFault::TooMany) => TOO_MANY_ROWS,
+        Err(SnapshotFault::RowBroken(_)) => ROW_BROKEN,
+        Err(SnapshotFault::Memory) => NO_MEMORY,
+    }
+}
+
+/// Time passes.
+#[unsafe(no_mangle)]
+pub extern "C" fn hidlog_key_tick(key: &mut Key, at: u64) -> i32
+    ensures { Answers (held key.old) (held key.new) (record { at = at; input = inputs.Tick }) result }
+{
+    key.take(at, Input::Tick)
+}
+
+/// A packet came from a host.
+#[unsafe(no_mangle)]
+pub extern "C" fn hidlog_key_packet(key: &mut Key, at: u64, packet: &[u8; 64]) -> i32
+    ensures { Answers (held key.old) (held key.new)
+        (record { at = at; input = inputs.Packet (record { 0 = packet.now }) }) result }
+{
+    key.take(at, Input::Packet(Packet(*packet)))
+}
+
+/// Takes the next packet to send.
+#[unsafe(no_mangle)]
+pub extern "C" fn hidlog_key_next(key: &mut Key, packet: &mut [u8; 64]) -> i32
+    ensures { Sends (held key.old) (held key.new) (packet.old, packet.new) result }
+{
+    key.next(packet)
+}
+
+/// The user answered a test of presence: 0 consents, 1 refuses, 2 didn't answer in time.
+#[unsafe(no_mangle)]
+pub extern "C" fn hidlog_key_presence(key: &mut Key, at: u64, presence: u32) -> i32
+    ensures { AnswersWord (held key.old) (held key.new) at (option_map inputs.Presence (presence_of presence)) result }
+{
+    match presence_of(presence) {
+        Some(presence) => key.take(at, Input::Presence(presence)),
+        None => key.refuse(),
+    }
+}
+
+/// A new key pair for the credential that is being made: its id, and the point of its public key.
+#[unsafe(no_mangle)]
+pub extern "C" fn hidlog_key_new_key(
+    key: &mut Key,
+    at: u64,
+    id: &[u8; 32],
+    x: &[u8; 32],
+    y: &[u8; 32],
+) -> i32
+    ensures { Answers (held key.old) (held key.new)
+        (record { at = at; input = inputs.Key (Some (record { id = id.now; x = x.now; y = y.now })) }) result }
+{
+    let new_key = NewKey {
+        id: *id,
+        x: *x,
+        y: *y,
+    };
+    key.take(at, Input::Key(Some(new_key)))
+}
+
+/// No key pair can be made.
+#[unsafe(no_mangle)]
+pub extern "C" fn hidlog_key_no_key(key: &mut Key, at: u64) -> i32
+    ensures { Answers (held key.old) (held key.new) (record { at = at; input = inputs.Key None }) result }
+{
+    key.take(at, Input::Key(None))
+}
+
+/// A signature over the bytes to sign.
+#[unsafe(no_mangle)]
+pub extern "C" fn hidlog_key_signature(key: &mut Key, at: u64, signature: &[u8]) -> i32
+    ensures { AnswersWord (held key.old) (held key.new) at (signature_input signature.now) result }
+{
+    match Signature::new(signature) {
+        Some(signature) => key.take(at, Input::Signature(Some(signature))),
+        None => key.refuse(),
+    }
+}
+
+/// No signature can be made.
+#[unsafe(no_mangle)]
+pub extern "C" fn hidlog_key_no_signature(key: &mut Key, at: u64) -> i32
+    ensures { Answers (held key.old) (held key.new) (record { at = at; input = inputs.Signature None }) result }
+{
+    key.take(at, Input::Signature(None))
+}
+
+/// Returns how many packets wait.
+#[unsafe(no_mangle)]
+pub extern "C" fn hidlog_key_waiting(key: &mut Key) -> i32
+    ensures same { held key.new ≡ held key.old }
+    ensures count { result ≡ count_or waiting_packets (held key.old) }
+{
+    key.waiting()
+}
+
+/// Writes what the key needs of its caller before its work goes on, and returns its kind.
+#[unsafe(no_mangle)]
+pub extern "C" fn hidlog_key_need(key: &mut Key, need: &mut NeedReport) -> i32
+    ensures same { held key.new ≡ held key.old }
+    ensures need { ReportsNeed (held key.old) (need.old, need.new) result }
+{
+    key.need(need)
+}
+
+/// Returns how many credentials the key holds.
+#[unsafe(no_mangle)]
+pub extern "C" fn hidlog_key_credentials(key: &mut Key) -> i32
+    ensures same { held key.new ≡ held key.old }
+    ensures count { result ≡ count_or credential_count (held key.old) }
+{
+    key.credentials()
+}
+
+/// Writes the credential at a place, from 0, in order of making.
+#[unsafe(no_mangle)]
+pub extern "C" fn hidlog_key_credential(
+    key: &mut Key,
+    place: usize,
+    credential: &mut Credential,
+) -> i32
+    ensures same { held key.new ≡ held key.old }
+    ensures credential { ReportsCredential (held key.old) place (credential.old, credential.new) result }
+{
+    key.credential(place, credential)
+}
+
+/// Returns how many assertions wait for authenticatorGetNextAssertion.
+#[unsafe(no_mangle)]
+pub extern "C" fn hidlog_key_pending(key: &mut Key) -> i32
+    ensures same { held key.new ≡ held key.old }
+    ensures count { result ≡ count_or pending_assertions (held key.old) }
+{
+    key.pending()
+}
+
+/// Writes what the session has held and served.
+#[unsafe(no_mangle)]
+pub extern "C" fn hidlog_key_meters(key: &mut Key, meters: &mut MetersReport) -> i32
+    ensures same { held key.new ≡ held key.old }
+    ensures meters { ReportsMeters (held key.old) (meters.old, meters.new) result }
+{
+    key.meters(meters)
+}
+
+/// Ends the key. Its memory is the caller's again.
+#[unsafe(no_mangle)]
+pub extern "C" fn hidlog_key_free(key: &mut Key) -> i32
+    ensures none { held key.new ≡ None }
+    ensures made { result ≡ count_or (λ d. 0) (held key.old) }
+{
+    if !key.is_made() {
+        return NOT_MADE;
+    }
+    key.free();
+    0
+}

@@ -1,0 +1,141 @@
+//! What a call does on a key.
+ghost use Rattle.std.specs.Prelude.{◌≡◌, None, Some, is_some};
+ghost use Rattle.hidlog_c.specs.Held.{held};
+ghost use Rattle.hidlog_c.specs.Key.{Answers, Sends};
+ghost use Rattle.hidlog_c.specs.Words.{refusal_of};
+ghost use Rattle.hidlog_c.specs.Reports.{ReportsCredential, ReportsMeters, ReportsNeed, count_or, credential_count, pending_assertions, waiting_packets};
+
+use crate::device::Device;
+use crate::fault::{BAD_ARGUMENT, NOT_MADE};
+use crate::key::{EMPTY, FREED, Key, MADE};
+use crate::reports::{Credential, MetersReport, NeedReport};
+use token_session::Input;
+
+impl Key {
+    /// Returns whether it is made.
+    pub fn is_made(&self) -> bool
+        ensures { result ≡ is_some (held self.now) }
+    {
+        self.state == MADE
+    }
+
+    /// Makes the key hold a device. It isn't made before.
+    pub fn hold(&mut self, device: Device)
+        ensures { held self.new ≡ Some device }
+    {
+        if self.state == EMPTY {
+            self.memory.put(device);
+        } else {
+            *self.memory.device() = device;
+        }
+        self.state = MADE;
+    }
+
+    /// Makes the key hold nothing.
+    pub fn free(&mut self)
+        ensures { held self.new ≡ None }
+    {
+        if self.state == MADE {
+            self.state = FREED;
+        }
+    }
+
+    /// Takes an input, unless packets wait.
+    pub fn take(&mut self, at: u64, input: Input) -> i32
+        ensures { Answers (held self.old) (held self.new) (record { at = at; input = input }) result }
+    {
+        if !self.is_made() {
+            return NOT_MADE;
+        }
+        self.memory.device().take(at, input)
+    }
+
+    /// Returns why an argument that there isn't is refused.
+    pub fn refuse(&self) -> i32
+        ensures { result ≡ refusal_of (held self.now) }
+    {
+        if self.is_made() {
+            BAD_ARGUMENT
+        } else {
+            NOT_MADE
+        }
+    }
+
+    /// Takes the next packet that waits.
+    pub fn next(&mut self, packet: &mut [u8; 64]) -> i32
+        ensures { Sends (held self.old) (held self.new) (packet.old, packet.new) result }
+    {
+        if !self.is_made() {
+            return NOT_MADE;
+        }
+        self.memory.device().next(packet)
+    }
+
+    /// Returns how many packets wait.
+    pub fn waiting(&mut self) -> i32
+        ensures same { held self.new ≡ held self.old }
+        ensures count { result ≡ count_or waiting_packets (held self.old) }
+    {
+        if !self.is_made() {
+            return NOT_MADE;
+        }
+        self.memory.device().waiting() as i32
+    }
+
+    /// Writes what is needed, and returns its kind.
+    pub fn need(&mut self, need: &mut NeedReport) -> i32
+        ensures same { held self.new ≡ held self.old }
+        ensures need { ReportsNeed (held self.old) (need.old, need.new) result }
+    {
+        if !self.is_made() {
+            return NOT_MADE;
+        }
+        *need = self.memory.device().need();
+        need.kind as i32
+    }
+
+    /// Returns how many credentials are held.
+    pub fn credentials(&mut self) -> i32
+        ensures same { held self.new ≡ held self.old }
+        ensures count { result ≡ count_or credential_count (held self.old) }
+    {
+        if !self.is_made() {
+            return NOT_MADE;
+        }
+        self.memory.device().credentials() as i32
+    }
+
+    /// Returns how many assertions are pending.
+    pub fn pending(&mut self) -> i32
+        ensures same { held self.new ≡ held self.old }
+        ensures count { result ≡ count_or pending_assertions (held self.old) }
+    {
+        if !self.is_made() {
+            return NOT_MADE;
+        }
+        self.memory.device().pending() as i32
+    }
+
+    /// Writes the credential at a place, where there is one.
+    pub fn credential(&mut self, place: usize, credential: &mut Credential) -> i32
+        ensures same { held self.new ≡ held self.old }
+        ensures credential { ReportsCredential (held self.old) place (credential.old, credential.new) result }
+    {
+        if !self.is_made() {
+            return NOT_MADE;
+        }
+        self.memory.device().credential(place, credential)
+    }
+
+    /// Writes the session's meters.
+    pub fn meters(&mut self, meters: &mut MetersReport) -> i32
+        ensures same { held self.new ≡ held self.old }
+        ensures meters { ReportsMeters (held self.old) (meters.old, meters.new) result }
+    {
+        if !self.is_made() {
+            return NOT_MADE;
+        }
+        *meters = self.memory.device().meters();
+        0
+    }
+}

@@ -1,0 +1,17 @@
+//! Memory of the caller's.
+ghost use Rattle.std.specs.Prelude.{Option};
+ghost use Rattle.hidlog_c.specs.Owned.{holds};
+ghost use Rattle.hidlog_c.specs.Key.{DeviceState};
+
+use std::marker::Model;
+
+/// Memory of the caller's, which holds a device or is free to take one.
+#[repr(C)]
+pub struct Memory {
+    pub(crate) at: *mut u8,
+    ghost device: { Option DeviceState },
+}
+
+impl Model for Memory {
+    ghost also_owns = { λ m. holds m.at m.device };
+}
