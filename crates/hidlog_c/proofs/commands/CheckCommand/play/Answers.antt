@@ -1,7 +1,6 @@
 use Rattle.session_log.specs.Command.{start_with}
 use Rattle.std.proofs.Common.{[], take, rules}
-use Rattle.session_log.specs.Check.{begun}
-use Rattle.session_log.specs.Session.{check_history}
+use Rattle.session_log.specs.Check.{begun, check_history}
 use Rattle.hidlog_c.proofs.Written.{on_all, plays}
 use Rattle.hidlog_c.proofs.commands.CheckCommand.play.Goals as goal
 
