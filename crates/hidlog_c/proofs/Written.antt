@@ -1,9 +1,10 @@
--- What a call that replays a log over a slice into a lent buffer did, where it ended in a fault.
-use Rattle.std.proofs.Common.{◌≡◌, ◌+◌, ◌<◌, ◌≤◌, ℕ, Bool, true, false, List, [], ◌∷◌, ◌++◌, length, take, drop, Some, Err, if◌then◌else◌, ap, ◌∙◌, sym, refl, subst, arith}
-use Rattle.token_session.specs.declared.input.Timed.{Timed}
+-- What a call that plays a log over a slice into a lent buffer did.
+use Rattle.std.proofs.Common.{◌≡◌, ◌+◌, ◌<◌, ◌≤◌, ℕ, Bool, true, false, List, [], ◌∷◌, ◌++◌, length, take, drop, Option, Some, Result, Ok, Err, OnOk, inl, inr, if◌then◌else◌, ap, ◌∙◌, sym, refl, subst, arith}
+use Rattle.std.proofs.lemmas.List.{append_cancel_right}
 use Rattle.session_log.specs.declared.fault.LogFault.{LogFault}
-use Rattle.session_log.specs.Ending.{ended_by, read_fails, write_fails}
-use Rattle.session_log.specs.Replay.{Logs, Makes}
+use Rattle.session_log.specs.declared.fault.LogFault.TheVariants.{BadLine, TooLong, Differs, Read, Write, TooManyLines, Memory}
+use Rattle.session_log.specs.Ending.{Ending, Done, Refused, Unread, Unwritten, ending_of, read_fails, write_fails}
+use Rattle.session_log.specs.Replay.{Finds, IsShown, Makes, Reaches, ReadsTo}
 use Rattle.session_log.specs.Streams.{Moves}
 use Rattle.session_log.specs.World.{World}
 use Rattle.hidlog_c.specs.Commands.{IsWritten}
@@ -23,22 +24,56 @@ failed_once : (b : Bool) (old new : ℕ) → new ≡ (if b then old + 1 else old
 failed_once true old new e p = omega arith
 failed_once false old new e p = cc
 
-pub faulty : (world : World (List Timed)) (later : List Timed) (fault : LogFault) (log begun rest : List ℕ) (name name' len failed failed' : ℕ) (none buffer : List ℕ)
+-- that all was read, in other words
+all_so : {S : Type 0} (world : World S) (s : S) (bytes : List ℕ) (n : ℕ) (f : LogFault) (X Y : Type 0) → (X → Y) → IsShown world s bytes X n f → IsShown world s bytes Y n f
+all_so world s bytes n f X Y so (inl h) = inl h
+all_so world s bytes n f X Y so (inr h) = inr (so h)
+
+reaches_so : {S : Type 0} (world : World S) (s : S) (bytes : List ℕ) (f : LogFault) (X Y : Type 0) → (X → Y) → Reaches world s bytes X f → Reaches world s bytes Y f
+reaches_so world s bytes (BadLine n) X Y so h = (h.0, all_so world s bytes n (BadLine n) X Y so h.1)
+reaches_so world s bytes (TooLong n) X Y so h = h
+reaches_so world s bytes (Differs l k) X Y so (inl h) = inl (h.0, h.1, all_so world s bytes h.0 (Differs l k) X Y so h.2)
+reaches_so world s bytes (Differs l k) X Y so (inr h) = inr (h.0, so h.1)
+reaches_so world s bytes TooManyLines X Y so h = h
+reaches_so world s bytes (Read n) X Y so h = h
+reaches_so world s bytes Write X Y so h = h
+reaches_so world s bytes (Memory n) X Y so h = h
+
+-- a known log was read to here
+finds : {S : Type 0} (world : World S) (s : S) (log bytes rest : List ℕ) (all : Type 0) (ending : Ending) → log ≡ bytes ++ rest → (all → rest ≡ []) → ReadsTo world s (Some log) (Some rest) all ending → Finds world s bytes (rest ≡ []) ending
+finds world s log bytes rest all Done e so h = tt
+finds world s log bytes rest all (Refused f) e so h =
+    reaches_so world s bytes f all (rest ≡ []) so (subst (λ (b : List ℕ). Reaches world s b all f) (append_cancel_right h.0 bytes rest (sym h.1 ∙ e)) h.2)
+finds world s log bytes rest all (Unread n) e so h = tt
+finds world s log bytes rest all Unwritten e so h = tt
+
+pub on_all : {A X Y : Type 0} (r : Result A LogFault) → (X → Y) → OnOk r X → OnOk r Y
+on_all (Ok x) so h = so h
+on_all (Err f) so h = tt
+
+pub plays : {S : Type 0} (world : World S) (s later : S) (answer : Result (Unit {0}) LogFault) (all : Type 0) (log begun rest : List ℕ) (name name' len failed failed' : ℕ) (none buffer : List ℕ)
     → Some begun ≡ Some log
     → none ≡ []
-    → Moves (Some begun) (Some rest) (Some (name ∷ none)) (Some (name' ∷ take len buffer)) (λ bytes text. Logs world [] later bytes text (Err fault))
-    → 0 ≡ (if read_fails (ended_by fault) then 0 + 1 else 0)
-    → failed' ≡ (if write_fails (ended_by fault) then failed + 1 else failed)
+    → Moves (Some begun) (Some rest) (Some (name ∷ none)) (Some (name' ∷ take len buffer)) (λ bytes text. Makes world s later bytes text (ending_of answer))
+    → ReadsTo world s (Some begun) (Some rest) all (ending_of answer)
+    → (all → rest ≡ [])
+    → OnOk answer (rest ≡ [])
+    → 0 ≡ (if read_fails (ending_of answer) then 0 + 1 else 0)
+    → failed' ≡ (if write_fails (ending_of answer) then failed + 1 else failed)
     → len ≤ length buffer
     → (0 < failed' → len ≡ length buffer)
-    → IsWritten log buffer len (Err fault) (λ bytes text ending. (later : List Timed) × Makes world [] later bytes text ending)
-faulty world later fault log begun rest name name' len failed failed' none buffer given e (bytes, text, reads, writes, p) unfailed counted fits full = record {
+    → IsWritten log buffer len answer (λ bytes rest text ending. (later : S) × Makes world s later bytes text ending × Finds world s bytes (rest ≡ []) ending)
+plays world s later answer all log begun rest name name' len failed failed' none buffer given e (bytes, text, reads, writes, p) reach so whole unfailed counted fits full = record {
   bytes = bytes;
   rest = rest;
   log_is = sym (same_log begun log given) ∙ reads;
-  all = tt;
-  readable = unread (read_fails (ended_by fault)) unfailed;
+  all = whole;
+  readable = unread (read_fails (ending_of answer)) unfailed;
   fits = fits;
-  full = λ fails. full (failed_once (write_fails (ended_by fault)) failed failed' counted fails);
-  does = (later, subst (λ t. Makes world [] later bytes t (ended_by fault)) (sym (appended name name' none (take len buffer) text e writes)) p.0);
+  full = λ fails. full (failed_once (write_fails (ending_of answer)) failed failed' counted fails);
+  does = (
+    later,
+    subst (λ t. Makes world s later bytes t (ending_of answer)) (sym (appended name name' none (take len buffer) text e writes)) p,
+    finds world s begun bytes rest all (ending_of answer) reads so reach,
+  );
 }

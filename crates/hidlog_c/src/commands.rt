@@ -14,9 +14,9 @@ use token_session::Session;
 
 /// A command on a log.
 pub trait Command {
-    /// What it does: of a session that began with these credentials, the bytes that were read, the text that
-    /// was written, and how it ended.
-    ghost Does: { List AnyRow → List ℕ → List ℕ → Ending → Type 0 };
+    /// What it does: of a session that began with these credentials, the bytes that were read, those that were
+    /// not, the text that was written, and how it ended.
+    ghost Does: { List AnyRow → List ℕ → List ℕ → List ℕ → Ending → Type 0 };
 
     /// Plays the log on the session. The target stays over its buffer.
     fn play(

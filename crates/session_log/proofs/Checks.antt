@@ -8,7 +8,7 @@ use Rattle.session_log.specs.declared.fault.LogFault.{LogFault}
 use Rattle.session_log.specs.declared.fault.LogFault.TheVariants.{Differs}
 use Rattle.session_log.specs.Check.{Compared, missing_of, stops_compared, moves_compared, check_machine}
 use Rattle.session_log.specs.Ending.{Ending, Done, Refused, Unread, Unwritten, ended_by, ending_of, read_fails, write_fails}
-use Rattle.session_log.specs.Log.{fault_by, after_by, text_by}
+use Rattle.session_log.specs.Log.{playing, fault_by, after_by, text_by}
 use Rattle.session_log.specs.Replay.{IsPlayed, Plays, PlaysLine, Makes, Closes, Reaches, ReadsTo}
 use Rattle.session_log.specs.Said.{said}
 use Rattle.session_log.specs.Sent.{SendsPackets}
@@ -42,16 +42,18 @@ ends_so world taken failed left left' start target s s' t ending same m h =
     subst (λ z. Moves left left' start (taken target.1) (λ bytes text. Makes world z t bytes text ending)) same (closes_with world taken failed left left' start target s t ending m h)
 
 -- what is wrong after the last line, was found when all was read
-missing_reaches : {S : Type 0} (world : World S) (s : S) (bytes : List ℕ) (all : Type 0) (due : List (List ℕ)) (l k : ℕ) (f : LogFault) → missing_of due (Differs l k) ≡ Some f → all → Reaches world s bytes all f
-missing_reaches world s bytes all [] l k f h last = cc
-missing_reaches world s bytes all (p ∷ due) l k f h last = let is : Differs l k ≡ f = cc in subst (λ (g : LogFault). Reaches world s bytes all g) is (inr last)
+missing_reaches : {S : Type 0} (world : World S) (s : S) (bytes : List ℕ) (all : Type 0) (due : List (List ℕ)) (l k : ℕ) (f : LogFault) → missing_of due (Differs l k) ≡ Some f → (playing world s bytes).fault ≡ None → all
+    → Reaches world s bytes all f
+missing_reaches world s bytes all [] l k f h sound last = cc
+missing_reaches world s bytes all (p ∷ due) l k f h sound last = let is : Differs l k ≡ f = cc in subst (λ (g : LogFault). Reaches world s bytes all g) is (inr (sound, last))
 
-pub ends_reach : {S Q F : Type 0} (world : World S) (s t : S) (taken : F → Option (List ℕ)) (failed : F → ℕ) (left left' : Option (List ℕ)) (target : F × F) (bytes : List ℕ) (all : Type 0) (c : Compared Q) (ending : Ending)
-    → world.lacks t ≡ missing_of c.due (Differs c.input (c.found + 1)) → Closes world taken failed t target ending → Consumes left left' bytes → all → ReadsTo world s left left' all ending
-ends_reach world s t taken failed left left' target bytes all c Done same h p last = tt
-ends_reach world s t taken failed left left' target bytes all c (Refused f) same h p last = (bytes, p, missing_reaches world s bytes all c.due c.input (c.found + 1) f (sym same ∙ h.0) last)
-ends_reach world s t taken failed left left' target bytes all c (Unread n) same h p last = tt
-ends_reach world s t taken failed left left' target bytes all c Unwritten same h p last = tt
+pub ends_reach : {S Q F : Type 0} (world : World S) (s s' t : S) (taken : F → Option (List ℕ)) (failed : F → ℕ) (left left' : Option (List ℕ)) (target : F × F) (bytes text : List ℕ) (all : Type 0) (c : Compared Q) (ending : Ending)
+    → world.lacks t ≡ missing_of c.due (Differs c.input (c.found + 1)) → Closes world taken failed t target ending → Consumes left left' bytes → IsPlayed world s t bytes text → s ≡ s' → all → ReadsTo world s' left left' all ending
+ends_reach world s s' t taken failed left left' target bytes text all c Done lacks h p whole same last = tt
+ends_reach {S} world s s' t taken failed left left' target bytes text all c (Refused f) lacks h p whole same last =
+    (bytes, p, subst (λ (z : S). Reaches world z bytes all f) same (missing_reaches world s bytes all c.due c.input (c.found + 1) f (sym lacks ∙ h.0) whole.faultless last))
+ends_reach world s s' t taken failed left left' target bytes text all c (Unread n) lacks h p whole same last = tt
+ends_reach world s s' t taken failed left left' target bytes text all c Unwritten lacks h p whole same last = tt
 
 -- nothing is read there
 pub ends_read : {S F I : Type 0} (world : World S) (t : S) (taken : F → Option (List ℕ)) (failed : F → ℕ) (target : F × F) (unread : I → ℕ) (source : I × I) (ending : Ending)

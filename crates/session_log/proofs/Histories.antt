@@ -12,15 +12,15 @@ use Rattle.session_log.specs.declared.fault.LogFault.{LogFault}
 use Rattle.session_log.specs.declared.line.Line.{Line}
 use Rattle.session_log.specs.declared.line.Line.TheVariants.{Input, Sent, Comment, Count}
 use Rattle.session_log.specs.Check.{Compared, begun, difference, missing, differs_from, stops_compared, moves_compared, check_machine, check_history}
-use Rattle.session_log.specs.Ending.{Ending}
-use Rattle.session_log.specs.Replay.{Logs, Makes}
+use Rattle.session_log.specs.Ending.{Ending, ending_of}
+use Rattle.session_log.specs.Replay.{Logs, Makes, ReadsTo}
 use Rattle.token_session.specs.Law.{named}
 use Rattle.session_log.specs.Needs.{need_lines}
 use Rattle.session_log.specs.Session.{sessions, histories, machine, history, quiet_machine, quiet_history, live_machine, live_history, session_needs, history_needs}
 use Rattle.session_log.specs.Streams.{Moves}
 use Rattle.session_log.specs.Text.{ended, sent_text, tick_text, meters_line}
 use Rattle.session_log.specs.World.{World, moves_input, writes_again}
-use Rattle.session_log.proofs.Worlds.{Follows, makes_alike, logs_alike}
+use Rattle.session_log.proofs.Worlds.{Follows, makes_alike, logs_alike, reads_alike}
 
 counted : (s : SessionState) (start : Start) (h : List Timed) → StandsAfter s start h → s.meters ≡ (history start).counts h
 unfolding session_of
@@ -49,11 +49,12 @@ follows start = record {
 }
 
 -- what an answer means of a session, it means of each history that the session stands after
-pub replays_history : (left left' taken taken' : Option (List ℕ)) (s t : SessionState) (r : Result Meters LogFault) → Moves left left' taken taken' (λ bytes text. Logs machine s t bytes text r)
-    → (start : Start) (h : List Timed) → StandsAfter s start h → (later : List Timed) × StandsAfter t start later × Moves left left' taken taken' (λ bytes text. Logs (history start) h later bytes text r)
-replays_history left left' taken taken' s t r m start h stands =
+pub replays_history : (left left' taken taken' : Option (List ℕ)) (s t : SessionState) (r : Result Meters LogFault) (all : Type 0) → Moves left left' taken taken' (λ bytes text. Logs machine s t bytes text r) → ReadsTo machine s left left' all (ending_of r)
+    → (start : Start) (h : List Timed) → StandsAfter s start h
+    → (later : List Timed) × StandsAfter t start later × Moves left left' taken taken' (λ bytes text. Logs (history start) h later bytes text r) × ReadsTo (history start) h left left' all (ending_of r)
+replays_history left left' taken taken' s t r all m reach start h stands =
     let found = logs_alike machine (history start) (λ s h. StandsAfter s start h) (follows start) s t h stands m.0 m.1 r m.4 in
-    (found.0, found.1, (m.0, m.1, m.2, m.3, found.2))
+    (found.0, found.1, (m.0, m.1, m.2, m.3, found.2), reads_alike machine (history start) (λ s h. StandsAfter s start h) (follows start) s h stands left left' all (ending_of r) reach)
 
 -- Made quiet.
 
@@ -98,22 +99,26 @@ live_follows start = record {
   counts = λ s h r. counted s start h r;
 }
 
-pub lives_history : (left left' taken taken' : Option (List ℕ)) (s t : SessionState) (r : Result Meters LogFault) → Moves left left' taken taken' (λ bytes text. Logs live_machine s t bytes text r)
-    → (start : Start) (h : List Timed) → StandsAfter s start h → (later : List Timed) × StandsAfter t start later × Moves left left' taken taken' (λ bytes text. Logs (live_history start) h later bytes text r)
-lives_history left left' taken taken' s t r m start h stands =
+pub lives_history : (left left' taken taken' : Option (List ℕ)) (s t : SessionState) (r : Result Meters LogFault) (all : Type 0) → Moves left left' taken taken' (λ bytes text. Logs live_machine s t bytes text r) → ReadsTo live_machine s left left' all (ending_of r)
+    → (start : Start) (h : List Timed) → StandsAfter s start h
+    → (later : List Timed) × StandsAfter t start later × Moves left left' taken taken' (λ bytes text. Logs (live_history start) h later bytes text r) × ReadsTo (live_history start) h left left' all (ending_of r)
+lives_history left left' taken taken' s t r all m reach start h stands =
     let found = logs_alike live_machine (live_history start) (λ s h. StandsAfter s start h) (live_follows start) s t h stands m.0 m.1 r m.4 in
-    (found.0, found.1, (m.0, m.1, m.2, m.3, found.2))
+    (found.0, found.1, (m.0, m.1, m.2, m.3, found.2), reads_alike live_machine (live_history start) (λ s h. StandsAfter s start h) (live_follows start) s h stands left left' all (ending_of r) reach)
 
 -- what an ending means in one world, it means in the other
-makes_there : {A B : Type 0} (v : World A) (w : World B) (R : A → B → Type 0) → Follows v w R → (left left' taken taken' : Option (List ℕ)) (s t : A) (b : B) → R s b → (ending : Ending)
-    → Moves left left' taken taken' (λ bytes text. Makes v s t bytes text ending) → (c : B) × R t c × Moves left left' taken taken' (λ bytes text. Makes w b c bytes text ending)
-makes_there v w R f left left' taken taken' s t b r ending m =
-    let found = makes_alike v w R f s t b r m.0 m.1 ending m.4 in (found.0, found.1, (m.0, m.1, m.2, m.3, found.2))
+makes_there : {A B : Type 0} (v : World A) (w : World B) (R : A → B → Type 0) → Follows v w R → (left left' taken taken' : Option (List ℕ)) (s t : A) (b : B) → R s b → (ending : Ending) (all : Type 0)
+    → Moves left left' taken taken' (λ bytes text. Makes v s t bytes text ending) → ReadsTo v s left left' all ending
+    → (c : B) × R t c × Moves left left' taken taken' (λ bytes text. Makes w b c bytes text ending) × ReadsTo w b left left' all ending
+makes_there v w R f left left' taken taken' s t b r ending all m reach =
+    let found = makes_alike v w R f s t b r m.0 m.1 ending m.4 in
+    (found.0, found.1, (m.0, m.1, m.2, m.3, found.2), reads_alike v w R f s b r left left' all ending reach)
 
-pub quiets_history : (left left' taken taken' : Option (List ℕ)) (s t : SessionState) (ending : Ending) → Moves left left' taken taken' (λ bytes text. Makes quiet_machine s t bytes text ending)
-    → (start : Start) (h : List Timed) → StandsAfter s start h → (later : List Timed) × StandsAfter t start later × Moves left left' taken taken' (λ bytes text. Makes (quiet_history start) h later bytes text ending)
-quiets_history left left' taken taken' s t ending m start h stands =
-    makes_there quiet_machine (quiet_history start) (λ s h. StandsAfter s start h) (quiet_follows start) left left' taken taken' s t h stands ending m
+pub quiets_history : (left left' taken taken' : Option (List ℕ)) (s t : SessionState) (ending : Ending) (all : Type 0) → Moves left left' taken taken' (λ bytes text. Makes quiet_machine s t bytes text ending) → ReadsTo quiet_machine s left left' all ending
+    → (start : Start) (h : List Timed) → StandsAfter s start h
+    → (later : List Timed) × StandsAfter t start later × Moves left left' taken taken' (λ bytes text. Makes (quiet_history start) h later bytes text ending) × ReadsTo (quiet_history start) h left left' all ending
+quiets_history left left' taken taken' s t ending all m reach start h stands =
+    makes_there quiet_machine (quiet_history start) (λ s h. StandsAfter s start h) (quiet_follows start) left left' taken taken' s t h stands ending all m reach
 
 -- Compared.
 
@@ -151,13 +156,14 @@ check_follows start = record {
   counts = λ c d r. counted c.session start d.session r.0;
 }
 
-pub checks_history : (left left' taken taken' : Option (List ℕ)) (s t : SessionState) (ending : Ending)
-    → ((later : Compared SessionState) × (later.session ≡ t) × Moves left left' taken taken' (λ bytes text. Makes check_machine (begun s) later bytes text ending))
+pub checks_history : (left left' taken taken' : Option (List ℕ)) (s t : SessionState) (ending : Ending) (all : Type 0)
+    → ((later : Compared SessionState) × (later.session ≡ t) × Moves left left' taken taken' (λ bytes text. Makes check_machine (begun s) later bytes text ending)) → ReadsTo check_machine (begun s) left left' all ending
     → (start : Start) (h : List Timed) → StandsAfter s start h
     → (later : Compared (List Timed)) × StandsAfter t start later.session × Moves left left' taken taken' (λ bytes text. Makes (check_history start) (begun h) later bytes text ending)
-checks_history left left' taken taken' s t ending m start h stands =
-    let found = makes_there check_machine (check_history start) (IsBeside start) (check_follows start) left left' taken taken' (begun s) m.0 (begun h) (stands, refl) ending m.2 in
-    (found.0, subst (λ (z : SessionState). StandsAfter z start found.0.session) m.1 found.1.0, found.2)
+    × ReadsTo (check_history start) (begun h) left left' all ending
+checks_history left left' taken taken' s t ending all m reach start h stands =
+    let found = makes_there check_machine (check_history start) (IsBeside start) (check_follows start) left left' taken taken' (begun s) m.0 (begun h) (stands, refl) ending all m.2 reach in
+    (found.0, subst (λ (z : SessionState). StandsAfter z start found.0.session) m.1 found.1.0, found.2, found.3)
 
 -- a session at its start stands after the empty history
 pub begins : (s : SessionState) (start : Start) → s ≡ session_of start [] → StandsAfter s start []

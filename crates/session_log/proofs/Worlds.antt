@@ -1,14 +1,14 @@
 -- Two kinds of state that send and count the same have the same log.
-use Rattle.std.proofs.Common.{◌≡◌, ℕ, ◌+◌, ◌^◌, nat_le, nat_lt, Bool, true, false, cond, List, [], ◌∷◌, ◌++◌, length, Option, Some, None, Result, Ok, Err, is_some, is_none, refl, sym, ap, ◌∙◌, subst}
+use Rattle.std.proofs.Common.{◌≡◌, ℕ, ◌+◌, ◌^◌, nat_le, nat_lt, Bool, true, false, cond, List, [], ◌∷◌, ◌++◌, length, take, Option, Some, None, Result, Ok, Err, inl, inr, is_some, is_none, refl, sym, ap, ◌∙◌, subst}
 use Rattle.token_session.specs.declared.input.Meters.{Meters}
 use Rattle.session_log.specs.declared.fault.LogFault.{LogFault}
-use Rattle.session_log.specs.declared.fault.LogFault.TheVariants.{TooLong, TooManyLines}
+use Rattle.session_log.specs.declared.fault.LogFault.TheVariants.{BadLine, TooLong, Differs, Read, Write, TooManyLines, Memory}
 use Rattle.session_log.specs.declared.line.Line.{Line}
 use Rattle.session_log.specs.Lines.{lines, whole_lines}
 use Rattle.session_log.specs.Log.{Played, played, playing, text_by, after_by, first_fault, fault_by, fault_at, fault_of, last_text, log_of}
 use Rattle.session_log.specs.Said.{said}
 use Rattle.session_log.specs.Ending.{Ending, Done, Refused, Unread, Unwritten, ended_by}
-use Rattle.session_log.specs.Replay.{IsDone, IsRefused, IsUnread, IsUnwritten, Makes, Logs, next_text, next_state}
+use Rattle.session_log.specs.Replay.{IsDone, IsRefused, IsUnread, IsUnwritten, IsNear, IsShown, Reaches, ReadsTo, Makes, Logs, next_text, next_state}
 use Rattle.session_log.specs.World.{World}
 
 -- b stands after what a names, and stays so
@@ -154,3 +154,36 @@ pub logs_alike : {A B : Type 0} (v : World A) (w : World B) (R : A → B → Typ
     → (c : B) × R t c × Logs w b c bytes text r
 logs_alike v w R f s t b k bytes text (Ok m) h = let found = makes_alike v w R f s t b k bytes text Done h.0 in (found.0, found.1, (found.2, h.1 ∙ f.counts t found.0 found.1))
 logs_alike v w R f s t b k bytes text (Err e) h = let found = makes_alike v w R f s t b k bytes text (ended_by e) h.0 in (found.0, found.1, (found.2, tt))
+
+-- how far is read to find a fault
+near_alike : {A B : Type 0} (v : World A) (w : World B) (R : A → B → Type 0) → Follows v w R → (s : A) (b : B) → R s b → (bytes : List ℕ) (n : ℕ) → IsNear v s bytes n → IsNear w b bytes n
+near_alike v w R f s b r bytes n h = record {
+  before = h.before;
+  front = h.front;
+  cut = h.cut;
+  whole = h.whole;
+  faultless = sym (alike v w R f 1 s b r (whole_lines h.before)).fault ∙ h.faultless;
+  count = h.count;
+  near = h.near;
+}
+
+shown_alike : {A B : Type 0} (v : World A) (w : World B) (R : A → B → Type 0) → Follows v w R → (s : A) (b : B) → R s b → (bytes : List ℕ) (all : Type 0) (n : ℕ) (e : LogFault) → IsShown v s bytes all n e → IsShown w b bytes all n e
+shown_alike v w R f s b r bytes all n e (inl h) = inl (h.0, sym (alike v w R f 1 s b r (take n (whole_lines bytes))).fault ∙ h.1)
+shown_alike v w R f s b r bytes all n e (inr h) = inr h
+
+reaches_alike : {A B : Type 0} (v : World A) (w : World B) (R : A → B → Type 0) → Follows v w R → (s : A) (b : B) → R s b → (bytes : List ℕ) (all : Type 0) (e : LogFault) → Reaches v s bytes all e → Reaches w b bytes all e
+reaches_alike v w R f s b r bytes all (BadLine n) h = (near_alike v w R f s b r bytes n h.0, shown_alike v w R f s b r bytes all n (BadLine n) h.1)
+reaches_alike v w R f s b r bytes all (TooLong n) h = (near_alike v w R f s b r bytes n h.0, h.1, h.2)
+reaches_alike v w R f s b r bytes all (Differs l k) (inl h) = inl (h.0, near_alike v w R f s b r bytes h.0 h.1, shown_alike v w R f s b r bytes all h.0 (Differs l k) h.2)
+reaches_alike v w R f s b r bytes all (Differs l k) (inr h) = inr (sym (alike v w R f 1 s b r (lines bytes)).fault ∙ h.0, h.1)
+reaches_alike v w R f s b r bytes all TooManyLines h = near_alike v w R f s b r bytes (2 ^ 32) h
+reaches_alike v w R f s b r bytes all (Read n) h = h
+reaches_alike v w R f s b r bytes all Write h = h
+reaches_alike v w R f s b r bytes all (Memory n) h = h
+
+pub reads_alike : {A B : Type 0} (v : World A) (w : World B) (R : A → B → Type 0) → Follows v w R → (s : A) (b : B) → R s b → (left left' : Option (List ℕ)) (all : Type 0) (ending : Ending) → ReadsTo v s left left' all ending
+    → ReadsTo w b left left' all ending
+reads_alike v w R f s b r left left' all Done h = tt
+reads_alike v w R f s b r left left' all (Refused e) h = (h.0, h.1, reaches_alike v w R f s b r h.0 all e h.2)
+reads_alike v w R f s b r left left' all (Unread n) h = tt
+reads_alike v w R f s b r left left' all Unwritten h = tt

@@ -9,7 +9,7 @@ use Rattle.token_session.specs.Meters.{SessionState, StandsAfter}
 use Rattle.session_log.specs.declared.fault.LogFault.{LogFault}
 use Rattle.session_log.specs.Check.{Compared, begun, check_history}
 use Rattle.session_log.specs.Ending.{ending_of, read_fails, write_fails}
-use Rattle.session_log.specs.Replay.{Logs, Makes}
+use Rattle.session_log.specs.Replay.{Logs, Makes, ReadsTo}
 use Rattle.session_log.specs.Session.{history, live_history, quiet_history}
 use Rattle.session_log.specs.Streams.{Counts, IsAllRead, Moves}
 use Rattle.session_log.specs.World.{World}
@@ -41,7 +41,7 @@ IsCounted left unread ended unwritten answer input output =
     × OnOk answer (IsAllRead left ended input.1)
 
 -- A log was replayed on a session that stood after this history of this start, with this exit status; it is now at s.
--- The log is what this world says of the history.
+-- The log is what this world says of the history, and a fault is one of the log: no more of it need be read to find it.
 abbrev pub IsLogged : {I O : Type 0} → (Start → World (List Timed)) → Start → List Timed
     → (left : I → Option (List ℕ)) → (unread : I → ℕ) → (ended : I → Bool) → (taken : O → Option (List ℕ))
     → (unwritten : O → ℕ)
@@ -50,6 +50,7 @@ IsLogged world start h left unread ended taken unwritten status s input output =
     (answer : Result Meters LogFault) × (later : List Timed) × (status ≡ status_of answer) × StandsAfter s start later
     × Moves (left input.0) (left input.1) (taken output.0) (taken output.1)
     (λ bytes text. Logs (world start) h later bytes text answer)
+    × ReadsTo (world start) h (left input.0) (left input.1) (IsAllRead left ended input.1) (ending_of answer)
     × IsCounted left unread ended unwritten answer input output
 
 -- Replayed alone, and with what is needed.
@@ -74,6 +75,7 @@ IsQuieted start h left unread ended taken unwritten status s input output =
     × StandsAfter s start later
     × Moves (left input.0) (left input.1) (taken output.0) (taken output.1)
     (λ bytes text. Makes (quiet_history start) h later bytes text (ending_of answer))
+    × ReadsTo (quiet_history start) h (left input.0) (left input.1) (IsAllRead left ended input.1) (ending_of answer)
     × IsCounted left unread ended unwritten answer input output
 
 -- A log was compared with what is sent, likewise.
@@ -85,4 +87,6 @@ IsChecked start h left unread ended taken unwritten status s input output =
     × StandsAfter s start later.session
     × Moves (left input.0) (left input.1) (taken output.0) (taken output.1)
     (λ bytes text. Makes (check_history start) (begun h) later bytes text (ending_of answer))
+    × ReadsTo (check_history start) (begun h) (left input.0) (left input.1) (IsAllRead left ended input.1)
+    (ending_of answer)
     × IsCounted left unread ended unwritten answer input output

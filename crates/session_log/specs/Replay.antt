@@ -1,5 +1,5 @@
 -- What each answer of a call that plays a log means.
-use Rattle.std.specs.Prelude.{◌≡◌, ℕ, ◌+◌, ◌<◌, ◌≤◌, ◌^◌, List, [], ◌∷◌, ◌++◌, length, Option, Some, None, Result, IfOk, ◌⊎◌}
+use Rattle.std.specs.Prelude.{◌≡◌, ℕ, ◌+◌, ◌<◌, ◌≤◌, ◌^◌, List, [], ◌∷◌, ◌++◌, length, take, Option, Some, None, Result, IfOk, ◌⊎◌}
 use Rattle.std.specs.Io.KnownBytes.{Consumes, Keeps}
 use Rattle.token_session.specs.declared.input.Meters.{Meters}
 use Rattle.session_log.specs.declared.fault.LogFault.{LogFault}
@@ -126,18 +126,30 @@ pub record IsNear {S : Type 0} (world : World S) (s : S) (bytes : List ℕ) (n :
   pub count : n ≡ length (whole_lines before) + 1
   pub near : length front ≤ 256
 
--- how far was read to find a fault: a bad line is one of the whole lines of what was read, or this was all that there
--- was; of a line that is too long just 256 bytes were read; and a difference is found at a line, or at the end of all
+-- line n was read whole, and this is the fault of the lines up to it; or what was read was all that there was
+abbrev pub IsShown : {S : Type 0} → World S → S → List ℕ → Type 0 → ℕ → LogFault → Type 0
+IsShown world s bytes all n fault =
+    ((n ≤ length (whole_lines bytes)) × ((played world 1 s (take n (whole_lines bytes))).fault ≡ Some fault)) ⊎ all
+
+-- how far was read to find a fault: a bad line was read whole, or this was all that there was; of a line that is too
+-- long just 256 bytes were read; and a difference is shown by a line, as a bad one is, or where none of the lines shows
+-- one, by the end of all that there was
 abbrev pub Reaches : {S : Type 0} → World S → S → List ℕ → Type 0 → LogFault → Type 0
-Reaches world s bytes all (BadLine n) = IsNear world s bytes n × ((n ≤ length (whole_lines bytes)) ⊎ all)
+Reaches world s bytes all (BadLine n) = IsNear world s bytes n × IsShown world s bytes all n (BadLine n)
 Reaches world s bytes all (TooLong n) = IsNear world s bytes n × (n ≡ length (whole_lines bytes) + 1)
     × (length (last_piece bytes) ≡ 256)
-Reaches world s bytes all (Differs line packet) = ((n : ℕ) × IsNear world s bytes n
-    × (n ≤ length (whole_lines bytes))) ⊎ all
+Reaches world s bytes all (Differs line packet) =
+    ((n : ℕ) × IsNear world s bytes n × IsShown world s bytes all n (Differs line packet))
+    ⊎ (((playing world s bytes).fault ≡ None) × all)
 Reaches world s bytes all TooManyLines = IsNear world s bytes (2 ^ 32)
 Reaches world s bytes all (Read n) = ⊥
 Reaches world s bytes all Write = ⊥
 Reaches world s bytes all (Memory n) = ⊥
+
+-- the same of an ending
+abbrev pub Finds : {S : Type 0} → World S → S → List ℕ → Type 0 → Ending → Type 0
+Finds world s bytes all (Refused fault) = Reaches world s bytes all fault
+Finds world s bytes all _ = Unit {0}
 
 abbrev pub ReadsTo : {S : Type 0} → World S → S → Option (List ℕ) → Option (List ℕ) → Type 0 → Ending → Type 0
 ReadsTo world s left left' all (Refused fault) = (bytes : List ℕ) × Consumes left left' bytes

@@ -200,7 +200,9 @@ pub fn check<S: Source, T: Target, const C: usize>(
     ensures history { (start : Start) (h : List OneInput) → StandsAfter session.old start h
         → (later : Compared (List OneInput)) × StandsAfter session.new start later.session
         × Moves (S.left reader.old) (S.left reader.new) (T.taken writer.old) (T.taken writer.new)
-        (λ bytes text. Makes (check_history start) (begun h) later bytes text (ending_of result)) }
+        (λ bytes text. Makes (check_history start) (begun h) later bytes text (ending_of result))
+        × ReadsTo (check_history start) (begun h) (S.left reader.old) (S.left reader.new)
+        (IsAllRead S.left S.ended reader.new) (ending_of result) }
     // A failure was counted exactly at Read, and exactly at Write.
     ensures reads { Counts S.failed (reader.old, reader.new) (read_fails (ending_of result)) }
     ensures writes { Counts T.failed (writer.old, writer.new) (write_fails (ending_of result)) }

@@ -121,7 +121,9 @@ pub fn live<S: Source, T: Target, const C: usize>(
     ensures history { (start : Start) (h : List OneInput) → StandsAfter session.old start h
         → (later : List OneInput) × StandsAfter session.new start later
         × Moves (S.left reader.old) (S.left reader.new) (T.taken writer.old) (T.taken writer.new)
-        (λ bytes text. Logs (live_history start) h later bytes text result) }
+        (λ bytes text. Logs (live_history start) h later bytes text result)
+        × ReadsTo (live_history start) h (S.left reader.old) (S.left reader.new)
+        (IsAllRead S.left S.ended reader.new) (ending_of result) }
     // A failure was counted exactly at Read, and exactly at Write.
     ensures reads { Counts S.failed (reader.old, reader.new) (read_fails (ending_of result)) }
     ensures writes { Counts T.failed (writer.old, writer.new) (write_fails (ending_of result)) }

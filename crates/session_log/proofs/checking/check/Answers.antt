@@ -29,13 +29,6 @@ returns-in_err-play_all-clause-checked g c =
           (is.1 ∙ ap (λ (f : LogFault). Err f) is.2) (c.new-player.ensures.begun s0) c.in_err-play_all.ensures.played,
     )
 
-pub returns-in_err-play_all-clause-history : goal.returns-in_err-play_all-clause-history
-returns-in_err-play_all-clause-history g c =
-    let left = g.S.Source.left in
-    let taken = g.T.Target.taken in
-    checks_history (left c.args.reader.now) (left c.play_all.new.reader) (taken c.args.writer.now) (taken c.play_all.new.writer) c.args.session.now c.play_all.new.session (ending_of c.from_residual.result)
-    (returns-in_err-play_all-clause-checked g c)
-
 pub returns-clause-checked : goal.returns-clause-checked
 returns-clause-checked g c =
     let left = g.S.Source.left in
@@ -52,12 +45,6 @@ returns-clause-checked g c =
           (c.new-player.ensures.begun s0) c.in_ok-play_all.ensures.played (c.finish.ensures s),
     )
 
-pub returns-clause-history : goal.returns-clause-history
-returns-clause-history g c =
-    let left = g.S.Source.left in
-    let taken = g.T.Target.taken in
-    checks_history (left c.args.reader.now) (left c.play_all.new.reader) (taken c.args.writer.now) (taken c.finish.new.writer) c.args.session.now c.play_all.new.session (ending_of c.finish.result) (returns-clause-checked g c)
-
 pub returns-clause-reach : goal.returns-clause-reach
 returns-clause-reach g c =
     let left = g.S.Source.left in
@@ -69,8 +56,8 @@ returns-clause-reach g c =
     let from = compared s0 p0.lines p0.input p0.found (due_packets p0.awaited p0.outbox) p0.inputs p0.packets in
     let to = compared s p.lines p.input p.found (due_packets p.awaited p.outbox) p.inputs p.packets in
     let played = c.in_ok-play_all.ensures.played in
-    ends_reach check_machine (begun s0) to taken g.T.Target.failed (left c.args.reader.now) (left c.play_all.new.reader) (c.play_all.new.writer, c.finish.new.writer) played.0
-    (IsAllRead left g.S.Source.ended c.play_all.new.reader) to (ending_of c.finish.result) refl (c.finish.ensures s) played.2 c.in_ok-play_all.ensures.end
+    ends_reach check_machine from (begun s0) to taken g.T.Target.failed (left c.args.reader.now) (left c.play_all.new.reader) (c.play_all.new.writer, c.finish.new.writer) played.0 played.1
+    (IsAllRead left g.S.Source.ended c.play_all.new.reader) to (ending_of c.finish.result) refl (c.finish.ensures s) played.2 played.4 (c.new-player.ensures.begun s0) c.in_ok-play_all.ensures.end
 
 pub returns-clause-reads : goal.returns-clause-reads
 returns-clause-reads g c =
@@ -133,3 +120,17 @@ returns-in_err-play_all-clause-writes g c =
 
 pub returns-clause-end : goal.returns-clause-end
 returns-clause-end g c = on_any c.finish.result c.in_ok-play_all.ensures.end
+
+pub returns-in_err-play_all-clause-history : goal.returns-in_err-play_all-clause-history
+returns-in_err-play_all-clause-history g c =
+    let left = g.S.Source.left in
+    let taken = g.T.Target.taken in
+    checks_history (left c.args.reader.now) (left c.play_all.new.reader) (taken c.args.writer.now) (taken c.play_all.new.writer) c.args.session.now c.play_all.new.session (ending_of c.from_residual.result)
+    (IsAllRead left g.S.Source.ended c.play_all.new.reader) (returns-in_err-play_all-clause-checked g c) (returns-in_err-play_all-clause-reach g c)
+
+pub returns-clause-history : goal.returns-clause-history
+returns-clause-history g c =
+    let left = g.S.Source.left in
+    let taken = g.T.Target.taken in
+    checks_history (left c.args.reader.now) (left c.play_all.new.reader) (taken c.args.writer.now) (taken c.finish.new.writer) c.args.session.now c.play_all.new.session (ending_of c.finish.result)
+    (IsAllRead left g.S.Source.ended c.play_all.new.reader) (returns-clause-checked g c) (returns-clause-reach g c)

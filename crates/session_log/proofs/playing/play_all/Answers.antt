@@ -136,7 +136,8 @@ returns-in_err-play g c =
       end = on_err all r e is;
       ready = on_err _ r e is;
       reach = as_err r e (λ (q : Ending). ReadsTo world s0 (left c.args.reader.now) (left c.next_line.new.reader) all q) is
-          (faulty_in_front world (left c.args.reader.now) (left c.next_line.new.reader) s0 s before.0 before.1 w c.lines.number c.in-Some.end all e c.in_err-play.ensures.own read before.4 has);
+          (faulty_in_front world taken failed (left c.args.reader.now) (left c.next_line.new.reader) (c.lines.writer, c.play.new.writer) s0 s t before.0 before.1 w line c.lines.number c.in-Some.end all e
+          c.in_err-play.ensures.own read before.4 has is_line played);
       reads = as_err r e (λ (q : Ending). Counts g.S.Source.failed (c.args.reader.now, c.next_line.new.reader) (read_fails q)) is
           (counts_none _ _ _ (plays_unread world taken failed c.lines.number s t line (c.lines.writer, c.play.new.writer) (ended_by e) played)
           (◌∙◌ {b = g.S.Source.failed c.lines.reader} c.in_ok-end.ensures.reads c.lines.invariant.reads));

@@ -1,6 +1,7 @@
 use Rattle.std.proofs.Common.{refl}
 use Rattle.session_log.specs.Ending.{ending_of}
 use Rattle.session_log.specs.Session.{quiet_machine}
+use Rattle.session_log.specs.Streams.{IsAllRead}
 use Rattle.session_log.proofs.Exits.{closes_silently}
 use Rattle.session_log.proofs.Histories.{quiets_history}
 use Rattle.session_log.proofs.quieting.quiet.Goals as goal
@@ -15,4 +16,5 @@ pub returns-clause-history : goal.returns-clause-history
 returns-clause-history g c =
     let left = g.S.Source.left in
     let taken = g.T.Target.taken in
-    quiets_history (left c.args.reader.now) (left c.play_all.new.reader) (taken c.args.writer.now) (taken c.play_all.new.writer) c.args.session.now c.play_all.new.session (ending_of c.play_all.result) (returns-clause-made g c)
+    quiets_history (left c.args.reader.now) (left c.play_all.new.reader) (taken c.args.writer.now) (taken c.play_all.new.writer) c.args.session.now c.play_all.new.session (ending_of c.play_all.result)
+    (IsAllRead left g.S.Source.ended c.play_all.new.reader) (returns-clause-made g c) c.play_all.ensures.reach

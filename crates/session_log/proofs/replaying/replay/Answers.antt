@@ -26,12 +26,6 @@ returns-in_err-play_all-clause-replayed g c =
     fails_with machine (left c.args.reader.now) (left c.play_all.new.reader) (taken c.args.writer.now) (taken c.play_all.new.writer) s0 s c.from_residual.result c.in_err-play_all.field-0.0
     (λ bytes text. IsPlayed machine s0 s bytes text) (from.1 ∙ ap (λ (f : LogFault). Err f) from.2) c.in_err-play_all.ensures.played
 
-pub returns-in_err-play_all-clause-history : goal.returns-in_err-play_all-clause-history
-returns-in_err-play_all-clause-history g c =
-    let left = g.S.Source.left in
-    let taken = g.T.Target.taken in
-    replays_history (left c.args.reader.now) (left c.play_all.new.reader) (taken c.args.writer.now) (taken c.play_all.new.writer) c.args.session.now c.play_all.new.session c.from_residual.result (returns-in_err-play_all-clause-replayed g c)
-
 pub returns-in_err-put_meters-clause-replayed : goal.returns-in_err-put_meters-clause-replayed
 returns-in_err-put_meters-clause-replayed g c =
     let left = g.S.Source.left in
@@ -50,12 +44,6 @@ returns-in_err-put_meters-clause-replayed g c =
     (λ bytes text. IsDone machine s0 s bytes text) (from.1 ∙ ap (λ (f : LogFault). Err f) from.2)
     (subst (λ (f : LogFault). Moves a b x (taken c.put_meters.new.writer) (λ bytes text. Means machine s0 s bytes text (IsDone machine s0 s bytes text) (ended_by f))) (sym put.0)
     (closes_not machine taken failed a b x (c.play_all.new.writer, c.put_meters.new.writer) s0 s played.0 played.1 played.2 played.3 played.4 refl broken))
-
-pub returns-in_err-put_meters-clause-history : goal.returns-in_err-put_meters-clause-history
-returns-in_err-put_meters-clause-history g c =
-    let left = g.S.Source.left in
-    let taken = g.T.Target.taken in
-    replays_history (left c.args.reader.now) (left c.play_all.new.reader) (taken c.args.writer.now) (taken c.put_meters.new.writer) c.args.session.now c.play_all.new.session c.from_residual-in_err-put_meters.result (returns-in_err-put_meters-clause-replayed g c)
 
 pub returns-clause-replayed : goal.returns-clause-replayed
 returns-clause-replayed g c =
@@ -76,12 +64,6 @@ returns-clause-again g c =
     let z = taken c.put_meters.new.writer in
     repeats (taken c.args.writer.now) y z c.args.session.now c.play_all.new.session played.0 played.1 played.3 played.4 (subst (λ (m : Meters). Appends y z (meters_line m)) meters c.in_ok-put_meters.ensures.puts.0)
     (subst FitsMeters meters c.put_meters.ensures.fits)
-
-pub returns-clause-history : goal.returns-clause-history
-returns-clause-history g c =
-    let left = g.S.Source.left in
-    let taken = g.T.Target.taken in
-    replays_history (left c.args.reader.now) (left c.play_all.new.reader) (taken c.args.writer.now) (taken c.put_meters.new.writer) c.args.session.now c.play_all.new.session (Ok c.meters-meters.result) (returns-clause-replayed g c)
 
 pub returns-in_err-play_all-clause-end : goal.returns-in_err-play_all-clause-end
 returns-in_err-play_all-clause-end g c =
@@ -182,3 +164,24 @@ returns-clause-reads g c =
 pub returns-clause-writes : goal.returns-clause-writes
 returns-clause-writes g c =
     c.in_ok-put_meters.ensures.puts.1 ∙ c.in_ok-play_all.ensures.writes
+
+pub returns-in_err-play_all-clause-history : goal.returns-in_err-play_all-clause-history
+returns-in_err-play_all-clause-history g c =
+    let left = g.S.Source.left in
+    let taken = g.T.Target.taken in
+    replays_history (left c.args.reader.now) (left c.play_all.new.reader) (taken c.args.writer.now) (taken c.play_all.new.writer) c.args.session.now c.play_all.new.session c.from_residual.result
+    (IsAllRead left g.S.Source.ended c.play_all.new.reader) (returns-in_err-play_all-clause-replayed g c) (returns-in_err-play_all-clause-reach g c)
+
+pub returns-in_err-put_meters-clause-history : goal.returns-in_err-put_meters-clause-history
+returns-in_err-put_meters-clause-history g c =
+    let left = g.S.Source.left in
+    let taken = g.T.Target.taken in
+    replays_history (left c.args.reader.now) (left c.play_all.new.reader) (taken c.args.writer.now) (taken c.put_meters.new.writer) c.args.session.now c.play_all.new.session c.from_residual-in_err-put_meters.result
+    (IsAllRead left g.S.Source.ended c.play_all.new.reader) (returns-in_err-put_meters-clause-replayed g c) (returns-in_err-put_meters-clause-reach g c)
+
+pub returns-clause-history : goal.returns-clause-history
+returns-clause-history g c =
+    let left = g.S.Source.left in
+    let taken = g.T.Target.taken in
+    replays_history (left c.args.reader.now) (left c.play_all.new.reader) (taken c.args.writer.now) (taken c.put_meters.new.writer) c.args.session.now c.play_all.new.session (Ok c.meters-meters.result)
+    (IsAllRead left g.S.Source.ended c.play_all.new.reader) (returns-clause-replayed g c) (returns-clause-reach g c)
