@@ -37,7 +37,7 @@ pub use command::{
 pub use fault::{Failed, LogFault};
 pub use line::{Line, read_line};
 pub use lines::next_line;
-pub use living::live;
+pub use living::{live, live_lines};
 pub use quieting::quiet;
 pub use replaying::replay;
 pub use source::{FromRead, SliceIn, Source};

@@ -2,7 +2,7 @@
 ghost use Rattle.std.specs.Prelude.{◌≡◌, ◌<◌, ◌-◌, ◌^◌, List, [], OnOk};
 ghost use Rattle.session_log.specs.Ending.{ending_of, read_fails, write_fails};
 ghost use Rattle.session_log.specs.Needs.{is_need_line as is_one};
-ghost use Rattle.session_log.specs.Replay.{Logs, ReadsTo};
+ghost use Rattle.session_log.specs.Replay.{Logs, Plays, ReadsTo};
 ghost use Rattle.session_log.specs.Session.{live_history, live_machine, Repeats, RepeatsIn};
 ghost use Rattle.token_session.specs.declared.input.Timed.{Timed as OneInput};
 ghost use Rattle.authn_core.specs.Turn.{Start};
@@ -88,6 +88,30 @@ impl<const C: usize> Player<C> for Living {
             }
         }
     }
+}
+
+/// Plays lines of a log on a session and writes what [`live`] writes for each, without the line of the meters: so a
+/// log can be played in parts, and is recorded as it happens. The text for a line is handed to the target whole. It
+/// allocates nothing.
+///
+/// It fails where [`live`] does, with line numbers from 1 in these lines, and leaves what that leaves.
+pub fn live_lines<S: Source, T: Target, const C: usize>(
+    reader: &mut S,
+    writer: &mut T,
+    session: &mut Session<C>,
+) -> Result<(), LogFault>
+    requires read { S.failed reader.old < 2 ^ 64 - 1 }
+    requires write { T.failed writer.old < 2 ^ 64 - 1 }
+    ensures played { Moves (S.left reader.old) (S.left reader.new) (T.taken writer.old) (T.taken writer.new)
+        (λ bytes text. Plays live_machine session.old session.new bytes text (ending_of result)) }
+    ensures end { OnOk result (IsAllRead S.left S.ended reader.new) }
+    ensures reach { ReadsTo live_machine session.old (S.left reader.old) (S.left reader.new)
+        (IsAllRead S.left S.ended reader.new) (ending_of result) }
+    ensures reads { Counts S.failed (reader.old, reader.new) (read_fails (ending_of result)) }
+    ensures writes { Counts T.failed (writer.old, writer.new) (write_fails (ending_of result)) }
+{
+    let mut player = Living::new();
+    play_all(&mut player, reader, writer, session)
 }
 
 /// Replays a log on a session as [`crate::replay`] does, and tells after the packets of each input line what the
