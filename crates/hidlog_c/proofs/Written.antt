@@ -51,6 +51,33 @@ pub on_all : {A X Y : Type 0} (r : Result A LogFault) → (X → Y) → OnOk r X
 on_all (Ok x) so h = so h
 on_all (Err f) so h = tt
 
+-- what a call promises of a log over a slice and of a lent buffer, as one that hands both in sees it
+pub written : {S : Type 0} (world : World S) (s : S) (Q : List ℕ → List ℕ → Ending → Type 0) (answer : Result (Unit {0}) LogFault) (all : Type 0) (log begun rest : List ℕ) (name name' len failed failed' : ℕ) (none buffer : List ℕ)
+    → Some begun ≡ Some log
+    → none ≡ []
+    → Moves (Some begun) (Some rest) (Some (name ∷ none)) (Some (name' ∷ take len buffer)) (λ bytes text. Q bytes text (ending_of answer))
+    → ReadsTo world s (Some begun) (Some rest) all (ending_of answer)
+    → (all → rest ≡ [])
+    → OnOk answer (rest ≡ [])
+    → 0 ≡ (if read_fails (ending_of answer) then 0 + 1 else 0)
+    → failed' ≡ (if write_fails (ending_of answer) then failed + 1 else failed)
+    → len ≤ length buffer
+    → (0 < failed' → len ≡ length buffer)
+    → IsWritten log buffer len answer (λ bytes rest text ending. Q bytes text ending × Finds world s bytes (rest ≡ []) ending)
+written world s Q answer all log begun rest name name' len failed failed' none buffer given e (bytes, text, reads, writes, p) reach so whole unfailed counted fits full = record {
+  bytes = bytes;
+  rest = rest;
+  log_is = sym (same_log begun log given) ∙ reads;
+  all = whole;
+  readable = unread (read_fails (ending_of answer)) unfailed;
+  fits = fits;
+  full = λ fails. full (failed_once (write_fails (ending_of answer)) failed failed' counted fails);
+  does = (
+    subst (λ t. Q bytes t (ending_of answer)) (sym (appended name name' none (take len buffer) text e writes)) p,
+    finds world s begun bytes rest all (ending_of answer) reads so reach,
+  );
+}
+
 pub plays : {S : Type 0} (world : World S) (s later : S) (answer : Result (Unit {0}) LogFault) (all : Type 0) (log begun rest : List ℕ) (name name' len failed failed' : ℕ) (none buffer : List ℕ)
     → Some begun ≡ Some log
     → none ≡ []
@@ -63,17 +90,14 @@ pub plays : {S : Type 0} (world : World S) (s later : S) (answer : Result (Unit 
     → len ≤ length buffer
     → (0 < failed' → len ≡ length buffer)
     → IsWritten log buffer len answer (λ bytes rest text ending. (later : S) × Makes world s later bytes text ending × Finds world s bytes (rest ≡ []) ending)
-plays world s later answer all log begun rest name name' len failed failed' none buffer given e (bytes, text, reads, writes, p) reach so whole unfailed counted fits full = record {
-  bytes = bytes;
-  rest = rest;
-  log_is = sym (same_log begun log given) ∙ reads;
-  all = whole;
-  readable = unread (read_fails (ending_of answer)) unfailed;
-  fits = fits;
-  full = λ fails. full (failed_once (write_fails (ending_of answer)) failed failed' counted fails);
-  does = (
-    later,
-    subst (λ t. Makes world s later bytes t (ending_of answer)) (sym (appended name name' none (take len buffer) text e writes)) p,
-    finds world s begun bytes rest all (ending_of answer) reads so reach,
-  );
-}
+plays world s later answer all log begun rest name name' len failed failed' none buffer given e moves reach so whole unfailed counted fits full =
+    let w = written world s (Makes world s later) answer all log begun rest name name' len failed failed' none buffer given e moves reach so whole unfailed counted fits full in record {
+      bytes = w.bytes;
+      rest = w.rest;
+      log_is = w.log_is;
+      all = w.all;
+      readable = w.readable;
+      fits = w.fits;
+      full = w.full;
+      does = (later, w.does.0, w.does.1);
+    }

@@ -5,6 +5,7 @@ pub mod Key
 pub mod Words
 pub mod Switched
 pub mod Reports
+pub mod Lines
 pub mod Owned
 pub mod Lending
 pub mod Held

@@ -4,12 +4,14 @@ ghost use Rattle.token_session.specs.declared.input.Input.TheVariants as inputs;
 ghost use Rattle.hidlog_c.specs.Held.{held};
 ghost use Rattle.hidlog_c.specs.Key.{Answers, Sends};
 ghost use Rattle.hidlog_c.specs.Words.{AnswersWord, presence_of, signature_input};
+ghost use Rattle.hidlog_c.specs.Lines.{TakesLines};
 ghost use Rattle.hidlog_c.specs.Reports.{ReportsCredential, ReportsMeters, ReportsNeed, count_or, credential_count, pending_assertions, waiting_packets};
 ghost use Rattle.hidlog_c.specs.Switched.{Makes};
 
 use crate::device::Device;
 use crate::fault::{ALREADY_MADE, NO_MEMORY, NOT_MADE, NOT_SNAPSHOT, ROW_BROKEN, TOO_MANY_ROWS};
 use crate::key::Key;
+use crate::outcome::Outcome;
 use crate::reports::{Credential, MetersReport, NeedReport};
 use crate::started::switched_on;
 use authn_core::{NewKey, Presence, Signature};
@@ -136,6 +138,19 @@ pub extern "C" fn hidlog_key_no_signature(key: &mut Key, at: u64) -> i32
     ensures { Answers (held key.old) (held key.new) (record { at = at; input = inputs.Signature None }) result }
 {
     key.take(at, Input::Signature(None))
+}
+
+/// Plays lines of a log, and writes what `live` writes for each to the front of `out`.
+#[unsafe(no_mangle)]
+pub extern "C" fn hidlog_key_lines(
+    key: &mut Key,
+    log: &[u8],
+    out: &mut [u8],
+    outcome: &mut Outcome,
+) -> i32
+    ensures { TakesLines (held key.old) (held key.new) log.now (out.old, out.new) (outcome.old, outcome.new) result }
+{
+    key.play(log, out, outcome)
 }
 
 /// Returns how many packets wait.

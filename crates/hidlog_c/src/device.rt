@@ -2,9 +2,12 @@
 ghost use Rattle.std.specs.Prelude.{◌≡◌, ◌≤◌, Some, []};
 ghost use Rattle.authn_core.specs.Views.{needs};
 ghost use Rattle.hidlog_c.specs.Key.{Answers, Sends};
+ghost use Rattle.hidlog_c.specs.Lines.{TakesLines};
 ghost use Rattle.hidlog_c.specs.Reports.{ReportsRow, credential_count, meters_of, need_of, pending_assertions, waiting_packets};
 
 use crate::fault::{BAD_ARGUMENT, NO_PACKET, PACKETS_WAIT};
+use crate::lines::play_lines;
+use crate::outcome::Outcome;
 use crate::reports::{
     Credential, MetersReport, NeedReport, credential_report, meters_report, need_report,
 };
@@ -62,6 +65,17 @@ impl Device {
         let bytes = first.0;
         *packet = bytes;
         self.outbox.len() as i32
+    }
+
+    /// Plays lines of a log, unless packets wait.
+    pub fn play(&mut self, log: &[u8], out: &mut [u8], outcome: &mut Outcome) -> i32
+        ensures { TakesLines (Some self.old) (Some self.new) log.now (out.old, out.new) (outcome.old, outcome.new) result }
+    {
+        if !self.outbox.is_empty() {
+            return PACKETS_WAIT;
+        }
+        *outcome = play_lines(&mut self.session, log, out);
+        outcome.status as i32
     }
 
     /// Returns how many packets wait.

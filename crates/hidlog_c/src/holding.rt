@@ -3,11 +3,13 @@ ghost use Rattle.std.specs.Prelude.{◌≡◌, None, Some, is_some};
 ghost use Rattle.hidlog_c.specs.Held.{held};
 ghost use Rattle.hidlog_c.specs.Key.{Answers, Sends};
 ghost use Rattle.hidlog_c.specs.Words.{refusal_of};
+ghost use Rattle.hidlog_c.specs.Lines.{TakesLines};
 ghost use Rattle.hidlog_c.specs.Reports.{ReportsCredential, ReportsMeters, ReportsNeed, count_or, credential_count, pending_assertions, waiting_packets};
 
 use crate::device::Device;
 use crate::fault::{BAD_ARGUMENT, NOT_MADE};
 use crate::key::{EMPTY, FREED, Key, MADE};
+use crate::outcome::Outcome;
 use crate::reports::{Credential, MetersReport, NeedReport};
 use token_session::Input;
 
@@ -69,6 +71,16 @@ impl Key {
             return NOT_MADE;
         }
         self.memory.device().next(packet)
+    }
+
+    /// Plays lines of a log, unless packets wait.
+    pub fn play(&mut self, log: &[u8], out: &mut [u8], outcome: &mut Outcome) -> i32
+        ensures { TakesLines (held self.old) (held self.new) log.now (out.old, out.new) (outcome.old, outcome.new) result }
+    {
+        if !self.is_made() {
+            return NOT_MADE;
+        }
+        self.memory.device().play(log, out, outcome)
     }
 
     /// Returns how many packets wait.

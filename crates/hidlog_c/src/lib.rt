@@ -11,6 +11,7 @@ mod holding;
 mod key;
 mod lending;
 mod lent;
+mod lines;
 mod memory;
 mod outcome;
 mod reports;

@@ -1,0 +1,36 @@
+-- Lines of a log that are played on the session of a key.
+use Rattle.std.specs.Prelude.{◌≡◌, ℕ, ℤ, pos, List, [], ◌∷◌, Option, Some, None, Result}
+use Rattle.token_session.specs.Meters.{SessionState}
+use Rattle.session_log.specs.declared.fault.LogFault.{LogFault}
+use Rattle.session_log.specs.Ending.{Ending}
+use Rattle.session_log.specs.Replay.{Finds, Plays}
+use Rattle.session_log.specs.Session.{live_machine}
+use Rattle.hidlog_c.specs.declared.fault.TheConstants.{NOT_MADE, PACKETS_WAIT}
+use Rattle.hidlog_c.specs.declared.outcome.Outcome.{Outcome}
+use Rattle.hidlog_c.specs.Commands.{IsWritten}
+use Rattle.hidlog_c.specs.Key.{DeviceState}
+use Rattle.hidlog_c.specs.Numbers.{outcome_of}
+
+-- The lines were played from one state of the session to another, as `live` plays them: `bytes` of them were read,
+-- which is all but `rest`, and this text was written.
+abbrev pub LinesDo : SessionState → SessionState → (bytes rest text : List ℕ) → Ending → Type 0
+LinesDo s t bytes rest text ending = Plays live_machine s t bytes text ending
+    × Finds live_machine s bytes (rest ≡ []) ending
+
+abbrev pub ArePlayed : SessionState → SessionState → (log out : List ℕ) → Outcome → Type 0
+ArePlayed s t log out outcome = (answer : Result (Unit {0}) LogFault) × (outcome ≡ outcome_of answer outcome.written)
+    × IsWritten log out outcome.written answer (LinesDo s t)
+
+-- A key takes lines while no packet waits. A pair is the caller's memory before and after the call.
+abbrev pub PlaysOn : DeviceState → List (List ℕ) → Option DeviceState → (log : List ℕ) → (List ℕ × List ℕ)
+    → (Outcome × Outcome) → ℤ → Type 0
+PlaysOn d [] after log out outcome result = (t : SessionState) × (after ≡ Some (record { session = t; waiting = [] }))
+    × ArePlayed d.session t log out.1 outcome.1 × (result ≡ pos outcome.1.status)
+PlaysOn d (packet ∷ more) after log out outcome result =
+    (after ≡ Some d) × (out.1 ≡ out.0) × (outcome.1 ≡ outcome.0) × (result ≡ PACKETS_WAIT)
+
+abbrev pub TakesLines : (before after : Option DeviceState) → (log : List ℕ) → (List ℕ × List ℕ) → (Outcome × Outcome)
+    → ℤ → Type 0
+TakesLines None after log out outcome result =
+    (after ≡ None) × (out.1 ≡ out.0) × (outcome.1 ≡ outcome.0) × (result ≡ NOT_MADE)
+TakesLines (Some d) after log out outcome result = PlaysOn d d.waiting after log out outcome result

@@ -1,0 +1,28 @@
+//! Lines of a log, played on the session of a key.
+ghost use Rattle.std.specs.Prelude.{◌≡◌, [], take, Option};
+ghost use Rattle.hidlog_c.specs.Commands.{IsWritten};
+ghost use Rattle.hidlog_c.specs.Lines.{ArePlayed, LinesDo};
+
+use crate::lent::Lent;
+use crate::outcome::Outcome;
+use session_log::{CAPACITY, LogFault, SliceIn, live_lines};
+use token_session::Session;
+
+/// Plays the lines. The target stays over its buffer.
+fn play(session: &mut Session<CAPACITY>, log: &[u8], writer: &mut Lent<'_>) -> Result<(), LogFault>
+    requires none { writer.old.len ≡ 0 }
+    requires unfailed { writer.old.failures ≡ 0 }
+    ensures same_reference { writer.new.buffer.ghost_name ≡ writer.old.buffer.ghost_name }
+    ensures does { IsWritten log.now writer.new.buffer.now writer.new.len result (LinesDo session.old session.new) }
+{
+    live_lines(&mut SliceIn::new(log), writer, session)
+}
+
+/// Plays the lines, and writes what [`live_lines`] writes for them to the front of `out`.
+pub fn play_lines(session: &mut Session<CAPACITY>, log: &[u8], out: &mut [u8]) -> Outcome
+    ensures { ArePlayed session.old session.new log.now out.new result }
+{
+    let mut writer = Lent::new(out);
+    let answer = play(session, log, &mut writer);
+    Outcome::new(answer, writer.len())
+}
