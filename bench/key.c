@@ -1,0 +1,97 @@
+// Registers a credential on a key that is held, and signs in so many times. What is timed is the calls alone.
+//
+//     key COUNT     writes seconds for the first and for the last thousand sign-ins
+#define _POSIX_C_SOURCE 199309L
+#include "hidlog.h"
+
+#include <stdio.h>
+#include <stdlib.h>
+#include <string.h>
+#include <time.h>
+
+static struct hidlog_key key;
+
+static void expect(int32_t found, int32_t expected, const char *what) {
+    if (found != expected) {
+        fprintf(stderr, "key: %s returned %d and not %d\n", what, (int)found, (int)expected);
+        exit(1);
+    }
+}
+
+// Takes the packets that wait.
+static void take(int32_t waiting, int32_t expected, const char *what) {
+    uint8_t packet[64];
+    expect(waiting, expected, what);
+    while (waiting > 0) {
+        waiting = hidlog_key_next(&key, packet);
+    }
+}
+
+// Sends a message of at most 116 bytes on a channel.
+static int32_t send(uint64_t at, uint32_t channel, uint8_t command, const uint8_t *message, size_t len) {
+    uint8_t packet[64] = {channel >> 24, channel >> 16, channel >> 8, channel, 0x80 | command, len >> 8, len};
+    size_t first = len < 57 ? len : 57;
+    memcpy(packet + 7, message, first);
+    int32_t waiting = hidlog_key_packet(&key, at, packet);
+    if (len > first) {
+        memset(packet + 4, 0, 60);
+        memcpy(packet + 5, message + first, len - first);
+        waiting = hidlog_key_packet(&key, at, packet);
+    }
+    return waiting;
+}
+
+// {1: hash, 2: {"id": "example.com"}, 3: {"id": h'01'}, 4: [{"alg": -7, "type": "public-key"}], 7: {"rk": true}}
+static const uint8_t make_credential[] =
+    "\x01\xa5\x01\x58\x20" "11111111111111111111111111111111" "\x02\xa1\x62id\x6b" "example.com" "\x03\xa1\x62id\x41\x01"
+    "\x04\x81\xa2\x63" "alg\x26\x64type\x6apublic-key" "\x07\xa1\x62rk\xf5";
+
+// {1: "example.com", 2: hash}
+static const uint8_t get_assertion[] = "\x02\xa2\x01\x6b" "example.com" "\x02\x58\x20" "22222222222222222222222222222222";
+
+static void register_credential(void) {
+    uint8_t id[32], nonce[8] = {0};
+    memset(id, 0xaa, sizeof id);
+    take(send(0, 0xffffffff, 6, nonce, 8), 1, "INIT");
+    take(send(0, 1, 0x10, make_credential, sizeof make_credential - 1), 1, "authenticatorMakeCredential");
+    take(hidlog_key_presence(&key, 0, HIDLOG_GRANTED), 1, "presence");
+    take(hidlog_key_new_key(&key, 0, id, id, id), 0, "a new key");
+    take(hidlog_key_signature(&key, 0, nonce, 8), 4, "a signature");
+}
+
+static void sign_in(uint64_t at) {
+    static const uint8_t signature[70] = {0x30, 0x44};
+    struct hidlog_need need;
+    take(send(at, 1, 0x10, get_assertion, sizeof get_assertion - 1), 1, "authenticatorGetAssertion");
+    expect(hidlog_key_need(&key, &need), HIDLOG_NEED_PRESENCE, "need");
+    take(hidlog_key_presence(&key, at, HIDLOG_GRANTED), 1, "presence");
+    expect(hidlog_key_need(&key, &need), HIDLOG_NEED_SIGNATURE, "need");
+    take(hidlog_key_signature(&key, at, signature, sizeof signature), 4, "a signature");
+}
+
+static double now(void) {
+    struct timespec t;
+    clock_gettime(CLOCK_MONOTONIC, &t);
+    return (double)t.tv_sec + (double)t.tv_nsec / 1e9;
+}
+
+int main(int count, char **words) {
+    static const uint8_t aaguid[16];
+    unsigned long sign_ins = count == 2 ? strtoul(words[1], NULL, 10) : 0;
+    double first = 0, last = 0, begun = 0;
+    key.memory = aligned_alloc(16, (hidlog_key_size() + 15) / 16 * 16);
+    expect(hidlog_key_make(&key, aaguid, 0, aaguid, 0), 0, "make");
+    register_credential();
+    for (unsigned long i = 0; i < sign_ins; i++) {
+        if (i == 0 || i + 1000 == sign_ins) {
+            begun = now();
+        }
+        sign_in(i);
+        if (i == 999) {
+            first = now() - begun;
+        }
+    }
+    last = now() - begun;
+    printf("%lu sign-ins: the first 1000 took %.6f s, the last 1000 %.6f s\n", sign_ins, first, last);
+    return 0;
+}
