@@ -1,12 +1,13 @@
 -- How a check ends.
-use Rattle.std.proofs.Common.{◌≡◌, ℕ, ◌+◌, List, [], ◌∷◌, Option, Some, None, Result, Err, inr, refl, sym, ap, ◌∙◌, subst}
+use Rattle.std.proofs.Common.{◌≡◌, ℕ, ◌+◌, true, List, [], ◌∷◌, Option, Some, None, is_some, Result, Err, inr, refl, sym, ap, ◌∙◌, subst}
 use Rattle.std.specs.Io.KnownBytes.{Consumes}
-use Rattle.std.proofs.KnownBytes.{Appends-nil}
+use Rattle.std.proofs.KnownBytes.{Appends-nil, Keeps-refl}
+use Rattle.hid_packet.specs.declared.packet.Packet.{Packet}
 use Rattle.token_session.specs.Meters.{SessionState}
 use Rattle.session_log.specs.declared.line.Line.{Line}
 use Rattle.session_log.specs.declared.fault.LogFault.{LogFault}
 use Rattle.session_log.specs.declared.fault.LogFault.TheVariants.{Differs}
-use Rattle.session_log.specs.Check.{Compared, missing_of, stops_compared, moves_compared, check_machine}
+use Rattle.session_log.specs.Check.{Compared, due_packets, missing_of, stops_compared, moves_compared, check_machine}
 use Rattle.session_log.specs.Ending.{Ending, Done, Refused, Unread, Unwritten, ended_by, ending_of, read_fails, write_fails}
 use Rattle.session_log.specs.Log.{playing, fault_by, after_by, text_by}
 use Rattle.session_log.specs.Replay.{IsPlayed, Plays, PlaysLine, Makes, Closes, Reaches, ReadsTo}
@@ -26,6 +27,17 @@ plays_silently taken failed n c d line writer l is sound stood = (
   subst (SendsPackets check_machine c) (sym is) tt,
   subst (λ (t : List ℕ). IsTaken taken failed (writer, writer) t) (ap (text_by check_machine c line) (sym is)) (Appends-nil (taken writer), refl),
 )
+
+-- a line shows a difference, and nothing was written
+pub differs_silently : {F : Type 0} (taken : F → Option (List ℕ)) (failed : F → ℕ) (n : ℕ) (c : Compared SessionState) (line : List ℕ) (writer : F) (l : Line) (k m : ℕ) (f : LogFault)
+    → said line ≡ Some l → stops_compared c l ≡ Some (Differs k m) → f ≡ Differs k m → PlaysLine check_machine taken failed n c c line (writer, writer) (ended_by f)
+differs_silently taken failed n c line writer l k m f is stops same =
+    subst (λ (e : LogFault). PlaysLine check_machine taken failed n c c line (writer, writer) (ended_by e)) (sym same) (ap (fault_by check_machine n c) is ∙ stops, refl, Keeps-refl (taken writer), refl)
+
+-- a packet is due
+pub is_missing : (o : Option Packet) (rest : List (List ℕ)) (f : LogFault) → true ≡ is_some o → missing_of (due_packets o rest) f ≡ Some f
+is_missing None rest f h = cc
+is_missing (Some p) rest f h = refl
 
 -- a fault ended the lines
 pub fails_so : {S A : Type 0} (world : World S) (left left' taken taken' : Option (List ℕ)) (s s' t : S) (r : Result A LogFault) (e : LogFault) → r ≡ Err e → s ≡ s'
