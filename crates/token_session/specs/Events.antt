@@ -1,12 +1,29 @@
 -- What an event makes of the authenticator and sends, and when a KEEPALIVE is due: a moment, the authenticator and an
 -- event are all that is looked at.
 use Rattle.std.specs.Prelude.{ℕ, ◌+◌, Bool, false, nat_le, List, [], Option, Some, None}
-use Rattle.authn_core.specs.State.{Event, PresenceIs, KeyIs, SignatureIs}
+use Rattle.authn_core.specs.State.{Answer, Event, Cancel, Drop, KeyIs, Nothing, PresenceIs, Request, SignatureIs}
+use Rattle.authn_core.specs.Views.{answer_of}
+use Rattle.authn_core.specs.declared.authenticator.Turn.{Turn}
 use Rattle.authn_core.specs.Turn.{Work, CoreState, waiting, core_after, core_answer}
+use Rattle.token_session.specs.declared.authenticator.Event.{Event as Happening}
+use Rattle.token_session.specs.declared.authenticator.Event.TheVariants as happening
 use Rattle.token_session.specs.declared.input.Input.{Input}
 use Rattle.token_session.specs.declared.input.Input.TheVariants.{Presence, Key, Signature}
 use Rattle.token_session.specs.Replies.{keepalive, status_of, asker, answer_packets, answer_keeps_alive}
 use Rattle.token_session.specs.declared.authenticator.TheConstants.{KEEPALIVE_PERIOD}
+
+-- what the code's event and its turn, if it has one, are
+abbrev pub event_of : Happening → Event
+event_of (happening.Request cid message) = Request cid message.now
+event_of (happening.Presence reply) = PresenceIs reply
+event_of (happening.Key key) = KeyIs key
+event_of (happening.Signature signature) = SignatureIs signature
+event_of happening.Cancel = Cancel
+event_of happening.Drop = Drop
+
+abbrev pub answered : Option Turn → Answer
+answered None = Nothing
+answered (Some turn) = answer_of turn
 
 -- the event that a reply of the caller is
 abbrev pub reply_in : Input → Option Event

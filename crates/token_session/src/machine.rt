@@ -1,20 +1,19 @@
-ghost use Rattle.std.specs.Prelude.{◌≡◌, ℕ, ◌≤◌, ◌++◌, [], Some, length, if◌then◌else◌};
+ghost use Rattle.std.specs.Prelude.{◌≡◌, ◌≤◌, ◌++◌, [], Some, IfSome, length, option_map};
 ghost use Rattle.hid_assemble.specs.Assembly.{held_bytes};
 ghost use Rattle.hid_assemble.specs.Codes.{code_number};
 ghost use Rattle.authn_core.specs.Bare.{bare_rows};
 ghost use Rattle.authn_core.specs.Needs.{IsNeed};
-ghost use Rattle.authn_core.specs.State.{Drop as DropWork};
 ghost use Rattle.authn_core.specs.Views.{needs, needed};
 ghost use Rattle.cred_table.specs.Waiting.{pending_count};
 ghost use Rattle.token_session.specs.Replies.{error, greeting};
 ghost use Rattle.token_session.specs.Machine.{start_state, time_passed, served, turn};
-ghost use Rattle.token_session.specs.Events.{event_core, event_keeps_alive, event_packets};
+ghost use Rattle.token_session.specs.Events.{event_of};
 ghost use Rattle.token_session.specs.Noise.{is_noise_at};
-ghost use Rattle.token_session.specs.Effects.{verdict_packets, verdict_event};
+ghost use Rattle.token_session.specs.Effects.{assembly_after, input_event, input_verdict, request_in, verdict_packets};
 ghost use Rattle.token_session.specs.Readings.{reading_in};
 ghost use Rattle.hid_packet.specs.declared.limit.TheConstants.{LONGEST_MESSAGE};
 
-use crate::authenticator::{Authenticator, Reading};
+use crate::authenticator::{Authenticator, Event, Reading};
 use crate::input::Input;
 use arrayvec::ArrayVec;
 use authn_core::{Config, Need};
@@ -52,74 +51,56 @@ fn put_greeting(outbox: &mut Outbox, on: u32, channel: u32, nonce: &[u8; 8])
     outbox.put_message(on, INIT, answer.as_slice());
 }
 
-/// Answers an INIT on the channel whose work waits. That work is dropped, and isn't answered.
-fn greet_anew<const C: usize>(
-    authenticator: &mut Authenticator<C>,
-    outbox: &mut Outbox,
-    on: u32,
-    channel: u32,
-    nonce: &[u8; 8],
-)
-    requires { length outbox.old ≤ 1 }
-    ensures core { (now : ℕ) → authenticator.new.core ≡ event_core authenticator.old.core now (Some DropWork) }
-    ensures latest { authenticator.new.latest ≡ authenticator.old.latest }
-    ensures keepalive { (now : ℕ) → authenticator.new.keepalive_at
-        ≡ (if event_keeps_alive authenticator.old.core now (Some DropWork) then now
-        else authenticator.old.keepalive_at) }
-    ensures silent { (now : ℕ) → event_packets authenticator.old.core now (Some DropWork) ≡ [] }
-    ensures packets { outbox.new ≡ outbox.old ++ greeting on channel nonce.now }
+/// What the transport makes of an input: a verdict on a packet. It lets every other input be.
+fn admit(assembler: &mut Assembler, now: u64, input: &Input, working: Option<u32>) -> Verdict
+    ensures verdict { result ≡ input_verdict assembler.old working input.now }
+    ensures state { assembler.new ≡ assembly_after assembler.old now working input.now }
 {
-    put_greeting(outbox, on, channel, nonce);
-    authenticator.drop_work();
+    match input {
+        Input::Packet(packet) => assembler.accept(now, packet, working),
+        Input::Tick | Input::Presence(_) | Input::Key(_) | Input::Signature(_) => Verdict::Ignored,
+    }
 }
 
-/// Sends what a verdict sends, hands the authenticator the event that it is, and gives what reading
-/// the request took, if it is one. `message` is what the packet finished.
-fn react<const C: usize>(
-    authenticator: &mut Authenticator<C>,
-    now: u64,
-    verdict: Verdict,
-    message: &[u8],
-    outbox: &mut Outbox,
-) -> Option<Reading>
+/// Sends what a verdict sends, but for the packets of its event. `message` is what the packet finished.
+#[tactic(auto, using(hid_packet::proofs::Carrying::few_written))]
+fn put_verdict(outbox: &mut Outbox, verdict: Verdict, message: &[u8])
     requires room { length outbox.old ≤ 1 }
     requires short { length message.now ≤ LONGEST_MESSAGE }
-    requires moment { authenticator.old.latest ≤ now }
-    ensures core { authenticator.new.core ≡ event_core authenticator.old.core now (verdict_event verdict message.now) }
-    ensures latest { authenticator.new.latest ≤ now }
-    ensures keepalive { authenticator.new.keepalive_at
-        ≡ (if event_keeps_alive authenticator.old.core now (verdict_event verdict message.now) then now
-        else authenticator.old.keepalive_at) }
-    ensures packets { outbox.new ≡ outbox.old ++ (verdict_packets verdict message.now
-        ++ event_packets authenticator.old.core now (verdict_event verdict message.now)) }
-    ensures reading { result ≡ reading_in (verdict_event verdict message.now) }
+    ensures { outbox.new ≡ outbox.old ++ verdict_packets verdict message.now }
 {
     match verdict {
-        Verdict::Ignored | Verdict::Kept => None,
-        Verdict::Refuse { cid, code } => {
-            put_error(outbox, cid, code);
-            None
+        Verdict::Refuse { cid, code } => put_error(outbox, cid, code),
+        Verdict::Greet { on, channel, nonce } | Verdict::GreetAndDrop { on, channel, nonce } => {
+            put_greeting(outbox, on, channel, &nonce)
         }
-        Verdict::Greet { on, channel, nonce } => {
-            put_greeting(outbox, on, channel, &nonce);
-            None
-        }
-        Verdict::GreetAndDrop { on, channel, nonce } => {
-            greet_anew(authenticator, outbox, on, channel, &nonce);
-            None
-        }
-        Verdict::CancelWork => {
-            authenticator.cancel(now, outbox);
-            None
-        }
-        Verdict::Finished { cid, cmd } if cmd == PING => {
-            outbox.put_message(cid, PING, message);
-            None
-        }
-        Verdict::Finished { cid, cmd } if cmd == CBOR => {
-            Some(authenticator.request(now, cid, message, outbox))
-        }
-        Verdict::Finished { .. } => None,
+        Verdict::Finished { cid, cmd } if cmd == PING => outbox.put_message(cid, PING, message),
+        Verdict::Ignored | Verdict::Kept | Verdict::CancelWork | Verdict::Finished { .. } => {}
+    }
+}
+
+/// The event that an input is, if it is one: that of the verdict on a packet, which finished `message`, or a reply of the
+/// caller.
+fn event_in<'m>(input: &Input, verdict: Verdict, message: &'m [u8]) -> Option<Event<'m>>
+    requires short { length message.now ≤ LONGEST_MESSAGE }
+    ensures event { option_map event_of result ≡ input_event input.now verdict message.now }
+    ensures short { IfSome result (λ e. IfSome (request_in (Some (event_of e))) (λ m. length m ≤ LONGEST_MESSAGE)) }
+{
+    match input {
+        Input::Packet(_) => match verdict {
+            Verdict::Finished { cid, cmd } if cmd == CBOR => Some(Event::Request { cid, message }),
+            Verdict::GreetAndDrop { .. } => Some(Event::Drop),
+            Verdict::CancelWork => Some(Event::Cancel),
+            Verdict::Ignored
+            | Verdict::Kept
+            | Verdict::Finished { .. }
+            | Verdict::Refuse { .. }
+            | Verdict::Greet { .. } => None,
+        },
+        Input::Tick => None,
+        Input::Presence(reply) => Some(Event::Presence(*reply)),
+        Input::Key(key) => Some(Event::Key(*key)),
+        Input::Signature(signature) => Some(Event::Signature(*signature)),
     }
 }
 
@@ -256,34 +237,14 @@ impl<const C: usize> Machine<C> {
         ensures packets { outbox.new ≡ (served self.old outbox.old input).packets }
         ensures reading { result ≡ reading_in (served self.old outbox.old input).event }
     {
-        match input {
-            Input::Packet(packet) => self.serve_packet(&packet, outbox),
-            Input::Tick => None,
-            Input::Presence(reply) => {
-                self.authenticator.presence(self.latest, reply, outbox);
-                None
-            }
-            Input::Key(key) => {
-                self.authenticator.key(self.latest, key, outbox);
-                None
-            }
-            Input::Signature(signature) => {
-                self.authenticator.signature(self.latest, signature, outbox);
-                None
-            }
-        }
-    }
-
-    fn serve_packet(&mut self, packet: &Packet, outbox: &mut Outbox) -> Option<Reading>
-        requires { length outbox.old ≤ 1 }
-        ensures state { self.new ≡ (served self.old outbox.old (Input.Packet packet.now)).state }
-        ensures packets { outbox.new ≡ (served self.old outbox.old (Input.Packet packet.now)).packets }
-        ensures reading { result ≡ reading_in (served self.old outbox.old (Input.Packet packet.now)).event }
-    {
         let working = self.authenticator.working();
-        let verdict = self.assembler.accept(self.latest, packet, working);
+        let verdict = admit(&mut self.assembler, self.latest, &input, working);
         let message = self.assembler.message();
-        let authenticator = &mut self.authenticator;
-        react(authenticator, self.latest, verdict, message, outbox)
+        put_verdict(outbox, verdict, message);
+        let event = event_in(&input, verdict, message);
+        match &event {
+            Some(event) => self.authenticator.take(self.latest, event, outbox),
+            None => None,
+        }
     }
 }

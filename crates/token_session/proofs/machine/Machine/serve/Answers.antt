@@ -1,62 +1,50 @@
-use Rattle.std.proofs.Common.{rules, refl, sym, append-nil}
-use Rattle.token_session.proofs.Passing.{whole}
-use Rattle.token_session.proofs.Turning.{at_most}
+use Rattle.std.proofs.Common.{rules, ℕ, ◌≤◌, List, ◌++◌, append-nil, append_assoc, IfSome, length, Some, option_map, subst, sym, ◌∙◌, ap}
+use Rattle.hid_packet.specs.declared.limit.TheConstants.{LONGEST_MESSAGE}
+use Rattle.token_session.specs.Events.{event_of, event_packets}
+use Rattle.token_session.specs.Effects.{request_in}
+use Rattle.token_session.specs.Machine.{Turn}
+use Rattle.token_session.specs.Readings.{reading_in}
+use Rattle.token_session.proofs.Serving.{input_turn, input_few}
 use Rattle.token_session.proofs.machine.Machine.serve.Goals as goal
 
-pub serve_packet-requires : goal.serve_packet-requires
-serve_packet-requires g c = (search rules, c.requires)
+pub take-requires : goal.take-requires
+take-requires g c =
+    let room = input_few _ _ _ _ _ _ _ _ _ _ _
+    c.self.view_is c.working-working.ensures c.message-message.ensures.bytes c.args.input c.admit-verdict.ensures.state c.admit-verdict.ensures.verdict (ap (option_map event_of) (sym c.in-Some.is) ∙ c.event_in-event.ensures.event) c.requires in
+    let short = subst (λ r. IfSome r (λ e. IfSome (request_in (Some (event_of e))) (λ m. length m ≤ LONGEST_MESSAGE))) c.in-Some.is c.event_in-event.ensures.short in
+    (search rules, (rw c.put_verdict.ensures room, (short, c.self.invariant)))
 
-pub presence-requires : goal.presence-requires
-presence-requires g c = (search rules, (c.requires, c.self.invariant))
+pub returns-in-Some-clause-state : goal.returns-in-Some-clause-state
+returns-in-Some-clause-state g c =
+    let d = c.admit-verdict.new.assembler in
+    (λ i. record { now = c.self.inside.latest; given = d.given; current = d.current; core = c.take.ensures.core i; keepalive_at = c.take.ensures.keepalive i })
+    ∙ ap (λ (t : Turn). t.state) (input_turn _ _ _ _ _ _ _ _ _ _ _
+    c.self.view_is c.working-working.ensures c.message-message.ensures.bytes c.args.input c.admit-verdict.ensures.state c.admit-verdict.ensures.verdict (ap (option_map event_of) (sym c.in-Some.is) ∙ c.event_in-event.ensures.event))
 
-pub key-requires : goal.key-requires
-key-requires g c = (search rules, (c.requires, c.self-in-Key.invariant))
+pub returns-in-Some-clause-packets : goal.returns-in-Some-clause-packets
+returns-in-Some-clause-packets g c =
+    let sent = event_packets c.self.inside.authenticator.core c.self.inside.latest (Some (event_of c.in-Some.event)) in
+    c.take.ensures.packets ∙ ap (λ (ps : List (List ℕ)). ps ++ sent) c.put_verdict.ensures ∙ append_assoc c.args.outbox.now _ _
+    ∙ ap (λ (t : Turn). t.packets) (input_turn _ _ _ _ _ _ _ _ _ _ _
+    c.self.view_is c.working-working.ensures c.message-message.ensures.bytes c.args.input c.admit-verdict.ensures.state c.admit-verdict.ensures.verdict (ap (option_map event_of) (sym c.in-Some.is) ∙ c.event_in-event.ensures.event))
 
-pub signature-requires : goal.signature-requires
-signature-requires g c = (search rules, (c.requires, c.self-in-Signature.invariant))
+pub returns-in-Some-clause-reading : goal.returns-in-Some-clause-reading
+returns-in-Some-clause-reading g c =
+    c.take.ensures.reading ∙ ap (λ (t : Turn). reading_in t.event) (input_turn _ _ _ _ _ _ _ _ _ _ _
+    c.self.view_is c.working-working.ensures c.message-message.ensures.bytes c.args.input c.admit-verdict.ensures.state c.admit-verdict.ensures.verdict (ap (option_map event_of) (sym c.in-Some.is) ∙ c.event_in-event.ensures.event))
 
-pub invariant_of-self : goal.invariant_of-self
-invariant_of-self g c = at_most _ _ c.presence.ensures.latest
+pub returns-in-None-clause-state : goal.returns-in-None-clause-state
+returns-in-None-clause-state g c =
+    ap (λ (t : Turn). t.state) (input_turn _ _ _ _ _ _ _ _ _ _ _
+    c.self.view_is c.working-working.ensures c.message-message.ensures.bytes c.args.input c.admit-verdict.ensures.state c.admit-verdict.ensures.verdict (ap (option_map event_of) (sym c.in-None.is) ∙ c.event_in-event.ensures.event))
 
-pub invariant_of-self-in-Key : goal.invariant_of-self-in-Key
-invariant_of-self-in-Key g c = at_most _ _ c.key.ensures.latest
+pub returns-in-None-clause-packets : goal.returns-in-None-clause-packets
+returns-in-None-clause-packets g c =
+    c.put_verdict.ensures ∙ ap (λ (ps : List (List ℕ)). c.args.outbox.now ++ ps) (sym (append-nil _))
+    ∙ ap (λ (t : Turn). t.packets) (input_turn _ _ _ _ _ _ _ _ _ _ _
+    c.self.view_is c.working-working.ensures c.message-message.ensures.bytes c.args.input c.admit-verdict.ensures.state c.admit-verdict.ensures.verdict (ap (option_map event_of) (sym c.in-None.is) ∙ c.event_in-event.ensures.event))
 
-pub invariant_of-self-in-Signature : goal.invariant_of-self-in-Signature
-invariant_of-self-in-Signature g c = at_most _ _ c.signature.ensures.latest
-
-pub returns-in-Packet : goal.returns-in-Packet
-returns-in-Packet g c = rw c.in-Packet.is (record {
-  state = c.serve_packet.ensures.state;
-  packets = c.serve_packet.ensures.packets;
-  reading = c.serve_packet.ensures.reading;
-})
-
-pub returns-in-Tick : goal.returns-in-Tick
-returns-in-Tick g c = rw c.in-Tick.is (record { state = refl; packets = sym (append-nil _); reading = refl })
-
-pub returns-in-Presence : goal.returns-in-Presence
-returns-in-Presence g c =
-    let s = c.self.inside in
-    rw (c.in-Presence.is, ← c.self.view_is) (record {
-      state = λ i. whole s.latest s.assembler (c.presence.ensures.core i) (c.presence.ensures.keepalive i);
-      packets = c.presence.ensures.packets;
-      reading = refl;
-    })
-
-pub returns-in-Key : goal.returns-in-Key
-returns-in-Key g c =
-    let s = c.self-in-Key.inside in
-    rw (c.in-Key.is, ← c.self-in-Key.view_is) (record {
-      state = λ i. whole s.latest s.assembler (c.key.ensures.core i) (c.key.ensures.keepalive i);
-      packets = c.key.ensures.packets;
-      reading = refl;
-    })
-
-pub returns-in-Signature : goal.returns-in-Signature
-returns-in-Signature g c =
-    let s = c.self-in-Signature.inside in
-    rw (c.in-Signature.is, ← c.self-in-Signature.view_is) (record {
-      state = λ i. whole s.latest s.assembler (c.signature.ensures.core i) (c.signature.ensures.keepalive i);
-      packets = c.signature.ensures.packets;
-      reading = refl;
-    })
+pub returns-in-None-clause-reading : goal.returns-in-None-clause-reading
+returns-in-None-clause-reading g c =
+    ap (λ (t : Turn). reading_in t.event) (input_turn _ _ _ _ _ _ _ _ _ _ _
+    c.self.view_is c.working-working.ensures c.message-message.ensures.bytes c.args.input c.admit-verdict.ensures.state c.admit-verdict.ensures.verdict (ap (option_map event_of) (sym c.in-None.is) ∙ c.event_in-event.ensures.event))
