@@ -47,12 +47,6 @@ event_keeps_alive core at None = false
 event_keeps_alive core at (Some e) = answer_keeps_alive (asker (waiting core) e) (status_of (waiting core))
     (core_answer core at e)
 
--- the authenticator, the greatest moment of its start and its events, and the moment of the last KEEPALIVE
-pub record AuthenticatorState : Type 0 where
-  pub core : CoreState
-  pub latest : ℕ
-  pub keepalive_at : ℕ
-
 -- A KEEPALIVE is due 100 ms after the last, where work waits (CTAP 2.1, section 11.2.9.1.7).
 unfoldable pub keepalive_due : Option Work → ℕ → ℕ → Bool
 keepalive_due None keepalive_at at = false

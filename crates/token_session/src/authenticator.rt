@@ -1,22 +1,19 @@
 ghost use Rattle.std.specs.Prelude.{◌≡◌, ◌+◌, ◌≤◌, ◌++◌, [], Some, IfSome, length, max, min, option_map, if◌then◌else◌};
-ghost use Rattle.cred_table.specs.Waiting.{pending_count};
 ghost use Rattle.authn_core.specs.Bare.{bare_rows};
 ghost use Rattle.ctap_message.specs.Requests.{steps_of, LARGEST};
 ghost use Rattle.authn_core.specs.Turn.{core_after, core_answer, first_state, waiting, working};
-ghost use Rattle.authn_core.specs.Needs.{IsNeed};
-ghost use Rattle.authn_core.specs.Views.{needed, needs, status_number, work_of};
+ghost use Rattle.authn_core.specs.Views.{status_number, work_of};
 ghost use Rattle.token_session.specs.Replies.{keepalive, asker, status_of, answer_packets, answer_keeps_alive};
 ghost use Rattle.token_session.specs.Events.{answered, event_core, event_keeps_alive, event_of, event_packets, keepalive_due, keepalive_packets};
 ghost use Rattle.token_session.specs.Readings.{reading_in};
 ghost use Rattle.token_session.specs.Effects.{request_in};
 ghost use Rattle.hid_packet.specs.declared.limit.TheConstants.{LONGEST_MESSAGE, OUTBOX_CAPACITY};
 
-use authn_core::{Config, Core, KeepaliveStatus, Need, NewKey, Presence, Signature, Turn, Work};
+use authn_core::{Config, Core, KeepaliveStatus, NewKey, Presence, Signature, Turn, Work};
 use cred_table::{Store, Table};
 use ctap_message::laws::steps_are_bounded;
 use hid_packet::Outbox;
 use hid_packet::command::{CBOR, KEEPALIVE};
-use std::marker::Model;
 
 /// How long after the last KEEPALIVE the next is due while work waits, in milliseconds.
 pub const KEEPALIVE_PERIOD: u64 = 100;
@@ -46,7 +43,7 @@ pub(crate) enum Event<'a> {
     Drop,
 }
 
-/// The channel to which an event's answer goes: a request's own, or that of the waiting work.
+/// Returns the channel to which an event's answer goes: a request's own, or that of the waiting work.
 fn asker_of(event: &Event<'_>, work: Option<Work>) -> Option<u32>
     ensures { result ≡ asker (option_map work_of work) (event_of event.now) }
 {
@@ -57,7 +54,7 @@ fn asker_of(event: &Event<'_>, work: Option<Work>) -> Option<u32>
     }
 }
 
-/// What reading an event took, if it is a request.
+/// Returns what reading an event took, if it is a request.
 fn reading_of(event: &Event<'_>, steps: u64) -> Option<Reading>
     requires short { IfSome (request_in (Some (event_of event.now))) (λ m. length m ≤ LONGEST_MESSAGE) }
     requires steps { IfSome (request_in (Some (event_of event.now))) (λ m. steps ≡ min (steps_of m) LARGEST) }
@@ -76,7 +73,7 @@ fn reading_of(event: &Event<'_>, steps: u64) -> Option<Reading>
     }
 }
 
-/// The turn of an event, which came at `now`. A drop has none.
+/// Takes the turn of an event, which came at `now`. A drop has none.
 #[tactic(auto, using(authn_core::proofs::Facts::drop_answers_nothing))]
 fn turn_of<const C: usize>(
     core: &mut Core<Store<C>, C>,
@@ -113,30 +110,21 @@ fn put_keepalive(outbox: &mut Outbox, cid: u32, status: KeepaliveStatus)
 /// The authenticator and its KEEPALIVEs: it sends what its turns give, and a KEEPALIVE every 100 ms while work waits.
 #[derive(Drop)]
 pub(crate) struct Authenticator<const C: usize> {
-    core: Core<Store<C>, C>,
+    pub(crate) core: Core<Store<C>, C>,
     /// The moment of the last KEEPALIVE.
     keepalive_at: u64,
 }
 
-// Clauses see the authenticator's state, the greatest moment of its events, and the moment of the last KEEPALIVE.
-impl<const C: usize> Model for Authenticator<C> {
-    ghost use Rattle.token_session.specs.Events.{AuthenticatorState};
-
-    ghost Value = { AuthenticatorState };
-
-    ghost view = { λ a. record { core = a.core.core; latest = a.core.latest; keepalive_at = a.keepalive_at } };
-}
-
 impl<const C: usize> Authenticator<C> {
-    /// No work waits.
+    /// Returns an authenticator for which no work waits.
     pub(crate) fn new(config: Config, rows: Store<C>, start: u64) -> Self
-        ensures core { result.core ≡ first_state (record {
+        ensures core { result.core.core ≡ first_state (record {
           aaguid = config.aaguid;
           moment = start;
           room = C;
           rows = bare_rows (⟦<Store<C> as Table<C>>⟧.rows rows.entry);
         }) }
-        ensures latest { result.latest ≡ start }
+        ensures latest { result.core.latest ≡ start }
         ensures keepalive { result.keepalive_at ≡ 0 }
     {
         Authenticator {
@@ -145,54 +133,22 @@ impl<const C: usize> Authenticator<C> {
         }
     }
 
-    /// The channel of the waiting work.
+    /// Returns the channel of the waiting work.
     pub(crate) fn working(&self) -> Option<u32>
-        ensures { result ≡ working self.now.core }
+        ensures { result ≡ working self.now.core.core }
     {
         self.core.work().map(|work| work.cid)
     }
 
-    /// What the waiting work needs.
-    pub(crate) fn need(&self) -> Need<'_>
-        ensures value { needed result ≡ needs self.now.core.state.work }
-        ensures sized { IsNeed (needed result) }
-    {
-        self.core.need()
-    }
-
-    /// The table.
-    pub(crate) fn table(&self) -> &Store<C>
-        ensures { bare_rows (⟦<Store<C> as Table<C>>⟧.rows result.now) ≡ self.now.core.state.rows }
-    {
-        self.core.table()
-    }
-
-    /// The number of credentials.
-    pub(crate) fn credentials(&self) -> usize
-        ensures value { result ≡ length self.now.core.state.rows }
-        ensures few { (result ≤ C) × (C ≤ 256) }
-    {
-        self.core.credentials()
-    }
-
-    /// The number of pending assertions.
-    pub(crate) fn pending(&self) -> usize
-        ensures value { result ≡ pending_count self.now.core.state.pending }
-        ensures few { result ≤ C }
-    {
-        self.core.pending()
-    }
-
-    /// Time passes to `at`: where work waits and a KEEPALIVE is due, it is sent.
+    /// Lets time pass to `at`: where work waits and a KEEPALIVE is due, it is sent.
     #[tactic(auto, using(hid_packet::proofs::Carrying::few_written), unfolding(crate::specs::Events::keepalive_due))]
     pub(crate) fn pass_time(&mut self, at: u64, outbox: &mut Outbox)
         requires { length outbox.old ≤ 1 }
         ensures core { self.new.core ≡ self.old.core }
-        ensures latest { self.new.latest ≡ self.old.latest }
-        ensures keepalive { self.new.keepalive_at ≡ (if keepalive_due (waiting self.old.core) self.old.keepalive_at at
+        ensures keepalive { self.new.keepalive_at ≡ (if keepalive_due (waiting self.old.core.core) self.old.keepalive_at at
             then at else self.old.keepalive_at) }
         ensures packets { outbox.new ≡ outbox.old ++ (if keepalive_due
-            (waiting self.old.core) self.old.keepalive_at at then keepalive_packets (waiting self.old.core) else []) }
+            (waiting self.old.core.core) self.old.keepalive_at at then keepalive_packets (waiting self.old.core.core) else []) }
     {
         if let Some(work) = self.core.work() {
             if at.saturating_sub(self.keepalive_at) >= KEEPALIVE_PERIOD {
@@ -202,22 +158,22 @@ impl<const C: usize> Authenticator<C> {
         }
     }
 
-    /// An event, which came at `now`. It gives what reading the request took, if it is one.
+    /// Serves an event, which came at `now`. Returns what reading the request took, if it is one.
     pub(crate) fn take(
         &mut self,
         now: u64,
         event: &Event<'_>,
         outbox: &mut Outbox,
     ) -> Option<Reading>
-        requires room { length outbox.old + length (event_packets self.old.core now (Some (event_of event.now)))
+        requires room { length outbox.old + length (event_packets self.old.core.core now (Some (event_of event.now)))
             ≤ OUTBOX_CAPACITY }
         requires short { IfSome (request_in (Some (event_of event.now))) (λ m. length m ≤ LONGEST_MESSAGE) }
-        requires moment { self.old.latest ≤ now }
-        ensures core { self.new.core ≡ event_core self.old.core now (Some (event_of event.now)) }
-        ensures latest { self.new.latest ≤ now }
-        ensures keepalive { self.new.keepalive_at ≡ (if event_keeps_alive self.old.core now (Some (event_of event.now))
+        requires moment { self.old.core.latest ≤ now }
+        ensures core { self.new.core.core ≡ event_core self.old.core.core now (Some (event_of event.now)) }
+        ensures latest { self.new.core.latest ≤ now }
+        ensures keepalive { self.new.keepalive_at ≡ (if event_keeps_alive self.old.core.core now (Some (event_of event.now))
             then now else self.old.keepalive_at) }
-        ensures packets { outbox.new ≡ outbox.old ++ event_packets self.old.core now (Some (event_of event.now)) }
+        ensures packets { outbox.new ≡ outbox.old ++ event_packets self.old.core.core now (Some (event_of event.now)) }
         ensures reading { result ≡ reading_in (Some (event_of event.now)) }
     {
         let work = self.core.work();
@@ -241,7 +197,6 @@ impl<const C: usize> Authenticator<C> {
         requires { length outbox.old + length (answer_packets asker (status_of (option_map work_of work))
             (answered turn.now)) ≤ OUTBOX_CAPACITY }
         ensures core { self.new.core ≡ self.old.core }
-        ensures latest { self.new.latest ≡ self.old.latest }
         ensures keepalive { self.new.keepalive_at ≡ (if answer_keeps_alive asker (status_of (option_map work_of work))
             (answered turn.now) then now else self.old.keepalive_at) }
         ensures packets { outbox.new ≡ outbox.old ++ answer_packets asker (status_of (option_map work_of work))
