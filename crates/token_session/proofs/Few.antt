@@ -106,7 +106,7 @@ time_few s t = cond_case (λ (v : Turn). length v.packets ≤ 1) (is_overdue s.c
 below : (a b : List (List ℕ)) → length a ≤ 1 → length b ≤ 129 → length (a ++ b) ≤ 130
 below a b h k = omega (arith, length-append a b)
 
-served_few : (s : State) (early : List (List ℕ)) (i : Input) → length early ≤ 1 → length (served s early i).packets ≤ 130
+pub served_few : (s : State) (early : List (List ℕ)) (i : Input) → length early ≤ 1 → length (served s early i).packets ≤ 130
 served_few s early (Packet p) h =
     let few = service_few s.given s.now s.current s.core (working s.core) (fields p.0) (ruling_of s.given s.current (working s.core) (fields p.0)) in
     below early _ h few

@@ -98,22 +98,15 @@ passed_sees s at i = by_time (is_overdue s.current at) (keepalive_due (waiting s
     by_time false true a b c x y z = y
     by_time false false a b c x y z = z
 
--- whether a packet is noise, by its ruling when time has passed
-pub packet_noise : (s : State) (latest keepalive_at at now : ℕ) (a : Assembly) (k : CoreState) (i : Input) (p : AnyPacket) (work : Option ℕ) (answer : Bool)
-    → record { now = latest; given = a.given; current = a.current; core = k; keepalive_at = keepalive_at } ≡ s → now ≡ max latest at → work ≡ working k
-    → answer ≡ is_noise (ruling_of a.given (still_open a.current now) work (fields p.0)) → i ≡ Packet p
-    → answer ≡ is_noise_at s (record { at = at; input = i })
+-- whether an input is noise, by the parts of a session when time has passed
+pub noise_now : (s : State) (latest keepalive_at at now : ℕ) (a : Assembly) (k : CoreState) (i : Input) (answer : Bool)
+    → record { now = latest; given = a.given; current = a.current; core = k; keepalive_at = keepalive_at } ≡ s → now ≡ max latest at
+    → answer ≡ is_noise_among a.given (still_open a.current now) k i → answer ≡ is_noise_at s (record { at = at; input = i })
 unfolding is_noise_at
-packet_noise s latest keepalive_at at now a k i p work answer is moment works told came =
-    told ∙ (λ j. is_noise (ruling_of a.given (still_open a.current (moment j)) (works j) (fields p.0)))
-    ∙ sym (passed_sees (record { now = latest; given = a.given; current = a.current; core = k; keepalive_at = keepalive_at }) (max latest at) (Packet p))
-    ∙ (λ j. is_noise_at (is j) (record { at = at; input = (sym came) j }))
-
--- what is noise of the other inputs doesn't look at time
-pub other_noise : (s : State) (at : ℕ) (i j : Input) (answer : Bool) → i ≡ j → answer ≡ is_noise_among s.given (still_open s.current (max s.now at)) s.core j
-    → answer ≡ is_noise_at s (record { at = at; input = i })
-unfolding is_noise_at
-other_noise s at i j answer came told = told ∙ sym (passed_sees s (max s.now at) j) ∙ ap (λ v. is_noise_at s (record { at = at; input = v })) (sym came)
+noise_now s latest keepalive_at at now a k i answer is moment told =
+    told ∙ ap (λ n. is_noise_among a.given (still_open a.current n) k i) moment
+    ∙ sym (passed_sees (record { now = latest; given = a.given; current = a.current; core = k; keepalive_at = keepalive_at }) (max latest at) i)
+    ∙ ap (λ v. is_noise_at v (record { at = at; input = i })) is
 
 -- To a session, noise is a tick.
 pub noise_steps : (s : SessionState) (x : Timed) → is_noise_at s.machine x ≡ true → stepped s x ≡ stepped s (tick_at x.at)

@@ -1,16 +1,20 @@
 -- A packet that is served by its verdict is the composed turn.
-use Rattle.std.proofs.Common.{◌≡◌, ℕ, List, max, Option, refl, sym}
+use Rattle.std.proofs.Common.{◌≡◌, ℕ, ◌+◌, ◌≤◌, List, ◌++◌, length, max, Option, refl, subst, sym, arith, length-append}
 use Rattle.hid_packet.specs.declared.packet.Packet.{Packet as Packet64}
 use Rattle.hid_packet.specs.Packet.{fields}
 use Rattle.hid_assemble.specs.declared.verdict.Verdict.{Verdict}
 use Rattle.hid_assemble.specs.Table.{ruling_of}
 use Rattle.hid_assemble.specs.Assembly.{Assembly, given_after, open_after, accepted}
 use Rattle.hid_assemble.specs.Verdicts.{verdict}
+use Rattle.authn_core.specs.State.{Event}
 use Rattle.authn_core.specs.Turn.{CoreState, working}
-use Rattle.token_session.specs.declared.input.Input.TheVariants.{Packet}
+use Rattle.token_session.specs.declared.input.Input.{Input}
+use Rattle.token_session.specs.declared.input.Input.TheVariants.{Packet, Tick, Presence, Key, Signature}
 use Rattle.token_session.specs.declared.input.Timed.{Timed}
-use Rattle.token_session.specs.Machine.{State, time_passed, turn, served, happens}
-use Rattle.token_session.specs.Effects.{verdict_packets, verdict_event}
+use Rattle.token_session.specs.Machine.{State, Turn, time_passed, turn, served, happens}
+use Rattle.token_session.specs.Events.{event_packets}
+use Rattle.token_session.specs.Effects.{assembly_after, input_event, input_verdict, verdict_packets, verdict_event}
+use Rattle.token_session.proofs.Few.{served_few}
 use Rattle.token_session.proofs.Effects.{effects}
 use Rattle.token_session.proofs.Passing.{whole}
 
@@ -24,6 +28,25 @@ packet_turn n b a d k v x early w V B e ew ed eV eB =
     let row = ruling_of a.given a.current (working k) f in
     let e' = effects a.current a.given (working k) f row in
     rw (← e, eB, ed, eV, ew) (λ i. happens n (given_after a.given row) (open_after a.current n f row) k b early ((sym e'.sends) i) ((sym e'.does) i))
+
+-- An input that is served by what the transport makes of it is the composed turn.
+module _ (n b : ℕ) (a d : Assembly) (k : CoreState) (v : State) (early : List (List ℕ)) (w : Option ℕ) (V : Verdict) (B : List ℕ) (E : Option Event)
+    (e : whole n a k b ≡ v) (ew : w ≡ working k) (eB : B ≡ d.finished) where
+  pub input_turn : (i : Input) → d ≡ assembly_after a n w i → V ≡ input_verdict a w i → E ≡ input_event i V B
+      → happens n d.given d.current k b early (verdict_packets V B) E ≡ served v early i
+  input_turn (Packet x) ed eV eE = rw eE (packet_turn n b a d k v x early w V B e ew ed eV eB)
+  input_turn Tick ed eV eE = rw (← e, eE, eV, ed) refl
+  input_turn (Presence r) ed eV eE = rw (← e, eE, eV, ed) refl
+  input_turn (Key r) ed eV eE = rw (← e, eE, eV, ed) refl
+  input_turn (Signature r) ed eV eE = rw (← e, eE, eV, ed) refl
+
+  -- there is room for all that it sends
+  pub input_few : (i : Input) → d ≡ assembly_after a n w i → V ≡ input_verdict a w i → E ≡ input_event i V B
+      → length early ≤ 1 → length (early ++ verdict_packets V B) + length (event_packets k n E) ≤ 130
+  input_few i ed eV eE few =
+      let all : length (early ++ (verdict_packets V B ++ event_packets k n E)) ≤ 130
+      = subst (λ (t : Turn). length t.packets ≤ 130) (sym (input_turn i ed eV eE)) (served_few v early i few) in
+      omega (arith, all, length-append early (verdict_packets V B), length-append early (verdict_packets V B ++ event_packets k n E), length-append (verdict_packets V B) (event_packets k n E))
 
 pub step_turn : (v mid : State) (t : ℕ) (x : Timed) (early : List (List ℕ)) → t ≡ max v.now x.at → mid ≡ (time_passed v t).state → early ≡ (time_passed v t).packets
     → served mid early x.input ≡ turn v x

@@ -2,11 +2,17 @@
 use Rattle.std.specs.Prelude.{ℕ, ◌==◌, List, [], Option, Some, None, if◌then◌else◌}
 use Rattle.hid_packet.specs.Commands.{PING, CBOR}
 use Rattle.hid_packet.specs.Message.{written}
+use Rattle.hid_packet.specs.Packet.{fields}
+use Rattle.hid_assemble.specs.Assembly.{Assembly, accepted}
+use Rattle.hid_assemble.specs.Verdicts.{verdict}
 use Rattle.hid_assemble.specs.Codes.{code_number}
 use Rattle.hid_assemble.specs.declared.verdict.Verdict.{Verdict}
 use Rattle.hid_assemble.specs.declared.verdict.Verdict.TheVariants.{Ignored, Kept, Finished, Refuse, Greet, GreetAndDrop, CancelWork}
 use Rattle.authn_core.specs.State.{Event, Request, Cancel, Drop}
 use Rattle.token_session.specs.Replies.{error, greeting}
+use Rattle.token_session.specs.Events.{reply_in}
+use Rattle.token_session.specs.declared.input.Input.{Input}
+use Rattle.token_session.specs.declared.input.Input.TheVariants.{Packet}
 
 -- the packets of a verdict on a packet that finished these bytes, but for those of an event
 abbrev pub verdict_packets : Verdict → List ℕ → List (List ℕ)
@@ -26,6 +32,20 @@ verdict_event (Refuse cid code) bytes = None
 verdict_event (Greet on cid nonce) bytes = None
 verdict_event (GreetAndDrop on cid nonce) bytes = Some Drop
 verdict_event CancelWork bytes = Some Cancel
+
+-- What the transport makes of an input: a verdict on a packet. It lets every other input be.
+abbrev pub input_verdict : Assembly → Option ℕ → Input → Verdict
+input_verdict a work (Packet p) = verdict a work (fields p.0)
+input_verdict a work other = Ignored
+
+abbrev pub assembly_after : Assembly → (at : ℕ) → Option ℕ → Input → Assembly
+assembly_after a at work (Packet p) = accepted a at work (fields p.0)
+assembly_after a at work other = a
+
+-- the event of an input on which this verdict was given
+abbrev pub input_event : Input → Verdict → List ℕ → Option Event
+input_event (Packet p) v bytes = verdict_event v bytes
+input_event other v bytes = reply_in other
 
 -- the message of a finished request, where the event is one
 abbrev pub request_in : Option Event → Option (List ℕ)

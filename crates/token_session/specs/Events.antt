@@ -1,12 +1,29 @@
 -- What an event makes of the authenticator and sends, and when a KEEPALIVE is due: a moment, the authenticator and an
 -- event are all that is looked at.
 use Rattle.std.specs.Prelude.{ℕ, ◌+◌, Bool, false, nat_le, List, [], Option, Some, None}
-use Rattle.authn_core.specs.State.{Event, PresenceIs, KeyIs, SignatureIs}
+use Rattle.authn_core.specs.State.{Answer, Event, Cancel, Drop, KeyIs, Nothing, PresenceIs, Request, SignatureIs}
+use Rattle.authn_core.specs.Views.{answer_of}
+use Rattle.authn_core.specs.declared.authenticator.Turn.{Turn}
 use Rattle.authn_core.specs.Turn.{Work, CoreState, waiting, core_after, core_answer}
+use Rattle.token_session.specs.declared.authenticator.Event.{Event as Happening}
+use Rattle.token_session.specs.declared.authenticator.Event.TheVariants as happening
 use Rattle.token_session.specs.declared.input.Input.{Input}
 use Rattle.token_session.specs.declared.input.Input.TheVariants.{Presence, Key, Signature}
 use Rattle.token_session.specs.Replies.{keepalive, status_of, asker, answer_packets, answer_keeps_alive}
 use Rattle.token_session.specs.declared.authenticator.TheConstants.{KEEPALIVE_PERIOD}
+
+-- what the code's event and its turn, if it has one, are
+abbrev pub event_of : Happening → Event
+event_of (happening.Request cid message) = Request cid message.now
+event_of (happening.Presence reply) = PresenceIs reply
+event_of (happening.Key key) = KeyIs key
+event_of (happening.Signature signature) = SignatureIs signature
+event_of happening.Cancel = Cancel
+event_of happening.Drop = Drop
+
+abbrev pub answered : Option Turn → Answer
+answered None = Nothing
+answered (Some turn) = answer_of turn
 
 -- the event that a reply of the caller is
 abbrev pub reply_in : Input → Option Event
@@ -29,12 +46,6 @@ abbrev pub event_keeps_alive : CoreState → ℕ → Option Event → Bool
 event_keeps_alive core at None = false
 event_keeps_alive core at (Some e) = answer_keeps_alive (asker (waiting core) e) (status_of (waiting core))
     (core_answer core at e)
-
--- the authenticator, the greatest moment of its start and its events, and the moment of the last KEEPALIVE
-pub record AuthenticatorState : Type 0 where
-  pub core : CoreState
-  pub latest : ℕ
-  pub keepalive_at : ℕ
 
 -- A KEEPALIVE is due 100 ms after the last, where work waits (CTAP 2.1, section 11.2.9.1.7).
 unfoldable pub keepalive_due : Option Work → ℕ → ℕ → Bool

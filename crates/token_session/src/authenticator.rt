@@ -1,21 +1,19 @@
-ghost use Rattle.std.specs.Prelude.{◌≡◌, ℕ, ◌≤◌, ◌++◌, [], Some, length, max, option_map, if◌then◌else◌};
-ghost use Rattle.cred_table.specs.Waiting.{pending_count};
+ghost use Rattle.std.specs.Prelude.{◌≡◌, ◌+◌, ◌≤◌, ◌++◌, [], Some, IfSome, length, max, min, option_map, if◌then◌else◌};
 ghost use Rattle.authn_core.specs.Bare.{bare_rows};
-ghost use Rattle.authn_core.specs.State.{Cancel, Drop as DropWork, Request, PresenceIs, KeyIs, SignatureIs};
-ghost use Rattle.authn_core.specs.Turn.{first_state, waiting, working};
-ghost use Rattle.authn_core.specs.Needs.{IsNeed};
-ghost use Rattle.authn_core.specs.Views.{answer_of, needed, needs, status_number, work_of};
-ghost use Rattle.token_session.specs.Replies.{keepalive, work_channel, status_of, answer_packets, answer_keeps_alive};
-ghost use Rattle.token_session.specs.Events.{event_core, event_keeps_alive, event_packets, keepalive_due, keepalive_packets};
-ghost use Rattle.token_session.specs.Readings.{reading_of};
-ghost use Rattle.hid_packet.specs.declared.limit.TheConstants.{LONGEST_MESSAGE};
+ghost use Rattle.ctap_message.specs.Requests.{steps_of, LARGEST};
+ghost use Rattle.authn_core.specs.Turn.{core_after, core_answer, first_state, waiting, working};
+ghost use Rattle.authn_core.specs.Views.{status_number, work_of};
+ghost use Rattle.token_session.specs.Replies.{keepalive, asker, status_of, answer_packets, answer_keeps_alive};
+ghost use Rattle.token_session.specs.Events.{answered, event_core, event_keeps_alive, event_of, event_packets, keepalive_due, keepalive_packets};
+ghost use Rattle.token_session.specs.Readings.{reading_in};
+ghost use Rattle.token_session.specs.Effects.{request_in};
+ghost use Rattle.hid_packet.specs.declared.limit.TheConstants.{LONGEST_MESSAGE, OUTBOX_CAPACITY};
 
-use authn_core::{Config, Core, KeepaliveStatus, Need, NewKey, Presence, Signature, Turn, Work};
+use authn_core::{Config, Core, KeepaliveStatus, NewKey, Presence, Signature, Turn, Work};
 use cred_table::{Store, Table};
 use ctap_message::laws::steps_are_bounded;
 use hid_packet::Outbox;
 use hid_packet::command::{CBOR, KEEPALIVE};
-use std::marker::Model;
 
 /// How long after the last KEEPALIVE the next is due while work waits, in milliseconds.
 pub const KEEPALIVE_PERIOD: u64 = 100;
@@ -28,9 +26,82 @@ pub(crate) struct Reading {
     pub(crate) steps: u64,
 }
 
-#[tactic(auto, using(hid_packet::proofs::Carrying::few_written))]
+/// What happens to the authenticator.
+#[derive(Clone, Copy)]
+pub(crate) enum Event<'a> {
+    /// A request came on this channel.
+    Request { cid: u32, message: &'a [u8] },
+    /// The caller's reply to a test of user presence.
+    Presence(Presence),
+    /// The caller's new key; `None` where it has none.
+    Key(Option<NewKey>),
+    /// The caller's signature; `None` where it has none.
+    Signature(Option<Signature>),
+    /// The waiting work is cancelled.
+    Cancel,
+    /// The waiting work is dropped, with no answer.
+    Drop,
+}
+
+/// Returns the channel to which an event's answer goes: a request's own, or that of the waiting work.
+fn asker_of(event: &Event<'_>, work: Option<Work>) -> Option<u32>
+    ensures { result ≡ asker (option_map work_of work) (event_of event.now) }
+{
+    match event {
+        Event::Request { cid, .. } => Some(*cid),
+        Event::Presence(_) | Event::Key(_) | Event::Signature(_) | Event::Cancel | Event::Drop =>
+            work.map(|work| work.cid),
+    }
+}
+
+/// Returns what reading an event took, if it is a request.
+fn reading_of(event: &Event<'_>, steps: u64) -> Option<Reading>
+    requires short { IfSome (request_in (Some (event_of event.now))) (λ m. length m ≤ LONGEST_MESSAGE) }
+    requires steps { IfSome (request_in (Some (event_of event.now))) (λ m. steps ≡ min (steps_of m) LARGEST) }
+    ensures { result ≡ reading_in (Some (event_of event.now)) }
+{
+    match event {
+        Event::Request { message, .. } => {
+            steps_are_bounded();
+            Some(Reading {
+                bytes: (message.len() as u16).saturating_sub(1),
+                steps,
+            })
+        }
+        Event::Presence(_) | Event::Key(_) | Event::Signature(_) | Event::Cancel | Event::Drop =>
+            None,
+    }
+}
+
+/// Takes the turn of an event, which came at `now`. A drop has none.
+#[tactic(auto, using(authn_core::proofs::Facts::drop_answers_nothing))]
+fn turn_of<const C: usize>(
+    core: &mut Core<Store<C>, C>,
+    now: u64,
+    event: &Event<'_>,
+) -> Option<Turn>
+    requires { core.old.latest ≤ now }
+    ensures core { core.new.core ≡ core_after core.old.core now (event_of event.now) }
+    ensures answer { answered result ≡ core_answer core.old.core now (event_of event.now) }
+    ensures latest { core.new.latest ≤ now }
+    ensures steps { IfSome (request_in (Some (event_of event.now)))
+        (λ m. core.new.last_steps ≡ min (steps_of m) LARGEST) }
+{
+    match event {
+        Event::Request { cid, message } => Some(core.request(now, *cid, message)),
+        Event::Presence(reply) => Some(core.presence(now, *reply)),
+        Event::Key(key) => Some(core.key(now, *key)),
+        Event::Signature(signature) => Some(core.signature(now, *signature)),
+        Event::Cancel => Some(core.cancel()),
+        Event::Drop => {
+            core.drop_work();
+            None
+        }
+    }
+}
+
 fn put_keepalive(outbox: &mut Outbox, cid: u32, status: KeepaliveStatus)
-    requires { length outbox.old ≤ 1 }
+    requires { length outbox.old + length (keepalive cid (status_number status)) ≤ OUTBOX_CAPACITY }
     ensures { outbox.new ≡ outbox.old ++ keepalive cid (status_number status) }
 {
     outbox.put_message(cid, KEEPALIVE, &[status.number()]);
@@ -39,30 +110,21 @@ fn put_keepalive(outbox: &mut Outbox, cid: u32, status: KeepaliveStatus)
 /// The authenticator and its KEEPALIVEs: it sends what its turns give, and a KEEPALIVE every 100 ms while work waits.
 #[derive(Drop)]
 pub(crate) struct Authenticator<const C: usize> {
-    core: Core<Store<C>, C>,
+    pub(crate) core: Core<Store<C>, C>,
     /// The moment of the last KEEPALIVE.
     keepalive_at: u64,
 }
 
-// Clauses see the authenticator's state, the greatest moment of its events, and the moment of the last KEEPALIVE.
-impl<const C: usize> Model for Authenticator<C> {
-    ghost use Rattle.token_session.specs.Events.{AuthenticatorState};
-
-    ghost Value = { AuthenticatorState };
-
-    ghost view = { λ a. record { core = a.core.core; latest = a.core.latest; keepalive_at = a.keepalive_at } };
-}
-
 impl<const C: usize> Authenticator<C> {
-    /// No work waits.
+    /// Returns an authenticator for which no work waits.
     pub(crate) fn new(config: Config, rows: Store<C>, start: u64) -> Self
-        ensures core { result.core ≡ first_state (record {
+        ensures core { result.core.core ≡ first_state (record {
           aaguid = config.aaguid;
           moment = start;
           room = C;
           rows = bare_rows (⟦<Store<C> as Table<C>>⟧.rows rows.entry);
         }) }
-        ensures latest { result.latest ≡ start }
+        ensures latest { result.core.latest ≡ start }
         ensures keepalive { result.keepalive_at ≡ 0 }
     {
         Authenticator {
@@ -71,54 +133,22 @@ impl<const C: usize> Authenticator<C> {
         }
     }
 
-    /// The channel of the waiting work.
+    /// Returns the channel of the waiting work.
     pub(crate) fn working(&self) -> Option<u32>
-        ensures { result ≡ working self.now.core }
+        ensures { result ≡ working self.now.core.core }
     {
         self.core.work().map(|work| work.cid)
     }
 
-    /// What the waiting work needs.
-    pub(crate) fn need(&self) -> Need<'_>
-        ensures value { needed result ≡ needs self.now.core.state.work }
-        ensures sized { IsNeed (needed result) }
-    {
-        self.core.need()
-    }
-
-    /// The table.
-    pub(crate) fn table(&self) -> &Store<C>
-        ensures { bare_rows (⟦<Store<C> as Table<C>>⟧.rows result.now) ≡ self.now.core.state.rows }
-    {
-        self.core.table()
-    }
-
-    /// The number of credentials.
-    pub(crate) fn credentials(&self) -> usize
-        ensures value { result ≡ length self.now.core.state.rows }
-        ensures few { (result ≤ C) × (C ≤ 256) }
-    {
-        self.core.credentials()
-    }
-
-    /// The number of pending assertions.
-    pub(crate) fn pending(&self) -> usize
-        ensures value { result ≡ pending_count self.now.core.state.pending }
-        ensures few { result ≤ C }
-    {
-        self.core.pending()
-    }
-
-    /// Time passes to `at`: where work waits and a KEEPALIVE is due, it is sent.
-    #[tactic(auto, unfolding(crate::specs::Events::keepalive_due))]
+    /// Lets time pass to `at`: where work waits and a KEEPALIVE is due, it is sent.
+    #[tactic(auto, using(hid_packet::proofs::Carrying::few_written), unfolding(crate::specs::Events::keepalive_due))]
     pub(crate) fn pass_time(&mut self, at: u64, outbox: &mut Outbox)
         requires { length outbox.old ≤ 1 }
         ensures core { self.new.core ≡ self.old.core }
-        ensures latest { self.new.latest ≡ self.old.latest }
-        ensures keepalive { self.new.keepalive_at ≡ (if keepalive_due (waiting self.old.core) self.old.keepalive_at at
+        ensures keepalive { self.new.keepalive_at ≡ (if keepalive_due (waiting self.old.core.core) self.old.keepalive_at at
             then at else self.old.keepalive_at) }
         ensures packets { outbox.new ≡ outbox.old ++ (if keepalive_due
-            (waiting self.old.core) self.old.keepalive_at at then keepalive_packets (waiting self.old.core) else []) }
+            (waiting self.old.core.core) self.old.keepalive_at at then keepalive_packets (waiting self.old.core.core) else []) }
     {
         if let Some(work) = self.core.work() {
             if at.saturating_sub(self.keepalive_at) >= KEEPALIVE_PERIOD {
@@ -128,149 +158,62 @@ impl<const C: usize> Authenticator<C> {
         }
     }
 
-    /// A request, which came at `now` on the channel `cid`. It gives what reading it took.
-    pub(crate) fn request(
+    /// Serves an event, which came at `now`. Returns what reading the request took, if it is one.
+    pub(crate) fn take(
         &mut self,
         now: u64,
-        cid: u32,
-        message: &[u8],
+        event: &Event<'_>,
         outbox: &mut Outbox,
-    ) -> Reading
-        requires room { length outbox.old ≤ 1 }
-        requires short { length message.now ≤ LONGEST_MESSAGE }
-        requires moment { self.old.latest ≤ now }
-        ensures core { self.new.core ≡ event_core self.old.core now (Some (Request cid message.now)) }
-        ensures latest { self.new.latest ≡ now }
-        ensures keepalive { self.new.keepalive_at ≡ (if event_keeps_alive self.old.core now
-            (Some (Request cid message.now)) then now else self.old.keepalive_at) }
-        ensures packets { outbox.new ≡ outbox.old ++ event_packets self.old.core now (Some (Request cid message.now)) }
-        ensures reading { result ≡ reading_of message.now }
+    ) -> Option<Reading>
+        requires room { length outbox.old + length (event_packets self.old.core.core now (Some (event_of event.now)))
+            ≤ OUTBOX_CAPACITY }
+        requires short { IfSome (request_in (Some (event_of event.now))) (λ m. length m ≤ LONGEST_MESSAGE) }
+        requires moment { self.old.core.latest ≤ now }
+        ensures core { self.new.core.core ≡ event_core self.old.core.core now (Some (event_of event.now)) }
+        ensures latest { self.new.core.latest ≤ now }
+        ensures keepalive { self.new.keepalive_at ≡ (if event_keeps_alive self.old.core.core now (Some (event_of event.now))
+            then now else self.old.keepalive_at) }
+        ensures packets { outbox.new ≡ outbox.old ++ event_packets self.old.core.core now (Some (event_of event.now)) }
+        ensures reading { result ≡ reading_in (Some (event_of event.now)) }
     {
-        let before = self.core.work().map(|work| work.status);
-        let turn = self.core.request(now, cid, message);
+        let work = self.core.work();
+        let asker = asker_of(event, work);
+        let turn = turn_of(&mut self.core, now, event);
         let steps = self.core.last_steps();
-        steps_are_bounded();
-        self.send(now, cid, before, &turn, outbox);
-        Reading {
-            bytes: (message.len() as u16).saturating_sub(1),
-            steps,
-        }
+        self.send(now, asker, work, &turn, outbox);
+        reading_of(event, steps)
     }
 
-    /// The caller's reply to a test of user presence, which came at `now`.
-    pub(crate) fn presence(&mut self, now: u64, reply: Presence, outbox: &mut Outbox)
-        requires room { length outbox.old ≤ 1 }
-        requires moment { self.old.latest ≤ now }
-        ensures core { self.new.core ≡ event_core self.old.core now (Some (PresenceIs reply)) }
-        ensures latest { self.new.latest ≡ now }
-        ensures keepalive { self.new.keepalive_at ≡ (if event_keeps_alive self.old.core now (Some (PresenceIs reply))
-            then now else self.old.keepalive_at) }
-        ensures packets { outbox.new ≡ outbox.old ++ event_packets self.old.core now (Some (PresenceIs reply)) }
-    {
-        let work = self.core.work();
-        let turn = self.core.presence(now, reply);
-        self.answer(now, work, &turn, outbox);
-    }
-
-    /// The caller's new key, which came at `now`; `None` where it has none.
-    pub(crate) fn key(&mut self, now: u64, key: Option<NewKey>, outbox: &mut Outbox)
-        requires room { length outbox.old ≤ 1 }
-        requires moment { self.old.latest ≤ now }
-        ensures core { self.new.core ≡ event_core self.old.core now (Some (KeyIs key)) }
-        ensures latest { self.new.latest ≡ now }
-        ensures keepalive { self.new.keepalive_at ≡ (if event_keeps_alive self.old.core now (Some (KeyIs key))
-            then now else self.old.keepalive_at) }
-        ensures packets { outbox.new ≡ outbox.old ++ event_packets self.old.core now (Some (KeyIs key)) }
-    {
-        let work = self.core.work();
-        let turn = self.core.key(now, key);
-        self.answer(now, work, &turn, outbox);
-    }
-
-    /// The caller's signature, which came at `now`; `None` where it has none.
-    pub(crate) fn signature(&mut self, now: u64, signature: Option<Signature>, outbox: &mut Outbox)
-        requires room { length outbox.old ≤ 1 }
-        requires moment { self.old.latest ≤ now }
-        ensures core { self.new.core ≡ event_core self.old.core now (Some (SignatureIs signature)) }
-        ensures latest { self.new.latest ≡ now }
-        ensures keepalive { self.new.keepalive_at ≡ (if event_keeps_alive self.old.core now
-            (Some (SignatureIs signature)) then now else self.old.keepalive_at) }
-        ensures packets { outbox.new ≡ outbox.old ++ event_packets self.old.core now (Some (SignatureIs signature)) }
-    {
-        let work = self.core.work();
-        let turn = self.core.signature(now, signature);
-        self.answer(now, work, &turn, outbox);
-    }
-
-    /// The waiting work is cancelled.
-    pub(crate) fn cancel(&mut self, now: u64, outbox: &mut Outbox)
-        requires { length outbox.old ≤ 1 }
-        ensures core { self.new.core ≡ event_core self.old.core now (Some Cancel) }
-        ensures latest { self.new.latest ≡ self.old.latest }
-        ensures keepalive { self.new.keepalive_at ≡ (if event_keeps_alive self.old.core now (Some Cancel) then now
-            else self.old.keepalive_at) }
-        ensures packets { outbox.new ≡ outbox.old ++ event_packets self.old.core now (Some Cancel) }
-    {
-        let work = self.core.work();
-        let turn = self.core.cancel();
-        self.answer(now, work, &turn, outbox);
-    }
-
-    /// The waiting work is dropped, with no answer.
-    #[tactic(auto, using(crate::proofs::Few::drop_keeps_silent, crate::proofs::Few::drop_sends_nothing))]
-    pub(crate) fn drop_work(&mut self)
-        ensures core { (now : ℕ) → self.new.core ≡ event_core self.old.core now (Some DropWork) }
-        ensures latest { self.new.latest ≡ self.old.latest }
-        ensures keepalive { (now : ℕ) → self.new.keepalive_at
-            ≡ (if event_keeps_alive self.old.core now (Some DropWork) then now else self.old.keepalive_at) }
-        ensures silent { (now : ℕ) → event_packets self.old.core now (Some DropWork) ≡ [] }
-    {
-        self.core.drop_work();
-    }
-
-    /// Sends what a turn gives on the channel of the work that waited before it, and nothing where none did.
+    /// Sends what a turn gives to `asker`, and nothing where there is none; `work` waited before the turn.
     #[tactic(auto, unfolding(crate::specs::Replies::answer_packets, crate::specs::Replies::answer_keeps_alive))]
-    fn answer(&mut self, now: u64, work: Option<Work>, turn: &Turn, outbox: &mut Outbox)
-        requires { length outbox.old ≤ 1 }
-        ensures core { self.new.core ≡ self.old.core }
-        ensures latest { self.new.latest ≡ self.old.latest }
-        ensures keepalive { self.new.keepalive_at ≡ (if answer_keeps_alive (work_channel (option_map work_of work))
-            (status_of (option_map work_of work)) (answer_of turn.now) then now else self.old.keepalive_at) }
-        ensures packets { outbox.new ≡ outbox.old ++ answer_packets (work_channel (option_map work_of work))
-            (status_of (option_map work_of work)) (answer_of turn.now) }
-    {
-        if let Some(work) = work {
-            self.send(now, work.cid, Some(work.status), turn, outbox);
-        }
-    }
-
-    /// Sends what a turn gives, where work waited with the status `before` or none did.
-    #[tactic(auto, using(hid_packet::proofs::Carrying::few_written), unfolding(crate::specs::Replies::answer_packets, crate::specs::Replies::answer_keeps_alive))]
     fn send(
         &mut self,
         now: u64,
-        cid: u32,
-        before: Option<KeepaliveStatus>,
-        turn: &Turn,
+        asker: Option<u32>,
+        work: Option<Work>,
+        turn: &Option<Turn>,
         outbox: &mut Outbox,
     )
-        requires { length outbox.old ≤ 1 }
+        requires { length outbox.old + length (answer_packets asker (status_of (option_map work_of work))
+            (answered turn.now)) ≤ OUTBOX_CAPACITY }
         ensures core { self.new.core ≡ self.old.core }
-        ensures latest { self.new.latest ≡ self.old.latest }
-        ensures keepalive { self.new.keepalive_at ≡ (if answer_keeps_alive (Some cid)
-            (option_map status_number before) (answer_of turn.now) then now else self.old.keepalive_at) }
-        ensures packets { outbox.new ≡ outbox.old ++ answer_packets (Some cid) (option_map status_number before)
-            (answer_of turn.now) }
+        ensures keepalive { self.new.keepalive_at ≡ (if answer_keeps_alive asker (status_of (option_map work_of work))
+            (answered turn.now) then now else self.old.keepalive_at) }
+        ensures packets { outbox.new ≡ outbox.old ++ answer_packets asker (status_of (option_map work_of work))
+            (answered turn.now) }
     {
+        let Some(cid) = asker else {
+            return;
+        };
         match turn {
-            Turn::Answer(answer) => outbox.put_message(cid, CBOR, answer.as_slice()),
-            Turn::Waits(status) => {
-                if before != Some(*status) {
+            Some(Turn::Answer(answer)) => outbox.put_message(cid, CBOR, answer.as_slice()),
+            Some(Turn::Waits(status)) => {
+                if work.map(|work| work.status) != Some(*status) {
                     put_keepalive(outbox, cid, *status);
                     self.keepalive_at = now;
                 }
             }
-            Turn::Ignored => {}
+            Some(Turn::Ignored) | None => {}
         }
     }
 }

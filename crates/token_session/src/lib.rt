@@ -23,7 +23,7 @@ mod authenticator;
 mod driving;
 mod input;
 pub mod laws;
-mod machine;
+mod service;
 mod session;
 
 pub use authenticator::KEEPALIVE_PERIOD;

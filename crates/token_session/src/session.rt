@@ -9,16 +9,18 @@ ghost use Rattle.token_session.specs.declared.input.Timed.{Timed as OneInput};
 ghost use Rattle.token_session.specs.History.{judge, judged, held};
 ghost use Rattle.token_session.specs.Law.{sent_now};
 ghost use Rattle.token_session.specs.Meters.{AreBounded, SessionState, StandsAfter, stepped, sent_by, session_of};
-ghost use Rattle.token_session.specs.Readings.{with_reading};
+ghost use Rattle.token_session.specs.Machine.{time_passed, served};
+ghost use Rattle.token_session.specs.Readings.{reading_in, with_reading};
 ghost use Rattle.token_session.specs.Noise.{is_noise_at, is_noise_after};
 ghost use Rattle.hid_packet.specs.declared.limit.TheConstants.{OUTBOX_CAPACITY};
 
-use crate::authenticator::Reading;
+use crate::authenticator::{Authenticator, Reading};
 use crate::input::{Input, Meters};
-use crate::machine::Machine;
+use crate::service::{admit, event_in, is_noise, put_error, put_verdict};
 use authn_core::{Config, Need};
 use cred_table::{Store, Table};
 use ctap_message::laws::steps_are_bounded;
+use hid_assemble::{Assembler, ErrorCode};
 use hid_packet::Outbox;
 use std::marker::Model;
 
@@ -26,22 +28,35 @@ use std::marker::Model;
 /// has room for. It takes no memory.
 #[derive(Drop)]
 pub struct Session<const C: usize> {
-    machine: Machine<C>,
+    /// The greatest moment of its start and its inputs.
+    latest: u64,
+    assembler: Assembler,
+    authenticator: Authenticator<C>,
     meters: Meters,
 }
 
 // Clauses see the state of the composed turn, and the meters.
 impl<const C: usize> Model for Session<C> {
+    ghost use Rattle.std.specs.Prelude.{◌≤◌};
     ghost use Rattle.token_session.specs.Meters.{SessionState, AreBounded};
 
     ghost Value = { SessionState };
 
-    ghost view = { λ s. record { machine = s.machine; meters = s.meters } };
+    ghost view = { λ s. record {
+      machine = record {
+        now = s.latest;
+        given = s.assembler.given;
+        current = s.assembler.current;
+        core = s.authenticator.core.core;
+        keepalive_at = s.authenticator.keepalive_at;
+      };
+      meters = s.meters;
+    } };
 
-    ghost invariant = { λ s. AreBounded s.meters };
+    ghost invariant = { λ s. (s.authenticator.core.latest ≤ s.latest) × AreBounded s.meters };
 }
 
-/// The meters after an input, with what is held now and what reading the request took that it finished.
+/// Returns the meters after an input, with what is held now and what reading the request took that it finished.
 #[tactic(auto, unfolding(crate::specs::Readings::with_reading))]
 fn count(meters: Meters, held: u16, rows: u16, pending: u16, request: Option<Reading>) -> Meters
     ensures { result ≡ with_reading meters held rows pending request }
@@ -69,10 +84,12 @@ impl<const C: usize> Session<C> {
           rows = bare_rows (⟦<Store<C> as Table<C>>⟧.rows rows.entry);
         }) [] }
     {
-        let machine = Machine::new(config, rows, start);
-        let rows = machine.credentials() as u16;
+        let authenticator = Authenticator::new(config, rows, start);
+        let rows = authenticator.core.credentials() as u16;
         Session {
-            machine,
+            latest: start,
+            assembler: Assembler::new(),
+            authenticator,
             meters: Meters {
                 held: 0,
                 rows,
@@ -110,10 +127,12 @@ impl<const C: usize> Session<C> {
             → outbox.new ≡ sent_now start h (record { at = at; input = input }) }
     {
         steps_are_bounded();
-        let reading = self.machine.step(at, input, outbox);
-        let held = self.machine.held();
-        let rows = self.machine.credentials() as u16;
-        let pending = self.machine.pending() as u16;
+        let now = self.latest.max(at);
+        self.pass_time(now, outbox);
+        let reading = self.serve(input, outbox);
+        let held = self.assembler.held();
+        let rows = self.authenticator.core.credentials() as u16;
+        let pending = self.authenticator.core.pending() as u16;
         self.meters = count(self.meters, held, rows, pending, reading);
     }
 
@@ -129,7 +148,8 @@ impl<const C: usize> Session<C> {
             → result ≡ is_noise_after start (judge start (record { at = at; input = input.now }) (judged start h))
             (judged start h) }
     {
-        self.machine.noise(at, input)
+        let now = self.latest.max(at);
+        is_noise(&self.assembler, &self.authenticator, now, input)
     }
 
     /// How many data bytes are held of the open message, at most 7550.
@@ -139,7 +159,7 @@ impl<const C: usize> Session<C> {
         ensures named { (start : Start) (h : List OneInput) → StandsAfter self.now start h
             → result ≡ held start (judged start h) }
     {
-        self.machine.held()
+        self.assembler.held()
     }
 
     /// What the authenticator needs of its caller before its work goes on, with the exact bytes to sign, at
@@ -148,7 +168,7 @@ impl<const C: usize> Session<C> {
         ensures value { needed result ≡ needs self.now.machine.core.state.work }
         ensures sized { IsNeed (needed result) }
     {
-        self.machine.need()
+        self.authenticator.core.need()
     }
 
     /// The number of credentials, at most `C`.
@@ -156,7 +176,7 @@ impl<const C: usize> Session<C> {
         ensures value { result ≡ length self.now.machine.core.state.rows }
         ensures limit { result ≤ C }
     {
-        self.machine.credentials()
+        self.authenticator.core.credentials()
     }
 
     /// The number of pending assertions, at most `C`.
@@ -164,14 +184,14 @@ impl<const C: usize> Session<C> {
         ensures value { result ≡ pending_count self.now.machine.core.state.pending }
         ensures limit { result ≤ C }
     {
-        self.machine.pending()
+        self.authenticator.core.pending()
     }
 
     /// The credentials. A contract sees them less the unused room of their names.
     pub fn table(&self) -> &Store<C>
         ensures { bare_rows (⟦<Store<C> as Table<C>>⟧.rows result.now) ≡ self.now.machine.core.state.rows }
     {
-        self.machine.table()
+        self.authenticator.core.table()
     }
 
     /// What the session has held and served. Reading its requests took at most four steps for each byte after a command
@@ -181,5 +201,40 @@ impl<const C: usize> Session<C> {
         ensures bounded { AreBounded result }
     {
         self.meters
+    }
+
+    /// Lets time pass to `at`: a message may be given up, or a KEEPALIVE be sent.
+    fn pass_time(&mut self, at: u64, outbox: &mut Outbox)
+        requires sent { outbox.old ≡ [] }
+        requires later { self.old.machine.now ≤ at }
+        ensures state { self.new.machine ≡ (time_passed self.old.machine at).state }
+        ensures meters { self.new.meters ≡ self.old.meters }
+        ensures packets { outbox.new ≡ (time_passed self.old.machine at).packets }
+    {
+        self.latest = at;
+        match self.assembler.pass(at) {
+            Some(cid) => put_error(outbox, cid, ErrorCode::MessageTimeout),
+            None => self.authenticator.pass_time(at, outbox),
+        }
+    }
+
+    /// Serves an input after the packets of time. Returns what reading the request took that it finished, if it
+    /// finished one.
+    fn serve(&mut self, input: Input, outbox: &mut Outbox) -> Option<Reading>
+        requires { length outbox.old ≤ 1 }
+        ensures state { self.new.machine ≡ (served self.old.machine outbox.old input).state }
+        ensures meters { self.new.meters ≡ self.old.meters }
+        ensures packets { outbox.new ≡ (served self.old.machine outbox.old input).packets }
+        ensures reading { result ≡ reading_in (served self.old.machine outbox.old input).event }
+    {
+        let working = self.authenticator.working();
+        let verdict = admit(&mut self.assembler, self.latest, &input, working);
+        let message = self.assembler.message();
+        put_verdict(outbox, verdict, message);
+        let event = event_in(&input, verdict, message);
+        match &event {
+            Some(event) => self.authenticator.take(self.latest, event, outbox),
+            None => None,
+        }
     }
 }

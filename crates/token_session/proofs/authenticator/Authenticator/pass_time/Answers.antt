@@ -1,6 +1,6 @@
-use Rattle.std.proofs.Common.{◌≡◌, ℕ, ◌-◌, ◌+◌, ◌≤◌, ◌<◌, nat_le, true, false, refl, sym, ap, append-nil, arith}
+use Rattle.std.proofs.Common.{◌≡◌, ℕ, ◌-◌, ◌+◌, ◌≤◌, ◌<◌, nat_le, true, false, refl, sym, append-nil, arith}
 use Rattle.std.proofs.lemmas.Bool.Decides.{nat_tests}
-use Rattle.token_session.specs.Events.{AuthenticatorState, keepalive_due}
+use Rattle.token_session.specs.Events.{keepalive_due}
 use Rattle.token_session.proofs.authenticator.Authenticator.pass_time.Goals as goal
 
 due : (d at last : ℕ) → d ≡ at - last → 100 ≤ d → nat_le (last + 100) at ≡ true
@@ -12,32 +12,27 @@ early d at last e h = grind (arith, nat_tests)
 pub returns-then-saturating_sub-ge-KEEPALIVE_PERIOD : goal.returns-then-saturating_sub-ge-KEEPALIVE_PERIOD
 unfolding keepalive_due
 returns-then-saturating_sub-ge-KEEPALIVE_PERIOD g c =
-    let a = c.self.inside in
-    let is = due _ c.args.at a.keepalive_at c.saturating_sub.ensures c.if-saturating_sub-ge-KEEPALIVE_PERIOD.true in
+    let is = due _ c.args.at c.args.self.now.keepalive_at c.saturating_sub.ensures c.if-saturating_sub-ge-KEEPALIVE_PERIOD.true in
     record {
-      core = ap (λ (v : AuthenticatorState). v.core) c.self.view_is;
-      latest = ap (λ (v : AuthenticatorState). v.latest) c.self.view_is;
-      keepalive = rw (← c.self.view_is, c.in-Some.ensures, is) refl;
-      packets = rw (← c.self.view_is, c.in-Some.ensures, is) c.put_keepalive.ensures;
+      core = refl;
+      keepalive = rw (c.in-Some.ensures, is) refl;
+      packets = rw (c.in-Some.ensures, is) c.put_keepalive.ensures;
     }
 
 pub returns-else-saturating_sub-ge-KEEPALIVE_PERIOD : goal.returns-else-saturating_sub-ge-KEEPALIVE_PERIOD
 unfolding keepalive_due
 returns-else-saturating_sub-ge-KEEPALIVE_PERIOD g c =
-    let a = c.self.inside in
-    let is = early _ c.args.at a.keepalive_at c.saturating_sub.ensures c.if-saturating_sub-ge-KEEPALIVE_PERIOD.false in
+    let is = early _ c.args.at c.args.self.now.keepalive_at c.saturating_sub.ensures c.if-saturating_sub-ge-KEEPALIVE_PERIOD.false in
     record {
       core = refl;
-      latest = refl;
-      keepalive = rw (← c.self.view_is, c.in-Some.ensures, is) refl;
-      packets = rw (← c.self.view_is, c.in-Some.ensures, is) (sym (append-nil _));
+      keepalive = rw (c.in-Some.ensures, is) refl;
+      packets = rw (c.in-Some.ensures, is) (sym (append-nil _));
     }
 
 pub returns-in_default : goal.returns-in_default
 unfolding keepalive_due
 returns-in_default g c = record {
   core = refl;
-  latest = refl;
-  keepalive = rw (← c.self.view_is, c.in_default.ensures) refl;
-  packets = rw (← c.self.view_is, c.in_default.ensures) (sym (append-nil _));
+  keepalive = rw c.in_default.ensures refl;
+  packets = rw c.in_default.ensures (sym (append-nil _));
 }

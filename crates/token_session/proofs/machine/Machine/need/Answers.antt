@@ -1,7 +1,0 @@
-use Rattle.std.proofs.Common.{ap, ◌∙◌}
-use Rattle.authn_core.specs.Views.{needs}
-use Rattle.token_session.specs.Machine.{State}
-use Rattle.token_session.proofs.machine.Machine.need.Goals as goal
-
-pub returns : goal.returns
-returns g c = record { value = c.need.ensures.value ∙ ap (λ (v : State). needs v.core.state.work) c.self.view_is; sized = c.need.ensures.sized }
