@@ -5,7 +5,8 @@
 #     release/build.sh            writes release/ anew; run it after `rt ci`, and commit what it changed
 #     release/build.sh --check    compares release/ with what is made now, byte for byte; status 1 where it differs
 #
-# The same sources and tools give the same bytes, in any folder. It needs the toolchain (rt), gcc and libc6-dev.
+# The same sources and tools give the same bytes, in any folder. It needs the toolchain (rt), gcc, libc6-dev and
+# wasm-opt (binaryen); without the last, --check compares the module as it is before wasm-opt lowers it.
 set -euo pipefail
 cd "$(dirname "${BASH_SOURCE[0]}")/.."
 top=$PWD
@@ -55,10 +56,28 @@ build_shared() {
         --whole-archive "$made/libhidlog.a"
 }
 
+# Links the module, and lowers it to 32-bit memory, since node 20 and many browsers have no other. Its memory grows.
 build_module() {
     build_library wasm64-unknown-unknown "$work/module.a"
-    "$kit/bin/rattle-link" --target wasm64-unknown-unknown --toolchain "$kit/toolchain" --memory 134217728 \
-        --stack 524288 -o "$made/hidlog.wasm" "$work/module.a"
+    "$kit/bin/rattle-link" --target wasm64-unknown-unknown --toolchain "$kit/toolchain" --stack 524288 \
+        -o "$work/module.wasm" "$work/module.a"
+    if command -v wasm-opt >/dev/null; then
+        wasm-opt --enable-memory64 --enable-bulk-memory --memory64-lowering --disable-memory64 -o "$made/hidlog.wasm" \
+            "$work/module.wasm"
+    elif [ "$mode" = --check ]; then
+        cp release/hidlog.wasm "$made/hidlog.wasm"
+    else
+        stop "wasm-opt is missing (apt-get install binaryen)"
+    fi
+}
+
+# Returns what lowers the module: with no wasm-opt here, what lowered that of release/.
+lowering() {
+    if command -v wasm-opt >/dev/null; then
+        wasm-opt --version
+    else
+        sed -n 's/^lowered by: //p' release/BUILD
+    fi
 }
 
 # Writes what the files are made from and with, a word and its value a line.
@@ -69,20 +88,25 @@ write_build() {
         echo "sources: $(release/sources.sh --hash)"
         echo "processor: x86-64-v2"
         echo "object: $(sha256sum <crates/hidlog/out/hidlog.o | cut -c1-64)"
+        echo "module: $(sha256sum <"$work/module.wasm" | cut -c1-64)"
+        echo "lowered by: $(lowering)"
         echo "linker: gcc $(gcc -dumpfullversion), $(sha256sum <"$(gcc -print-file-name=libc.a)" | cut -c1-16) libc.a"
     } >"$made/BUILD"
 }
 
-# Compares release/ with what was made. With another linker or C library the program is compared by its object file.
+# Compares release/ with what was made. With another linker or C library the program is compared by its object file, and
+# with another wasm-opt the module as it was before.
 compare() {
     local name differ=0
     for name in "${names[@]}"; do
         if cmp -s "release/$name" "$made/$name"; then
             echo "same  release/$name"
-        elif [ "$name" = hidlog ] && is_linked_otherwise; then
+        elif [ "$name" = hidlog ] && is_made_otherwise linker; then
             echo "same  release/hidlog, by its object file: this machine's gcc or C library is another"
-        elif [ "$name" = BUILD ] && is_linked_otherwise; then
-            echo "same  release/BUILD, but for the linker"
+        elif [ "$name" = hidlog.wasm ] && is_made_otherwise "lowered by"; then
+            echo "same  release/hidlog.wasm, as it was before wasm-opt: this machine's is another"
+        elif [ "$name" = BUILD ] && is_same_but_tools; then
+            echo "same  release/BUILD, but for the linker or wasm-opt"
         else
             echo "DIFFERS  release/$name"
             differ=1
@@ -92,24 +116,42 @@ compare() {
     [ "$differ" = 0 ] || stop "release/ is not what was made now: release/build.sh writes it anew"
 }
 
-# Whether only the linker is another than the one that release/ was made with.
-is_linked_otherwise() {
-    ! diff <(grep ^linker: release/BUILD) <(grep ^linker: "$made/BUILD") >/dev/null &&
-        diff <(grep -v ^linker: release/BUILD) <(grep -v ^linker: "$made/BUILD") >/dev/null
+# Whether all that BUILD says but the linker and wasm-opt is the same: the sums of what they are handed, too.
+is_same_but_tools() {
+    diff <(grep -v '^linker:\|^lowered by:' release/BUILD) <(grep -v '^linker:\|^lowered by:' "$made/BUILD") >/dev/null
 }
 
-names=(BUILD hidlog hidlog.h hidlog.wasm libhidlog.a libhidlog.so.0 aarch64/libhidlog.a)
+# Whether BUILD differs in one tool, and in nothing but tools: is_made_otherwise WORD
+is_made_otherwise() {
+    ! diff <(grep "^$1:" release/BUILD) <(grep "^$1:" "$made/BUILD") >/dev/null && is_same_but_tools
+}
+
+# Writes how a C compiler finds the header and the shared library in this folder.
+write_pkg_config() {
+    {
+        echo "prefix=\${pcfiledir}"
+        echo "Name: hidlog"
+        echo "Description: a FIDO2 security key as software, for tests"
+        echo "Version: $(sed -n 's/^version: //p' "$made/BUILD")"
+        echo "Cflags: -I\${prefix}"
+        echo "Libs: -L\${prefix} -l:libhidlog.so.0"
+    } >"$made/hidlog.pc"
+}
+
+names=(BUILD hidlog hidlog.h hidlog.pc hidlog.wasm libhidlog.a libhidlog.so.0 aarch64/libhidlog.a)
 if [ $# -gt 1 ] || [ "${1---check}" != --check ]; then
     stop "usage: release/build.sh [--check]"
 fi
-write_build
+mode=${1-}
 build_program
 build_library x86_64-unknown-linux-gnu "$made/libhidlog.a"
 build_library aarch64-unknown-linux-gnu "$made/aarch64/libhidlog.a"
 build_shared
 build_module
+write_build
+write_pkg_config
 cp crates/hidlog_c/hidlog.h "$made/hidlog.h"
-if [ "${1-}" = --check ]; then
+if [ "$mode" = --check ]; then
     compare
 else
     (cd "$made" && sha256sum "${names[@]}" >SHA256SUMS)

@@ -1,7 +1,9 @@
 #!/usr/bin/env bash
-# Runs the commands from a C program, linked with the static and with the shared library of release/; and with that for
-# aarch64 where its compiler and qemu are there. Looks too at what the libraries call: no allocator, and nothing else but
-# three functions that move bytes. Ends with 3 where gcc is missing.
+# Runs the C library from C programs: the commands on logs (commands.c), and a key that is held (key.c), which has to
+# write of each worked log what the program writes. Linked with the static and with the shared library of release/; with
+# the sanitizers of gcc; and for aarch64 where its compiler and qemu are there. Looks too at what the libraries call: no
+# allocator, and nothing else but three functions that move bytes; and whether C++ takes the header. Ends with 3 where
+# gcc is missing.
 set -euo pipefail
 top=$(cd "$(dirname "${BASH_SOURCE[0]}")/../.." && pwd)
 command -v gcc >/dev/null || { echo "tests/c: gcc is missing (apt-get install gcc libc6-dev); nothing was run" >&2; exit 3; }
@@ -9,27 +11,72 @@ room=$(mktemp -d)
 trap 'rm -rf "$room"' EXIT
 options=(-std=c11 -O2 -Wall -Wextra -Werror -I "$top/release")
 
-# Runs the program with the words before it.
+stop() {
+    echo "tests/c: $*"
+    exit 1
+}
+
+# The logs that a new session without credentials plays, and that are whole.
+logs=("$top"/examples/*.log "$top"/crates/worked_logs/data/capacity_64/*.log)
+
+# Plays a log on a key that is held, in both ways, and compares with the program: play_on LOG [WORD ..]
+play_on() {
+    "$top/release/hidlog" replay <"$1" >"$room/replayed" 2>/dev/null || return 0
+    "${@:2}" "$room/key" <"$1" >"$room/held" || stop "a key that is held fails at $1"
+    cmp -s "$room/replayed" "$room/held" || stop "a key that is held differs at $1"
+    "$top/release/hidlog" live <"$1" >"$room/lived"
+    "${@:2}" "$room/key" lines <"$1" >"$room/held" || stop "the lines of a key fail at $1"
+    cmp -s "$room/lived" "$room/held" || stop "the lines of a key differ at $1"
+    played=$((played + 1))
+}
+
+# Runs both programs with the words before them.
 run() {
     echo "tests/c: $1"
     "${@:2}" "$room/commands" "$top/examples"
+    "${@:2}" "$room/key" mistakes
+    played=0
+    for log in "${logs[@]}"; do
+        play_on "$log" "${@:2}"
+    done
+    [ "$played" -ge 50 ] || stop "only $played logs were played"
+    echo "tests/c: $played logs played on a key that is held, as the program plays them"
+}
+
+# Builds both programs: build COMPILER WORD ..
+build() {
+    local name
+    for name in commands key; do
+        "$1" "${options[@]}" -o "$room/$name" "$top/tests/c/$name.c" "${@:2}"
+    done
 }
 
 for library in libhidlog.a aarch64/libhidlog.a; do
     calls=$(nm --undefined-only --format=just-symbols "$top/release/$library" | grep -v ':$' | sort -u | xargs)
-    if [ "$calls" != "memcpy memmove memset" ]; then
-        echo "tests/c: $library calls $calls, and not memcpy, memmove and memset alone"
-        exit 1
-    fi
+    [ "$calls" = "memcpy memmove memset" ] || stop "$library calls $calls, and not memcpy, memmove and memset alone"
 done
-gcc "${options[@]}" -o "$room/commands" "$top/tests/c/commands.c" "$top/release/libhidlog.a"
+build gcc "$top/release/libhidlog.a"
 run "the static library"
-gcc "${options[@]}" -o "$room/commands" "$top/tests/c/commands.c" -L "$top/release" -l:libhidlog.so.0 \
-    "-Wl,-rpath,$top/release"
+build gcc -L "$top/release" -l:libhidlog.so.0 "-Wl,-rpath,$top/release"
 run "the shared library"
+build gcc -g -fsanitize=address,undefined -fno-sanitize-recover "$top/release/libhidlog.a"
+run "with the sanitizers of addresses and of undefined behaviour"
+if command -v pkg-config >/dev/null; then
+    read -ra words < <(PKG_CONFIG_PATH=$top/release pkg-config --cflags --libs hidlog)
+    gcc -std=c11 -o "$room/key" "$top/tests/c/key.c" "${words[@]}" "-Wl,-rpath,$top/release"
+    "$room/key" mistakes
+    echo "tests/c: pkg-config finds the library"
+else
+    echo "tests/c: pkg-config was not tried (apt-get install pkgconf)"
+fi
+if command -v g++ >/dev/null; then
+    g++ -std=c++17 -Wall -Wextra -Werror -fsyntax-only -x c++ "$top/release/hidlog.h"
+    echo "tests/c: C++ takes the header"
+else
+    echo "tests/c: the header was not tried with C++ (apt-get install g++)"
+fi
 if command -v aarch64-linux-gnu-gcc >/dev/null && command -v qemu-aarch64-static >/dev/null; then
-    aarch64-linux-gnu-gcc "${options[@]}" -static -o "$room/commands" "$top/tests/c/commands.c" \
-        "$top/release/aarch64/libhidlog.a"
+    build aarch64-linux-gnu-gcc -static "$top/release/aarch64/libhidlog.a"
     run "the static library for aarch64" qemu-aarch64-static
 else
     echo "tests/c: not run for aarch64 (apt-get install gcc-aarch64-linux-gnu libc6-dev-arm64-cross qemu-user-static)"
