@@ -1,0 +1,90 @@
+// Registers a credential on a key that is held, in the WebAssembly module, and signs in so many times: what bench/key.c
+// does. What is timed is the calls alone.
+//
+//     node bench/key.mjs MODULE COUNT     writes seconds for the first and for the last thousand sign-ins
+import { readFileSync } from "node:fs";
+
+const [path, count] = process.argv.slice(2);
+const { instance } = await WebAssembly.instantiate(readFileSync(path), {});
+const { exports: core } = instance;
+const base = Math.ceil(Number(core.__heap_base.value) / 16) * 16;
+const size = Number(core.hidlog_key_size());
+const places = { key: base, packet: base + 16, id: base + 80, need: base + 112, memory: base + 352 };
+const pages = Math.ceil((places.memory + size - core.memory.buffer.byteLength) / 65536);
+if (pages > 0) {
+    core.memory.grow(pages);
+}
+const bytes = new Uint8Array(core.memory.buffer);
+const view = new DataView(core.memory.buffer);
+const at = Object.fromEntries(Object.entries(places).map(([name, place]) => [name, BigInt(place)]));
+
+const expect = (found, expected, what) => {
+    if (found !== expected) {
+        throw new Error(`${what} returned ${found} and not ${expected}`);
+    }
+};
+
+/** Takes the packets that wait. */
+const take = (waiting, expected, what) => {
+    expect(waiting, expected, what);
+    for (let left = waiting; left > 0; ) {
+        left = core.hidlog_key_next(at.key, at.packet);
+    }
+};
+
+/** Sends a message of at most 116 bytes on a channel. */
+const send = (moment, channel, command, message) => {
+    bytes.fill(0, places.packet, places.packet + 64);
+    view.setUint32(places.packet, channel);
+    view.setUint8(places.packet + 4, 0x80 | command);
+    view.setUint16(places.packet + 5, message.length);
+    bytes.set(message.subarray(0, 57), places.packet + 7);
+    let waiting = core.hidlog_key_packet(at.key, moment, at.packet);
+    if (message.length > 57) {
+        bytes.fill(0, places.packet + 4, places.packet + 64);
+        bytes.set(message.subarray(57), places.packet + 5);
+        waiting = core.hidlog_key_packet(at.key, moment, at.packet);
+    }
+    return waiting;
+};
+
+const bytesOf = (text) => Uint8Array.from(text, (letter) => letter.charCodeAt(0));
+
+// {1: hash, 2: {"id": "example.com"}, 3: {"id": h'01'}, 4: [{"alg": -7, "type": "public-key"}], 7: {"rk": true}}
+const makeCredential = bytesOf(
+    "\x01\xa5\x01\x58\x20" + "1".repeat(32) + "\x02\xa1\x62id\x6bexample.com\x03\xa1\x62id\x41\x01" +
+    "\x04\x81\xa2\x63alg\x26\x64type\x6apublic-key\x07\xa1\x62rk\xf5",
+);
+
+// {1: "example.com", 2: hash}
+const getAssertion = bytesOf("\x02\xa2\x01\x6bexample.com\x02\x58\x20" + "2".repeat(32));
+
+view.setBigUint64(places.key, at.memory, true);
+bytes.fill(0xaa, places.id, places.id + 32);
+expect(core.hidlog_key_make(at.key, at.packet, 0n, at.packet, 0n), 0, "make");
+take(send(0n, 0xffffffff, 6, new Uint8Array(8)), 1, "INIT");
+take(send(0n, 1, 0x10, makeCredential), 1, "authenticatorMakeCredential");
+take(core.hidlog_key_presence(at.key, 0n, 0), 1, "presence");
+take(core.hidlog_key_new_key(at.key, 0n, at.id, at.id, at.id), 0, "a new key");
+take(core.hidlog_key_signature(at.key, 0n, at.id, 8n), 4, "a signature");
+
+const signIn = (moment) => {
+    take(send(moment, 1, 0x10, getAssertion), 1, "authenticatorGetAssertion");
+    expect(core.hidlog_key_need(at.key, at.need), 1, "need");
+    take(core.hidlog_key_presence(at.key, moment, 0), 1, "presence");
+    expect(core.hidlog_key_need(at.key, at.need), 3, "need");
+    take(core.hidlog_key_signature(at.key, moment, at.need, 70n), 4, "a signature");
+};
+
+const timed = (from, to) => {
+    const begun = performance.now();
+    for (let i = from; i < to; i += 1) {
+        signIn(BigInt(i));
+    }
+    return ((performance.now() - begun) / 1000).toFixed(6);
+};
+
+const signIns = Number(count);
+const first = timed(0, 1000);
+timed(1000, signIns - 1000);
+console.log(`${signIns} sign-ins: the first 1000 took ${first} s, the last 1000 ${timed(signIns - 1000, signIns)} s`);
