@@ -29,7 +29,8 @@ from .logs import Result, check, live, quiet, replay
 if TYPE_CHECKING:
     from .client import Client
     from .credentials import Credential
-    from .key import Recording, SecurityKey
+    from .key import SecurityKey
+    from .session import Recording
 
 __version__ = "0.1.0"
 __all__ = [
@@ -54,7 +55,7 @@ __all__ = [
     "quiet",
     "replay",
 ]
-_LATER = {"Client": "client", "Credential": "credentials", "Recording": "key", "SecurityKey": "key"}
+_LATER = {"Client": "client", "Credential": "credentials", "Recording": "session", "SecurityKey": "key"}
 
 
 def __getattr__(name: str) -> Any:

@@ -105,7 +105,7 @@ class CtapError(HidlogError):
     def __init__(self, status: int):
         self.status = status
         self.name = STATUS_NAMES.get(status, "UNKNOWN")
-        super().__init__(f"CtapError 0x{status:02X} {self.name}")
+        Exception.__init__(self, f"CtapError 0x{status:02X} {self.name}")
 
     def __str__(self) -> str:
         return f"CtapError 0x{self.status:02X} {self.name}"

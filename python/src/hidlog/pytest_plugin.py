@@ -60,7 +60,7 @@ def _kept(item: pytest.Item, folder: str) -> list[Path]:
     return paths
 
 
-@pytest.hookimpl(hookwrapper=True)
+@pytest.hookimpl(hookwrapper=True)  # type: ignore[misc]
 def pytest_runtest_makereport(item: pytest.Item) -> Generator[None, Any, None]:
     """Keeps the recordings of a test that failed."""
     outcome = yield

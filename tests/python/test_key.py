@@ -1,0 +1,318 @@
+"""The key with python-fido2's client and server, in both forms."""
+
+from __future__ import annotations
+
+import threading
+import time
+from collections.abc import Callable
+from hashlib import sha256
+from pathlib import Path
+from threading import Event
+from typing import Any
+
+import pytest
+from conftest import Service
+from cryptography.exceptions import InvalidSignature
+from fido2.client import ClientError
+from fido2.ctap import CtapError
+from fido2.ctap2 import Ctap2
+
+import hidlog
+
+Make = Callable[..., hidlog.SecurityKey]
+REFUSED = ClientError.ERR
+
+
+def assert_refused(code: int, status: int | None, ask: Callable[..., Any], *words: Any, **options: Any) -> None:
+    with pytest.raises(ClientError) as caught:
+        ask(*words, **options)
+    assert (caught.value.code, getattr(caught.value.cause, "code", None)) == (code, status)
+
+
+def test_registration_and_sign_in(make: Make) -> None:
+    service = Service(make())
+    alice = service.register(discoverable=False)
+    allowed = ({"type": "public-key", "id": bytes(32)}, alice)
+    assert [service.sign_in([alice], allowed).authenticator_data.counter for _ in range(3)] == [1, 2, 3]
+    assert_refused(REFUSED.DEVICE_INELIGIBLE, 0x2E, service.sign_in, [alice])
+    assert_refused(REFUSED.DEVICE_INELIGIBLE, 0x19, service.register, "alice", (alice,))
+
+
+def test_two_accounts_the_newest_first(make: Make) -> None:
+    service = Service(make())
+    both = [service.register("alice"), service.register("bob")]
+    assert [service.sign_in(both, account=it).user_handle for it in (0, 1)] == [b"bob", b"alice"]
+
+
+def test_presence_as_word_function_and_script(make: Make) -> None:
+    key = make()
+    service = Service(key)
+    alice = service.register()
+    key.presence = "denied"
+    assert_refused(REFUSED.BAD_REQUEST, 0x27, service.sign_in, [alice])
+    asked: list[str] = []
+    key.presence = lambda question: asked.append(question) or "granted"  # type: ignore[func-returns-value]
+    service.sign_in([alice])
+    service.register("bob")
+    assert asked == ["Sign in at example.com?", "Register bob at example.com?"]
+    key.presence = ["granted", "timeout", "granted"]
+    service.sign_in([alice, service.register("bob")]) if False else service.register("carol")
+    assert_refused(REFUSED.BAD_REQUEST, 0x27, service.register, "dora")
+    service.register("dora")
+    with pytest.raises(hidlog.ScriptEnded, match="Register eve at example.com"):
+        service.register("eve")
+    key.presence = "granted"
+    service.register("eve")
+    key.presence = "timeout"
+    with pytest.raises(CtapError) as caught:
+        Ctap2(key.device()).selection()
+    assert caught.value.code == 0x2F
+
+
+@pytest.mark.parametrize("wrong", ["grnated", 1, True, ["granted", "yes"], b"granted"])
+def test_a_wrong_presence_is_refused_where_it_is_given(make: Make, wrong: Any) -> None:
+    key = make()
+    with pytest.raises(hidlog.ArgumentError, match="granted"):
+        key.presence = wrong
+        key.presence(wrong) if callable(wrong) else Service(key).register()
+    key.presence = "granted"
+    Service(key).register()
+
+
+def test_a_function_that_fails_leaves_the_key_free(make: Make) -> None:
+    key = make(presence=lambda _: 1 / 0)
+    service = Service(key)
+    with pytest.raises(ZeroDivisionError):
+        service.register()
+    key.presence = lambda _: "maybe"
+    with pytest.raises(hidlog.ArgumentError, match="maybe"):
+        service.register()
+    key.presence = "granted"
+    service.register()
+
+
+def test_a_cancel_ends_an_unanswered_wait(make: Make) -> None:
+    key = make(presence=None)
+    event = Event()
+    seen = lambda _: event.set()  # noqa: E731
+    assert_refused(REFUSED.TIMEOUT, 0x2D, Service(key).register, event=event, on_keepalive=seen)
+
+
+def test_an_unanswered_wait_ends_and_costs_no_processor(make: Make) -> None:
+    key = make(presence=None, timeout=1.0)
+    service = Service(key)
+    began, worked = time.monotonic(), time.process_time()
+    with pytest.raises(hidlog.NoAnswer, match="the user did nothing for 1.0 s"):
+        service.register()
+    assert 1.0 <= time.monotonic() - began < 1.5
+    assert time.process_time() - worked < 0.1
+    # A KEEPALIVE at the request, and then one every 100 ms, by the clock.
+    assert 9 <= key.log.count(b"\n< 00000001bb000102") <= 12
+    key.presence = "granted"
+    service.register()
+
+
+def test_another_thread_answers_for_the_user(make: Make) -> None:
+    key = make(presence=None, timeout=10)
+    timer = threading.Timer(0.15, setattr, (key, "presence", "granted"))
+    timer.start()
+    Service(key).register()
+
+
+def test_five_thousand_notes(make: Make) -> None:
+    key = make()
+    for number in range(5000):
+        key.note(f"note {number}")
+    Service(key).register()
+    assert key.log.count(b"\n# note ") == 4999 and key.log.startswith(b"# note 0\n")
+
+
+def test_any_note_is_taken(make: Make) -> None:
+    key = make()
+    key.note("two\nlines")
+    key.note("ä" * 300)
+    key.note("need nothing")
+    key.note("")
+    assert key.log.decode().startswith("# two\n# lines\n# ää")
+    assert key.log.count("ä".encode()) == 300 and max(map(len, key.log.split(b"\n"))) <= 255
+    with pytest.raises(TypeError, match="a note has to be str, not bytes"):
+        key.note(b"x")  # type: ignore[arg-type]
+
+
+def test_two_keys_at_once(make: Make) -> None:
+    first, second = Service(make()), Service(make())
+    alice, other = first.register(), second.register()
+    assert_refused(REFUSED.DEVICE_INELIGIBLE, 0x2E, second.sign_in, [alice], (alice,))
+    assert first.sign_in([alice]).credential_id == alice.credential_id
+    assert second.sign_in([other]).credential_id == other.credential_id
+
+
+def test_save_and_load(make: Make, tmp_path: Path) -> None:
+    key = make()
+    alice = Service(key).register()
+    Service(key).sign_in([alice])
+    key.save(tmp_path / "key.json")
+    with hidlog.SecurityKey.load(tmp_path / "key.json", process=key._process) as again:
+        assert Service(again).sign_in([alice]).authenticator_data.counter == 2
+        assert list(again.credentials)[0].user_name == "alice"
+    (tmp_path / "wrong").write_text("{}")
+    with pytest.raises(hidlog.ArgumentError, match="isn't what SecurityKey.save writes"):
+        hidlog.SecurityKey.load(tmp_path / "wrong")
+
+
+def test_loss_of_power(make: Make) -> None:
+    key = make()
+    service = Service(key)
+    alice = service.register()
+    key.restart()
+    # The channel is unknown to the key now: CTAPHID, ERR_INVALID_CHANNEL.
+    with pytest.raises(CtapError) as caught:
+        service.client.ctap2.get_info()
+    assert (caught.value.code, str(caught.value)) == (0x0B, "CtapError 0x0B INVALID_CHANNEL")
+    assert Service(key).sign_in([alice]).authenticator_data.counter == 1
+    assert len(key.recordings) == 2
+
+
+def test_credentials(make: Make) -> None:
+    key = make()
+    service = Service(key)
+    alice = service.register()
+    held = key.credentials.get(alice.credential_id)
+    assert held.rp_id_hash == sha256(b"example.com").digest()
+    assert (held.x, held.y) == (alice.public_key[-2], alice.public_key[-3])
+    bob = key.credentials.add("example.com", b"bob", "bob", counter=40)
+    assert [it.user_id for it in key.credentials] == [b"alice", b"bob"]
+    found = service.sign_in([_attested(bob)])
+    assert (found.user_handle, found.authenticator_data.counter) == (b"bob", 41)
+    key.credentials.change(bob.id, counter=7)
+    assert service.sign_in([_attested(bob)]).authenticator_data.counter == 8
+    key.credentials.remove(bob.id)
+    assert service.sign_in([alice]).user_handle == b"alice"
+    key.credentials.clear()
+    assert len(key.credentials) == 0
+    assert_refused(REFUSED.DEVICE_INELIGIBLE, 0x2E, service.sign_in, [alice])
+
+
+def _attested(credential: hidlog.Credential) -> Any:
+    from fido2.cose import ES256
+    from fido2.ctap2 import AttestedCredentialData
+
+    public = ES256({1: 2, 3: -7, -1: 1, -2: credential.x, -3: credential.y})
+    return AttestedCredentialData.create(bytes(16), credential.id, public)
+
+
+def test_wrong_credentials_are_refused(make: Make) -> None:
+    key = make()
+    with pytest.raises(hidlog.ArgumentError, match="holds no credential with the id 00"):
+        key.credentials.remove(bytes(32))
+    with pytest.raises(hidlog.ArgumentError, match="counter is -1; it has to be 0 to 4294967295"):
+        key.credentials.add("example.com", counter=-1)
+    with pytest.raises(hidlog.ArgumentError, match="user_id has 65 bytes; it has at most 64"):
+        key.credentials.add("example.com", bytes(65))
+    for number in range(64):
+        key.credentials.add("example.com", bytes([number])) if number < 3 else None
+
+
+def test_the_clock_of_the_test(make: Make) -> None:
+    now = [5000]
+    key = make(clock=lambda: now[0], delay=0)
+    Service(key)
+    now[0] = 9000
+    Ctap2(key.device()).get_info()
+    assert b"\n> 9000 0000" in key.log
+    key.pass_time(2000)
+    # authenticatorReset is refused later than 10 s after the start (CTAP 2.1, section 6.6).
+    with pytest.raises(CtapError) as caught:
+        Ctap2(key.device()).reset()
+    assert caught.value.code == 0x30
+
+
+def test_the_same_random_bytes_give_the_same_log(make: Make) -> None:
+    from random import Random
+
+    logs = []
+    for _ in range(2):
+        key = make(random=Random(7).randbytes)
+        hidlog.Client(key).request(4)
+        key.credentials.add("example.com", b"x")
+        logs.append((key.snapshot(), key.log))
+    assert logs[0] == logs[1]
+
+
+def test_faults(make: Make) -> None:
+    key = make()
+    service = Service(key)
+    alice = service.register()
+    key.faults.wrong_signature = True
+    with pytest.raises((InvalidSignature, ValueError)):
+        service.sign_in([alice])
+    key.faults.clear()
+    key.faults.counter_stays = True
+    assert {service.sign_in([alice]).authenticator_data.counter for _ in range(3)} == {1}
+    key.faults.clear()
+    assert service.sign_in([alice]).authenticator_data.counter == 5
+    key.faults.other_rp = "evil.example"
+    with pytest.raises(ValueError, match="RP ID"):
+        service.sign_in([alice])
+    key.faults.clear()
+    key.faults.status = "KEY_STORE_FULL"
+    with pytest.raises(hidlog.CtapError, match="^CtapError 0x28 KEY_STORE_FULL$"):
+        hidlog.Client(key).request(4)
+    key.faults.clear()
+    key.faults.cut_short = 3
+    with pytest.raises(hidlog.ArgumentError, match="cut short"):
+        hidlog.Client(key).request(4)
+    key.faults.clear()
+    key.faults.delay = 3000
+    keepalives = key.log.count(b"\n< 00000001bb000101")
+    service.sign_in([alice])
+    assert key.log.count(b"\n< 00000001bb000101") >= keepalives + 30
+    with pytest.raises(hidlog.ArgumentError, match="there is no fault 'speed'; there are status, delay"):
+        key.faults.speed = 1
+    assert key.log.count(b"\n# fault: ") == 1 + 3 + 1 + 1 + 1
+
+
+def test_replay_of(make: Make) -> None:
+    key = make()
+    client = hidlog.Client(key)
+    asked = {1: bytes(32), 2: {"id": "a.example"}, 3: {"id": b"u"}, 4: [{"alg": -7, "type": "public-key"}]}
+    made = client.request(1, asked)
+    key.close()
+    with key.replay_of(key.log) as again:
+        assert hidlog.Client(again).request(1, asked) == made
+    with pytest.raises(hidlog.ReplayDiffers, match="^line 1[0-9]?: the client sends|^line [0-9]: the client sends"):
+        hidlog.Client(key.replay_of(key.log)).request(1, {**asked, 1: b"\1" * 32})
+    with pytest.raises(hidlog.ReplayDiffers, match="the client ended before this packet"):
+        with key.replay_of(key.log) as again:
+            hidlog.Client(again)
+    with pytest.raises(hidlog.ReplayDiffers, match="the recording has ended"):
+        client = hidlog.Client(key.replay_of(key.log))
+        client.request(1, asked)
+        client.request(4)
+
+
+def test_a_closed_key_says_so(make: Make) -> None:
+    key = make()
+    service = Service(key)
+    alice = service.register()
+    key.close()
+    key.close()
+    with pytest.raises(hidlog.KeyEnded, match="the key is closed"):
+        service.sign_in([alice])
+    assert len(key.credentials) == 1
+
+
+def test_wrong_arguments() -> None:
+    for wrong in ({"delay": -1}, {"timeout": 0}, {"clock": "fast"}):
+        with pytest.raises(hidlog.ArgumentError, match=f"{next(iter(wrong))} is .*; it has to be"):
+            hidlog.SecurityKey(**wrong)  # type: ignore[arg-type]
+    with pytest.raises(hidlog.ArgumentError, match="the packet has 65 bytes; it has to have 64"):
+        with hidlog.SecurityKey() as key:
+            key.write_packet(bytes(65))
+
+
+def test_a_program_that_ends(make: Make) -> None:
+    with pytest.raises(hidlog.MissingPart, match="/nowhere can't be started"):
+        hidlog.SecurityKey(process=True, program="/nowhere")
+    with pytest.raises(hidlog.KeyEnded, match="hidlog ended with status 0"):
+        hidlog.Client(hidlog.SecurityKey(process=True, program="/bin/true"))
