@@ -181,7 +181,8 @@ class Session:
 
     def _serve_presence(self, limit: float) -> None:
         """The user answers once the delay is over. Before, time passes and the key sends KEEPALIVEs."""
-        if self._answer != [None] and self._latest - self._need_moment < self._delay:
+        is_idle = self._user.presence is None or self._answer == [None]
+        if not is_idle and self._latest - self._need_moment < self._delay:
             self._wait_for_user()
             return
         try:
