@@ -1,8 +1,7 @@
 #!/usr/bin/env python3
 """Makes the wheel and the sdist of the package hidlog, by the standard library alone (Python 3.11).
 
-    python/backend.py FOLDER                 writes both into FOLDER
-    python/backend.py --with-program FOLDER  has the program hidlog in the wheel too
+    python/backend.py FOLDER        writes both into FOLDER
 
 It is the build backend of pyproject.toml too (PEP 517), for `pip install ./python` and `python3 -m build`, which
 download nothing. The same files give the same bytes, in any folder.
@@ -22,10 +21,9 @@ from pathlib import Path
 from typing import Any
 
 TOP = Path(__file__).resolve().parent
-LIBRARY = "libhidlog.so.0"
-# The library needs no C library by name, so it runs on any Linux of this processor.
+# What comes from release/. Neither needs a C library by name, so both run on any Linux of this processor.
+RELEASED = ("hidlog", "libhidlog.so.0")
 TAG = "py3-none-manylinux_2_17_x86_64"
-WITH_PROGRAM = False
 
 
 def project() -> dict[str, Any]:
@@ -43,14 +41,11 @@ def released(name: str) -> bytes:
 
 
 def package_files() -> dict[str, bytes]:
-    """Returns the files of the package by name, with the library, and where it is asked for the program."""
+    """Returns the files of the package by name, with the program and the library."""
     paths = sorted((TOP / "src" / "hidlog").glob("*.py"))
     files = {f"hidlog/{it.name}": it.read_bytes() for it in paths}
     files["hidlog/py.typed"] = b""
-    files[f"hidlog/{LIBRARY}"] = released(LIBRARY)
-    if WITH_PROGRAM:
-        files["hidlog/hidlog"] = released("hidlog")
-    return files
+    return {**files, **{f"hidlog/{it}": released(it) for it in RELEASED}}
 
 
 def metadata() -> bytes:
@@ -116,9 +111,7 @@ def build_sdist(sdist_directory: str, config_settings: object = None) -> str:
 
 def main() -> int:
     """Writes wheel and sdist into a folder."""
-    global WITH_PROGRAM
-    words = [it for it in sys.argv[1:] if it != "--with-program"]
-    WITH_PROGRAM = len(words) < len(sys.argv) - 1
+    words = sys.argv[1:]
     if len(words) != 1:
         print((__doc__ or "").strip(), file=sys.stderr)
         return 2

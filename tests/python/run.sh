@@ -18,7 +18,7 @@ trap 'rm -rf "$work"' EXIT
 "$work/venv/bin/pip" install --quiet --no-index --no-deps "$work"/dist/*.whl
 # The tests are run outside of the clone, so that only the installed package is found.
 cp "$tests"/*.py "$work"
-export HIDLOG=${HIDLOG:-$top/release/hidlog} HIDLOG_EXAMPLES=$top/examples HIDLOG_DIST=$work/dist
+export HIDLOG_EXAMPLES=$top/examples HIDLOG_DIST=$work/dist
 export PYTHONDONTWRITEBYTECODE=1
 cd "$work"
-env -u PYTHONPATH PATH="$work/venv/bin:/usr/bin:/bin" "$work/venv/bin/python" -m pytest -q -p no:cacheprovider "$@" .
+env -u PYTHONPATH -u HIDLOG -u HIDLOG_LIBRARY PATH="$work/venv/bin:/usr/bin:/bin" "$work/venv/bin/python" -m pytest -q -p no:cacheprovider "$@" .

@@ -10,6 +10,7 @@ from collections.abc import Callable
 import pytest
 
 import hidlog
+from hidlog.process import program
 
 Example = Callable[[str], bytes]
 
@@ -52,15 +53,15 @@ def test_what_is_written_may_be_much_longer_than_the_log(example: Example) -> No
 
 
 def ran(*words: str, log: bytes = b"", **variables: str) -> tuple[int, bytes, bytes]:
-    program = [sys.executable, "-m", "hidlog", *words]
-    done = subprocess.run(program, input=log, capture_output=True, env={**os.environ, **variables})
+    module = [sys.executable, "-m", "hidlog", *words]
+    done = subprocess.run(module, input=log, capture_output=True, env={**os.environ, **variables})
     return done.returncode, done.stdout, done.stderr
 
 
 @pytest.mark.parametrize("command", ["replay", "check", "quiet", "show"])
 def test_each_command_is_the_program(example: Example, command: str) -> None:
     for log in (example("sign_in.log"), b"t 1\nt x\n"):
-        theirs = subprocess.run([os.environ["HIDLOG"], command], input=log, capture_output=True)
+        theirs = subprocess.run([program(), command], input=log, capture_output=True)
         assert ran(command, log=log) == (theirs.returncode, theirs.stdout, theirs.stderr)
 
 

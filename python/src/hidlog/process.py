@@ -27,10 +27,7 @@ def program() -> str:
     for path in paths:
         if path.is_file() and os.access(path, os.X_OK):
             return str(path.resolve())
-    raise MissingPart(
-        f"the program hidlog isn't found: not at {', '.join(map(str, paths))}, and not on the path. "
-        "The variable HIDLOG names it"
-    )
+    raise MissingPart(f"hidlog isn't found: it is not {' nor '.join(map(str, paths))}; the variable HIDLOG names it")
 
 
 def _said(errors: bytes) -> str:
