@@ -86,7 +86,7 @@ def build_wheel(wheel_directory: str, config_settings: object = None, metadata_d
     with zipfile.ZipFile(Path(wheel_directory, f"{name}-{TAG}.whl"), "w") as archive:
         for path, data in files.items():
             info = zipfile.ZipInfo(path, (1980, 1, 1, 0, 0, 0))
-            info.external_attr = (0o755 if path == "hidlog/hidlog" else 0o644) << 16
+            info.external_attr = (0o100755 if path == "hidlog/hidlog" else 0o100644) << 16
             info.compress_type = zipfile.ZIP_DEFLATED
             archive.writestr(info, data)
     return f"{name}-{TAG}.whl"

@@ -23,7 +23,7 @@ from hidlog import cbor, webauthn_json
 
 Make = Callable[..., hidlog.SecurityKey]
 # Every member of PublicKeyCredentialCreationOptionsJSON (WebAuthn Level 3, section 5.1.9).
-CREATION = {
+CREATION: dict[str, Any] = {
     "rp": {"name": "Example", "id": "example.com"},
     "user": {"id": "YWxpY2U", "name": "alice", "displayName": "Alice"},
     "challenge": "AAECAwQFBgcICQoLDA0ODw",
@@ -42,7 +42,7 @@ CREATION = {
     "extensions": {"credProps": True, "prf": {"eval": {"first": "AQ", "second": "Ag"}}},
 }
 # Every member of PublicKeyCredentialRequestOptionsJSON (section 5.1.10).
-REQUEST = {
+REQUEST: dict[str, Any] = {
     "challenge": "AAECAwQFBgcICQoLDA0ODw",
     "timeout": 60000,
     "rpId": "example.com",
@@ -140,7 +140,11 @@ def test_a_page_and_a_service_in_json(make: Make) -> None:
     assert (client_data.get("type"), client_data.challenge) == ("webauthn.create", bytes(range(16)))
 
     allowed = [{"type": "public-key", "id": made["id"], "transports": ["usb"], "unknown": 1}]
-    for asked in ({"challenge": "AAAA"}, {"challenge": "AAAA", "allowCredentials": allowed, "hints": []}):
+    both: list[dict[str, Any]] = [
+        {"challenge": "AAAA"},
+        {"challenge": "AAAA", "allowCredentials": allowed, "hints": []},
+    ]
+    for asked in both:
         found = json.loads(json.dumps(browser.get(asked)))
         assert found["id"] == made["id"]
         parts = webauthn_json.authentication(found)["response"]

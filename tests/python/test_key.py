@@ -73,10 +73,11 @@ def test_presence_as_word_function_and_script(make: Make) -> None:
 @pytest.mark.parametrize("wrong", ["grnated", 1, True, ["granted", "yes"], b"granted"])
 def test_a_wrong_presence_is_refused_where_it_is_given(make: Make, wrong: Any) -> None:
     key = make()
-    with pytest.raises(hidlog.ArgumentError, match="granted"):
+    with pytest.raises(hidlog.ArgumentError, match="it has to be .*granted.*None"):
         key.presence = wrong
-        key.presence(wrong) if callable(wrong) else Service(key).register()
-    key.presence = "granted"
+    assert key.presence == "granted"
+    with pytest.raises(hidlog.ArgumentError, match="it has to be .*granted.*None"):
+        make(presence=wrong)
     Service(key).register()
 
 
@@ -310,9 +311,10 @@ def test_a_closed_key_says_so(make: Make) -> None:
 
 
 def test_wrong_arguments() -> None:
-    for wrong in ({"delay": -1}, {"timeout": 0}, {"clock": "fast"}):
+    wrongs: list[dict[str, Any]] = [{"delay": -1}, {"timeout": 0}, {"clock": "fast"}]
+    for wrong in wrongs:
         with pytest.raises(hidlog.ArgumentError, match=f"{next(iter(wrong))} is .*; it has to be"):
-            hidlog.SecurityKey(**wrong)  # type: ignore[arg-type]
+            hidlog.SecurityKey(**wrong)
     with pytest.raises(hidlog.ArgumentError, match="the packet has 65 bytes; it has to have 64"):
         with hidlog.SecurityKey() as key:
             key.write_packet(bytes(65))

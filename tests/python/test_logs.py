@@ -67,6 +67,7 @@ def test_each_command_is_the_program(example: Example, command: str) -> None:
 
 def test_show_without_the_program() -> None:
     status, _, text = ran("show", HIDLOG="/nowhere/hidlog")
-    assert status == 2 and text.startswith(
-        b"hidlog: show needs the program: the program hidlog isn't found: not at /nowh"
+    assert (status, text.startswith(b"hidlog: show needs the program: hidlog isn't found: it is not /nowhere/")) == (
+        2,
+        True,
     )

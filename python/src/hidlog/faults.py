@@ -35,7 +35,7 @@ class Faults:
     other_rp          an RP id: the authenticator data is of that relying party.
     """
 
-    status: int | None
+    status: int | str | None
     delay: int
     cut_short: int
     wrong_signature: bool
@@ -92,6 +92,6 @@ class Faults:
             data = data[: max(1, len(data) - self.cut_short)]
             done.append(f"the answer is cut to {len(data)} bytes")
         if self.status is not None:
-            data = bytes([self.status])
-            done.append(f"the answer is status 0x{self.status:02X}")
+            data = bytes([status_number(self.status)])
+            done.append(f"the answer is status 0x{data[0]:02X}")
         return data, done

@@ -34,7 +34,7 @@ class User:
                 _checked(answer)
             self._script = iter(presence)
         elif not callable(presence):
-            if not isinstance(presence, Iterable):
+            if not isinstance(presence, Iterable) or isinstance(presence, (bytes, bytearray, dict)):
                 raise ArgumentError(
                     f"presence is {presence!r}; it has to be {_SHOWN}, a function, or a script of these"
                 )
