@@ -112,6 +112,7 @@ class HeldKey:
         self._buffer = ctypes.create_string_buffer(size + 16)
         self._key = _Key((ctypes.addressof(self._buffer) + 15) // 16 * 16, 0)
         self._out = ctypes.create_string_buffer(max(_SNAPSHOT_MOST, _LINE_MOST))
+        self._last: bytes | None = None
         length = ctypes.c_size_t(len(snapshot))
         self._call("make", bytes(16), ctypes.c_uint64(0), snapshot, length)
 
@@ -125,14 +126,16 @@ class HeldKey:
         return ctypes.string_at(self._out, outcome.written)
 
     def snapshot(self, _: bytes) -> bytes:
-        """Returns a snapshot of the credentials."""
+        """Returns a snapshot of the credentials, also once the key has ended."""
+        if self._last is not None:
+            return self._last
         written = ctypes.c_size_t()
         self._call("save", self._out, ctypes.c_size_t(len(self._out)), ctypes.byref(written))
         return ctypes.string_at(self._out, written.value)
 
     def finish(self) -> bytes:
         """Ends the key, and returns the line of what its session counted."""
-        meters = _Meters()
+        self._last, meters = self.snapshot(b""), _Meters()
         self._call("meters", ctypes.byref(meters))
         self._call("free")
         names = ("held", "rows", "pending", "requests", "bytes", "steps")

@@ -11,7 +11,7 @@ from typing import TYPE_CHECKING, Any
 
 from . import packets, private_keys
 from .credentials import Credentials
-from .errors import ArgumentError, HidlogError, KeyBusy
+from .errors import ArgumentError, KeyBusy
 from .session import Recording, Session
 
 if TYPE_CHECKING:
@@ -70,7 +70,7 @@ class SecurityKey(Session):
     def snapshot(self) -> bytes:
         """Returns a snapshot of the credentials, without private keys."""
         with self._changed:
-            return self._engine.snapshot(self.log) if self._is_open else self._last_snapshot
+            return self._engine.snapshot(self.log)
 
     def _random_bytes(self, count: int) -> bytes:
         return self._random(count)
@@ -148,10 +148,6 @@ class SecurityKey(Session):
         """Ends the key. Its recordings stay."""
         with self._changed:
             if self._is_open:
-                try:
-                    self._last_snapshot = self._engine.snapshot(self.log)
-                except HidlogError:
-                    self._last_snapshot = b""
                 self._end()
                 del self._ended[-1]
             self._changed.notify_all()

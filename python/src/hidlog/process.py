@@ -34,10 +34,10 @@ def _said(errors: bytes) -> str:
     return errors.decode(errors="replace").strip() or "it said nothing"
 
 
-def snapshot_after(log: bytes, start: bytes) -> bytes:
+def snapshot_after(path: str, log: bytes, start: bytes) -> bytes:
     """Returns a snapshot of the credentials after a log, which the program plays again."""
     with tempfile.TemporaryDirectory() as folder:
-        words = [program(), "replay", "--save", f"{folder}/after"]
+        words = [path, "replay", "--save", f"{folder}/after"]
         if start:
             Path(folder, "start").write_bytes(start)
             words += ["--load", f"{folder}/start"]
@@ -51,9 +51,9 @@ class ProcessKey:
     """A key in a process of its own."""
 
     def __init__(self, snapshot: bytes = b"", path: str | None = None):
-        self._start = snapshot
+        self._start, self._path = snapshot, path or program()
         self._folder = tempfile.TemporaryDirectory()
-        words = [path or program(), "live"]
+        words = [self._path, "live"]
         if snapshot:
             Path(self._folder.name, "start").write_bytes(snapshot)
             words += ["--load", f"{self._folder.name}/start"]
@@ -80,7 +80,7 @@ class ProcessKey:
 
     def snapshot(self, log: bytes) -> bytes:
         """Returns a snapshot of the credentials after this log, which is the key's so far."""
-        return snapshot_after(log, self._start)
+        return snapshot_after(self._path, log, self._start)
 
     def finish(self) -> bytes:
         """Ends the process, and returns the line of what its session counted."""

@@ -55,7 +55,6 @@ class Session:
         self._clock, self._random, self._program = clock, random, program
         self._process = not core.has_held_key() if process is None else process
         self._ended: list[Recording] = []
-        self._last_snapshot = b""
         self._channels = 0
         self._begin(bytes_of("the snapshot", snapshot))
 
