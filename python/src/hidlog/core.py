@@ -11,13 +11,9 @@ from functools import lru_cache
 from pathlib import Path
 from typing import Any
 
-from .errors import HidlogError, KeyEnded, LogError, MissingPart, SnapshotError
+from .errors import HidlogError, KeyEnded, MissingPart, SnapshotError
 
 _NAME = "libhidlog.so.0"
-# A snapshot has at most so many bytes, and so has what is written for a line.
-_SNAPSHOT_MOST = 18125
-_LINE_MOST = 18000
-_KEY_FUNCTIONS = ("size", "make", "free", "line", "save", "meters")
 _FAULTS = {
     -1: "the key was never made, or freed",
     -2: "the key is made already",
@@ -32,7 +28,9 @@ _FAULTS = {
     -19: "snapshot refused: 3 (a credential in it is broken)",
 }
 _SNAPSHOT_FAULTS = (-17, -18, -19)
-_LINE_FAULTS = {1: "not a log line", 2: "longer than 255 bytes"}
+_PRESENCE = {"granted": 0, "denied": 1, "timeout": 2}
+# enum hidlog_need_kind.
+_NEEDS = ("nothing", "presence", "key", "signature")
 
 
 class Outcome(ctypes.Structure):
@@ -56,6 +54,39 @@ class _Key(ctypes.Structure):
     """struct hidlog_key."""
 
     _fields_ = [("memory", ctypes.c_void_p), ("state", ctypes.c_uint32)]
+
+
+class _Need(ctypes.Structure):
+    """struct hidlog_need."""
+
+    kind: int
+    signed_len: int
+    _fields_ = [
+        ("kind", ctypes.c_uint32),
+        ("signed_len", ctypes.c_uint32),
+        ("id", ctypes.c_uint8 * 32),
+        ("signed_bytes", ctypes.c_uint8 * 196),
+    ]
+
+
+class HeldCredential(ctypes.Structure):
+    """struct hidlog_credential."""
+
+    rp: bytes
+    id: bytes
+    x: bytes
+    y: bytes
+    user: bytes
+    name: bytes
+    user_len: int
+    name_len: int
+    discoverable: int
+    counter: int
+    _fields_ = [
+        *((it, ctypes.c_uint8 * 32) for it in ("rp", "id", "x", "y")),
+        *((it, ctypes.c_uint8 * 64) for it in ("user", "name")),
+        *((it, ctypes.c_uint32) for it in ("user_len", "name_len", "discoverable", "counter")),
+    ]
 
 
 class _Meters(ctypes.Structure):
@@ -95,58 +126,96 @@ def run(command: str, log: bytes, snapshot: bytes, capacity: int) -> tuple[Outco
     return outcome, out.raw[: outcome.written]
 
 
+_AT, _SIZE, _BYTES, _OUT = ctypes.c_uint64, ctypes.c_size_t, ctypes.c_char_p, ctypes.c_void_p
+# What the functions of a key take after the key.
+_KEY_FUNCTIONS: dict[str, list[Any]] = {
+    "make": [_BYTES, _AT, _BYTES, _SIZE],
+    "free": [],
+    "packet": [_AT, _BYTES],
+    "tick": [_AT],
+    "presence": [_AT, ctypes.c_uint32],
+    "new_key": [_AT, _BYTES, _BYTES, _BYTES],
+    "no_key": [_AT],
+    "signature": [_AT, _BYTES, _SIZE],
+    "no_signature": [_AT],
+    "next": [_OUT],
+    "need": [_OUT],
+    "credentials": [],
+    "credential": [_SIZE, _OUT],
+    "meters": [_OUT],
+}
+
+
+@lru_cache(maxsize=None)
+def _key_functions() -> dict[str, Any] | None:
+    """Returns the functions of a key that is held, or None where the library hasn't got them all."""
+    if not hasattr(library(), "hidlog_key_size"):
+        return None
+    found = {}
+    for name, words in _KEY_FUNCTIONS.items():
+        function = getattr(library(), f"hidlog_key_{name}", None)
+        if function is None:
+            return None
+        function.argtypes, function.restype = [_OUT, *words], ctypes.c_int32
+        found[name] = function
+    return found
+
+
 def has_held_key() -> bool:
     """Returns whether the library has the functions of a key that is held."""
-    return all(hasattr(library(), f"hidlog_key_{it}") for it in _KEY_FUNCTIONS)
+    return _key_functions() is not None
 
 
-class HeldKey:
-    """A key in the memory of this process: each line of a log costs the same, however many came before."""
+class Handle:
+    """struct hidlog_key with its memory. A call that returns a fault raises."""
 
-    def __init__(self, snapshot: bytes = b""):
-        if not has_held_key():
+    def __init__(self, snapshot: bytes):
+        functions = _key_functions()
+        if functions is None:
             raise MissingPart("this C library has no key that is held: use SecurityKey(process=True)")
-        self._functions: Any = library()
-        self._functions.hidlog_key_size.restype = ctypes.c_size_t
-        size = self._functions.hidlog_key_size()
-        self._buffer = ctypes.create_string_buffer(size + 16)
-        self._key = _Key((ctypes.addressof(self._buffer) + 15) // 16 * 16, 0)
-        self._out = ctypes.create_string_buffer(max(_SNAPSHOT_MOST, _LINE_MOST))
-        self._last: bytes | None = None
-        length = ctypes.c_size_t(len(snapshot))
-        self._call("make", bytes(16), ctypes.c_uint64(0), snapshot, length)
+        self._functions = functions
+        size = library().hidlog_key_size
+        size.restype = _SIZE
+        self._memory = ctypes.create_string_buffer(size() + 16)
+        self._key = _Key((ctypes.addressof(self._memory) + 15) // 16 * 16, 0)
+        self._packet = ctypes.create_string_buffer(64)
+        self.call("make", bytes(16), 0, snapshot, len(snapshot))
 
-    def exchange(self, line: bytes) -> bytes:
-        """Hands in a line of a log, and returns what `live` writes for it."""
-        outcome, size = Outcome(), ctypes.c_size_t
-        capacity = size(len(self._out))
-        self._call("line", line, size(len(line)), self._out, capacity, ctypes.byref(outcome))
-        if outcome.status:
-            raise LogError(f"{_LINE_FAULTS.get(outcome.fault, f'fault {outcome.fault}')}: {line[:80]!r}")
-        return ctypes.string_at(self._out, outcome.written)
-
-    def snapshot(self, _: bytes) -> bytes:
-        """Returns a snapshot of the credentials, also once the key has ended."""
-        if self._last is not None:
-            return self._last
-        written = ctypes.c_size_t()
-        self._call("save", self._out, ctypes.c_size_t(len(self._out)), ctypes.byref(written))
-        return ctypes.string_at(self._out, written.value)
-
-    def finish(self) -> bytes:
-        """Ends the key, and returns the line of what its session counted."""
-        self._last, meters = self.snapshot(b""), _Meters()
-        self._call("meters", ctypes.byref(meters))
-        self._call("free")
-        names = ("held", "rows", "pending", "requests", "bytes", "steps")
-        return ("= " + " ".join(f"{it} {getattr(meters, it)}" for it in names) + "\n").encode()
-
-    def _call(self, name: str, *arguments: Any) -> None:
-        """Calls a function of the key, and raises where it returns a fault."""
-        answer = getattr(self._functions, f"hidlog_key_{name}")(ctypes.byref(self._key), *arguments)
+    def call(self, name: str, *words: Any) -> int:
+        """Calls a function of the key, and returns its number."""
+        answer: int = self._functions[name](ctypes.byref(self._key), *words)
         if answer >= 0:
-            return
+            return answer
         text = _FAULTS.get(answer, f"fault {answer}")
         if answer in _SNAPSHOT_FAULTS:
             raise SnapshotError(text)
         raise KeyEnded("the key is closed") if answer == -1 else HidlogError(f"hidlog_key_{name}: {text}")
+
+    def presence(self, at: int, word: str) -> int:
+        """Hands in what the user does."""
+        return self.call("presence", at, _PRESENCE[word])
+
+    def next(self) -> bytes:
+        """Takes the next packet to send."""
+        self.call("next", self._packet)
+        return self._packet.raw
+
+    def need(self) -> tuple[str, bytes, bytes]:
+        """Returns what the key needs, the credential's id, and the bytes to sign."""
+        need = _Need()
+        self.call("need", ctypes.byref(need))
+        return _NEEDS[need.kind], bytes(need.id), bytes(need.signed_bytes)[: need.signed_len]
+
+    def credentials(self) -> list[HeldCredential]:
+        """Returns the credentials, the newest last."""
+        listed = []
+        for place in range(self.call("credentials")):
+            listed.append(HeldCredential())
+            self.call("credential", place, ctypes.byref(listed[-1]))
+        return listed
+
+    def meters(self) -> dict[str, int]:
+        """Returns what the session has held and served, in the order of a log's last line."""
+        meters = _Meters()
+        self.call("meters", ctypes.byref(meters))
+        return {it: getattr(meters, it) for it in ("held", "rows", "pending", "requests", "bytes", "steps")}

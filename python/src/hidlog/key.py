@@ -31,7 +31,8 @@ class SecurityKey(Session):
                   gives milliseconds.
     timeout       how many seconds a client waits for a user who does nothing; then the read raises NoAnswer.
     random        gives n random bytes. `random.Random(1).randbytes` gives the same keys in each run.
-    process       the key is a process of its own (`hidlog live`), and `program` is its program's path.
+    process       True: the key is a process of its own (`hidlog live`), and `program` is its program's path. False: it
+                  is in this process. By default it is in this process where the C library can hold a key.
     private_keys  the private keys by credential id.
     """
 

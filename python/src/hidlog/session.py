@@ -12,6 +12,7 @@ from typing import NamedTuple, Union
 from . import core, packets, private_keys
 from .errors import ArgumentError, KeyEnded, NoAnswer, bytes_of, number_of
 from .faults import Faults
+from .held import HeldKey
 from .lines import Engine, Need, comments_of, read_reply
 from .presence import Presence, User, question_of
 from .process import ProcessKey
@@ -61,7 +62,7 @@ class Session:
     def _make_engine(self, snapshot: bytes) -> Engine:
         if self._process:
             return ProcessKey(snapshot, self._program)
-        return core.HeldKey(snapshot)
+        return HeldKey(snapshot)
 
     def _begin(self, snapshot: bytes) -> None:
         """Begins a session with these credentials, at the moment 0."""
