@@ -114,6 +114,36 @@ def test_an_unanswered_wait_ends_and_costs_no_processor(make: Make) -> None:
     service.register()
 
 
+def test_a_read_ends_at_its_time_out(make: Make) -> None:
+    key = make(presence=None)
+    client = hidlog.Client(key)
+    with pytest.raises(hidlog.NoAnswer, match="sent nothing in time"):
+        key.read_packet(timeout=0.05)
+    # authenticatorSelection: a KEEPALIVE at once, and the next one after 100 ms.
+    key.write_packet(bytes.fromhex("00000001900001" "0b").ljust(64, b"\0"))
+    assert key.read_packet()[:8].hex() == "00000001bb000102"
+    began = time.monotonic()
+    with pytest.raises(hidlog.NoAnswer):
+        key.read_packet(timeout=0.03)
+    assert key.read_packet()[:8].hex() == "00000001bb000102"
+    assert 0.09 < time.monotonic() - began < 0.2
+    key.presence = "granted"
+    assert [key.read_packet()[4:8].hex() for _ in range(2)] == ["bb000102", "90000100"]
+    assert client.request(4)[1] == ["FIDO_2_0"]
+
+
+def test_an_unfinished_message_times_out(make: Make) -> None:
+    """CTAP 2.1, section 11.2.5.2: ERR_MSG_TIMEOUT is 0x05."""
+    key = make()
+    client = hidlog.Client(key)
+    key.write_packet(bytes.fromhex("00000001900064" "01").ljust(64, b"\0"))
+    began = time.monotonic()
+    assert key.read_packet()[:8].hex() == "00000001bf000105"
+    assert 0.3 < time.monotonic() - began < 1.0
+    key.credentials.clear()
+    assert client.request(4)[1] == ["FIDO_2_0"]
+
+
 def test_another_thread_answers_for_the_user(make: Make) -> None:
     key = make(presence=None, timeout=10)
     timer = threading.Timer(0.15, setattr, (key, "presence", "granted"))

@@ -6,7 +6,8 @@ import os
 import threading
 import time
 from collections import deque
-from collections.abc import Callable, Mapping
+from collections.abc import Callable, Iterator, Mapping
+from contextlib import contextmanager
 from typing import NamedTuple, Union
 
 from . import core, packets, private_keys
@@ -19,6 +20,8 @@ from .process import ProcessKey
 
 # The key sends a KEEPALIVE so often while it waits.
 KEEPALIVE_MS = 100
+# A little more of real time, since moments are whole milliseconds.
+_KEEPALIVE_SECONDS = 0.101
 Clock = Union[str, Callable[[], int]]
 
 
@@ -72,6 +75,7 @@ class Session:
         self._passed, self._latest, self._started = 0, 0, time.monotonic()
         self._packets: deque[bytes] = deque()
         self._need, self._need_moment, self._need_time = Need(), 0, 0.0
+        self._waited_until = 0.0
         self._delayed = 0
         self._asked: packets.Message | None = None
         self._from_host, self._from_key = packets.Collector(), packets.Collector()
@@ -169,15 +173,19 @@ class Session:
             self._make_key()
         elif self._need.kind == "signature":
             self._sign()
-        elif not self._pause(limit) and self._from_host.is_open:
-            self._play("t")
+        elif self._pause(limit) and self._from_host.is_open:
+            self._wait_for_user(is_over=True)
 
     def _pause(self, limit: float) -> bool:
-        """Waits in real time, at most 100 ms. Returns whether another thread has done something."""
-        left = limit - time.monotonic()
-        if left <= 0:
-            raise NoAnswer("the key has nothing to send, and needs nothing")
-        return self._changed.wait(min(left, KEEPALIVE_MS / 1000))
+        """Waits in real time. Returns whether 100 ms are over since it last did; before, something may have changed."""
+        now = time.monotonic()
+        if now >= self._waited_until:
+            self._waited_until = now + _KEEPALIVE_SECONDS
+            return True
+        if now >= limit:
+            raise NoAnswer("the key has sent nothing in time")
+        self._changed.wait(min(limit, self._waited_until) - now)
+        return False
 
     def _serve_presence(self, limit: float) -> None:
         """The user answers once the delay is over. Before, time passes and the key sends KEEPALIVEs."""
@@ -185,19 +193,16 @@ class Session:
         if not is_idle and self._latest - self._need_moment < self._delay:
             self._wait_for_user()
             return
-        try:
-            if not self._answer:
+        if not self._answer:
+            with self._cancelling():
                 self._answer = [self._user.answer(question_of(self._asked))]
-            if self._answer[0] is not None:
-                self._play("p", self._answer[0])
-                return
-            if time.monotonic() - self._need_time >= self._timeout:
+        if self._answer[0] is not None:
+            self._play("p", self._answer[0])
+        elif time.monotonic() - self._need_time >= self._timeout:
+            with self._cancelling():
                 raise NoAnswer(f"the user did nothing for {self._timeout} s (presence), and the client didn't cancel")
-            if not self._pause(max(limit, time.monotonic() + 0.001)):
-                self._wait_for_user(is_over=True)
-        except BaseException:
-            self._cancel()
-            raise
+        elif self._pause(limit):
+            self._wait_for_user(is_over=True)
 
     def _wait_for_user(self, is_over: bool = False) -> None:
         """Lets 100 ms pass in the log: of real time where the clock is, unless they are over."""
@@ -208,12 +213,17 @@ class Session:
             self._passed += KEEPALIVE_MS
         self._play("t")
 
-    def _cancel(self) -> None:
-        """Ends the request that waits, so that the key serves the next one."""
-        if self._asked and self._need.kind == "presence":
-            head = self._asked.channel.to_bytes(4, "big") + bytes([0x80 | packets.CANCEL])
-            self._play(">", head.ljust(packets.PACKET, b"\0").hex())
-        self._packets.clear()
+    @contextmanager
+    def _cancelling(self) -> Iterator[None]:
+        """Ends the request that waits where something fails, so that the key serves the next one."""
+        try:
+            yield
+        except BaseException:
+            if self._asked and self._is_open:
+                cancel = packets.Message(self._asked.channel, packets.CANCEL, b"")
+                self._play(">", packets.packets_of(cancel)[0].hex())
+            self._packets.clear()
+            raise
 
     def _make_key(self) -> None:
         """Hands in a new key pair under a new credential id."""
@@ -240,12 +250,15 @@ class Session:
         sent, need = read_reply(text)
         if need.kind != self._need.kind:
             self._need_moment, self._need_time, self._answer = self._latest, time.monotonic(), []
+            self._waited_until = self._need_time + _KEEPALIVE_SECONDS
         self._need = need
         for packet in sent:
             self._send(packet)
 
     def _send(self, packet: bytes) -> None:
         """Keeps a packet for the client. The packets of an answer come out together, with its faults."""
+        if packet[4] == 0x80 | packets.ERROR:
+            self._from_host.drop()
         is_init = packet[4] == 0x80 | packets.INIT
         if is_init and int.from_bytes(packet[:4], "big") == packets.BROADCAST:
             self._channels = max(self._channels, int.from_bytes(packet[15:19], "big"))
