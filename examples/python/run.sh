@@ -8,7 +8,8 @@
 # missing. HIDLOG names the program, by default ./hidlog.
 set -euo pipefail
 here=$(cd "$(dirname "${BASH_SOURCE[0]}")" && pwd)
-export HIDLOG=${HIDLOG:-$here/../../hidlog} PYTHONDONTWRITEBYTECODE=1
+HIDLOG=$(realpath "${HIDLOG:-$here/../../hidlog}")
+export HIDLOG PYTHONDONTWRITEBYTECODE=1
 python=/usr/bin/python3
 if ! "$python" -c 'import cryptography, pytest, venv, fido2; assert fido2.__version__.startswith("0.9")' 2>/dev/null; then
     echo "python-fido2 0.9, pytest or venv is missing (tests/run --install); nothing was run" >&2

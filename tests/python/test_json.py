@@ -79,6 +79,7 @@ def test_a_missing_rp_id_is_the_host_of_the_origin() -> None:
     asked = {**CREATION, "rp": {"name": "Example"}}
     assert webauthn_json.creation_options(asked, "https://login.example.com:8443")["rp"]["id"] == "login.example.com"
     assert "id" not in webauthn_json.creation_options(asked)["rp"]
+    assert webauthn_json.creation_options(CREATION, "https://www.example.com")["rp"]["id"] == "example.com"
     given = {"challenge": "AAAA"}
     assert webauthn_json.request_options(given, ORIGIN) == {"challenge": b"\0\0\0", "rpId": "example.com"}
     assert webauthn_json.request_options(REQUEST, "https://www.example.com")["rpId"] == "example.com"

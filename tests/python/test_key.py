@@ -225,6 +225,46 @@ def test_credentials(make: Make) -> None:
     assert_refused(REFUSED.DEVICE_INELIGIBLE, 0x2E, service.sign_in, [alice])
 
 
+def test_an_added_credential_replaces_that_of_its_user(make: Make) -> None:
+    """As a registration does (docs/PROFILE.md, authenticatorMakeCredential). Others stay."""
+    key = make()
+    first = key.credentials.add("example.com", b"alice")
+    other = key.credentials.add("example.org", b"alice")
+    hidden = key.credentials.add("example.com", b"alice", discoverable=False)
+    second = key.credentials.add("example.com", b"alice")
+    assert list(key.credentials) == [other, hidden, second] and first.id != second.id
+    assert key.credentials.of("example.com") == [hidden, second]
+    with pytest.raises(hidlog.ArgumentError, match="the same relying party and user"):
+        key.credentials.change(hidden.id, discoverable=True)
+    with pytest.raises(hidlog.ArgumentError, match="there is no rp_id to change; there are counter, user_name"):
+        key.credentials.change(hidden.id, rp_id="example.org")
+    with pytest.raises(hidlog.ArgumentError, match="holds a credential with the id"):
+        key.credentials.add("example.com", credential_id=second.id)
+
+
+def test_a_given_private_key_signs(make: Make) -> None:
+    from cryptography.hazmat.primitives import serialization
+    from cryptography.hazmat.primitives.asymmetric import ec
+
+    private = ec.generate_private_key(ec.SECP256R1())
+    form = (serialization.Encoding.DER, serialization.PrivateFormat.PKCS8, serialization.NoEncryption())
+    for given in (private, private.private_bytes(*form)):
+        key = make()
+        added = key.credentials.add("example.com", b"u", private_key=given)
+        assert added.x == private.public_key().public_numbers().x.to_bytes(32, "big")
+        assert Service(key).sign_in([_attested(added)]).user_handle == b"u"
+    with pytest.raises(hidlog.ArgumentError, match="has to be on P-256"):
+        key.credentials.add("example.com", private_key=ec.generate_private_key(ec.SECP384R1()))
+
+
+def test_credentials_change_only_while_nothing_is_served(make: Make) -> None:
+    key = make(presence=None)
+    hidlog.Client(key)
+    key.write_packet(bytes.fromhex("00000001900001" "0b").ljust(64, b"\0"))
+    with pytest.raises(hidlog.KeyBusy):
+        key.credentials.clear()
+
+
 def _attested(credential: hidlog.Credential) -> Any:
     from fido2.cose import ES256
     from fido2.ctap2 import AttestedCredentialData
@@ -265,6 +305,29 @@ def test_the_clock_of_the_test(make: Make) -> None:
     assert caught.value.code == 0x30
 
 
+def test_the_clock_goes_on_as_credentials_change(make: Make) -> None:
+    key = make()
+    key.pass_time(20_000)
+    key.credentials.add("example.com", b"u")
+    assert 20_000 < key.moment < 20_100
+    key.pass_time(5_000)
+    assert 25_000 < key.moment < 25_100
+    key.restart()
+    assert key.moment == 0
+
+
+def test_without_a_recording(make: Make) -> None:
+    key = make(record=False)
+    alice = Service(key).register()
+    assert Service(key).sign_in([alice]).authenticator_data.counter == 1
+    assert key.log == b""
+    if key._process:
+        with pytest.raises(hidlog.HidlogError, match="record=False"):
+            len(key.credentials)
+    else:
+        assert key.credentials.get(alice.credential_id).counter == 1
+
+
 def test_the_same_random_bytes_give_the_same_log(make: Make) -> None:
     from random import Random
 
@@ -292,6 +355,10 @@ def test_faults(make: Make) -> None:
     key.faults.other_rp = "evil.example"
     with pytest.raises(ValueError, match="RP ID"):
         service.sign_in([alice])
+    key.faults.counter_stays = True
+    answer = hidlog.Client(key).request(2, {1: "example.com", 2: bytes(32)})
+    # Authenticator data: the hash of the RP id, the flags, the counter (WebAuthn Level 3, section 6.1).
+    assert answer[2] == sha256(b"evil.example").digest() + bytes([1]) + (6).to_bytes(4, "big")
     key.faults.clear()
     key.faults.status = "KEY_STORE_FULL"
     with pytest.raises(hidlog.CtapError, match="^CtapError 0x28 KEY_STORE_FULL$"):
@@ -307,7 +374,7 @@ def test_faults(make: Make) -> None:
     assert key.log.count(b"\n< 00000001bb000101") >= keepalives + 30
     with pytest.raises(hidlog.ArgumentError, match="there is no fault 'speed'; there are status, delay"):
         key.faults.speed = 1
-    assert key.log.count(b"\n# fault: ") == 1 + 3 + 1 + 1 + 1
+    assert key.log.count(b"\n# fault: ") == 1 + 3 + 1 + 1 + 1 + 1
 
 
 def test_replay_of(make: Make) -> None:

@@ -11,7 +11,7 @@ from typing import TYPE_CHECKING, Any
 
 from . import packets, private_keys
 from .credentials import Credentials
-from .errors import ArgumentError, KeyBusy
+from .errors import ArgumentError, HidlogError, KeyBusy
 from .session import Recording, Session
 
 if TYPE_CHECKING:
@@ -34,6 +34,7 @@ class SecurityKey(Session):
     process       True: the key is a process of its own (`hidlog live`), and `program` is its program's path. False: it
                   is in this process. By default it is in this process where the C library can hold a key.
     private_keys  the private keys by credential id.
+    record        False: nothing is recorded, for very long sessions.
     """
 
     @property
@@ -71,7 +72,11 @@ class SecurityKey(Session):
     def snapshot(self) -> bytes:
         """Returns a snapshot of the credentials, without private keys."""
         with self._changed:
-            return self._engine.snapshot(self.log)
+            if self._process and not self._record:
+                raise HidlogError(
+                    "a key in a process knows its credentials by its recording, and has none (record=False)"
+                )
+            return self._engine.snapshot(self._log)
 
     def _random_bytes(self, count: int) -> bytes:
         return self._random(count)
@@ -142,7 +147,8 @@ class SecurityKey(Session):
         """Ends the session, whose recording is kept."""
         if self._is_open:
             self._is_open = False
-            self._log += self._engine.finish()
+            counts = self._engine.finish()
+            self._log += counts if self._record else b""
             self._ended.append(Recording(self._start, bytes(self._log)))
 
     def close(self) -> None:

@@ -47,6 +47,7 @@ class Session:
         snapshot: bytes = b"",
         private_keys: Mapping[bytes, private_keys.PrivateKey] | None = None,
         program: str | None = None,
+        record: bool = True,
     ):
         if clock not in ("counted", "real") and not callable(clock):
             raise ArgumentError(f"clock is {clock!r}; it has to be 'counted', 'real', or a function of milliseconds")
@@ -56,7 +57,7 @@ class Session:
         self.faults = Faults()
         self._changed = threading.Condition()
         self.presence, self.delay, self.timeout = presence, delay, timeout
-        self._clock, self._random, self._program = clock, random, program
+        self._clock, self._random, self._program, self._record = clock, random, program, record
         self._process = not core.has_held_key() if process is None else process
         self._ended: list[Recording] = []
         self._channels = 0
@@ -277,7 +278,8 @@ class Session:
         if not self._is_open:
             raise KeyEnded("the key is closed")
         text = self._engine.exchange(line)
-        self._log += text
+        if self._record:
+            self._log += text
         return text
 
     # Recordings.
