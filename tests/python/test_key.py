@@ -248,7 +248,8 @@ def test_a_given_private_key_signs(make: Make) -> None:
 
     private = ec.generate_private_key(ec.SECP256R1())
     form = (serialization.Encoding.DER, serialization.PrivateFormat.PKCS8, serialization.NoEncryption())
-    for given in (private, private.private_bytes(*form)):
+    both: list[Any] = [private, private.private_bytes(*form)]
+    for given in both:
         key = make()
         added = key.credentials.add("example.com", b"u", private_key=given)
         assert added.x == private.public_key().public_numbers().x.to_bytes(32, "big")
