@@ -8,7 +8,7 @@ from pathlib import Path
 from typing import Any
 
 import pytest
-from fido2.client import Fido2Client
+from fido2.client import ClientError, Fido2Client
 from fido2.server import Fido2Server
 
 import hidlog
@@ -16,6 +16,7 @@ from hidlog import core
 
 pytest_plugins = ["pytester"]
 ORIGIN = "https://example.com"
+REFUSED = ClientError.ERR
 # The form over the C library is tested where the library has a key that is held.
 FORMS = [True, *([False] if core.has_held_key() else [])]
 
@@ -44,6 +45,12 @@ class Service:
         parts = (found.client_data, found.authenticator_data, found.signature)
         self.server.authenticate_complete(state, credentials, found.credential_id, *parts)
         return found
+
+
+def assert_refused(code: int, status: int | None, ask: Callable[..., Any], *words: Any, **options: Any) -> None:
+    with pytest.raises(ClientError) as caught:
+        ask(*words, **options)
+    assert (caught.value.code, getattr(caught.value.cause, "code", None)) == (code, status)
 
 
 @pytest.fixture(params=FORMS, ids=lambda it: "process" if it else "library")
