@@ -9,8 +9,12 @@ done)
 shellcheck --severity=warning "${shell[@]}"
 mapfile -t python < <(git ls-files -co --exclude-standard '*.py')
 black --quiet --check --line-length 120 "${python[@]}"
-untyped='^(bench|examples|python|tests/(fuzz|python|web))/'
+untyped='^(bench|examples|python/src|tests/(fuzz|python|web))/'
 mapfile -t typed < <(printf '%s\n' "${python[@]}" | grep -Ev "$untyped")
 # One call a file, since two of them may have one name.
 printf '%s\0' "${typed[@]}" | xargs -0 -n 1 -P "$(nproc)" mypy --strict --no-error-summary --ignore-missing-imports \
     --follow-imports=silent --allow-untyped-calls --allow-subclassing-any
+# Packages as a whole: their modules import one another.
+strict=(mypy --strict --no-error-summary --ignore-missing-imports --allow-untyped-calls --allow-subclassing-any)
+"${strict[@]}" python/src/hidlog
+MYPYPATH=python/src:tests/python "${strict[@]}" tests/python/*.py

@@ -3,7 +3,7 @@
 
 from fido2.client import Fido2Client
 from fido2.server import Fido2Server
-from security_key import SecurityKey
+from hidlog import SecurityKey
 
 service = Fido2Server({"id": "example.com", "name": "Example"})
 user = {"id": b"alice", "name": "alice", "displayName": "Alice"}

@@ -1,53 +1,40 @@
 #!/usr/bin/env bash
-# Runs the tests of registration and sign-in. Then hidlog checks each log that they left, and the recorded ones.
+# Installs the package hidlog into a new environment, as README says, and runs the example and its tests there. Then
+# hidlog checks the recorded logs of examples/.
 #
-#     examples/python/run.sh [FOLDER]        the logs are kept in FOLDER; by default nowhere
+#     examples/python/run.sh [FOLDER]        the recordings of failed tests are kept in FOLDER; by default nowhere
 #
-# It needs the Debian packages python3-fido2 and python3-cryptography, and ends with 2 where no interpreter has them.
-# HIDLOG names the program, by default ./hidlog.
+# It needs the Debian packages python3-fido2, python3-cryptography and python3-pytest, and ends with 3 where they are
+# missing. HIDLOG names the program, by default ./hidlog.
 set -euo pipefail
 here=$(cd "$(dirname "${BASH_SOURCE[0]}")" && pwd)
-export HIDLOG=${HIDLOG:-$here/../../hidlog}
-
-python=
-for found in "${PYTHON:-python3}" /usr/bin/python3; do
-    if "$found" -c 'import cryptography, fido2.server; assert fido2.__version__.startswith("0.9")' 2>/dev/null; then
-        python=$found
-        break
-    fi
-done
-if [ -z "$python" ]; then
-    echo "run.sh: no python3 with fido2 0.9 and cryptography: apt-get install python3-fido2 python3-cryptography" >&2
-    exit 2
+HIDLOG=$(realpath "${HIDLOG:-$here/../../hidlog}")
+export HIDLOG PYTHONDONTWRITEBYTECODE=1
+python=/usr/bin/python3
+if ! "$python" -c 'import cryptography, pytest, venv, fido2; assert fido2.__version__.startswith("0.9")' 2>/dev/null; then
+    echo "python-fido2 0.9, pytest or venv is missing (tests/run --install); nothing was run" >&2
+    exit 3
 fi
-
+work=$(mktemp -d)
+trap 'rm -rf "$work"' EXIT
+"$python" "$here/../../python/backend.py" "$work/dist"
+"$python" -m venv --system-site-packages "$work/venv"
+"$work/venv/bin/pip" install --quiet --no-index --no-deps "$work"/dist/*.whl
+(cd "$work" && env -u HIDLOG "$work/venv/bin/python" "$here/first.py" && "$HIDLOG" check <session.log)
+keep=()
 if [ $# -gt 0 ]; then
-    mkdir -p "$1"
-    HIDLOG_LOGS=$(cd "$1" && pwd)
-else
-    HIDLOG_LOGS=$(mktemp -d)
-    trap 'rm -r "$HIDLOG_LOGS"' EXIT
+    keep=(--security-key-log "$1")
 fi
-export HIDLOG_LOGS
+env -u HIDLOG "$work/venv/bin/python" -m pytest -q -p no:cacheprovider "${keep[@]}" "$here"
 
-# The first call proves and builds the program, where that is still to do.
-"$HIDLOG" --help >/dev/null
-"$python" -m unittest discover -s "$here"
-
-# Each log has what the key sends, and is its own replay and its own live session.
-check_logs() {
-    local log load said
-    for log in "$1"/service_*.log; do
-        load=()
-        if [ "${log##*/}" = service_after_restart.log ]; then
-            load=(--load "$1/service.snapshot")
-        fi
-        said=$("$HIDLOG" check "${load[@]}" <"$log")
-        echo "${log##*/}: $said"
-        "$HIDLOG" replay "${load[@]}" <"$log" | cmp - "$log"
-        "$HIDLOG" live "${load[@]}" <"$log" | cmp - "$log"
-    done
-}
-
-check_logs "$HIDLOG_LOGS"
-check_logs "$here/.."
+# Each recorded log has what the key sends, and is its own replay and its own live session.
+for log in "$here"/../service_*.log; do
+    load=()
+    if [ "${log##*/}" = service_after_restart.log ]; then
+        load=(--load "$here/../service.snapshot")
+    fi
+    said=$("$HIDLOG" check "${load[@]}" <"$log")
+    echo "${log##*/}: $said"
+    "$HIDLOG" replay "${load[@]}" <"$log" | cmp - "$log"
+    "$HIDLOG" live "${load[@]}" <"$log" | cmp - "$log"
+done

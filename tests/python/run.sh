@@ -1,5 +1,24 @@
 #!/usr/bin/env bash
-# Tests the commands in Python, over release/libhidlog.so.0. Ends with 3 where python-fido2 is missing.
+# Tests the package hidlog as it is installed: makes the wheel, installs it into a new environment without the
+# toolchain, and runs the tests beside this there. Ends with 3 where a package of Debian is missing.
+#
+#     tests/python/run.sh [WORD ..]        words for pytest, such as -k notes
 set -euo pipefail
-tests=$(cd "$(dirname "${BASH_SOURCE[0]}")/.." && pwd)
-exec "$tests/with_fido2.sh" "$tests/python/test_hidlog.py"
+tests=$(cd "$(dirname "${BASH_SOURCE[0]}")" && pwd)
+top=$tests/../..
+python=/usr/bin/python3
+if ! "$python" -c 'import cryptography, fido2.server, pytest, venv' 2>/dev/null; then
+    echo "python-fido2, pytest or venv is missing (tests/run --install); nothing was run" >&2
+    exit 3
+fi
+work=$(mktemp -d)
+trap 'rm -rf "$work"' EXIT
+"$python" "$top/python/backend.py" "$work/dist"
+"$python" -m venv --system-site-packages "$work/venv"
+"$work/venv/bin/pip" install --quiet --no-index --no-deps "$work"/dist/*.whl
+# The tests are run outside of the clone, so that only the installed package is found.
+cp "$tests"/*.py "$work"
+export HIDLOG_EXAMPLES=$top/examples HIDLOG_DIST=$work/dist
+export PYTHONDONTWRITEBYTECODE=1
+cd "$work"
+env -u PYTHONPATH -u HIDLOG -u HIDLOG_LIBRARY PATH="$work/venv/bin:/usr/bin:/bin" "$work/venv/bin/python" -m pytest -q -p no:cacheprovider "$@" .

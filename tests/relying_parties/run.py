@@ -23,12 +23,12 @@ from typing import Any, Callable, NamedTuple
 
 HERE = Path(__file__).resolve().parent
 TOP = HERE.parent.parent
-sys.path.insert(0, str(TOP / "examples" / "python"))
+sys.path.insert(0, str(TOP / "python" / "src"))
 
-from as_json import data, registration, sign_in, text
 from fido2 import cbor
 from fido2.client import Fido2Client
-from security_key import SecurityKey
+from hidlog import SecurityKey
+from hidlog.webauthn_json import authentication_json, data_of as data, registration_json, text_of as text
 
 ORIGIN, RP_ID = "https://example.com", "example.com"
 Case = dict[str, Any]
@@ -83,7 +83,7 @@ def registered(key: SecurityKey, challenge: bytes, rp_id: str = RP_ID, origin: s
         "origin": ORIGIN,
         "rp_id": RP_ID,
         "challenge": text(challenge),
-        "credential": registration(made),
+        "credential": registration_json(made.client_data, made.attestation_object),
         "public_key": text(cbor.encode(dict(public))),
     }
 
@@ -92,8 +92,9 @@ def signed_in(key: SecurityKey, made: Case, challenge: bytes, rp_id: str = RP_ID
     """Signs in, and returns the case of it, for a service that has seen no sign-in before."""
     asked = {"challenge": challenge, "rpId": rp_id}
     found = client_of(key, origin).get_assertion(asked).get_response(0)
-    case = {**made, "kind": "assertion", "challenge": text(challenge), "counter": 0, "credential": sign_in(found)}
-    return case
+    parts = (found.client_data, found.authenticator_data, found.signature, found.user_handle)
+    answer = authentication_json(found.credential_id, *parts)
+    return {**made, "kind": "assertion", "challenge": text(challenge), "counter": 0, "credential": answer}
 
 
 def changed(case: Case, **members: Any) -> Case:

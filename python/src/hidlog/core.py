@@ -1,0 +1,221 @@
+"""The C library: the commands on logs, and a key that is held (release/hidlog.h). Nothing else knows its functions.
+
+The library is in the package; in a clone it is release/libhidlog.so.0. The variable HIDLOG_LIBRARY names another.
+"""
+
+from __future__ import annotations
+
+import ctypes
+import os
+from functools import lru_cache
+from pathlib import Path
+from typing import Any
+
+from .errors import HidlogError, KeyEnded, MissingPart, SnapshotError
+
+_NAME = "libhidlog.so.0"
+_FAULTS = {
+    -1: "the key was never made, or freed",
+    -2: "the key is made already",
+    -3: "packets wait",
+    -4: "no packet waits",
+    -5: "an argument that there isn't",
+    -6: "the buffer is too small",
+    -7: "work waits",
+    -8: "64 credentials are held",
+    -17: "snapshot refused: 1 (it is no snapshot)",
+    -18: "snapshot refused: 2 (it has more than 64 credentials)",
+    -19: "snapshot refused: 3 (a credential in it is broken)",
+}
+_SNAPSHOT_FAULTS = (-17, -18, -19)
+_PRESENCE = {"granted": 0, "denied": 1, "timeout": 2}
+# enum hidlog_need_kind.
+_NEEDS = ("nothing", "presence", "key", "signature")
+
+
+class Outcome(ctypes.Structure):
+    """struct hidlog_outcome."""
+
+    status: int
+    fault: int
+    line: int
+    packet: int
+    written: int
+    _fields_ = [
+        ("status", ctypes.c_uint32),
+        ("fault", ctypes.c_uint32),
+        ("line", ctypes.c_uint64),
+        ("packet", ctypes.c_uint64),
+        ("written", ctypes.c_uint64),
+    ]
+
+
+class _Key(ctypes.Structure):
+    """struct hidlog_key."""
+
+    _fields_ = [("memory", ctypes.c_void_p), ("state", ctypes.c_uint32)]
+
+
+class _Need(ctypes.Structure):
+    """struct hidlog_need."""
+
+    kind: int
+    signed_len: int
+    _fields_ = [
+        ("kind", ctypes.c_uint32),
+        ("signed_len", ctypes.c_uint32),
+        ("id", ctypes.c_uint8 * 32),
+        ("signed_bytes", ctypes.c_uint8 * 196),
+    ]
+
+
+class HeldCredential(ctypes.Structure):
+    """struct hidlog_credential."""
+
+    rp: bytes
+    id: bytes
+    x: bytes
+    y: bytes
+    user: bytes
+    name: bytes
+    user_len: int
+    name_len: int
+    discoverable: int
+    counter: int
+    _fields_ = [
+        *((it, ctypes.c_uint8 * 32) for it in ("rp", "id", "x", "y")),
+        *((it, ctypes.c_uint8 * 64) for it in ("user", "name")),
+        *((it, ctypes.c_uint32) for it in ("user_len", "name_len", "discoverable", "counter")),
+    ]
+
+
+class _Meters(ctypes.Structure):
+    """struct hidlog_meters."""
+
+    _fields_ = [(it, ctypes.c_uint64) for it in ("requests", "bytes", "steps")] + [
+        (it, ctypes.c_uint32) for it in ("held", "rows", "pending", "zero")
+    ]
+
+
+def library_paths() -> list[Path]:
+    """Returns where the library is looked for, in order."""
+    if named := os.environ.get("HIDLOG_LIBRARY"):
+        return [Path(named)]
+    here = Path(__file__).resolve().parent
+    return [here / _NAME, *(it / "release" / _NAME for it in here.parents[2:3])]
+
+
+@lru_cache(maxsize=None)
+def library() -> ctypes.CDLL:
+    """Returns the C library, which is loaded once."""
+    paths = library_paths()
+    for path in paths:
+        if path.is_file():
+            try:
+                return ctypes.CDLL(str(path))
+            except OSError as error:
+                raise MissingPart(f"{path} can't be loaded here: {error}") from None
+    raise MissingPart(f"the C library is missing: looked for {' and '.join(map(str, paths))}")
+
+
+def run(command: str, log: bytes, snapshot: bytes, capacity: int) -> tuple[Outcome, bytes]:
+    """Runs a command on a whole log, and returns its outcome and what it wrote."""
+    out, outcome, size = ctypes.create_string_buffer(capacity), Outcome(), ctypes.c_size_t
+    function = getattr(library(), f"hidlog_{command}")
+    function(log, size(len(log)), snapshot, size(len(snapshot)), out, size(capacity), ctypes.byref(outcome))
+    return outcome, out.raw[: outcome.written]
+
+
+_AT, _SIZE, _BYTES, _OUT = ctypes.c_uint64, ctypes.c_size_t, ctypes.c_char_p, ctypes.c_void_p
+# What the functions of a key take after the key.
+_KEY_FUNCTIONS: dict[str, list[Any]] = {
+    "make": [_BYTES, _AT, _BYTES, _SIZE],
+    "free": [],
+    "packet": [_AT, _BYTES],
+    "tick": [_AT],
+    "presence": [_AT, ctypes.c_uint32],
+    "new_key": [_AT, _BYTES, _BYTES, _BYTES],
+    "no_key": [_AT],
+    "signature": [_AT, _BYTES, _SIZE],
+    "no_signature": [_AT],
+    "next": [_OUT],
+    "need": [_OUT],
+    "credentials": [],
+    "credential": [_SIZE, _OUT],
+    "meters": [_OUT],
+}
+
+
+@lru_cache(maxsize=None)
+def _key_functions() -> dict[str, Any] | None:
+    """Returns the functions of a key that is held, or None where the library hasn't got them all."""
+    if not hasattr(library(), "hidlog_key_size"):
+        return None
+    found = {}
+    for name, words in _KEY_FUNCTIONS.items():
+        function = getattr(library(), f"hidlog_key_{name}", None)
+        if function is None:
+            return None
+        function.argtypes, function.restype = [_OUT, *words], ctypes.c_int32
+        found[name] = function
+    return found
+
+
+def has_held_key() -> bool:
+    """Returns whether the library has the functions of a key that is held."""
+    return _key_functions() is not None
+
+
+class Handle:
+    """struct hidlog_key with its memory. A call that returns a fault raises."""
+
+    def __init__(self, snapshot: bytes):
+        functions = _key_functions()
+        if functions is None:
+            raise MissingPart("this C library has no key that is held: use SecurityKey(process=True)")
+        self._functions = functions
+        size = library().hidlog_key_size
+        size.restype = _SIZE
+        self._memory = ctypes.create_string_buffer(size() + 16)
+        self._key = _Key((ctypes.addressof(self._memory) + 15) // 16 * 16, 0)
+        self._packet = ctypes.create_string_buffer(64)
+        self.call("make", bytes(16), 0, snapshot, len(snapshot))
+
+    def call(self, name: str, *words: Any) -> int:
+        """Calls a function of the key, and returns its number."""
+        answer: int = self._functions[name](ctypes.byref(self._key), *words)
+        if answer >= 0:
+            return answer
+        text = _FAULTS.get(answer, f"fault {answer}")
+        if answer in _SNAPSHOT_FAULTS:
+            raise SnapshotError(text)
+        raise KeyEnded("the key is closed") if answer == -1 else HidlogError(f"hidlog_key_{name}: {text}")
+
+    def presence(self, at: int, word: str) -> int:
+        """Hands in what the user does."""
+        return self.call("presence", at, _PRESENCE[word])
+
+    def next(self) -> bytes:
+        """Takes the next packet to send."""
+        self.call("next", self._packet)
+        return self._packet.raw
+
+    def need(self) -> tuple[str, bytes, bytes]:
+        """Returns what the key needs, the credential's id, and the bytes to sign."""
+        need = _Need()
+        self.call("need", ctypes.byref(need))
+        return _NEEDS[need.kind], bytes(need.id), bytes(need.signed_bytes)[: need.signed_len]
+
+    def credentials(self) -> list[HeldCredential]:
+        """Returns the credentials, the newest last."""
+        listed = []
+        for place in range(self.call("credentials")):
+            listed.append(HeldCredential())
+            self.call("credential", place, ctypes.byref(listed[-1]))
+        return listed
+
+    def meters(self) -> dict[str, int]:
+        """Returns what the session has held and served, in the order of a log's last line."""
+        meters = _Meters()
+        self.call("meters", ctypes.byref(meters))
+        return {it: getattr(meters, it) for it in ("held", "rows", "pending", "requests", "bytes", "steps")}

@@ -1,0 +1,74 @@
+"""A key as python-fido2's CtapDevice.
+
+It was run with version 0.9. For 1.x and 2.x it follows the documented interface of fido2.ctap.CtapDevice (`call`,
+`capabilities`, `close`, `list_devices`), and wasn't run.
+"""
+
+from __future__ import annotations
+
+from collections.abc import Callable, Iterator
+from typing import Any
+
+from .client import Client
+from .errors import CtapError, MissingPart
+
+try:
+    from fido2.ctap import STATUS, CtapDevice
+    from fido2.ctap import CtapError as FidoError
+except ImportError as missing:
+    raise MissingPart("python-fido2 is missing: pip install fido2, or apt-get install python3-fido2") from missing
+
+
+class DeviceError(CtapError, FidoError):
+    """A transport error of a key, for python-fido2 and for this package."""
+
+    def __init__(self, status: int):
+        FidoError.__init__(self, status)
+        CtapError.__init__(self, status)
+
+
+class KeyDevice(CtapDevice):
+    """A device on a channel of its own."""
+
+    def __init__(self, key: Any):
+        self._client = Client(key)
+
+    def __repr__(self) -> str:
+        return f"KeyDevice(channel {self._client.channel})"
+
+    @property
+    def capabilities(self) -> int:
+        """The flags of the INIT answer."""
+        return self._client.capabilities
+
+    @property
+    def version(self) -> int:
+        """The version of CTAPHID."""
+        return self._client.version
+
+    @property
+    def device_version(self) -> tuple[int, ...]:
+        """The version of the key, three numbers."""
+        return self._client.device_version
+
+    def call(
+        self, cmd: int, data: bytes = b"", event: Any = None, on_keepalive: Callable[[int], None] | None = None
+    ) -> bytes:
+        """Sends a command, and returns the answer. Setting the event cancels it."""
+
+        def seen(status: int) -> None:
+            if on_keepalive:
+                on_keepalive(STATUS(status) if status in list(STATUS) else status)
+
+        try:
+            return self._client.transact(int(cmd), bytes(data), event.is_set if event else lambda: False, seen)
+        except CtapError as error:
+            raise DeviceError(error.status) from None
+
+    def close(self) -> None:
+        """Leaves the key as it is: others may use it."""
+
+    @classmethod
+    def list_devices(cls) -> Iterator[KeyDevice]:
+        """Lists nothing, since keys are made by tests."""
+        return iter(())

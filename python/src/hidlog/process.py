@@ -1,0 +1,108 @@
+"""A key that is a process of its own: `hidlog live`, a line in and lines out. It needs the program."""
+
+from __future__ import annotations
+
+import os
+import shutil
+import subprocess
+import tempfile
+from pathlib import Path
+
+from .errors import KeyEnded, MissingPart, SnapshotError
+
+
+def program_paths() -> list[Path]:
+    """Returns where the program is looked for, in order: HIDLOG, the package, the path, and a clone's ./hidlog."""
+    if named := os.environ.get("HIDLOG"):
+        return [Path(named)]
+    here = Path(__file__).resolve().parent
+    on_path = shutil.which("hidlog")
+    clone = [it / "hidlog" for it in here.parents[2:3] if (it / "release" / "hidlog").is_file()]
+    return [here / "hidlog", *([Path(on_path)] if on_path else []), *clone]
+
+
+def program() -> str:
+    """Returns the path of the program."""
+    paths = program_paths()
+    for path in paths:
+        if path.is_file() and os.access(path, os.X_OK):
+            return str(path.resolve())
+    raise MissingPart(f"hidlog isn't found: it is not {' nor '.join(map(str, paths))}; the variable HIDLOG names it")
+
+
+def _said(errors: bytes) -> str:
+    return errors.decode(errors="replace").strip() or "it said nothing"
+
+
+def snapshot_after(path: str, log: bytes, start: bytes) -> bytes:
+    """Returns a snapshot of the credentials after a log, which the program plays again."""
+    with tempfile.TemporaryDirectory() as folder:
+        words = [path, "replay", "--save", f"{folder}/after"]
+        if start:
+            Path(folder, "start").write_bytes(start)
+            words += ["--load", f"{folder}/start"]
+        ran = subprocess.run(words, input=log, stdout=subprocess.DEVNULL, stderr=subprocess.PIPE, check=False)
+        if ran.returncode:
+            raise SnapshotError(f"hidlog ended with status {ran.returncode}: {_said(ran.stderr)}")
+        return Path(folder, "after").read_bytes()
+
+
+class ProcessKey:
+    """A key in a process of its own."""
+
+    def __init__(self, snapshot: bytes = b"", path: str | None = None):
+        self._start, self._path = snapshot, path or program()
+        self._folder = tempfile.TemporaryDirectory()
+        words = [self._path, "live"]
+        if snapshot:
+            Path(self._folder.name, "start").write_bytes(snapshot)
+            words += ["--load", f"{self._folder.name}/start"]
+        pipe = subprocess.PIPE
+        try:
+            self._process = subprocess.Popen(words, stdin=pipe, stdout=pipe, stderr=pipe)
+        except OSError as error:
+            self._folder.cleanup()
+            raise MissingPart(f"{words[0]} can't be started: {error}") from None
+
+    def exchange(self, line: bytes) -> bytes:
+        """Hands in a line of a log, and returns what `live` writes for it."""
+        assert self._process.stdin and self._process.stdout
+        try:
+            self._process.stdin.write(line + b"\n")
+            self._process.stdin.flush()
+        except (OSError, ValueError):
+            self._raise_ended()
+        lines = [self._read()]
+        # A comment or an empty line is echoed alone.
+        while not line.startswith(b"#") and line and not lines[-1].startswith(b"# need "):
+            lines.append(self._read())
+        return b"".join(lines)
+
+    def snapshot(self, log: bytes) -> bytes:
+        """Returns a snapshot of the credentials after this log, which is the key's so far."""
+        return snapshot_after(self._path, log, self._start)
+
+    def finish(self) -> bytes:
+        """Ends the process, and returns the line of what its session counted."""
+        try:
+            rest, errors = self._process.communicate()
+        except (OSError, ValueError):
+            rest, errors = b"", b""
+        self._folder.cleanup()
+        if self._process.wait():
+            raise KeyEnded(f"hidlog ended with status {self._process.returncode}: {_said(errors)}")
+        return rest
+
+    def _read(self) -> bytes:
+        assert self._process.stdout
+        line = self._process.stdout.readline()
+        if not line:
+            self._raise_ended()
+        return line
+
+    def _raise_ended(self) -> None:
+        """Raises with what the program said at its end."""
+        assert self._process.stderr
+        said = _said(self._process.stderr.read())
+        status = self._process.wait()
+        raise KeyEnded(f"hidlog ended with status {status}: {said}")

@@ -1,0 +1,73 @@
+"""The commands on logs, as functions and by python -m hidlog."""
+
+from __future__ import annotations
+
+import os
+import subprocess
+import sys
+from collections.abc import Callable
+
+import pytest
+
+import hidlog
+from hidlog.process import program
+
+Example = Callable[[str], bytes]
+
+
+@pytest.mark.parametrize("name", ["registration.log", "sign_in.log", "selection.log"])
+@pytest.mark.parametrize("kind", [bytes, bytearray, memoryview])
+def test_a_worked_log_is_its_own_replay(example: Example, name: str, kind: type) -> None:
+    log = example(name)
+    assert hidlog.replay(kind(log)).raise_for_fault().text == log
+    assert hidlog.check(kind(log)).raise_for_fault().text.startswith(b"same ")
+
+
+def test_a_log_on_a_snapshot(example: Example) -> None:
+    log, snapshot = example("sign_in_again.log"), example("example_com.snapshot")
+    assert hidlog.replay(log, memoryview(snapshot)).text == log
+    with pytest.raises(hidlog.LogError, match="^line 4: differs at packet 1$"):
+        hidlog.check(log).raise_for_fault()
+
+
+def test_faults_are_reported() -> None:
+    assert hidlog.quiet(b"t 1\nt x\n") == (b"t 1\n", 1, 1, 2, 0)
+    with pytest.raises(hidlog.LogError, match="^line 1: longer than 255 bytes$"):
+        hidlog.replay(b"#" * 256).raise_for_fault()
+    with pytest.raises(hidlog.SnapshotError, match="^snapshot refused: 1 "):
+        hidlog.replay(b"", b"no snapshot").raise_for_fault()
+
+
+def test_a_text_is_a_type_error() -> None:
+    for command in (hidlog.replay, hidlog.check, hidlog.quiet, hidlog.live):
+        with pytest.raises(TypeError, match="has to be bytes, bytearray or memoryview, not str"):
+            command("t 1\n")  # type: ignore[arg-type]
+
+
+def test_what_is_written_may_be_much_longer_than_the_log(example: Example) -> None:
+    ticks = b"".join(b"t %d\n" % (1000 * it) for it in range(5000))
+    begun = b"\n".join(example("registration.log").splitlines()[:5]) + b"\n"
+    text = hidlog.replay(begun + ticks).raise_for_fault().text
+    # A KEEPALIVE as the work begins, and one at each tick but the first, at the same moment.
+    assert text.count(b"\n< 00000001bb0001") == 5000
+
+
+def ran(*words: str, log: bytes = b"", **variables: str) -> tuple[int, bytes, bytes]:
+    module = [sys.executable, "-m", "hidlog", *words]
+    done = subprocess.run(module, input=log, capture_output=True, env={**os.environ, **variables})
+    return done.returncode, done.stdout, done.stderr
+
+
+@pytest.mark.parametrize("command", ["replay", "check", "quiet", "show"])
+def test_each_command_is_the_program(example: Example, command: str) -> None:
+    for log in (example("sign_in.log"), b"t 1\nt x\n"):
+        theirs = subprocess.run([program(), command], input=log, capture_output=True)
+        assert ran(command, log=log) == (theirs.returncode, theirs.stdout, theirs.stderr)
+
+
+def test_show_without_the_program() -> None:
+    status, _, text = ran("show", HIDLOG="/nowhere/hidlog")
+    assert (status, text.startswith(b"hidlog: show needs the program: hidlog isn't found: it is not /nowhere/")) == (
+        2,
+        True,
+    )

@@ -1,0 +1,156 @@
+"""Credentials, and what outlives a session, in both forms of the key."""
+
+from __future__ import annotations
+
+from collections.abc import Callable
+from dataclasses import replace
+from hashlib import sha256
+from pathlib import Path
+from typing import Any
+
+import pytest
+from conftest import REFUSED, Service, assert_refused
+from fido2.ctap import CtapError
+
+import hidlog
+from hidlog.credentials import write_snapshot
+
+Make = Callable[..., hidlog.SecurityKey]
+
+
+def test_save_and_load(make: Make, tmp_path: Path) -> None:
+    key = make()
+    alice = Service(key).register()
+    Service(key).sign_in([alice])
+    key.save(tmp_path / "key.json")
+    with hidlog.SecurityKey.load(tmp_path / "key.json", process=key._process) as again:
+        assert Service(again).sign_in([alice]).authenticator_data.counter == 2
+        assert list(again.credentials)[0].user_name == "alice"
+    (tmp_path / "wrong").write_text("{}")
+    with pytest.raises(hidlog.ArgumentError, match="isn't what SecurityKey.save writes"):
+        hidlog.SecurityKey.load(tmp_path / "wrong")
+
+
+def test_loss_of_power(make: Make) -> None:
+    key = make()
+    service = Service(key)
+    alice = service.register()
+    key.restart()
+    # The channel is unknown to the key now: CTAPHID, ERR_INVALID_CHANNEL.
+    with pytest.raises(CtapError) as caught:
+        service.client.ctap2.get_info()
+    assert (caught.value.code, str(caught.value)) == (0x0B, "CtapError 0x0B INVALID_CHANNEL")
+    assert Service(key).sign_in([alice]).authenticator_data.counter == 1
+    assert len(key.recordings) == 2
+
+
+def test_credentials(make: Make) -> None:
+    key = make()
+    service = Service(key)
+    alice = service.register()
+    held = key.credentials.get(alice.credential_id)
+    assert held.rp_id_hash == sha256(b"example.com").digest()
+    assert (held.x, held.y) == (alice.public_key[-2], alice.public_key[-3])
+    bob = key.credentials.add("example.com", b"bob", "bob", counter=40)
+    assert [it.user_id for it in key.credentials] == [b"alice", b"bob"]
+    found = service.sign_in([_attested(bob)])
+    assert (found.user_handle, found.authenticator_data.counter) == (b"bob", 41)
+    key.credentials.change(bob.id, counter=7)
+    assert service.sign_in([_attested(bob)]).authenticator_data.counter == 8
+    key.credentials.remove(bob.id)
+    assert service.sign_in([alice]).user_handle == b"alice"
+    key.credentials.clear()
+    assert len(key.credentials) == 0
+    assert_refused(REFUSED.DEVICE_INELIGIBLE, 0x2E, service.sign_in, [alice])
+
+
+def test_an_added_credential_replaces_that_of_its_user(make: Make) -> None:
+    """As a registration does (docs/PROFILE.md, authenticatorMakeCredential). Others stay."""
+    key = make()
+    first = key.credentials.add("example.com", b"alice")
+    other = key.credentials.add("example.org", b"alice")
+    hidden = key.credentials.add("example.com", b"alice", discoverable=False)
+    second = key.credentials.add("example.com", b"alice")
+    assert list(key.credentials) == [other, hidden, second] and first.id != second.id
+    assert key.credentials.of("example.com") == [hidden, second]
+    key.credentials.remove(other.id)
+    assert list(key.credentials) == [hidden, second]
+    with pytest.raises(hidlog.ArgumentError, match="the same relying party and user"):
+        key.credentials.change(hidden.id, discoverable=True)
+    with pytest.raises(hidlog.ArgumentError, match="there is no rp_id to change; there are counter, user_name"):
+        key.credentials.change(hidden.id, rp_id="example.org")
+    with pytest.raises(hidlog.ArgumentError, match="holds a credential with the id"):
+        key.credentials.add("example.com", credential_id=second.id)
+
+
+def test_a_given_private_key_signs(make: Make) -> None:
+    from cryptography.hazmat.primitives import serialization
+    from cryptography.hazmat.primitives.asymmetric import ec
+
+    private = ec.generate_private_key(ec.SECP256R1())
+    form = (serialization.Encoding.DER, serialization.PrivateFormat.PKCS8, serialization.NoEncryption())
+    both: list[Any] = [private, private.private_bytes(*form)]
+    for given in both:
+        key = make()
+        added = key.credentials.add("example.com", b"u", private_key=given)
+        assert added.x == private.public_key().public_numbers().x.to_bytes(32, "big")
+        assert Service(key).sign_in([_attested(added)]).user_handle == b"u"
+    with pytest.raises(hidlog.ArgumentError, match="has to be on P-256"):
+        key.credentials.add("example.com", private_key=ec.generate_private_key(ec.SECP384R1()))
+
+
+def test_credentials_change_only_while_nothing_is_served(make: Make) -> None:
+    key = make(presence=None)
+    hidlog.Client(key)
+    key.write_packet(bytes.fromhex("00000001900001" "0b").ljust(64, b"\0"))
+    with pytest.raises(hidlog.KeyBusy):
+        key.credentials.clear()
+
+
+def _attested(credential: hidlog.Credential) -> Any:
+    from fido2.cose import ES256
+    from fido2.ctap2 import AttestedCredentialData
+
+    public = ES256({1: 2, 3: -7, -1: 1, -2: credential.x, -3: credential.y})
+    return AttestedCredentialData.create(bytes(16), credential.id, public)
+
+
+def test_wrong_credentials_are_refused(make: Make) -> None:
+    key = make()
+    with pytest.raises(hidlog.ArgumentError, match="holds no credential with the id 00"):
+        key.credentials.remove(bytes(32))
+    with pytest.raises(hidlog.ArgumentError, match="counter is -1; it has to be 0 to 4294967295"):
+        key.credentials.add("example.com", counter=-1)
+    with pytest.raises(hidlog.ArgumentError, match="user_id has 65 bytes; it has at most 64"):
+        key.credentials.add("example.com", bytes(65))
+    made = key.credentials.add("example.com", b"alice")
+    full = [replace(made, id=bytes([it]) * 32, user_id=bytes([it])) for it in range(64)]
+    with make(snapshot=write_snapshot(full)) as other:
+        assert list(other.credentials) == full
+        with pytest.raises(hidlog.ArgumentError, match="the key holds 64 credentials, and that is the most"):
+            other.credentials.add("example.com", b"one more")
+        # A registration past the capacity: CTAP 2.1, CTAP2_ERR_KEY_STORE_FULL.
+        assert_refused(REFUSED.CONFIGURATION_UNSUPPORTED, 0x28, Service(other).register)
+
+
+def test_the_clock_goes_on_as_credentials_change(make: Make) -> None:
+    key = make()
+    key.pass_time(20_000)
+    key.credentials.add("example.com", b"u")
+    assert 20_000 < key.moment < 20_100
+    key.pass_time(5_000)
+    assert 25_000 < key.moment < 25_100
+    key.restart()
+    assert key.moment == 0
+
+
+def test_without_a_recording(make: Make) -> None:
+    key = make(record=False)
+    alice = Service(key).register()
+    assert Service(key).sign_in([alice]).authenticator_data.counter == 1
+    assert key.log == b""
+    if key._process:
+        with pytest.raises(hidlog.HidlogError, match="record=False"):
+            len(key.credentials)
+    else:
+        assert key.credentials.get(alice.credential_id).counter == 1
