@@ -1,0 +1,135 @@
+#!/usr/bin/env bash
+# Makes the packages from release/, docs/ and the Python package, with no toolchain: packages/build.sh FOLDER
+#
+#     hidlog-VERSION-linux-x86_64.tar.gz   the program, the C library, its header, the man page
+#     hidlog_VERSION_amd64.deb             the program and its man page
+#     libhidlog0_VERSION_amd64.deb         the shared library
+#     libhidlog-dev_VERSION_amd64.deb      the header, the static library, and what pkg-config reads
+#     hidlog-VERSION-*.whl, .tar.gz        the Python package
+#
+# The same release/ gives the same bytes. It needs tar, gzip, dpkg-deb and Python 3.11.
+set -euo pipefail
+[ $# = 1 ] || { echo "usage: packages/build.sh FOLDER" >&2; exit 2; }
+top=$(cd "$(dirname "${BASH_SOURCE[0]}")/.." && pwd)
+mkdir -p "$1"
+to=$(cd "$1" && pwd)
+for tool in dpkg-deb python3 gzip tar; do
+    command -v "$tool" >/dev/null || { echo "packages: $tool is missing; nothing was made" >&2; exit 3; }
+done
+(cd "$top/release" && sha256sum --quiet --check SHA256SUMS) || { echo "packages: release/ isn't whole" >&2; exit 1; }
+version=$(sed -n 's/^version: //p' "$top/release/BUILD")
+# One moment for every file, so that the bytes don't depend on when this is run: that of the man page's date.
+SOURCE_DATE_EPOCH=$(date -u -d "$(sed -n 's/^\.Dd //p' "$top/docs/hidlog.1")" +%s)
+export SOURCE_DATE_EPOCH
+maintainer="Cogtzil maintainers <maintainers@users.noreply.cogtzil.example>"
+libraries=usr/lib/x86_64-linux-gnu
+room=$(mktemp -d)
+trap 'rm -rf "$room"' EXIT
+umask 022
+
+put() {
+    install -D -m "$1" "$top/$2" "$3"
+}
+
+# The tarball: everything in one folder, to be unpacked anywhere.
+make_tarball() {
+    local folder=hidlog-$version
+    put 755 release/hidlog "$room/$folder/bin/hidlog"
+    put 644 release/libhidlog.a "$room/$folder/lib/libhidlog.a"
+    put 755 release/libhidlog.so.0 "$room/$folder/lib/libhidlog.so.0"
+    put 644 release/hidlog.h "$room/$folder/include/hidlog.h"
+    put 644 docs/hidlog.1 "$room/$folder/share/man/man1/hidlog.1"
+    for name in LICENSE-APACHE LICENSE-MIT CHANGELOG.md release/BUILD; do
+        put 644 "$name" "$room/$folder/$(basename "$name")"
+    done
+    tar -C "$room" --sort=name --owner=0 --group=0 --numeric-owner --mtime="@$SOURCE_DATE_EPOCH" -cf - "$folder" |
+        gzip -9n >"$to/$folder-linux-x86_64.tar.gz"
+}
+
+# What every Debian package has: its licence and its changelog.
+put_common() {
+    local docs=$room/$1/usr/share/doc/$1
+    mkdir -p "$docs"
+    {
+        echo "Format: https://www.debian.org/doc/packaging-manuals/copyright-format/1.0/"
+        echo "Upstream-Name: hidlog"
+        echo
+        echo "Files: *"
+        echo "Copyright: 2026 Cogtzil maintainers"
+        echo "License: Apache-2.0 or Expat"
+        echo
+        echo "License: Apache-2.0"
+        echo " On Debian systems the text is in /usr/share/common-licenses/Apache-2.0."
+        echo
+        echo "License: Expat"
+        sed 1,4d "$top/LICENSE-MIT" | sed 's/^$/./; s/^/ /'
+    } >"$docs/copyright"
+    {
+        echo "hidlog ($version) unstable; urgency=low"
+        echo
+        echo "  * The release $version: see the file CHANGELOG.md of the sources."
+        echo
+        echo " -- $maintainer  $(date -u -R -d "@$SOURCE_DATE_EPOCH")"
+    } | gzip -9n >"$docs/changelog.gz"
+}
+
+# Says to lintian why something is as it is: override NAME WHY TAG
+override() {
+    mkdir -p "$room/$1/usr/share/lintian/overrides"
+    printf '# %s\n%s: %s\n' "$2" "$1" "$3" >"$room/$1/usr/share/lintian/overrides/$1"
+}
+
+# Makes one package of what was put: pack NAME SECTION DEPENDS SUMMARY TEXT
+pack() {
+    local root=$room/$1
+    put_common "$1"
+    mkdir -p "$root/DEBIAN"
+    {
+        printf '%s\n' "Package: $1" "Source: hidlog" "Version: $version" "Architecture: amd64" "Maintainer: $maintainer"
+        printf '%s\n' "Section: $2" "Priority: optional" "Installed-Size: $(du -sk --apparent-size "$root/usr" | cut -f1)"
+        [ -z "$3" ] || echo "Depends: $3"
+        printf 'Description: %s\n %s\n' "$4" "$5"
+    } >"$root/DEBIAN/control"
+    (cd "$root" && find usr -type f -print0 | sort -z | xargs -0 md5sum >DEBIAN/md5sums)
+    find "$root" -exec touch -h -d "@$SOURCE_DATE_EPOCH" {} +
+    dpkg-deb --root-owner-group -Zxz --build "$root" "$to/$1_${version}_amd64.deb" >/dev/null
+}
+
+make_program() {
+    put 755 release/hidlog "$room/hidlog/usr/bin/hidlog"
+    put 644 docs/hidlog.1 "$room/hidlog/usr/share/man/man1/hidlog.1"
+    gzip -9n "$room/hidlog/usr/share/man/man1/hidlog.1"
+    override hidlog "It runs on any Linux, also where the C library is another." \
+        "statically-linked-binary [usr/bin/hidlog]"
+    pack hidlog utils "" "FIDO2 security key as a program, for tests" \
+        "It plays, checks and shows logs of sessions of a security key (CTAP 2.1)."
+}
+
+make_library() {
+    put 644 release/libhidlog.so.0 "$room/libhidlog0/$libraries/libhidlog.so.0"
+    override libhidlog0 "It calls memcpy, memmove and memset of the program that loads it." \
+        "shared-library-lacks-prerequisites [$libraries/libhidlog.so.0]"
+    mkdir -p "$room/libhidlog0/DEBIAN"
+    echo "libhidlog 0 libhidlog0 (>= $version)" >"$room/libhidlog0/DEBIAN/shlibs"
+    echo "activate-noawait ldconfig" >"$room/libhidlog0/DEBIAN/triggers"
+    pack libhidlog0 libs "" "FIDO2 security key as a library, for tests" \
+        "A key that a C program holds: one input a call, packets and needs out."
+}
+
+make_development() {
+    put 644 release/hidlog.h "$room/libhidlog-dev/usr/include/hidlog.h"
+    put 644 release/libhidlog.a "$room/libhidlog-dev/$libraries/libhidlog.a"
+    ln -s libhidlog.so.0 "$room/libhidlog-dev/$libraries/libhidlog.so"
+    mkdir -p "$room/libhidlog-dev/$libraries/pkgconfig"
+    sed -e "s|^prefix=.*|prefix=/usr|" -e "s|^Cflags:.*|Cflags:|" -e "s|^Libs:.*|Libs: -lhidlog|" \
+        "$top/release/hidlog.pc" >"$room/libhidlog-dev/$libraries/pkgconfig/hidlog.pc"
+    pack libhidlog-dev libdevel "libhidlog0 (= $version)" "FIDO2 security key as a library, header and static library" \
+        "What a C program needs to be built with libhidlog."
+}
+
+make_tarball
+make_program
+make_library
+make_development
+python3 "$top/python/backend.py" "$to" >/dev/null
+(cd "$to" && sha256sum ./*"$version"* >SHA256SUMS && cat SHA256SUMS)
