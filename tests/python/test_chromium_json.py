@@ -1,0 +1,180 @@
+"""JSON of WebAuthn Level 3, against what Chromium makes of it and writes, by chromedriver."""
+
+from __future__ import annotations
+
+import json
+import shutil
+import socket
+import subprocess
+import threading
+import time
+import urllib.request
+from base64 import urlsafe_b64encode
+from collections.abc import Iterator
+from http.server import BaseHTTPRequestHandler, ThreadingHTTPServer
+from typing import Any
+
+import pytest
+from test_json import CREATION, REQUEST
+
+from hidlog import webauthn_json
+
+# Returns an object of the browser's with each buffer as {"bytes": base64url}.
+SHOW = """
+const show = (value) => {
+    if (value instanceof ArrayBuffer || ArrayBuffer.isView(value)) {
+        const bytes = new Uint8Array(value.buffer ?? value, value.byteOffset ?? 0, value.byteLength);
+        const text = btoa(String.fromCharCode(...bytes));
+        return { bytes: text.replaceAll("+", "-").replaceAll("/", "_").replaceAll("=", "") };
+    }
+    if (Array.isArray(value)) {
+        return value.map(show);
+    }
+    return value && typeof value === "object"
+        ? Object.fromEntries(Object.entries(value).map(([name, it]) => [name, show(it)])) : value;
+};
+"""
+PARSE = SHOW + "return show(PublicKeyCredential[arguments[0]](arguments[1]));"
+SIGN_UP_AND_IN = """
+const done = arguments[arguments.length - 1];
+(async () => {
+    const parts = async (credential, names) => ({
+        json: credential.toJSON(),
+        attachment: credential.authenticatorAttachment,
+        extensions: credential.getClientExtensionResults(),
+        transports: credential.response.getTransports?.(),
+        rawId: show(credential.rawId),
+        ...Object.fromEntries(names.map((name) => [name, show(credential.response[name])])),
+    });
+    const made = await navigator.credentials.create({ publicKey: {
+        challenge: new Uint8Array(32),
+        rp: { id: "localhost", name: "A service" },
+        user: { id: Uint8Array.of(7), name: "ann", displayName: "Ann" },
+        pubKeyCredParams: [{ type: "public-key", alg: -7 }],
+        authenticatorSelection: { residentKey: "required" },
+        extensions: { credProps: true },
+    } });
+    const found = await navigator.credentials.get({ publicKey: { challenge: new Uint8Array(32), rpId: "localhost" } });
+    return {
+        made: await parts(made, ["clientDataJSON", "attestationObject"]),
+        found: await parts(found, ["clientDataJSON", "authenticatorData", "signature", "userHandle"]),
+    };
+})().then(done, (error) => done({ error: String(error) }));
+"""
+
+
+class Page(BaseHTTPRequestHandler):
+    """An empty page."""
+
+    def do_GET(self) -> None:
+        """Answers any path."""
+        self.send_response(200)
+        self.send_header("Content-Type", "text/html")
+        self.end_headers()
+
+    def log_message(self, *_: Any) -> None:
+        """Says nothing of each request."""
+
+
+class Driver:
+    """A session of chromedriver."""
+
+    def __init__(self, port: int):
+        self.url = f"http://127.0.0.1:{port}/session"
+        options = {"args": ["--headless=new", "--no-sandbox"]}
+        started = self.call("", {"capabilities": {"alwaysMatch": {"goog:chromeOptions": options}}})
+        self.url += f"/{started['sessionId']}"
+
+    def call(self, path: str, given: Any, method: str = "POST") -> Any:
+        """Calls a command of WebDriver and returns its value."""
+        body = json.dumps(given).encode() if method == "POST" else None
+        kind = {"Content-Type": "application/json"}
+        request = urllib.request.Request(self.url + path, body, kind, method=method)
+        with urllib.request.urlopen(request, timeout=60) as answer:
+            return json.load(answer)["value"]
+
+    def run(self, script: str, *words: Any, waits: bool = False) -> Any:
+        """Runs a script in the page."""
+        return self.call(f"/execute/{'async' if waits else 'sync'}", {"script": script, "args": words})
+
+
+@pytest.fixture(scope="module")
+def browser() -> Iterator[Driver]:
+    """A page of a secure origin, with Chromium's own virtual authenticator."""
+    if not shutil.which("chromedriver"):
+        pytest.skip("chromedriver is missing (apt-get install chromium-driver)")
+    server = ThreadingHTTPServer(("127.0.0.1", 0), Page)
+    threading.Thread(target=server.serve_forever, daemon=True).start()
+    with socket.socket() as free:
+        free.bind(("127.0.0.1", 0))
+        port = free.getsockname()[1]
+    process = subprocess.Popen(["chromedriver", f"--port={port}"], stdout=subprocess.DEVNULL, stderr=subprocess.DEVNULL)
+    try:
+        time.sleep(1)
+        driver = Driver(port)
+        driver.call("/url", {"url": f"http://localhost:{server.server_address[1]}/"})
+        yield driver
+        driver.call("", None, "DELETE")
+    finally:
+        process.terminate()
+        process.wait()
+        server.shutdown()
+
+
+def shown(value: Any) -> Any:
+    """Returns a value with its bytes as the script shows them."""
+    if isinstance(value, bytes):
+        return {"bytes": urlsafe_b64encode(value).rstrip(b"=").decode()}
+    if isinstance(value, dict):
+        return {name: shown(it) for name, it in value.items()}
+    return [shown(it) for it in value] if isinstance(value, list) else value
+
+
+def known(ours: Any, theirs: Any) -> Any:
+    """Returns what Chromium keeps of ours: without members that it doesn't know, and with its defaults of false."""
+    if isinstance(theirs, dict) and isinstance(ours, dict):
+        defaults = {name: it for name, it in theirs.items() if it is False}
+        return {**defaults, **{name: known(it, theirs[name]) for name, it in ours.items() if name in theirs}}
+    if isinstance(theirs, list) and isinstance(ours, list) and len(ours) == len(theirs):
+        return [known(a, b) for a, b in zip(ours, theirs)]
+    return ours
+
+
+def test_creation_options_are_what_chromium_makes_of_them(browser: Driver) -> None:
+    theirs = browser.run(PARSE, "parseCreationOptionsFromJSON", CREATION)
+    ours = shown(webauthn_json.creation_options(CREATION))
+    assert known(ours, theirs) == theirs
+    assert {"rp", "user", "challenge", "pubKeyCredParams", "excludeCredentials", "extensions"} <= set(theirs)
+
+
+def test_request_options_are_what_chromium_makes_of_them(browser: Driver) -> None:
+    theirs = browser.run(PARSE, "parseRequestOptionsFromJSON", REQUEST)
+    ours = shown(webauthn_json.request_options(REQUEST))
+    assert known(ours, theirs) == theirs
+    assert {"challenge", "rpId", "allowCredentials", "extensions"} <= set(theirs)
+
+
+def test_answers_are_what_chromium_writes(browser: Driver) -> None:
+    key = {"protocol": "ctap2", "transport": "usb", "hasResidentKey": True, "isUserConsenting": True}
+    key |= {"hasUserVerification": True, "isUserVerified": True}
+    browser.call("/webauthn/authenticator", key)
+    answer = browser.run(SHOW + SIGN_UP_AND_IN, waits=True)
+    assert "error" not in answer, answer
+    made, found = answer["made"], answer["found"]
+    data = {
+        name: webauthn_json.data_of(it["bytes"]) for name, it in found.items() if isinstance(it, dict) and "bytes" in it
+    }
+    client_data = webauthn_json.data_of(made["clientDataJSON"]["bytes"])
+    attestation = webauthn_json.data_of(made["attestationObject"]["bytes"])
+    assert made["json"] == webauthn_json.registration_json(
+        client_data, attestation, made["extensions"], tuple(made["transports"]), made["attachment"]
+    )
+    assert found["json"] == webauthn_json.authentication_json(
+        data["rawId"],
+        data["clientDataJSON"],
+        data["authenticatorData"],
+        data["signature"],
+        data["userHandle"],
+        found["extensions"],
+        found["attachment"],
+    )
