@@ -1,4 +1,5 @@
-//! The calls on a key, as functions of C.
+//! The calls on a key, as functions of C (hidlog.h). Each returns a number of its own, or a fault below 0 that leaves
+//! the key as it was (fault.rt).
 ghost use Rattle.std.specs.Prelude.{◌≡◌, None, Some, option_map};
 ghost use Rattle.token_session.specs.declared.input.Input.TheVariants as inputs;
 ghost use Rattle.hidlog_c.specs.Held.{held};
@@ -57,7 +58,7 @@ pub extern "C" fn hidlog_key_make(key: &mut Key, aaguid: &[u8; 16], at: u64, sna
     }
 }
 
-/// Time passes.
+/// Lets time pass to `at`, in milliseconds. Returns how many packets wait to be sent.
 #[unsafe(no_mangle)]
 pub extern "C" fn hidlog_key_tick(key: &mut Key, at: u64) -> i32
     ensures { Answers (held key.old) (held key.new) (record { at = at; input = inputs.Tick }) result }
@@ -65,7 +66,7 @@ pub extern "C" fn hidlog_key_tick(key: &mut Key, at: u64) -> i32
     key.take(at, Input::Tick)
 }
 
-/// A packet came from a host.
+/// Takes a packet that came from a host at `at`. Returns how many packets wait to be sent.
 #[unsafe(no_mangle)]
 pub extern "C" fn hidlog_key_packet(key: &mut Key, at: u64, packet: &[u8; 64]) -> i32
     ensures { Answers (held key.old) (held key.new)
@@ -74,7 +75,7 @@ pub extern "C" fn hidlog_key_packet(key: &mut Key, at: u64, packet: &[u8; 64]) -
     key.take(at, Input::Packet(Packet(*packet)))
 }
 
-/// Takes the next packet to send.
+/// Takes the next packet to send, and returns how many wait after it.
 #[unsafe(no_mangle)]
 pub extern "C" fn hidlog_key_next(key: &mut Key, packet: &mut [u8; 64]) -> i32
     ensures { Sends (held key.old) (held key.new) (packet.old, packet.new) result }
@@ -82,7 +83,7 @@ pub extern "C" fn hidlog_key_next(key: &mut Key, packet: &mut [u8; 64]) -> i32
     key.next(packet)
 }
 
-/// The user answered a test of presence: 0 consents, 1 refuses, 2 didn't answer in time.
+/// Takes the reply of a test of user presence: 0 the user consents, 1 refuses, 2 didn't answer in time.
 #[unsafe(no_mangle)]
 pub extern "C" fn hidlog_key_presence(key: &mut Key, at: u64, presence: u32) -> i32
     ensures { AnswersWord (held key.old) (held key.new) at (option_map inputs.Presence (presence_of presence)) result }
@@ -93,7 +94,7 @@ pub extern "C" fn hidlog_key_presence(key: &mut Key, at: u64, presence: u32) -> 
     }
 }
 
-/// A new key pair for the credential that is being made: its id, and the point of its public key.
+/// Takes a new key pair for the credential that is being made: its id, and the point of its public key.
 #[unsafe(no_mangle)]
 pub extern "C" fn hidlog_key_new_key(
     key: &mut Key,
@@ -113,7 +114,7 @@ pub extern "C" fn hidlog_key_new_key(
     key.take(at, Input::Key(Some(new_key)))
 }
 
-/// No key pair can be made.
+/// Takes it that no key pair can be made.
 #[unsafe(no_mangle)]
 pub extern "C" fn hidlog_key_no_key(key: &mut Key, at: u64) -> i32
     ensures { Answers (held key.old) (held key.new) (record { at = at; input = inputs.Key None }) result }
@@ -121,7 +122,7 @@ pub extern "C" fn hidlog_key_no_key(key: &mut Key, at: u64) -> i32
     key.take(at, Input::Key(None))
 }
 
-/// A signature over the bytes to sign.
+/// Takes a signature over the bytes to sign, 1 to 72 bytes.
 #[unsafe(no_mangle)]
 pub extern "C" fn hidlog_key_signature(key: &mut Key, at: u64, signature: &[u8]) -> i32
     ensures { AnswersWord (held key.old) (held key.new) at (signature_input signature.now) result }
@@ -132,7 +133,7 @@ pub extern "C" fn hidlog_key_signature(key: &mut Key, at: u64, signature: &[u8])
     }
 }
 
-/// No signature can be made.
+/// Takes it that no signature can be made.
 #[unsafe(no_mangle)]
 pub extern "C" fn hidlog_key_no_signature(key: &mut Key, at: u64) -> i32
     ensures { Answers (held key.old) (held key.new) (record { at = at; input = inputs.Signature None }) result }

@@ -52,7 +52,7 @@ impl Key {
         self.memory.device().take(at, input)
     }
 
-    /// Returns why an argument that there isn't is refused.
+    /// Returns the fault of a call whose argument isn't one of those that there are.
     pub fn refuse(&self) -> i32
         ensures { result ≡ refusal_of (held self.now) }
     {
