@@ -1,6 +1,6 @@
-//! The commands on session logs as functions of C: a log and a snapshot in, a text and an outcome out
-//! (hidlog.h). The log is the state: nothing is kept between two calls, and nothing is allocated. The same
-//! source makes the WebAssembly module of the web page (release/build.sh).
+//! A security key as functions of C (hidlog.h): a key that is held, with one input a call (`calls`), and the commands on
+//! session logs, from a log and a snapshot to a text and an outcome. Nothing is allocated. The same source makes the
+//! WebAssembly module of the web page (release/build.sh).
 #![tactic(auto)]
 
 mod calls;
