@@ -64,6 +64,106 @@ void hidlog_check(const uint8_t *log, size_t log_len, const uint8_t *snapshot, s
 void hidlog_quiet(const uint8_t *log, size_t log_len, const uint8_t *snapshot, size_t snapshot_len, uint8_t *out,
                   size_t room, struct hidlog_outcome *outcome);
 
+/* ---- A key that is held: state in, one input, packets out --------------------------------------------------------
+ *
+ * struct hidlog_key owns a session in memory of the caller's. Begin with a struct of zeros, set `memory` to
+ * hidlog_key_size() bytes of your own, aligned to 16, and call hidlog_key_make. From then on hand it one input a call,
+ * and take what it sends with hidlog_key_next until none waits. Nothing is allocated. One call at a time for a key; two
+ * keys are independent. The struct and its memory are neither copied, moved, read nor written while it is made (the
+ * struct may be handed to another thread under a lock).
+ *
+ * A call returns a number of its own (>= 0) or a fault (< 0), and a call that returns a fault leaves the key as it
+ * was. No pointer may be null. Moments are milliseconds; one that is earlier than the latest counts as the latest.
+ *
+ * hidlog_key_make takes 165 kB of the stack, hidlog_key_lines 40 kB, each other call on a key under 20 kB (x86-64); a
+ * function on a whole log takes 185 kB. */
+
+struct hidlog_key {
+    void *memory;      /* hidlog_key_size() bytes, aligned to 16 */
+    uint32_t state;    /* 0 at first; written by the calls */
+};
+
+enum hidlog_key_fault {
+    HIDLOG_KEY_NOT_MADE = -1,       /* the key was never made, or freed */
+    HIDLOG_KEY_MADE = -2,           /* hidlog_key_make of a key that is made */
+    HIDLOG_KEY_PACKETS_WAIT = -3,   /* take the packets that wait first */
+    HIDLOG_KEY_NO_PACKET = -4,      /* hidlog_key_next: none waits */
+    HIDLOG_KEY_BAD_ARGUMENT = -5,   /* a presence, a length or a place that there isn't */
+    HIDLOG_KEY_NOT_SNAPSHOT = -17,  /* hidlog_key_make: the bytes are no snapshot of versions 1 and 2 */
+    HIDLOG_KEY_TOO_MANY_ROWS = -18, /* hidlog_key_make: over 64 rows */
+    HIDLOG_KEY_ROW_BROKEN = -19     /* hidlog_key_make: a row doesn't hold what a row holds */
+};
+
+/* How many bytes a key takes. */
+size_t hidlog_key_size(void);
+
+/* Makes a key that is switched on at `at`, with the credentials of a snapshot (0 bytes: none). Returns 0. */
+int32_t hidlog_key_make(struct hidlog_key *key, const uint8_t aaguid[16], uint64_t at, const uint8_t *snapshot,
+                        size_t snapshot_len);
+
+/* Ends a key. Its memory is the caller's again. Returns 0. */
+int32_t hidlog_key_free(struct hidlog_key *key);
+
+/* One input each. Returns how many packets wait to be sent then, 0 to 130. */
+int32_t hidlog_key_packet(struct hidlog_key *key, uint64_t at, const uint8_t packet[64]);
+int32_t hidlog_key_tick(struct hidlog_key *key, uint64_t at);
+enum hidlog_presence { HIDLOG_GRANTED = 0, HIDLOG_DENIED = 1, HIDLOG_TIMED_OUT = 2 };
+int32_t hidlog_key_presence(struct hidlog_key *key, uint64_t at, uint32_t presence);
+int32_t hidlog_key_new_key(struct hidlog_key *key, uint64_t at, const uint8_t id[32], const uint8_t x[32],
+                           const uint8_t y[32]);
+int32_t hidlog_key_no_key(struct hidlog_key *key, uint64_t at);
+int32_t hidlog_key_signature(struct hidlog_key *key, uint64_t at, const uint8_t *signature, size_t signature_len); /* 1 to 72 bytes, DER */
+int32_t hidlog_key_no_signature(struct hidlog_key *key, uint64_t at);
+
+/* Returns how many packets wait. */
+int32_t hidlog_key_waiting(struct hidlog_key *key);
+
+/* Takes the next packet to send. Returns how many wait after it, or HIDLOG_KEY_NO_PACKET. */
+int32_t hidlog_key_next(struct hidlog_key *key, uint8_t packet[64]);
+
+/* What the key needs of its caller before its work goes on. */
+enum hidlog_need_kind { HIDLOG_NEED_NOTHING = 0, HIDLOG_NEED_PRESENCE = 1, HIDLOG_NEED_KEY = 2, HIDLOG_NEED_SIGNATURE = 3 };
+struct hidlog_need {
+    uint32_t kind;         /* enum hidlog_need_kind */
+    uint32_t signed_len;   /* at HIDLOG_NEED_SIGNATURE how many bytes are to sign, 1 to 196; else 0 */
+    uint8_t id[32];        /* at HIDLOG_NEED_SIGNATURE the credential's id; else zeros */
+    uint8_t signed_bytes[196]; /* the bytes to sign (ES256: hash with SHA-256, sign, DER), zeros after them */
+};
+/* Writes it. Returns its kind. */
+int32_t hidlog_key_need(struct hidlog_key *key, struct hidlog_need *need);
+
+/* A credential: what the key knows of it, without its private key. */
+struct hidlog_credential {
+    uint8_t rp[32];        /* the SHA-256 hash of the RP id */
+    uint8_t id[32];
+    uint8_t x[32];         /* the public key's point on P-256 */
+    uint8_t y[32];
+    uint8_t user[64];      /* the user handle, zeros after it */
+    uint8_t name[64];      /* the user's name in UTF-8, zeros after it */
+    uint32_t user_len;     /* 0 to 64 */
+    uint32_t name_len;     /* 0 to 64 */
+    uint32_t discoverable; /* 0 or 1 */
+    uint32_t counter;      /* the signature counter */
+};
+/* How many credentials are held, 0 to 64. */
+int32_t hidlog_key_credentials(struct hidlog_key *key);
+/* Writes the one at this place, from 0. Returns 0, or HIDLOG_KEY_BAD_ARGUMENT where there is none. */
+int32_t hidlog_key_credential(struct hidlog_key *key, size_t place, struct hidlog_credential *credential);
+/* How many assertions wait for authenticatorGetNextAssertion, 0 to 64. */
+int32_t hidlog_key_pending(struct hidlog_key *key);
+
+struct hidlog_meters { uint64_t requests, bytes, steps; uint32_t held, rows, pending, zero; };
+/* Writes what the session has held and served (docs/LOG_FORMAT.md, the last line). Returns 0. */
+int32_t hidlog_key_meters(struct hidlog_key *key, struct hidlog_meters *meters);
+
+/* Plays lines of a log (each with its line feed) and writes what `hidlog_live` writes for them to the front of `out`,
+ * without the last line that counts: so a recording is written as it happens. 18,000 bytes are enough for one line. What
+ * came of it is in *outcome, with lines counted from 1 in these lines; at a fault the lines before the faulty one were
+ * played. Where the buffer is too small (fault 5) the last line was played, and only the front of its text is written.
+ * Returns the outcome's status, 0 or 1. */
+int32_t hidlog_key_lines(struct hidlog_key *key, const uint8_t *log, size_t log_len, uint8_t *out, size_t room,
+                         struct hidlog_outcome *outcome);
+
 #ifdef __cplusplus
 }
 #endif
