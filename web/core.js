@@ -6,6 +6,9 @@
 (() => {
     const OUTCOME_BYTES = 32;
     const WRITE_FAULT = 5;
+    const PAGE = 65536;
+    // No more memory than that is asked of the browser.
+    const MOST = 128 * 1024 * 1024;
 
     const fromBase64 = (text) => Uint8Array.from(atob(text), (c) => c.charCodeAt(0));
 
@@ -29,14 +32,28 @@
         return texts[fault];
     };
 
-    /** The module's exports. Its memory doesn't grow. */
+    /** The module's exports. Its memory grows with what it is handed. */
     class Core {
         constructor(exports) {
             this.exports = exports;
             this.base = aligned(Number(exports.__heap_base.value));
-            this.end = exports.memory.buffer.byteLength;
-            this.bytes = new Uint8Array(exports.memory.buffer);
-            this.outcome = new DataView(exports.memory.buffer, this.base, OUTCOME_BYTES);
+            this.look();
+        }
+
+        /** Looks at the memory anew, whose buffer is another one after it has grown. */
+        look() {
+            const { buffer } = this.exports.memory;
+            this.bytes = new Uint8Array(buffer);
+            this.outcome = new DataView(buffer, this.base, OUTCOME_BYTES);
+        }
+
+        /** Makes the memory reach to this place. */
+        grow(end) {
+            const pages = Math.ceil((end - this.bytes.length) / PAGE);
+            if (pages > 0) {
+                this.exports.memory.grow(pages);
+                this.look();
+            }
         }
 
         number(at) {
@@ -48,10 +65,11 @@
             const logAt = this.base + OUTCOME_BYTES;
             const snapshotAt = aligned(logAt + log.length);
             const outAt = aligned(snapshotAt + snapshot.length);
-            const room = Math.min(wanted, this.end - outAt);
+            const room = Math.min(wanted, MOST - outAt);
             if (room < 0) {
                 throw new Error("the log is too long");
             }
+            this.grow(outAt + room);
             this.bytes.set(log, logAt);
             this.bytes.set(snapshot, snapshotAt);
             this.exports[`hidlog_${command}`](
@@ -71,7 +89,7 @@
         run(command, log, snapshot = new Uint8Array(0)) {
             let room = 2 * log.length + Math.min(6 * log.length, 1024 * 1024) + 8192;
             let outcome = this.call(command, log, snapshot, room);
-            while (outcome.fault === WRITE_FAULT && outcome.status === 1 && room < this.end) {
+            while (outcome.fault === WRITE_FAULT && outcome.status === 1 && room < MOST) {
                 room *= 4;
                 outcome = this.call(command, log, snapshot, room);
             }
