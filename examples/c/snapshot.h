@@ -1,0 +1,14 @@
+// The credentials of a held key as a snapshot, which hidlog_key_make takes: the canonical CBOR that docs/LOG_FORMAT.md
+// names, version 2.
+#ifndef SNAPSHOT_H
+#define SNAPSHOT_H
+
+#include "hidlog.h"
+
+// A credential takes at most 290 bytes, and there are at most 64.
+enum { SNAPSHOT_MOST = 20000 };
+
+// Writes the snapshot and returns its length, or 0 where the key has no credentials or isn't made.
+size_t snapshot_write(struct hidlog_key *key, uint8_t snapshot[SNAPSHOT_MOST]);
+
+#endif

@@ -1,0 +1,44 @@
+#!/usr/bin/env bash
+# Makes a key, sends INIT and prints the answer from Go, Rust and C++. A language that isn't there is skipped by name;
+# ends with 3 where none is.
+# shellcheck disable=SC1091,SC2154 # top, name and library are set by common.sh
+set -euo pipefail
+source "$(dirname "${BASH_SOURCE[0]}")/common.sh"
+need gcc "gcc libc6-dev" nm binutils
+need_held_key
+room=$(mktemp -d)
+trap 'rm -rf "$room"' EXIT
+# The nonce, channel 1, protocol version 2, device version 1.0.0, capabilities CBOR and NMSG; and zeros.
+expected=$(printf '%-128s' ffffffff860011010203040506070800000001020100000c | tr ' ' 0)
+ran=0
+
+# Whether a language is there: has LANGUAGE COMMAND PACKAGE
+has() {
+    command -v "$2" >/dev/null || { echo "$name: not run from $1 (apt-get install $3)" && false; }
+}
+
+# Compares what a program prints: tried LANGUAGE VERSION PROGRAM ..
+tried() {
+    local answer
+    answer=$("${@:3}")
+    echo "$name: from $1 ($2): $answer"
+    [ "$answer" = "$expected" ] || fail "another answer; expected $expected"
+    ran=$((ran + 1))
+}
+
+cd "$room"
+if has Go go golang-go; then
+    export GOCACHE=$room/cache GOPATH=$room/path GOFLAGS=-p=1 GO111MODULE=off CGO_ENABLED=1
+    CGO_CFLAGS="-I$library" CGO_LDFLAGS="$library/libhidlog.a" go build -o go_init "$top/examples/c/init.go"
+    tried Go "$(go version | cut -d' ' -f3)" ./go_init
+fi
+if has Rust rustc rustc; then
+    rustc --edition 2021 -D warnings -C "link-arg=$library/libhidlog.a" -o rust_init "$top/examples/c/init.rs"
+    tried Rust "$(rustc --version | cut -d' ' -f2)" ./rust_init
+fi
+if has C++ g++ g++; then
+    g++ -std=c++17 -O2 -Wall -Wextra -Wpedantic -Werror -I "$library" -o cpp_init "$top/examples/c/init.cpp" \
+        "$library/libhidlog.a"
+    tried C++ "g++ $(g++ -dumpfullversion)" ./cpp_init
+fi
+[ "$ran" -gt 0 ] || nothing "no language is there"

@@ -1,0 +1,128 @@
+#!/usr/bin/env bash
+# OpenSSH with a software key: builds libhidlog_sk.so of examples/ssh, makes keys with ssh-keygen, signs in at an sshd that
+# it starts on the loopback address and ends, lists resident keys. Ends with 3 where something is missing.
+# shellcheck disable=SC1091,SC2154 # top, name and library are set by common.sh
+set -euo pipefail
+source "$(dirname "${BASH_SOURCE[0]}")/common.sh"
+PATH=$PATH:/usr/sbin:/sbin
+need gcc "gcc libc6-dev" nm binutils ssh openssh-client ssh-keygen openssh-client sshd openssh-server
+[ -x /usr/lib/openssh/ssh-sk-helper ] || nothing "ssh-sk-helper is missing (apt-get install openssh-client)"
+need_header fido.h libfido2-dev
+need_header openssl/evp.h libssl-dev
+need_held_key
+room=$(mktemp -d)
+server=
+made_run=
+
+end() {
+    if [ -n "$server" ]; then
+        kill "$server" 2>/dev/null || true
+        wait "$server" 2>/dev/null || true
+    fi
+    if [ -n "$made_run" ]; then
+        rmdir /run/sshd 2>/dev/null || true
+    fi
+    rm -rf "$room"
+}
+trap end EXIT
+cd "$room"
+echo "$name: OpenSSH client $(version openssh-client), server $(version openssh-server), libfido2 $(version libfido2-dev)"
+parts=("$top"/examples/ssh/{hidlog_sk,state}.c "$top"/examples/c/{fido_device,held_key,software_keys,snapshot}.c)
+compile -shared -fPIC -fvisibility=hidden -o libhidlog_sk.so "${parts[@]}" "$library/libhidlog.a" \
+    -Wl,--exclude-libs,ALL -lfido2 -lcrypto
+export SSH_SK_PROVIDER=$room/libhidlog_sk.so HIDLOG_SK_STATE=$room/key.state
+unset SSH_AUTH_SOCK SSH_ASKPASS DISPLAY
+
+# Does what has to work: works TEXT COMMAND ..
+works() {
+    "${@:2}" >said 2>&1 </dev/null || { cat said && fail "$1: failed with $?"; }
+    echo "$name: $1: $(tail -1 said)"
+}
+
+# Does what has to be refused with these words: refused TEXT WORDS COMMAND ..
+refused() {
+    if "${@:3}" >said 2>&1 </dev/null; then
+        cat said
+        fail "$1: not refused"
+    fi
+    grep -q "$2" said || { cat said && fail "$1: refused with other words than: $2"; }
+    echo "$name: $1: $(grep "$2" said | tail -1)"
+}
+
+# Makes a key: keygen FILE OPTIONS ..
+keygen() {
+    ssh-keygen -q -N '' -C hidlog -f "$1" "${@:2}" && ssh-keygen -lf "$1.pub"
+}
+
+# Signs in with a key: sign_in FILE
+sign_in() {
+    ssh -F none -i "$1" -p "$port" -o IdentitiesOnly=yes -o BatchMode=yes -o PreferredAuthentications=publickey \
+        -o UserKnownHostsFile="$room/known" -o StrictHostKeyChecking=yes -o ConnectTimeout=20 \
+        -o "SecurityKeyProvider=$SSH_SK_PROVIDER" "$(id -un)@127.0.0.1" whatever
+}
+
+# Starts the server, on the first port that is free.
+start_server() {
+    local tries=0
+    if [ "$(id -u)" = 0 ] && [ ! -d /run/sshd ]; then
+        mkdir -m 755 /run/sshd
+        made_run=yes
+    fi
+    ssh-keygen -q -t ed25519 -N '' -f host
+    while [ $((tries += 1)) -le 5 ]; do
+        port=$((20000 + RANDOM))
+        printf '%s\n' "ListenAddress 127.0.0.1:$port" "HostKey $room/host" "AuthorizedKeysFile $room/authorized" \
+            "PidFile none" "UsePAM no" "StrictModes no" "PasswordAuthentication no" "PermitRootLogin yes" \
+            "KbdInteractiveAuthentication no" "ForceCommand echo signed in" >sshd_config
+        "$(command -v sshd)" -D -e -f sshd_config 2>server.log &
+        server=$!
+        for _ in $(seq 50); do
+            if grep -qs "Server listening" server.log; then
+                echo "[127.0.0.1]:$port $(cut -d' ' -f1,2 host.pub)" >known
+                return
+            fi
+            kill -0 "$server" 2>/dev/null || break
+            sleep 0.1
+        done
+    done
+    cat server.log
+    fail "sshd does not start"
+}
+
+works "ssh-keygen -t ecdsa-sk" keygen first -t ecdsa-sk
+works "ssh-keygen -t ecdsa-sk -O resident" keygen resident -t ecdsa-sk -O resident
+works "ssh-keygen -t ecdsa-sk -O no-touch-required" keygen untouched -t ecdsa-sk -O no-touch-required
+refused "a second resident key of the user, not overwritten" "already exists" \
+    keygen second -t ecdsa-sk -O resident
+refused "ssh-keygen -t ed25519-sk" "not supported" keygen other -t ed25519-sk
+refused "ssh-keygen -O verify-required" "not supported" keygen other -t ecdsa-sk -O verify-required
+
+start_server
+cat first.pub >authorized
+echo "no-touch-required $(cat untouched.pub)" >>authorized
+works "ssh signs in" sign_in first
+works "ssh signs in again" sign_in first
+works "ssh signs in without a touch" sign_in untouched
+refused "ssh while the user says no" "Permission denied" env HIDLOG_SK_PRESENCE=denied bash -c "$(declare -f sign_in)
+    port=$port room=$room; sign_in first"
+refused "ssh with a key that the server doesn't know" "Permission denied" sign_in resident
+mv key.state elsewhere
+refused "ssh with a state that lacks the key" "Permission denied" sign_in first
+mv elsewhere key.state
+mkdir downloaded && cd downloaded
+works "ssh-keygen -K" bash -c "echo | ssh-keygen -q -K -N '' && ls id_*rk.pub"
+cd ..
+[ "$(cut -d' ' -f2 downloaded/id_ecdsa_sk_rk.pub)" = "$(cut -d' ' -f2 resident.pub)" ] || fail "-K gave another key"
+cut -d' ' -f1,2 resident.pub >>authorized
+works "ssh signs in with the key that -K gave" sign_in downloaded/id_ecdsa_sk_rk
+echo "$name: the server: $(grep -c 'Accepted publickey .* ECDSA-SK' server.log) sign-ins by ECDSA-SK"
+[ "$(grep -c 'Accepted publickey .* ECDSA-SK' server.log)" = 4 ] || fail "the server saw another number of sign-ins"
+
+echo "a text" >text
+echo "hidlog $(cat first.pub)" >signers
+works "ssh-keygen -Y sign" ssh-keygen -Y sign -f first -n file text
+verify() {
+    echo "$1" | ssh-keygen -Y verify -f signers -I hidlog -n file -s text.sig
+}
+works "ssh-keygen -Y verify" verify "a text"
+refused "ssh-keygen -Y verify of another text" "incorrect signature" verify "another text"
