@@ -1,6 +1,6 @@
 #!/usr/bin/env bash
-# Runs the C library from C programs: the commands on logs (commands.c), and a key that is held (key.c), which has to
-# write of each worked log what the program writes. Linked with the static and with the shared library of release/; with
+# Runs the C library from C programs: the commands on logs (commands.c), a key that is held (key.c), which has to write
+# of each worked log what the program writes, and its credentials (credentials.c), saved as the program saves them. Linked with the static and with the shared library of release/; with
 # the sanitizers of gcc; and for aarch64 where its compiler and qemu are there. Looks too at what the libraries call: no
 # allocator, and nothing else but three functions that move bytes; and whether C++ takes the header. Ends with 3 where
 # gcc is missing.
@@ -27,10 +27,12 @@ play_on() {
     "$top/release/hidlog" live <"$1" >"$room/lived"
     "${@:2}" "$room/key" lines <"$1" >"$room/held" || stop "the lines of a key fail at $1"
     cmp -s "$room/lived" "$room/held" || stop "the lines of a key differ at $1"
+    "$top/release/hidlog" replay --save "$room/saved" <"$1" >"$room/replayed"
+    "${@:2}" "$room/credentials" "$room/saved" <"$1" || stop "the credentials of a key differ at $1"
     played=$((played + 1))
 }
 
-# Runs both programs with the words before them.
+# Runs the programs with the words before them.
 run() {
     echo "tests/c: $1"
     "${@:2}" "$room/commands" "$top/examples"
@@ -43,10 +45,10 @@ run() {
     echo "tests/c: $played logs played on a key that is held, as the program plays them"
 }
 
-# Builds both programs: build COMPILER WORD ..
+# Builds the programs: build COMPILER WORD ..
 build() {
     local name
-    for name in commands key; do
+    for name in commands key credentials; do
         "$1" "${options[@]}" -o "$room/$name" "$top/tests/c/$name.c" "${@:2}"
     done
 }

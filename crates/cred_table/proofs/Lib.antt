@@ -31,6 +31,8 @@ pub mod Contents
 pub mod Clashing
 pub mod Composing
 pub mod SavedRows
+pub mod SavedInto
+pub mod Copied
 pub mod OneSnapshot
 mod SavedExamples
 pub mod CutNames

@@ -6,7 +6,7 @@ use Rattle.std.proofs.lemmas.Bool.{and_parts, and_from, or_parts, or_from, not-t
 use Rattle.cred_table.specs.declared.row.Row.{Row}
 use Rattle.cred_table.specs.Rows.{no_two}
 
-none_kept : (p q : Row → Bool) (rows : List Row) → list_any q rows ≡ false → list_any q (filter p rows) ≡ false
+pub none_kept : (p q : Row → Bool) (rows : List Row) → list_any q rows ≡ false → list_any q (filter p rows) ≡ false
 none_kept p q [] h = refl
 none_kept p q (r ∷ rows) h = let e = or_parts (q r) (list_any q rows) h in go (p r) e.0 (none_kept p q rows e.1)
   where

@@ -87,7 +87,7 @@ one_written rows left rest row old between new first is w e =
     }
 
 -- the rows' snapshot, as it is written
-whole_is : (rows : List Row) → text (snapshot true rows) ≡ heads_text (true, length rows) ++ rows_text true rows
+pub whole_is : (rows : List Row) → text (snapshot true rows) ≡ heads_text (true, length rows) ++ rows_text true rows
 whole_is rows =
     let number : count (rows_then true rows no_trees) ≡ length rows = omega (arith, count_then true rows no_trees) in
     heads_of true (rows_then true rows no_trees) ∙ ap (λ n. heads_text (true, n) ++ rows_text true rows) number

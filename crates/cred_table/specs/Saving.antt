@@ -1,7 +1,9 @@
 -- What writing a part of a snapshot does.
-use Rattle.std.specs.Prelude.{◌≡◌, ℕ, ◌≤◌, List, ◌++◌}
+use Rattle.std.specs.Prelude.{◌≡◌, ℕ, ◌+◌, ◌*◌, ◌<◌, ◌≤◌, true, List, ◌++◌, length, drop, Option, Some, None}
 use Rattle.ctap_cbor.specs.declared.sink.Sink.{Sink}
 use Rattle.ctap_cbor.specs.Writing.{Appends}
+use Rattle.cred_table.specs.declared.row.Row.{Row}
+use Rattle.cred_table.specs.Snapshots.{IsSnapshot}
 
 -- at most so many bytes were written at the end, these
 abbrev pub AppendsUpTo : Sink → Sink → List ℕ → (most : ℕ) → Type 0
@@ -10,3 +12,14 @@ AppendsUpTo old new bytes most = (len : ℕ) × (len ≤ most) × Appends old ne
 -- a list goes on
 abbrev pub Extends : List ℕ → List ℕ → Type 0
 Extends old new = (more : List ℕ) × (new ≡ old ++ more)
+
+-- No snapshot of so many rows is longer: its heads have at most 13 bytes, and a row has at most 283.
+abbrev pub longest : (room : ℕ) → ℕ
+longest room = 13 + 283 * room
+
+-- The rows' snapshot, of version 2, is in the buffer's front, and the rest of the buffer is as it was; or the buffer is
+-- too short for the longest one, and all of it is as it was.
+abbrev pub SavesInto : (room : ℕ) → List Row → (old new : List ℕ) → Option ℕ → Type 0
+SavesInto room rows old new (Some len) = (longest room ≤ length old)
+    × (saved : List ℕ) × IsSnapshot true room rows saved × (length saved ≡ len) × (new ≡ saved ++ drop len old)
+SavesInto room rows old new None = (length old < longest room) × (new ≡ old)

@@ -1,6 +1,7 @@
 //! Why a snapshot is refused.
 
 ghost use Rattle.std.specs.Prelude.{◌≡◌};
+ghost use Rattle.cred_table.specs.Numbers.{refusal_number};
 
 use thiserror::Error;
 
@@ -19,4 +20,18 @@ pub enum SnapshotFault {
     /// 4: no memory to save into.
     #[error("no memory")]
     Memory,
+}
+
+impl SnapshotFault {
+    /// Returns the number of the fault.
+    pub fn number(&self) -> u8
+        ensures { result ≡ refusal_number self.now }
+    {
+        match self {
+            SnapshotFault::NotSnapshot => 1,
+            SnapshotFault::TooMany => 2,
+            SnapshotFault::RowBroken(_) => 3,
+            SnapshotFault::Memory => 4,
+        }
+    }
 }

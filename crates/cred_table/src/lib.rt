@@ -22,6 +22,7 @@
 
 mod chained;
 mod chains;
+mod copying;
 mod cutting;
 mod fault;
 pub mod laws;
@@ -36,14 +37,15 @@ mod slot;
 mod table;
 
 pub use chained::Chained;
+pub use copying::copy_without;
 pub use cutting::cut_name;
 pub use fault::SnapshotFault;
 pub use listed::Listed;
-pub use loading::load;
+pub use loading::{load, put_new};
 pub use pending::Pending;
 pub use row::Row;
 pub use rows::Rows;
-pub use saving::save;
+pub use saving::{save, save_into};
 pub use table::Table;
 
 /// The table that the authenticator uses.

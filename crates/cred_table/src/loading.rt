@@ -13,8 +13,8 @@ use crate::table::Table;
 use ctap_cbor::laws::{no_item_begins_another, none_begins_another};
 use ctap_cbor::{Cursor, check};
 
-/// Whether a row can't stand after those of a table: it has the id of one, or is discoverable as one of its RP and user
-/// is.
+/// Returns whether a row clashes with one of a table: it has that one's id, or is discoverable as that one of its RP and
+/// user is.
 fn clashes<T: Table<C>, const C: usize>(table: &T, row: &Row) -> bool
     ensures { result ≡ clashes row.now (T.rows table.now) }
 {
@@ -27,8 +27,9 @@ fn clashes<T: Table<C>, const C: usize>(table: &T, row: &Row) -> bool
     table.same_user(&row.rp, &row.user).is_some()
 }
 
-/// Puts a row last, unless it clashes with one that is there. Tells whether it was put.
-fn put_row<T: Table<C>, const C: usize>(table: &mut T, row: Row) -> bool
+/// Puts a row last, unless it clashes with one that is there: it has that one's id, or both are discoverable and have one
+/// RP and user handle. Returns whether it was put.
+pub fn put_new<T: Table<C>, const C: usize>(table: &mut T, row: Row) -> bool
     requires room { length (T.rows table.old) < C }
     ensures value { result ≡ not (clashes row (T.rows table.old)) }
     ensures rows { T.rows table.new ≡ (if clashes row (T.rows table.old) then T.rows table.old
@@ -48,7 +49,7 @@ fn read_entry<const C: usize>(cursor: &mut Cursor, named: bool, rows: &mut Liste
 {
     none_begins_another();
     match read_row(cursor, named) {
-        Some(row) => put_row(rows, row),
+        Some(row) => put_new(rows, row),
         None => false,
     }
 }

@@ -1,13 +1,14 @@
 //! Saving snapshots.
 
-ghost use Rattle.std.specs.Prelude.{◌≡◌, ◌<◌, ◌≤◌, ◌+◌, ◌++◌, pos, true, length, take, vec_capacity, OnOk, OnErr, IfErr};
+ghost use Rattle.std.specs.Prelude.{◌≡◌, ◌<◌, ◌≤◌, ◌+◌, ◌++◌, pos, true, length, take, drop, vec_capacity, OnOk, OnErr, IfErr};
+ghost use Rattle.std.specs.List.{AllByRecursion};
 ghost use Rattle.ctap_cbor.specs.Tree.{Int, Bytes, Text};
-ghost use Rattle.ctap_cbor.specs.Grammar.{scalar_text};
+ghost use Rattle.ctap_cbor.specs.Grammar.{scalar_text, text};
 ghost use Rattle.ctap_cbor.specs.Writing.{room_of, Appends, SameBuffer};
 ghost use Rattle.cred_table.specs.declared.fault.SnapshotFault.TheVariants.{Memory};
-ghost use Rattle.cred_table.specs.Snapshots.{IsRow, IsHash, IsShort, IsName, Saves, saved_len};
+ghost use Rattle.cred_table.specs.Snapshots.{IsRow, IsHash, IsShort, IsName, Saves, saved_len, snapshot};
 ghost use Rattle.cred_table.specs.Parsing.{row_text, heads_text};
-ghost use Rattle.cred_table.specs.Saving.{AppendsUpTo, Extends};
+ghost use Rattle.cred_table.specs.Saving.{AppendsUpTo, Extends, SavesInto, longest};
 
 use crate::fault::SnapshotFault;
 use crate::row::Row;
@@ -164,6 +165,46 @@ fn heads_into(buffer: &mut [u8], count: u64) -> usize
     let mut sink = Sink::new(buffer);
     put_heads(&mut sink, count);
     sink.len()
+}
+
+/// Writes a snapshot of a table's rows.
+fn put_snapshot<T: Table<C>, const C: usize>(sink: &mut Sink<'_>, table: &T)
+    requires { longest C ≤ room_of sink.old }
+    ensures appends { AppendsUpTo sink.old sink.new (text (snapshot true (T.rows table.now))) (longest C) }
+    ensures same { SameBuffer sink.old sink.new }
+    ensures typed { AllByRecursion (IsRow true) (T.rows table.now) }
+{
+    put_heads(sink, table.len() as u64);
+    for row in table.iter() {
+        known_row(row);
+        put_row(sink, row);
+    }
+}
+
+/// Writes a snapshot of a table's rows to the front of a buffer that has space for the longest one, and returns how many
+/// bytes it has.
+fn snapshot_into<T: Table<C>, const C: usize>(buffer: &mut [u8], table: &T) -> usize
+    requires { longest C ≤ length buffer.old }
+    ensures front { take result buffer.new ≡ text (snapshot true (T.rows table.now)) }
+    ensures rest { drop result buffer.new ≡ drop result buffer.old }
+    ensures within { result ≤ length buffer.new }
+    ensures typed { AllByRecursion (IsRow true) (T.rows table.now) }
+{
+    let mut sink = Sink::new(buffer);
+    put_snapshot(&mut sink, table);
+    sink.len()
+}
+
+/// Writes a snapshot of a table's rows to the front of `out`, and returns how many bytes it has.
+///
+/// `out` has at least 13 bytes, and 283 for each row that the table may hold. Where it has fewer, nothing is written.
+pub fn save_into<T: Table<C>, const C: usize>(table: &T, out: &mut [u8]) -> Option<usize>
+    ensures { SavesInto C (T.rows table.now) out.old out.new result }
+{
+    if out.len() < LONGEST_HEADS + LONGEST_ROW * C {
+        return None;
+    }
+    Some(snapshot_into(out, table))
 }
 
 /// Appends a row's map.

@@ -1,5 +1,5 @@
 -- What a key holds.
-use Rattle.std.specs.Prelude.{ℕ, Bool, Option, Some, None, if◌then◌else◌, nat_eq}
+use Rattle.std.specs.Prelude.{Option, None, if◌then◌else◌, nat_eq}
 use Rattle.hidlog_c.specs.Key.{DeviceState}
 use Rattle.hidlog_c.specs.declared.key.Key.{Key}
 

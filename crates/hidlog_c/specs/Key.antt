@@ -1,19 +1,20 @@
 -- A key that C holds: what it is before and after a call, and what the call returns.
-use Rattle.std.specs.Prelude.{◌≡◌, ◌≢◌, ℕ, ℤ, pos, List, [], ◌∷◌, length, Option, Some, None}
+use Rattle.std.specs.Prelude.{◌≡◌, ℕ, ℤ, pos, List, [], ◌∷◌, length, Option, Some, None}
 use Rattle.authn_core.specs.Turn.{Start}
 use Rattle.token_session.specs.declared.input.Timed.{Timed}
 use Rattle.token_session.specs.Law.{sent_now}
 use Rattle.token_session.specs.Meters.{SessionState, StandsAfter, stepped, sent_by}
 use Rattle.hidlog_c.specs.declared.fault.TheConstants.{NOT_MADE, PACKETS_WAIT, NO_PACKET}
 
--- a session, and the packets of its latest input that wait to be sent
+-- a session of an authenticator with an AAGUID, and the packets of its latest input that wait to be sent
 pub record DeviceState : Type 0 where
+  pub aaguid : List ℕ
   pub session : SessionState
   pub waiting : List (List ℕ)
 
 -- The session takes the input, and what it sends for it waits.
 abbrev pub served : DeviceState → Timed → DeviceState
-served d x = record { session = stepped d.session x; waiting = sent_by d.session x }
+served d x = record { aaguid = d.aaguid; session = stepped d.session x; waiting = sent_by d.session x }
 
 -- A key that isn't made takes nothing, and one for which packets wait takes no input.
 abbrev pub taken_by : DeviceState → List (List ℕ) → Timed → Option DeviceState

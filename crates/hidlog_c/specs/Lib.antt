@@ -8,4 +8,5 @@ pub mod Reports
 pub mod Lines
 pub mod Owned
 pub mod Lending
+pub mod Changed
 pub mod Held

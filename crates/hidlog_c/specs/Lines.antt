@@ -1,10 +1,12 @@
 -- Lines of a log that are played on the session of a key.
 use Rattle.std.specs.Prelude.{◌≡◌, ℕ, ℤ, pos, List, [], ◌∷◌, Option, Some, None, Result}
-use Rattle.token_session.specs.Meters.{SessionState}
+use Rattle.authn_core.specs.Turn.{Start}
+use Rattle.token_session.specs.declared.input.Timed.{Timed}
+use Rattle.token_session.specs.Meters.{SessionState, StandsAfter}
 use Rattle.session_log.specs.declared.fault.LogFault.{LogFault}
 use Rattle.session_log.specs.Ending.{Ending}
-use Rattle.session_log.specs.Replay.{Finds, Plays}
-use Rattle.session_log.specs.Session.{live_machine}
+use Rattle.session_log.specs.Replay.{Finds, Plays, Writes}
+use Rattle.session_log.specs.Session.{live_history, live_machine}
 use Rattle.hidlog_c.specs.declared.fault.TheConstants.{NOT_MADE, PACKETS_WAIT}
 use Rattle.hidlog_c.specs.declared.outcome.Outcome.{Outcome}
 use Rattle.hidlog_c.specs.Commands.{IsWritten}
@@ -17,14 +19,29 @@ abbrev pub LinesDo : SessionState → SessionState → (bytes rest text : List �
 LinesDo s t bytes rest text ending = Plays live_machine s t bytes text ending
     × Finds live_machine s bytes (rest ≡ []) ending
 
+-- The same of a history and a longer one.
+abbrev pub HistoryDoes : Start → List Timed → List Timed → (bytes rest text : List ℕ) → Ending → Type 0
+HistoryDoes start h later bytes rest text ending = Writes (live_history start) h later bytes text ending
+    × Finds (live_history start) h bytes (rest ≡ []) ending
+
+-- After each history after which the session is, it is after the longer one, and what the history names was written.
+abbrev pub FollowsLines : SessionState → SessionState → (log out : List ℕ) → (written : ℕ) → Result (Unit {0}) LogFault
+    → Type 0
+FollowsLines s t log out written answer = (start : Start) (h : List Timed) → StandsAfter s start h
+    → (later : List Timed) × StandsAfter t start later × IsWritten log out written answer (HistoryDoes start h later)
+
 abbrev pub ArePlayed : SessionState → SessionState → (log out : List ℕ) → Outcome → Type 0
 ArePlayed s t log out outcome = (answer : Result (Unit {0}) LogFault) × (outcome ≡ outcome_of answer outcome.written)
-    × IsWritten log out outcome.written answer (LinesDo s t)
+    × IsWritten log out outcome.written answer (LinesDo s t) × FollowsLines s t log out outcome.written answer
+
+-- The device with another session, for which no packet waits.
+abbrev pub played_to : DeviceState → SessionState → DeviceState
+played_to d t = record { aaguid = d.aaguid; session = t; waiting = [] }
 
 -- A key takes lines while no packet waits. A pair is the caller's memory before and after the call.
 abbrev pub PlaysOn : DeviceState → List (List ℕ) → Option DeviceState → (log : List ℕ) → (List ℕ × List ℕ)
     → (Outcome × Outcome) → ℤ → Type 0
-PlaysOn d [] after log out outcome result = (t : SessionState) × (after ≡ Some (record { session = t; waiting = [] }))
+PlaysOn d [] after log out outcome result = (t : SessionState) × (after ≡ Some (played_to d t))
     × ArePlayed d.session t log out.1 outcome.1 × (result ≡ pos outcome.1.status)
 PlaysOn d (packet ∷ more) after log out outcome result =
     (after ≡ Some d) × (out.1 ≡ out.0) × (outcome.1 ≡ outcome.0) × (result ≡ PACKETS_WAIT)

@@ -1,7 +1,7 @@
 -- The outcome of a command in numbers.
 use Rattle.std.specs.Prelude.{ℕ, Result, Ok, Err}
 use Rattle.cred_table.specs.declared.fault.SnapshotFault.{SnapshotFault}
-use Rattle.cred_table.specs.declared.fault.SnapshotFault.TheVariants.{NotSnapshot, TooMany, RowBroken, Memory as NoMemory}
+use Rattle.cred_table.specs.Numbers.{refusal_number}
 use Rattle.session_log.specs.declared.fault.LogFault.{LogFault}
 use Rattle.session_log.specs.declared.fault.LogFault.TheVariants.{BadLine, TooLong, Differs, Read, Write, TooManyLines, Memory}
 use Rattle.session_log.specs.Numbers.{fault_number}
@@ -20,13 +20,6 @@ line_of (Memory n) = n
 abbrev pub packet_of : LogFault → ℕ
 packet_of (Differs line packet) = packet
 packet_of _ = 0
-
--- the numbers of the texts that say why a snapshot is refused
-abbrev pub refusal_number : SnapshotFault → ℕ
-refusal_number NotSnapshot = 1
-refusal_number TooMany = 2
-refusal_number (RowBroken place) = 3
-refusal_number NoMemory = 4
 
 -- a command with this answer, which wrote so many bytes
 abbrev pub outcome_of : {A : Type 0} → Result A LogFault → ℕ → Outcome

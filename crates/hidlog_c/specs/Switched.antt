@@ -21,10 +21,15 @@ refusal TooMany = TOO_MANY_ROWS
 refusal (RowBroken place) = ROW_BROKEN
 refusal Memory = NO_MEMORY
 
--- The key holds a session at its start with the credentials of the snapshot, and no packet waits.
+-- The device holds a session at its start with these credentials, and no packet waits.
+abbrev pub IsStarted : DeviceState → (aaguid : List ℕ) → (moment : ℕ) → List Row → Type 0
+IsStarted d aaguid moment rows =
+    (d.aaguid ≡ aaguid) × (d.waiting ≡ []) × StandsAfter d.session (start_of aaguid moment rows) []
+
+-- The key holds a session at its start with the credentials of the snapshot.
 abbrev pub Begins : (aaguid : List ℕ) → (moment : ℕ) → (snapshot : List ℕ) → Option DeviceState → Type 0
 Begins aaguid moment snapshot after = (rows : List Row) × (d : DeviceState) × Opens snapshot rows
-    × (after ≡ Some d) × (d.waiting ≡ []) × StandsAfter d.session (start_of aaguid moment rows) []
+    × (after ≡ Some d) × IsStarted d aaguid moment rows
 
 -- The snapshot is refused, and the key isn't made.
 abbrev pub IsRefused : (snapshot : List ℕ) → Option DeviceState → ℤ → Type 0

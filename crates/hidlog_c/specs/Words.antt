@@ -1,5 +1,5 @@
 -- Arguments of C as inputs.
-use Rattle.std.specs.Prelude.{◌≡◌, ◌≤◌, ℕ, ℤ, List, length, Bool, ◌&&◌, nat_eq, nat_le, if◌then◌else◌, Option, Some, None}
+use Rattle.std.specs.Prelude.{◌≡◌, ℕ, ℤ, List, length, ◌&&◌, nat_eq, nat_le, if◌then◌else◌, Option, Some, None}
 use Rattle.authn_core.specs.declared.replies.Presence.{Presence as Reply}
 use Rattle.authn_core.specs.declared.replies.Presence.TheVariants.{Granted, Denied, TimedOut}
 use Rattle.token_session.specs.declared.input.Input.{Input}

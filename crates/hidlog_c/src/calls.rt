@@ -3,6 +3,7 @@
 ghost use Rattle.std.specs.Prelude.{◌≡◌, None, Some, option_map};
 ghost use Rattle.token_session.specs.declared.input.Input.TheVariants as inputs;
 ghost use Rattle.hidlog_c.specs.Held.{held};
+ghost use Rattle.hidlog_c.specs.Changed.{Adds, Clears, Removes, SavesKey};
 ghost use Rattle.hidlog_c.specs.Key.{Answers, Sends};
 ghost use Rattle.hidlog_c.specs.Words.{AnswersWord, presence_of, signature_input};
 ghost use Rattle.hidlog_c.specs.Lines.{TakesLines};
@@ -48,7 +49,7 @@ pub extern "C" fn hidlog_key_make(key: &mut Key, aaguid: &[u8; 16], at: u64, sna
     }
     match switched_on(*aaguid, at, snapshot) {
         Ok(session) => {
-            key.hold(Device::new(session));
+            key.hold(Device::new(*aaguid, session));
             0
         }
         Err(SnapshotFault::NotSnapshot) => NOT_SNAPSHOT,
@@ -210,6 +211,39 @@ pub extern "C" fn hidlog_key_meters(key: &mut Key, meters: &mut MetersReport) ->
     ensures meters { ReportsMeters (held key.old) (meters.old, meters.new) result }
 {
     key.meters(meters)
+}
+
+/// Puts a credential after the others, in the place of one with the same id. That begins a new session at `at`.
+#[unsafe(no_mangle)]
+pub extern "C" fn hidlog_key_add(key: &mut Key, at: u64, credential: &Credential) -> i32
+    ensures { Adds (held key.old) (held key.new) at credential.now result }
+{
+    key.add(at, credential)
+}
+
+/// Takes out the credential with an id. That begins a new session at `at`.
+#[unsafe(no_mangle)]
+pub extern "C" fn hidlog_key_remove(key: &mut Key, at: u64, id: &[u8; 32]) -> i32
+    ensures { Removes (held key.old) (held key.new) at id.now result }
+{
+    key.remove(at, id)
+}
+
+/// Takes out all credentials. That begins a new session at `at`.
+#[unsafe(no_mangle)]
+pub extern "C" fn hidlog_key_clear(key: &mut Key, at: u64) -> i32
+    ensures { Clears (held key.old) (held key.new) at result }
+{
+    key.clear(at)
+}
+
+/// Writes a snapshot of the credentials to the front of `out`, and returns how many bytes it has.
+#[unsafe(no_mangle)]
+pub extern "C" fn hidlog_key_save(key: &mut Key, out: &mut [u8]) -> i32
+    ensures same { held key.new ≡ held key.old }
+    ensures saves { SavesKey (held key.old) (out.old, out.new) result }
+{
+    key.save(out)
 }
 
 /// Ends the key. Its memory is the caller's again.

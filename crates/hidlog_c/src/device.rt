@@ -1,25 +1,39 @@
 //! What a key holds.
-ghost use Rattle.std.specs.Prelude.{◌≡◌, ◌≤◌, Some, []};
+ghost use Rattle.std.specs.Prelude.{◌≡◌, ◌≤◌, List, Some, [], IfSome, IfNone, is_some, length};
 ghost use Rattle.authn_core.specs.Views.{needs};
+ghost use Rattle.cred_table.specs.declared.row.Row.{Row as AnyRow};
+ghost use Rattle.std.specs.List.{find};
+ghost use Rattle.cred_table.specs.Rows.{has_id, without};
+ghost use Rattle.hidlog_c.specs.Changed.{Adds, Clears, HasRows, IsBusy, IsIdle, SavesLen, Removes, SavesRows};
 ghost use Rattle.hidlog_c.specs.Key.{Answers, Sends};
 ghost use Rattle.hidlog_c.specs.Lines.{TakesLines};
+ghost use Rattle.hidlog_c.specs.Switched.{IsStarted};
 ghost use Rattle.hidlog_c.specs.Reports.{ReportsRow, credential_count, meters_of, need_of, pending_assertions, waiting_packets};
 
-use crate::fault::{BAD_ARGUMENT, NO_PACKET, PACKETS_WAIT};
+use crate::fault::{
+    BAD_ARGUMENT, CLASHES, NO_PACKET, PACKETS_WAIT, TOO_MANY_ROWS, TOO_SMALL, WORK_WAITS,
+};
 use crate::lines::play_lines;
 use crate::outcome::Outcome;
 use crate::reports::{
     Credential, MetersReport, NeedReport, credential_report, meters_report, need_report,
 };
-use cred_table::Table;
+use crate::rows::row_of;
+use crate::started::session_with;
+use authn_core::Need;
+use cred_table::{Store, Table, copy_without, put_new, save_into};
 use hid_packet::Outbox;
 use session_log::CAPACITY;
 use std::marker::Model;
 use token_session::{Input, Session};
 
+/// How many bytes the longest snapshot may have: 13, and 283 for each of 64 credentials.
+const SNAPSHOT_LONGEST: usize = 18125;
+
 /// A session, and the packets of its latest input that wait to be sent.
 #[derive(Drop)]
 pub struct Device {
+    aaguid: [u8; 16],
     session: Session<CAPACITY>,
     outbox: Outbox,
 }
@@ -30,15 +44,16 @@ impl Model for Device {
 
     ghost Value = { DeviceState };
 
-    ghost view = { λ d. record { session = d.session; waiting = d.outbox } };
+    ghost view = { λ d. record { aaguid = d.aaguid; session = d.session; waiting = d.outbox } };
 }
 
 impl Device {
-    /// Returns a device with this session, for which no packet waits.
-    pub fn new(session: Session<CAPACITY>) -> Self
-        ensures { result ≡ record { session = session; waiting = [] } }
+    /// Returns a device with this session of an authenticator with this AAGUID, for which no packet waits.
+    pub fn new(aaguid: [u8; 16], session: Session<CAPACITY>) -> Self
+        ensures { result ≡ record { aaguid = aaguid; session = session; waiting = [] } }
     {
         Device {
+            aaguid,
             session,
             outbox: Outbox::new(),
         }
@@ -125,5 +140,106 @@ impl Device {
         ensures { result ≡ meters_of self.now.session.meters }
     {
         meters_report(self.session.meters())
+    }
+
+    /// Returns what keeps the key from beginning anew: packets that wait, or work.
+    fn busy(&self) -> Option<i32>
+        ensures busy { IfSome result (λ fault. IsBusy self.now fault) }
+        ensures idle { IfNone result (IsIdle self.now) }
+    {
+        if !self.outbox.is_empty() {
+            return Some(PACKETS_WAIT);
+        }
+        match self.session.need() {
+            Need::None => None,
+            _ => Some(WORK_WAITS),
+        }
+    }
+
+    /// Begins anew at `at` with these credentials. No packet waits.
+    fn start(&mut self, at: u64, rows: Store<CAPACITY>)
+        requires { self.old.waiting ≡ [] }
+        ensures { IsStarted self.new self.old.aaguid at (⟦<Store<CAPACITY> as Table<CAPACITY>>⟧.rows rows) }
+    {
+        self.session = session_with(self.aaguid, at, rows);
+    }
+
+    /// Returns the credentials without the one with this id, and whether there is one.
+    fn rows_without(&self, id: &[u8; 32]) -> (Store<CAPACITY>, bool)
+        ensures { (rows : List AnyRow) × HasRows self.now rows
+            × (⟦<Store<CAPACITY> as Table<CAPACITY>>⟧.rows result.0 ≡ without id.now rows)
+            × (result.1 ≡ is_some (find (has_id id.now) rows)) }
+    {
+        let table = self.session.table();
+        let mut rows = Store::new();
+        copy_without(table, id, &mut rows);
+        (rows, table.find(id).is_some())
+    }
+
+    /// Puts a credential after the others, in the place of one with the same id. That begins a new session.
+    pub fn add(&mut self, at: u64, credential: &Credential) -> i32
+        ensures { Adds (Some self.old) (Some self.new) at credential.now result }
+    {
+        if let Some(fault) = self.busy() {
+            return fault;
+        }
+        let Some(row) = row_of(credential) else {
+            return BAD_ARGUMENT;
+        };
+        let (mut rows, _) = self.rows_without(&row.id);
+        if rows.len() == CAPACITY {
+            return TOO_MANY_ROWS;
+        }
+        if !put_new(&mut rows, row) {
+            return CLASHES;
+        }
+        self.start(at, rows);
+        0
+    }
+
+    /// Takes out the credential with this id. That begins a new session.
+    pub fn remove(&mut self, at: u64, id: &[u8; 32]) -> i32
+        ensures { Removes (Some self.old) (Some self.new) at id.now result }
+    {
+        if let Some(fault) = self.busy() {
+            return fault;
+        }
+        let (rows, is_there) = self.rows_without(id);
+        if !is_there {
+            return BAD_ARGUMENT;
+        }
+        self.start(at, rows);
+        0
+    }
+
+    /// Takes out all credentials. That begins a new session.
+    pub fn clear(&mut self, at: u64) -> i32
+        ensures { Clears (Some self.old) (Some self.new) at result }
+    {
+        if let Some(fault) = self.busy() {
+            return fault;
+        }
+        self.start(at, Store::new());
+        0
+    }
+
+    /// Writes a snapshot of the credentials to the front of a buffer of this length, and returns how many bytes it has.
+    fn save_front(&self, front: &mut [u8]) -> usize
+        requires { length front.old ≡ SNAPSHOT_LONGEST }
+        ensures saved { SavesLen self.now (front.old, front.new) result }
+        ensures same_length { length front.new ≡ SNAPSHOT_LONGEST }
+        ensures limit { result ≤ SNAPSHOT_LONGEST }
+    {
+        save_into(self.session.table(), front).unwrap_or(0)
+    }
+
+    /// Writes a snapshot of the credentials to the front of `out`, and returns how many bytes it has.
+    pub fn save(&self, out: &mut [u8]) -> i32
+        ensures { SavesRows self.now (out.old, out.new) result }
+    {
+        if out.len() < SNAPSHOT_LONGEST {
+            return TOO_SMALL;
+        }
+        self.save_front(&mut out[..SNAPSHOT_LONGEST]) as i32
     }
 }

@@ -18,10 +18,16 @@ pub const BAD_ARGUMENT: i32 = -5;
 /// The buffer is too small.
 pub const TOO_SMALL: i32 = -6;
 
+/// Work waits: a reply of the caller is needed before the key can begin anew.
+pub const WORK_WAITS: i32 = -7;
+
+/// Another credential is discoverable, with the same RP and user handle.
+pub const CLASHES: i32 = -8;
+
 /// The bytes are no snapshot.
 pub const NOT_SNAPSHOT: i32 = -17;
 
-/// The snapshot has too many rows.
+/// There would be more credentials than a key holds.
 pub const TOO_MANY_ROWS: i32 = -18;
 
 /// A row of the snapshot doesn't hold what a row holds.

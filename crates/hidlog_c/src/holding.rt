@@ -1,6 +1,7 @@
 //! What a call does on a key.
 ghost use Rattle.std.specs.Prelude.{◌≡◌, None, Some, is_some};
 ghost use Rattle.hidlog_c.specs.Held.{held};
+ghost use Rattle.hidlog_c.specs.Changed.{Adds, Clears, Removes, SavesKey};
 ghost use Rattle.hidlog_c.specs.Key.{Answers, Sends};
 ghost use Rattle.hidlog_c.specs.Words.{refusal_of};
 ghost use Rattle.hidlog_c.specs.Lines.{TakesLines};
@@ -149,5 +150,46 @@ impl Key {
         }
         *meters = self.memory.device().meters();
         0
+    }
+
+    /// Puts a credential after the others, and begins a new session.
+    pub fn add(&mut self, at: u64, credential: &Credential) -> i32
+        ensures { Adds (held self.old) (held self.new) at credential.now result }
+    {
+        if !self.is_made() {
+            return NOT_MADE;
+        }
+        self.memory.device().add(at, credential)
+    }
+
+    /// Takes out the credential with an id, and begins a new session.
+    pub fn remove(&mut self, at: u64, id: &[u8; 32]) -> i32
+        ensures { Removes (held self.old) (held self.new) at id.now result }
+    {
+        if !self.is_made() {
+            return NOT_MADE;
+        }
+        self.memory.device().remove(at, id)
+    }
+
+    /// Takes out all credentials, and begins a new session.
+    pub fn clear(&mut self, at: u64) -> i32
+        ensures { Clears (held self.old) (held self.new) at result }
+    {
+        if !self.is_made() {
+            return NOT_MADE;
+        }
+        self.memory.device().clear(at)
+    }
+
+    /// Writes a snapshot of the credentials, and returns how many bytes it has.
+    pub fn save(&mut self, out: &mut [u8]) -> i32
+        ensures same { held self.new ≡ held self.old }
+        ensures saves { SavesKey (held self.old) (out.old, out.new) result }
+    {
+        if !self.is_made() {
+            return NOT_MADE;
+        }
+        self.memory.device().save(out)
     }
 }

@@ -15,6 +15,7 @@ mod lines;
 mod memory;
 mod outcome;
 mod reports;
+mod rows;
 mod started;
 
 ghost use Rattle.hidlog_c.specs.Commands.{Answers, Checks, Lives, Quiets, Replays};

@@ -1,7 +1,7 @@
 //! Lines of a log, played on the session of a key.
 ghost use Rattle.std.specs.Prelude.{◌≡◌, [], take, Option};
 ghost use Rattle.hidlog_c.specs.Commands.{IsWritten};
-ghost use Rattle.hidlog_c.specs.Lines.{ArePlayed, LinesDo};
+ghost use Rattle.hidlog_c.specs.Lines.{ArePlayed, FollowsLines, LinesDo};
 
 use crate::lent::Lent;
 use crate::outcome::Outcome;
@@ -14,6 +14,7 @@ fn play(session: &mut Session<CAPACITY>, log: &[u8], writer: &mut Lent<'_>) -> R
     requires unfailed { writer.old.failures ≡ 0 }
     ensures same_reference { writer.new.buffer.ghost_name ≡ writer.old.buffer.ghost_name }
     ensures does { IsWritten log.now writer.new.buffer.now writer.new.len result (LinesDo session.old session.new) }
+    ensures history { FollowsLines session.old session.new log.now writer.new.buffer.now writer.new.len result }
 {
     live_lines(&mut SliceIn::new(log), writer, session)
 }

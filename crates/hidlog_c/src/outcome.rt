@@ -60,15 +60,9 @@ impl Outcome {
     pub fn refused(fault: SnapshotFault) -> Self
         ensures { result ≡ refused fault }
     {
-        let number = match fault {
-            SnapshotFault::NotSnapshot => 1,
-            SnapshotFault::TooMany => 2,
-            SnapshotFault::RowBroken(_) => 3,
-            SnapshotFault::Memory => 4,
-        };
         Outcome {
             status: 2,
-            fault: number,
+            fault: u32::from(fault.number()),
             line: 0,
             packet: 0,
             written: 0,

@@ -13,7 +13,7 @@ use session_log::CAPACITY;
 use token_session::Session;
 
 /// Returns a session at its start with these credentials.
-fn session_with(aaguid: [u8; 16], start: u64, rows: Store<CAPACITY>) -> Session<CAPACITY>
+pub fn session_with(aaguid: [u8; 16], start: u64, rows: Store<CAPACITY>) -> Session<CAPACITY>
     ensures { StandsAfter result (start_of aaguid start (⟦<Store<CAPACITY> as Table<CAPACITY>>⟧.rows rows)) [] }
 {
     Session::new(Config { aaguid }, rows, start)

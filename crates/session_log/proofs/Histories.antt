@@ -13,14 +13,14 @@ use Rattle.session_log.specs.declared.line.Line.{Line}
 use Rattle.session_log.specs.declared.line.Line.TheVariants.{Input, Sent, Comment, Count}
 use Rattle.session_log.specs.Check.{Compared, begun, difference, missing, differs_from, stops_compared, moves_compared, check_machine, check_history}
 use Rattle.session_log.specs.Ending.{Ending, ending_of}
-use Rattle.session_log.specs.Replay.{Logs, Makes, ReadsTo}
+use Rattle.session_log.specs.Replay.{Logs, Makes, Plays, ReadsTo, Writes}
 use Rattle.token_session.specs.Law.{named}
 use Rattle.session_log.specs.Needs.{need_lines}
 use Rattle.session_log.specs.Session.{sessions, histories, machine, history, quiet_machine, quiet_history, live_machine, live_history, session_needs, history_needs}
 use Rattle.session_log.specs.Streams.{Moves}
 use Rattle.session_log.specs.Text.{ended, sent_text, tick_text, meters_line}
 use Rattle.session_log.specs.World.{World, moves_input, writes_again}
-use Rattle.session_log.proofs.Worlds.{Follows, makes_alike, logs_alike, reads_alike}
+use Rattle.session_log.proofs.Worlds.{Follows, makes_alike, logs_alike, plays_alike, reads_alike}
 
 counted : (s : SessionState) (start : Start) (h : List Timed) → StandsAfter s start h → s.meters ≡ (history start).counts h
 unfolding session_of
@@ -105,6 +105,13 @@ pub lives_history : (left left' taken taken' : Option (List ℕ)) (s t : Session
 lives_history left left' taken taken' s t r all m reach start h stands =
     let found = logs_alike live_machine (live_history start) (λ s h. StandsAfter s start h) (live_follows start) s t h stands m.0 m.1 r m.4 in
     (found.0, found.1, (m.0, m.1, m.2, m.3, found.2), reads_alike live_machine (live_history start) (λ s h. StandsAfter s start h) (live_follows start) s h stands left left' all (ending_of r) reach)
+
+pub lines_history : (left left' taken taken' : Option (List ℕ)) (s t : SessionState) (ending : Ending) (all : Type 0) → Moves left left' taken taken' (λ bytes text. Plays live_machine s t bytes text ending) → ReadsTo live_machine s left left' all ending
+    → (start : Start) (h : List Timed) → StandsAfter s start h
+    → (later : List Timed) × StandsAfter t start later × Moves left left' taken taken' (λ bytes text. Writes (live_history start) h later bytes text ending) × ReadsTo (live_history start) h left left' all ending
+lines_history left left' taken taken' s t ending all m reach start h stands =
+    let found = plays_alike live_machine (live_history start) (λ s h. StandsAfter s start h) (live_follows start) s t h stands m.0 m.1 ending m.4 in
+    (found.0, found.1, (m.0, m.1, m.2, m.3, found.2), reads_alike live_machine (live_history start) (λ s h. StandsAfter s start h) (live_follows start) s h stands left left' all ending reach)
 
 -- what an ending means in one world, it means in the other
 makes_there : {A B : Type 0} (v : World A) (w : World B) (R : A → B → Type 0) → Follows v w R → (left left' taken taken' : Option (List ℕ)) (s t : A) (b : B) → R s b → (ending : Ending) (all : Type 0)

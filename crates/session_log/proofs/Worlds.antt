@@ -8,7 +8,7 @@ use Rattle.session_log.specs.Lines.{lines, whole_lines}
 use Rattle.session_log.specs.Log.{Played, played, playing, text_by, after_by, first_fault, fault_by, fault_at, fault_of, last_text, log_of}
 use Rattle.session_log.specs.Said.{said}
 use Rattle.session_log.specs.Ending.{Ending, Done, Refused, Unread, Unwritten, ended_by}
-use Rattle.session_log.specs.Replay.{IsDone, IsRefused, IsUnread, IsUnwritten, IsNear, IsShown, Reaches, ReadsTo, Makes, Logs, next_text, next_state}
+use Rattle.session_log.specs.Replay.{AreWritten, IsDone, IsPlayed, IsRefused, IsUnread, IsUnwritten, IsNear, IsShown, Reaches, ReadsTo, Makes, Logs, Plays, Writes, next_text, next_state}
 use Rattle.session_log.specs.World.{World}
 
 -- b stands after what a names, and stays so
@@ -149,6 +149,22 @@ makes_alike v w R f s t b k bytes text Done h = done_alike v w R f s t b k bytes
 makes_alike v w R f s t b k bytes text (Refused e) h = refused_alike v w R f s t b k bytes text e h
 makes_alike v w R f s t b k bytes text (Unread n) h = unread_alike v w R f s t b k bytes text n h
 makes_alike v w R f s t b k bytes text Unwritten h = unwritten_alike v w R f s t b k bytes text h
+
+written_alike : {A B : Type 0} (v : World A) (w : World B) (R : A → B → Type 0) → Follows v w R → (s t : A) (b : B) → R s b → (bytes text : List ℕ) → IsPlayed v s t bytes text
+    → (c : B) × R t c × AreWritten w b c bytes text
+written_alike {A} {B} v w R f s t b r bytes text h =
+    let same = alike v w R f 1 s b r (lines bytes) in (
+      (playing w b bytes).state,
+      subst (λ (z : A). R z (playing w b bytes).state) (sym h.stands) same.state,
+      record { faultless = sym same.fault ∙ h.faultless; written = h.written ∙ same.text; stands = refl },
+    )
+
+pub plays_alike : {A B : Type 0} (v : World A) (w : World B) (R : A → B → Type 0) → Follows v w R → (s t : A) (b : B) → R s b → (bytes text : List ℕ) (ending : Ending) → Plays v s t bytes text ending
+    → (c : B) × R t c × Writes w b c bytes text ending
+plays_alike v w R f s t b k bytes text Done h = written_alike v w R f s t b k bytes text h
+plays_alike v w R f s t b k bytes text (Refused e) h = refused_alike v w R f s t b k bytes text e h
+plays_alike v w R f s t b k bytes text (Unread n) h = unread_alike v w R f s t b k bytes text n h
+plays_alike v w R f s t b k bytes text Unwritten h = unwritten_alike v w R f s t b k bytes text h
 
 pub logs_alike : {A B : Type 0} (v : World A) (w : World B) (R : A → B → Type 0) → Follows v w R → (s t : A) (b : B) → R s b → (bytes text : List ℕ) (r : Result Meters LogFault) → Logs v s t bytes text r
     → (c : B) × R t c × Logs w b c bytes text r

@@ -25,6 +25,12 @@ pub record IsPlayed {S : Type 0} (world : World S) (s t : S) (bytes text : List 
   pub written : text ≡ (playing world s bytes).text
   pub stands : t ≡ (playing world s bytes).state
 
+-- The same, where nothing is said of what was sent.
+pub record AreWritten {S : Type 0} (world : World S) (s t : S) (bytes text : List ℕ) : Type 0 where
+  pub faultless : (playing world s bytes).fault ≡ None
+  pub written : text ≡ (playing world s bytes).text
+  pub stands : t ≡ (playing world s bytes).state
+
 -- this is the first fault, and the texts of the lines before it were written
 pub record IsRefused {S : Type 0} (world : World S) (s t : S) (bytes text : List ℕ) (f : LogFault) : Type 0 where
   pub faulty : fault_of world (playing world s bytes) ≡ Some f
@@ -74,6 +80,10 @@ Means world s t bytes text AtEnd Unwritten = IsUnwritten world s t bytes text
 -- of lines that are played
 abbrev pub Plays : {S : Type 0} → World S → S → S → List ℕ → List ℕ → Ending → Type 0
 Plays world s t bytes text ending = Means world s t bytes text (IsPlayed world s t bytes text) ending
+
+-- The same, where nothing is said of what was sent.
+abbrev pub Writes : {S : Type 0} → World S → S → S → List ℕ → List ℕ → Ending → Type 0
+Writes world s t bytes text ending = Means world s t bytes text (AreWritten world s t bytes text) ending
 
 -- of a whole log
 abbrev pub Makes : {S : Type 0} → World S → S → S → List ℕ → List ℕ → Ending → Type 0

@@ -2,7 +2,7 @@
 ghost use Rattle.std.specs.Prelude.{◌≡◌, ◌<◌, ◌-◌, ◌^◌, List, [], OnOk};
 ghost use Rattle.session_log.specs.Ending.{ending_of, read_fails, write_fails};
 ghost use Rattle.session_log.specs.Needs.{is_need_line as is_one};
-ghost use Rattle.session_log.specs.Replay.{Logs, Plays, ReadsTo};
+ghost use Rattle.session_log.specs.Replay.{Logs, Plays, ReadsTo, Writes};
 ghost use Rattle.session_log.specs.Session.{live_history, live_machine, Repeats, RepeatsIn};
 ghost use Rattle.token_session.specs.declared.input.Timed.{Timed as OneInput};
 ghost use Rattle.authn_core.specs.Turn.{Start};
@@ -106,6 +106,13 @@ pub fn live_lines<S: Source, T: Target, const C: usize>(
         (λ bytes text. Plays live_machine session.old session.new bytes text (ending_of result)) }
     ensures end { OnOk result (IsAllRead S.left S.ended reader.new) }
     ensures reach { ReadsTo live_machine session.old (S.left reader.old) (S.left reader.new)
+        (IsAllRead S.left S.ended reader.new) (ending_of result) }
+    // After any history, all this holds of what the history names in place of what the session holds.
+    ensures history { (start : Start) (h : List OneInput) → StandsAfter session.old start h
+        → (later : List OneInput) × StandsAfter session.new start later
+        × Moves (S.left reader.old) (S.left reader.new) (T.taken writer.old) (T.taken writer.new)
+        (λ bytes text. Writes (live_history start) h later bytes text (ending_of result))
+        × ReadsTo (live_history start) h (S.left reader.old) (S.left reader.new)
         (IsAllRead S.left S.ended reader.new) (ending_of result) }
     ensures reads { Counts S.failed (reader.old, reader.new) (read_fails (ending_of result)) }
     ensures writes { Counts T.failed (writer.old, writer.new) (write_fails (ending_of result)) }

@@ -1,6 +1,6 @@
 use Rattle.std.proofs.Common.{sym, ◌∙◌}
 use Rattle.cred_table.proofs.RowTrees.{no_clash}
-use Rattle.cred_table.proofs.loading.put_row.Goals as goal
+use Rattle.cred_table.proofs.loading.put_new.Goals as goal
 
 pub put-requires-clause-fresh : goal.put-requires-clause-fresh
 put-requires-clause-fresh g c = (no_clash c.args.row (g.T.Table.rows c.args.table.now) (sym c.clashes.ensures ∙ c.if-clashes.false)).0

@@ -1,0 +1,74 @@
+-- Rows that are copied one after another, except the one with an id.
+use Rattle.std.proofs.Common.{◌≡◌, ℕ, true, false, List, [], ◌∷◌, ◌++◌, not, cond, length, arith, sym, ap, subst, ◌∙◌, append_assoc, length-append}
+use Rattle.std.specs.Prelude.{◌<◌, None, IsTrue}
+use Rattle.std.proofs.lemmas.List.{append-nil}
+use Rattle.std.proofs.lemmas.List.Elements.{filter-append}
+use Rattle.std.proofs.lemmas.List.Sums.{length-filter}
+use Rattle.std.proofs.lemmas.List.Sums.{count_by-le-length}
+use Rattle.std.proofs.lemmas.Bool.{or_parts, or_from}
+use Rattle.std.specs.List.{find, list_any}
+use Rattle.cred_table.specs.declared.row.Row.{Row}
+use Rattle.cred_table.specs.Rows.{has_id, is_user, replaces, without, Lawful}
+use Rattle.cred_table.specs.Snapshots.{clashes}
+use Rattle.cred_table.proofs.RowTrees.{no_clash}
+use Rattle.cred_table.proofs.Clashing.{free_before}
+use Rattle.cred_table.proofs.NoTwo.{none_kept}
+
+-- These are the rows that were copied of those before the ones that are left.
+pub record Copied (id : List ℕ) (rows left to : List Row) : Type 0 where
+  pub done : List Row
+  pub all : done ++ left ≡ rows
+  pub copied : to ≡ without id done
+
+pub none_copied : (id : List ℕ) (rows left to : List Row) → to ≡ [] → left ≡ rows → Copied id rows left to
+none_copied id rows left to none same = record { done = []; all = same; copied = none }
+
+joined : (rows left rest done : List Row) (row : Row) → left ≡ row ∷ rest → done ++ left ≡ rows → (done ++ row ∷ []) ++ rest ≡ rows
+joined rows left rest done row first all = append_assoc done (row ∷ []) rest ∙ ap (λ l. done ++ l) (sym first) ∙ all
+
+pub one_copied : (id : List ℕ) (rows left rest : List Row) (row copy : Row) (old new : List Row) → left ≡ row ∷ rest → not (has_id id row) ≡ true → copy ≡ row → Copied id rows left old → new ≡ old ++ copy ∷ [] → Copied id rows rest new
+one_copied id rows left rest row copy old new first other same w put = record {
+  done = w.done ++ row ∷ [];
+  all = joined rows left rest w.done row first w.all;
+  copied = put ∙ ap (λ r. old ++ r ∷ []) same ∙ ap (λ l. l ++ row ∷ []) w.copied ∙ ap (λ b. without id w.done ++ cond b (row ∷ []) []) (sym other) ∙ sym (filter-append (λ r. not (has_id id r)) w.done (row ∷ []));
+}
+
+pub one_left_out : (id : List ℕ) (rows left rest : List Row) (row : Row) (to : List Row) → left ≡ row ∷ rest → not (has_id id row) ≡ false → Copied id rows left to → Copied id rows rest to
+one_left_out id rows left rest row to first is w = record {
+  done = w.done ++ row ∷ [];
+  all = joined rows left rest w.done row first w.all;
+  copied = w.copied ∙ sym (append-nil (without id w.done)) ∙ ap (λ b. without id w.done ++ cond b (row ∷ []) []) (sym is) ∙ sym (filter-append (λ r. not (has_id id r)) w.done (row ∷ []));
+}
+
+pub all_copied : (id : List ℕ) (rows left to : List Row) → left ≡ [] → Copied id rows left to → to ≡ without id rows
+all_copied id rows left to end w = w.copied ∙ ap (without id) (sym (append-nil w.done) ∙ ap (λ l. w.done ++ l) (sym end) ∙ w.all)
+
+-- What a table has capacity for, and what clashes with nothing, of rows that are kept in one.
+pub record MayBePut (room : ℕ) (row : Row) (to : List Row) : Type 0 where
+  pub space : length to < room
+  pub fresh : find (has_id row.id) to ≡ None
+  pub alone : IsTrue row.discoverable → find (is_user row.rp row.user.items) to ≡ None
+
+pub may_be_put : (room : ℕ) (id : List ℕ) (rows left rest : List Row) (row copy : Row) (to : List Row) → Lawful room rows → left ≡ row ∷ rest → copy ≡ row → Copied id rows left to → MayBePut room copy to
+may_be_put room id rows left rest row copy to lawful first same w = subst (λ r. MayBePut room r to) (sym same) (subst (MayBePut room row) (sym w.copied) (record {
+  space = omega (
+    arith,
+    length-filter (λ r. not (has_id id r)) w.done,
+    count_by-le-length (λ r. not (has_id id r)) w.done,
+    ap length (sym w.all ∙ ap (λ l. w.done ++ l) first),
+    length-append w.done (row ∷ rest),
+    lawful.few,
+  );
+  fresh = (no_clash row (without id w.done) apart).0;
+  alone = (no_clash row (without id w.done) apart).1;
+}))
+  where
+    free : clashes row w.done ≡ false
+    free = free_before room rows w.done row left rest lawful w.all first
+
+    apart : clashes row (without id w.done) ≡ false
+    apart =
+        let both = or_parts (list_any (has_id row.id) w.done) (list_any (replaces row) w.done) free in
+        or_from (list_any (has_id row.id) (without id w.done)) (list_any (replaces row) (without id w.done))
+        (none_kept (λ r. not (has_id id r)) (has_id row.id) w.done both.0)
+        (none_kept (λ r. not (has_id id r)) (replaces row) w.done both.1)

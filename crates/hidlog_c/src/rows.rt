@@ -1,0 +1,40 @@
+//! A credential of C as a row.
+ghost use Rattle.std.specs.Prelude.{◌≡◌, ◌≤◌, ◌<◌, length, take, option_map, IfSome, IfNone};
+ghost use Rattle.hidlog_c.specs.Changed.{Says, SaysNone};
+
+use crate::reports::Credential;
+use arrayvec::{ArrayString, ArrayVec};
+use cred_table::Row;
+use std::str;
+
+/// Returns the first bytes of an array, where it has so many.
+fn front(bytes: &[u8; 64], len: u32) -> Option<&[u8]>
+    ensures front { IfSome result (λ front. (front.now ≡ take len bytes.now) × (len ≤ 64)) }
+    ensures none { IfNone result (64 < len) }
+{
+    bytes.get(..len as usize)
+}
+
+/// Returns the row that a credential says, where it says one.
+pub fn row_of(credential: &Credential) -> Option<Row>
+    ensures says { IfSome result (λ row. Says credential.now row) }
+    ensures none { IfNone result (SaysNone credential.now) }
+{
+    let user = front(&credential.user, credential.user_len)?;
+    let name = front(&credential.name, credential.name_len)?;
+    let discoverable = match credential.discoverable {
+        0 => false,
+        1 => true,
+        _ => return None,
+    };
+    Some(Row {
+        rp: credential.rp,
+        id: credential.id,
+        x: credential.x,
+        y: credential.y,
+        user: ArrayVec::try_from(user).ok()?,
+        discoverable,
+        counter: credential.counter,
+        name: ArrayString::from(str::from_utf8(name).ok()?).ok()?,
+    })
+}
