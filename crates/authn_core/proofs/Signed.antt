@@ -17,7 +17,6 @@ use Rattle.ctap_message.specs.Asked.{Asked, MakeCredential, GetAssertion, GetInf
 use Rattle.ctap_message.specs.Members.{has_entries}
 use Rattle.ctap_message.specs.Descriptors.{ids_of}
 use Rattle.ctap_message.specs.Requests.{read_of}
-use Rattle.authn_core.specs.declared.replies.Presence.{Presence}
 use Rattle.authn_core.specs.declared.replies.Presence.TheVariants.{Granted, Denied, TimedOut}
 use Rattle.authn_core.specs.declared.replies.NewKey.{NewKey}
 use Rattle.authn_core.specs.declared.task.Making.{Making}
@@ -32,8 +31,8 @@ use Rattle.authn_core.specs.MakeCredential.{fits, new_row}
 use Rattle.authn_core.specs.GetAssertion.{find_named, applicable, MOST, told, begins, is_due, next_begins, next_signs, row_signs, user_in}
 use Rattle.authn_core.specs.Turn.{Start, core_answer, first_state, requested, presence_at, key_at, signature_at, presence_turn, key_turn, signature_turn, turn}
 use Rattle.authn_core.specs.Views.{Needed, needs, sign}
-use Rattle.authn_core.specs.Marks.{Step, core_at}
-use Rattle.authn_core.specs.Signed.{Heard, newer, hears, heard, IsAmong, rp_of, IsToSign, IsNeeded, IsSigned, Claim, assertion_asked, creation_asked, AssertsFor, TaskSigns, WorkSigns, AllOf, PendingFor, Signs}
+use Rattle.authn_core.specs.Marks.{Step, Comes, Orderly, core_at}
+use Rattle.authn_core.specs.Signed.{Heard, newer, hears, heard, IsAmong, rp_of, IsToSign, IsNeeded, IsSigned, Claim, assertion_asked, creation_asked, AssertsFor, TaskSigns, WorkSigns, AllOf, PendingFor, IsGranted, TaskGranted, WorkGranted, Signs}
 use Rattle.authn_core.proofs.Readiness.{cond_case}
 use Rattle.authn_core.proofs.Marked.{same_bytes}
 use Rattle.authn_core.proofs.Texts.{rows_lawful, setup_stays}
@@ -187,82 +186,133 @@ pending_stamped : (asked : Option Asked) (rows : List Row) (t : ℕ) (p : Option
 pending_stamped asked rows t None h = tt
 pending_stamped asked rows t (Some w) h = h
 
-ended : (aaguid : List ℕ) (h : Heard) (rows : List Row) (p : Option Waiting) → PendingFor h.asked rows p → Signs aaguid h (record { rows = rows; pending = p; work = None })
-ended aaguid h rows p q = record { pending = q; work = tt }
+granted_stamped : (granted : Bool) (t : ℕ) (p : Option Waiting) → IsGranted granted p → IsGranted granted (stamped t p)
+granted_stamped granted t None h = tt
+granted_stamped granted t (Some w) h = h
 
-signs_signs : (aaguid : List ℕ) (h : Heard) (rows : List Row) (p : Option Waiting) (cid : ℕ) (a : Asserting) → PendingFor h.asked rows p → AssertsFor h.asked rows a → Signs aaguid h (signs rows p cid a).state
-signs_signs aaguid h rows p cid a q f =
-    record { pending = pending_raised h.asked a.id rows p q; work = ((f.0, rp_raised a.id a.id rows ∙ f.1), sym (counter_raised a.id rows (there a.id a.rp rows f.1)), refl) }
+still_granted : (granted : Bool) (cid : ℕ) (hash : List ℕ) (up : Bool) (t : ℕ) (l : List (List ℕ)) → (up ≡ true → granted ≡ true) → IsGranted granted (pending_of cid hash up t l)
+still_granted granted cid hash up t [] k = tt
+still_granted granted cid hash up t (id ∷ l) k = k
+
+ended : (aaguid : List ℕ) (h : Heard) (rows : List Row) (p : Option Waiting) → PendingFor h.asked rows p → IsGranted h.granted p → Signs aaguid h (record { rows = rows; pending = p; work = None })
+ended aaguid h rows p q k = record { pending = q; granted = k; work = tt }
+
+signs_signs : (aaguid : List ℕ) (h : Heard) (rows : List Row) (p : Option Waiting) (cid : ℕ) (a : Asserting) → PendingFor h.asked rows p → IsGranted h.granted p → AssertsFor h.asked rows a → (a.presence ≡ true → h.granted ≡ true)
+    → Signs aaguid h (signs rows p cid a).state
+signs_signs aaguid h rows p cid a q k f up =
+    record { pending = pending_raised h.asked a.id rows p q; granted = k; work = ((f.0, rp_raised a.id a.id rows ∙ f.1), sym (counter_raised a.id rows (there a.id a.rp rows f.1)), refl, up) }
 
 begins_signs : (aaguid : List ℕ) (h : Heard) (rows : List Row) (t cid : ℕ) (hash rp : List ℕ) (up given : Bool) (l : List (List ℕ)) → assertion_asked h.asked ≡ Some (record { rp = rp; presence = up; hash = hash }) → AllOf rp rows l
     → Signs aaguid h (begins rows t cid hash rp up given l).state
-begins_signs aaguid h rows t cid hash rp up given [] c a = ended aaguid h rows None tt
+begins_signs aaguid h rows t cid hash rp up given [] c a = ended aaguid h rows None tt tt
 begins_signs aaguid h rows t cid hash rp up given (id ∷ l) c a =
     let p = pending_is h.asked rows cid hash rp up t l c a.1 in
     cond_case (λ (v : Turned). Signs aaguid h v.state) (nat_lt (counter_of id rows) MOST) _ _
-    (λ _. cond_case (λ (v : Turned). Signs aaguid h v.state) up _ _ (λ _. record { pending = p; work = (c, a.0) })
-    (λ _. signs_signs aaguid h rows (pending_of cid hash up t l) cid (record { hash = hash; rp = rp; id = id; presence = up; number = told given (length l + 1) }) p (c, a.0)))
-    (λ _. ended aaguid h rows None tt)
+    (λ _. cond_case (λ (v : Turned). Signs aaguid h v.state) up _ _ (λ _. record { pending = p; granted = tt; work = (c, a.0) })
+    (λ e. signs_signs aaguid h rows (pending_of cid hash up t l) cid (record { hash = hash; rp = rp; id = id; presence = up; number = told given (length l + 1) }) p
+    (still_granted h.granted cid hash up t l (unasked up e)) (c, a.0) (unasked up e)))
+    (λ _. ended aaguid h rows None tt tt)
+  where
+    unasked : (up : Bool) → up ≡ false → up ≡ true → h.granted ≡ true
+    unasked true e k = cc
+    unasked false e k = cc
 
-next_signs_on : (aaguid : List ℕ) (h : Heard) (rows : List Row) (p : Option Waiting) (t cid : ℕ) → PendingFor h.asked rows p → Signs aaguid h (next_begins rows p t cid).state
-next_signs_on aaguid h rows None t cid f = ended aaguid h rows None tt
-next_signs_on aaguid h rows (Some w) t cid f =
-    cond_case (λ (v : Turned). Signs aaguid h v.state) (is_due t cid (Some w)) _ _ (λ _. go w.ids f) (λ _. ended aaguid h rows None tt)
+next_signs_on : (aaguid : List ℕ) (h : Heard) (rows : List Row) (p : Option Waiting) (t cid : ℕ) → PendingFor h.asked rows p → IsGranted h.granted p → Signs aaguid h (next_begins rows p t cid).state
+next_signs_on aaguid h rows None t cid f k = ended aaguid h rows None tt tt
+next_signs_on aaguid h rows (Some w) t cid f k =
+    cond_case (λ (v : Turned). Signs aaguid h v.state) (is_due t cid (Some w)) _ _ (λ _. go w.ids f) (λ _. ended aaguid h rows None tt tt)
   where
     at : (id : List ℕ) (l : List (List ℕ)) (o : Option Row) → find (has_id id) rows ≡ o → PendingFor h.asked rows (Some (record w { ids = id ∷ l }))
         → Signs aaguid h (row_signs rows (pending_of w.cid w.hash w.presence w.moment l) cid w.hash w.presence id o).state
-    at id l None e f = ended aaguid h rows None tt
+    at id l None e f = ended aaguid h rows None tt tt
     at id l (Some r) e f =
         let found : rp_of id rows ≡ Some r.rp = ap (λ (o : Option Row). option_map (λ (r : Row). r.rp) o) e in
         let same : f.0 ≡ r.rp = same_Some f.0 r.rp (sym f.2.0 ∙ found) in
         let P : List ℕ → Type 0 = λ rp. assertion_asked h.asked ≡ Some (record { rp = rp; presence = w.presence; hash = w.hash }) in
         cond_case (λ (v : Turned). Signs aaguid h v.state) (nat_lt (counter_of id rows) MOST) _ _
         (λ _. signs_signs aaguid h rows (pending_of w.cid w.hash w.presence w.moment l) cid (record { hash = w.hash; rp = r.rp; id = id; presence = w.presence; number = None })
-        (pending_is h.asked rows w.cid w.hash f.0 w.presence w.moment l f.1 f.2.1) (subst P same f.1, found))
-        (λ _. ended aaguid h rows None tt)
+        (pending_is h.asked rows w.cid w.hash f.0 w.presence w.moment l f.1 f.2.1) (still_granted h.granted w.cid w.hash w.presence w.moment l k) (subst P same f.1, found) k)
+        (λ _. ended aaguid h rows None tt tt)
 
     go : (l : List (List ℕ)) → PendingFor h.asked rows (Some (record w { ids = l })) → Signs aaguid h (next_signs rows (Some (record w { ids = l })) cid (first_of (Some (record w { ids = l })))).state
-    go [] f = ended aaguid h rows None tt
+    go [] f = ended aaguid h rows None tt tt
     go (id ∷ l) f = at id l (find (has_id id) rows) refl f
 
-requested_signs : (u : Setup) (h : Heard) (rows : List Row) (p : Option Waiting) (t cid : ℕ) (read : Result Asked ℕ) → no_two same_id rows ≡ true → PendingFor h.asked rows p
-    → Signs u.aaguid (record h { asked = newer h.asked read }) (requested u rows p t cid read).state
-requested_signs u h rows p t cid (Err code) d f = record { pending = tt; work = tt }
-requested_signs u h rows p t cid (Ok GetInfo) d f = record { pending = tt; work = tt }
-requested_signs u h rows p t cid (Ok Reset) d f =
-    cond_case (λ (v : Turned). Signs u.aaguid (record h { asked = Some Reset }) v.state) (nat_lt (u.began + RESET_LIMIT) t) _ _ (λ _. record { pending = tt; work = tt }) (λ _. record { pending = tt; work = tt })
-requested_signs u h rows p t cid (Ok Selection) d f = record { pending = tt; work = tt }
-requested_signs u h rows p t cid (Ok (MakeCredential hash rp_id user_id user_name discoverable exclude)) d f = record { pending = tt; work = refl }
-requested_signs u h rows p t cid (Ok (GetAssertion hash rp_id allow up)) d f =
-    begins_signs u.aaguid (record h { asked = Some (GetAssertion hash rp_id allow up) }) rows t cid hash (rp_hash rp_id) up (has_entries allow)
+requested_signs : (u : Setup) (h : Heard) (rows : List Row) (p : Option Waiting) (t cid : ℕ) (read : Result Asked ℕ) → no_two same_id rows ≡ true → PendingFor h.asked rows p → IsGranted h.granted p
+    → Signs u.aaguid (newer h read) (requested u rows p t cid read).state
+requested_signs u h rows p t cid (Err code) d f k = record { pending = tt; granted = tt; work = tt }
+requested_signs u h rows p t cid (Ok GetInfo) d f k = record { pending = tt; granted = tt; work = tt }
+requested_signs u h rows p t cid (Ok Reset) d f k =
+    cond_case (λ (v : Turned). Signs u.aaguid (newer h (Ok Reset)) v.state) (nat_lt (u.began + RESET_LIMIT) t) _ _ (λ _. record { pending = tt; granted = tt; work = tt }) (λ _. record { pending = tt; granted = tt; work = tt })
+requested_signs u h rows p t cid (Ok Selection) d f k = record { pending = tt; granted = tt; work = tt }
+requested_signs u h rows p t cid (Ok (MakeCredential hash rp_id user_id user_name discoverable exclude)) d f k = record { pending = tt; granted = tt; work = refl }
+requested_signs u h rows p t cid (Ok (GetAssertion hash rp_id allow up)) d f k =
+    begins_signs u.aaguid (newer h (Ok (GetAssertion hash rp_id allow up))) rows t cid hash (rp_hash rp_id) up (has_entries allow)
     (ids (applicable rows (rp_hash rp_id) (has_entries allow) (ids_of allow))) refl (applicable_of rows (rp_hash rp_id) (has_entries allow) (ids_of allow) d)
-requested_signs u h rows p t cid (Ok GetNextAssertion) d f = next_signs_on u.aaguid h rows p t cid f
+requested_signs u h rows p t cid (Ok GetNextAssertion) d f k = next_signs_on u.aaguid h rows p t cid f k
 
-presence_signs : (room : ℕ) (aaguid : List ℕ) (h : Heard) (s : State) (cid : ℕ) (k : Task) (p : Presence) → Signs aaguid h s → TaskSigns aaguid h s.rows k → Signs aaguid h (presence_at room s cid k p).state
-presence_signs room aaguid h s cid Resets Granted g w = record { pending = tt; work = tt }
-presence_signs room aaguid h s cid Resets Denied g w = ended aaguid h s.rows s.pending g.pending
-presence_signs room aaguid h s cid Resets TimedOut g w = ended aaguid h s.rows s.pending g.pending
-presence_signs room aaguid h s cid Selects Granted g w = ended aaguid h s.rows s.pending g.pending
-presence_signs room aaguid h s cid Selects Denied g w = ended aaguid h s.rows s.pending g.pending
-presence_signs room aaguid h s cid Selects TimedOut g w = ended aaguid h s.rows s.pending g.pending
-presence_signs room aaguid h s cid (AsksMake m true) p g w = ended aaguid h s.rows s.pending g.pending
-presence_signs room aaguid h s cid (AsksMake m false) Granted g w =
-    cond_case (λ (v : Turned). Signs aaguid h v.state) (fits room m s.rows) _ _ (λ _. record { pending = g.pending; work = w }) (λ _. ended aaguid h s.rows s.pending g.pending)
-presence_signs room aaguid h s cid (AsksMake m false) p g w = ended aaguid h s.rows s.pending g.pending
-presence_signs room aaguid h s cid (AsksAssert a) Granted g w = signs_signs aaguid h s.rows s.pending cid a g.pending w
-presence_signs room aaguid h s cid (AsksAssert a) p g w = ended aaguid h s.rows None tt
-presence_signs room aaguid h s cid k p g w = g
+-- once presence was granted
+all_granted : (p : Option Waiting) → IsGranted true p
+all_granted None = tt
+all_granted (Some w) = λ _. refl
 
-key_signs : (aaguid : List ℕ) (h : Heard) (s : State) (cid : ℕ) (k : Task) (key : NewKey) → Signs aaguid (record h { keys = key ∷ h.keys }) s → TaskSigns aaguid (record h { keys = key ∷ h.keys }) s.rows k
+granted_signs : (room : ℕ) (aaguid : List ℕ) (h : Heard) (s : State) (cid : ℕ) (k : Task) → Signs aaguid (record h { granted = true }) s → TaskSigns aaguid (record h { granted = true }) s.rows k
+    → Signs aaguid (record h { granted = true }) (presence_at room s cid k Granted).state
+granted_signs room aaguid h s cid Resets g w = record { pending = tt; granted = tt; work = tt }
+granted_signs room aaguid h s cid Selects g w = ended aaguid (record h { granted = true }) s.rows s.pending g.pending (all_granted s.pending)
+granted_signs room aaguid h s cid (AsksMake m true) g w = ended aaguid (record h { granted = true }) s.rows s.pending g.pending (all_granted s.pending)
+granted_signs room aaguid h s cid (AsksMake m false) g w =
+    cond_case (λ (v : Turned). Signs aaguid (record h { granted = true }) v.state) (fits room m s.rows) _ _ (λ _. record { pending = g.pending; granted = all_granted s.pending; work = (w, refl) })
+    (λ _. ended aaguid (record h { granted = true }) s.rows s.pending g.pending (all_granted s.pending))
+granted_signs room aaguid h s cid (AsksAssert a) g w = signs_signs aaguid (record h { granted = true }) s.rows s.pending cid a g.pending (all_granted s.pending) w (λ _. refl)
+granted_signs room aaguid h s cid k g w = g
+
+more_granted : (aaguid : List ℕ) (h : Heard) (s : State) → Signs aaguid h s → Signs aaguid (record h { granted = true }) s
+more_granted aaguid h s g = record { pending = g.pending; granted = free s.work; work = work s.work g.work }
+  where
+    free : (v : Option Job) → WorkGranted true s.pending v
+    free None = all_granted s.pending
+    free (Some job) = at job.task
+      where
+        at : (k : Task) → TaskGranted true s.pending k
+        at (AsksAssert a) = tt
+        at k = all_granted s.pending
+
+    work : (v : Option Job) → WorkSigns aaguid h s.rows v → WorkSigns aaguid (record h { granted = true }) s.rows v
+    work None w = tt
+    work (Some job) w = at job.task w
+      where
+        at : (k : Task) → TaskSigns aaguid h s.rows k → TaskSigns aaguid (record h { granted = true }) s.rows k
+        at (SignsMake m key d) w = (w.0, w.1, w.2, refl)
+        at (AsksMake m excluded) w = w
+        at (WantsKey m) w = (w.0, refl)
+        at (AsksAssert a) w = w
+        at (SignsAssert a n d) w = (w.0, w.1, w.2, λ _. refl)
+        at Resets w = tt
+        at Selects w = tt
+
+refused_signs : (room : ℕ) (aaguid : List ℕ) (h : Heard) (s : State) (cid : ℕ) (k : Task) (late : Bool) → Signs aaguid h s → TaskGranted h.granted s.pending k → Signs aaguid h (presence_at room s cid k (cond late TimedOut Denied)).state
+refused_signs room aaguid h s cid Resets false g q = ended aaguid h s.rows s.pending g.pending q
+refused_signs room aaguid h s cid Resets true g q = ended aaguid h s.rows s.pending g.pending q
+refused_signs room aaguid h s cid Selects false g q = ended aaguid h s.rows s.pending g.pending q
+refused_signs room aaguid h s cid Selects true g q = ended aaguid h s.rows s.pending g.pending q
+refused_signs room aaguid h s cid (AsksMake m true) late g q = ended aaguid h s.rows s.pending g.pending q
+refused_signs room aaguid h s cid (AsksMake m false) false g q = ended aaguid h s.rows s.pending g.pending q
+refused_signs room aaguid h s cid (AsksMake m false) true g q = ended aaguid h s.rows s.pending g.pending q
+refused_signs room aaguid h s cid (AsksAssert a) false g q = ended aaguid h s.rows None tt tt
+refused_signs room aaguid h s cid (AsksAssert a) true g q = ended aaguid h s.rows None tt tt
+refused_signs room aaguid h s cid k late g q = g
+
+key_signs : (aaguid : List ℕ) (h : Heard) (s : State) (cid : ℕ) (k : Task) (key : NewKey) → Signs aaguid (record h { keys = key ∷ h.keys }) s → TaskSigns aaguid (record h { keys = key ∷ h.keys }) s.rows k → TaskGranted h.granted s.pending k
     → Signs aaguid (record h { keys = key ∷ h.keys }) (key_at aaguid s cid k (Some key)).state
-key_signs aaguid h s cid (WantsKey m) key g w =
+key_signs aaguid h s cid (WantsKey m) key g w q =
     cond_case (λ (v : Turned). Signs aaguid (record h { keys = key ∷ h.keys }) v.state) (is_some (find (has_id key.id) s.rows)) _ _
-    (λ _. ended aaguid (record h { keys = key ∷ h.keys }) s.rows s.pending g.pending) (λ _. record { pending = g.pending; work = (w, inl refl, refl) })
-key_signs aaguid h s cid k key g w = g
+    (λ _. ended aaguid (record h { keys = key ∷ h.keys }) s.rows s.pending g.pending q) (λ _. record { pending = g.pending; granted = q; work = (w.0, inl refl, refl, w.1) })
+key_signs aaguid h s cid k key g w q = g
 
-refused_key : (aaguid : List ℕ) (h : Heard) (s : State) (cid : ℕ) (k : Task) → Signs aaguid h s → Signs aaguid h (key_at aaguid s cid k None).state
-refused_key aaguid h s cid (WantsKey m) g = ended aaguid h s.rows s.pending g.pending
-refused_key aaguid h s cid k g = g
+refused_key : (aaguid : List ℕ) (h : Heard) (s : State) (cid : ℕ) (k : Task) → Signs aaguid h s → TaskGranted h.granted s.pending k → Signs aaguid h (key_at aaguid s cid k None).state
+refused_key aaguid h s cid (WantsKey m) g q = ended aaguid h s.rows s.pending g.pending q
+refused_key aaguid h s cid k g q = g
 
 -- one more key that was handed in
 more_work : (aaguid : List ℕ) (h : Heard) (rows : List Row) (key : NewKey) (v : Option Job) → WorkSigns aaguid h rows v → WorkSigns aaguid (record h { keys = key ∷ h.keys }) rows v
@@ -270,7 +320,7 @@ more_work aaguid h rows key None w = tt
 more_work aaguid h rows key (Some job) w = go job.task w
   where
     go : (k : Task) → TaskSigns aaguid h rows k → TaskSigns aaguid (record h { keys = key ∷ h.keys }) rows k
-    go (SignsMake m k d) w = (w.0, inr w.1, w.2)
+    go (SignsMake m k d) w = (w.0, inr w.1, w.2, w.3)
     go (AsksMake m excluded) w = w
     go (WantsKey m) w = w
     go (AsksAssert a) w = w
@@ -279,79 +329,90 @@ more_work aaguid h rows key (Some job) w = go job.task w
     go Selects w = tt
 
 more_keys : (aaguid : List ℕ) (h : Heard) (s : State) (key : NewKey) → Signs aaguid h s → Signs aaguid (record h { keys = key ∷ h.keys }) s
-more_keys aaguid h s key g = record { pending = g.pending; work = more_work aaguid h s.rows key s.work g.work }
+more_keys aaguid h s key g = record { pending = g.pending; granted = g.granted; work = more_work aaguid h s.rows key s.work g.work }
 
-signature_signs : (aaguid : List ℕ) (h : Heard) (s : State) (t : ℕ) (k : Task) (sig : Option (List ℕ)) → Signs aaguid h s → Signs aaguid h (signature_at aaguid s t k sig).state
-signature_signs aaguid h s t (SignsMake m key d) None g = ended aaguid h s.rows s.pending g.pending
-signature_signs aaguid h s t (SignsMake m key d) (Some sig) g = record { pending = tt; work = tt }
-signature_signs aaguid h s t (SignsAssert a n d) None g = ended aaguid h s.rows None tt
-signature_signs aaguid h s t (SignsAssert a n d) (Some sig) g = ended aaguid h s.rows (stamped t s.pending) (pending_stamped h.asked s.rows t s.pending g.pending)
-signature_signs aaguid h s t k sig g = g
+signature_signs : (aaguid : List ℕ) (h : Heard) (s : State) (t : ℕ) (k : Task) (sig : Option (List ℕ)) → Signs aaguid h s → TaskGranted h.granted s.pending k → Signs aaguid h (signature_at aaguid s t k sig).state
+signature_signs aaguid h s t (SignsMake m key d) None g q = ended aaguid h s.rows s.pending g.pending q
+signature_signs aaguid h s t (SignsMake m key d) (Some sig) g q = record { pending = tt; granted = tt; work = tt }
+signature_signs aaguid h s t (SignsAssert a n d) None g q = ended aaguid h s.rows None tt tt
+signature_signs aaguid h s t (SignsAssert a n d) (Some sig) g q =
+    ended aaguid h s.rows (stamped t s.pending) (pending_stamped h.asked s.rows t s.pending g.pending) (granted_stamped h.granted t s.pending q)
+signature_signs aaguid h s t k sig g q = g
 
--- Every turn keeps the invariant.
-pub turn_signs : (u : Setup) (s : State) (t : ℕ) (e : Event) (h : Heard) → Lawful u.room s.rows → Signs u.aaguid h s → Signs u.aaguid (hears e h) (turn u s t e).state
+-- Every turn keeps the invariant, where a request comes only while no work waits.
+pub turn_signs : (u : Setup) (s : State) (t : ℕ) (e : Event) (h : Heard) → Comes s.work e → Lawful u.room s.rows → Signs u.aaguid h s → Signs u.aaguid (hears e h) (turn u s t e).state
 unfolding turn
-turn_signs u s t (Request cid bytes) h l g = requested_signs u h s.rows s.pending t cid (read_of bytes) l.distinct g.pending
-turn_signs u s t (PresenceIs p) h l g = go s.work g.work
+turn_signs u s t (Request cid bytes) h c l g = requested_signs u h s.rows s.pending t cid (read_of bytes) l.distinct g.pending (subst (WorkGranted h.granted s.pending) c g.granted)
+turn_signs u s t (PresenceIs Granted) h c l g = go s.work (more_granted u.aaguid h s g).work
   where
-    go : (v : Option Job) → WorkSigns u.aaguid h s.rows v → Signs u.aaguid h (presence_turn u.room s v p).state
-    go None w = g
-    go (Some v) w = presence_signs u.room u.aaguid h s v.cid v.task p g w
-turn_signs u s t (KeyIs (Some key)) h l g = let more = more_keys u.aaguid h s key g in go s.work more.work
+    go : (v : Option Job) → WorkSigns u.aaguid (record h { granted = true }) s.rows v → Signs u.aaguid (record h { granted = true }) (presence_turn u.room s v Granted).state
+    go None w = more_granted u.aaguid h s g
+    go (Some v) w = granted_signs u.room u.aaguid h s v.cid v.task (more_granted u.aaguid h s g) w
+turn_signs u s t (PresenceIs Denied) h c l g = go s.work g.granted
   where
-    go : (v : Option Job) → WorkSigns u.aaguid (record h { keys = key ∷ h.keys }) s.rows v → Signs u.aaguid (record h { keys = key ∷ h.keys }) (key_turn u.aaguid s v (Some key)).state
-    go None w = more_keys u.aaguid h s key g
-    go (Some v) w = key_signs u.aaguid h s v.cid v.task key (more_keys u.aaguid h s key g) w
-turn_signs u s t (KeyIs None) h l g = go s.work
+    go : (v : Option Job) → WorkGranted h.granted s.pending v → Signs u.aaguid h (presence_turn u.room s v Denied).state
+    go None q = g
+    go (Some v) q = refused_signs u.room u.aaguid h s v.cid v.task false g q
+turn_signs u s t (PresenceIs TimedOut) h c l g = go s.work g.granted
   where
-    go : (v : Option Job) → Signs u.aaguid h (key_turn u.aaguid s v None).state
-    go None = g
-    go (Some v) = refused_key u.aaguid h s v.cid v.task g
-turn_signs u s t (SignatureIs sig) h l g = go s.work
+    go : (v : Option Job) → WorkGranted h.granted s.pending v → Signs u.aaguid h (presence_turn u.room s v TimedOut).state
+    go None q = g
+    go (Some v) q = refused_signs u.room u.aaguid h s v.cid v.task true g q
+turn_signs u s t (KeyIs (Some key)) h c l g = go s.work (more_keys u.aaguid h s key g).work g.granted
   where
-    go : (v : Option Job) → Signs u.aaguid h (signature_turn u.aaguid s t v sig).state
-    go None = g
-    go (Some v) = signature_signs u.aaguid h s t v.task sig g
-turn_signs u s t Cancel h l g = record { pending = tt; work = tt }
-turn_signs u s t Drop h l g = record { pending = tt; work = tt }
+    go : (v : Option Job) → WorkSigns u.aaguid (record h { keys = key ∷ h.keys }) s.rows v → WorkGranted h.granted s.pending v → Signs u.aaguid (record h { keys = key ∷ h.keys }) (key_turn u.aaguid s v (Some key)).state
+    go None w q = more_keys u.aaguid h s key g
+    go (Some v) w q = key_signs u.aaguid h s v.cid v.task key (more_keys u.aaguid h s key g) w q
+turn_signs u s t (KeyIs None) h c l g = go s.work g.granted
+  where
+    go : (v : Option Job) → WorkGranted h.granted s.pending v → Signs u.aaguid h (key_turn u.aaguid s v None).state
+    go None q = g
+    go (Some v) q = refused_key u.aaguid h s v.cid v.task g q
+turn_signs u s t (SignatureIs sig) h c l g = go s.work g.granted
+  where
+    go : (v : Option Job) → WorkGranted h.granted s.pending v → Signs u.aaguid h (signature_turn u.aaguid s t v sig).state
+    go None q = g
+    go (Some v) q = signature_signs u.aaguid h s t v.task sig g q
+turn_signs u s t Cancel h c l g = record { pending = tt; granted = tt; work = tt }
+turn_signs u s t Drop h c l g = record { pending = tt; granted = tt; work = tt }
 
 -- ---- histories
 
-signs_at : (start : Start) (h : List Step) → Lawful start.room start.rows → Signs start.aaguid (heard h) (core_at (first_state start) h).state
-unfolding core_at heard
-signs_at start [] l = record { pending = tt; work = tt }
-signs_at start (x ∷ past) l =
+signs_at : (start : Start) (h : List Step) → Lawful start.room start.rows → Orderly (first_state start) h → Signs start.aaguid (heard h) (core_at (first_state start) h).state
+unfolding core_at heard Orderly
+signs_at start [] l o = record { pending = tt; granted = tt; work = tt }
+signs_at start (x ∷ past) l o =
     let first = first_state start in
     let k = core_at first past in
     let same : k.setup ≡ first.setup = setup_stays first past in
     let lawful : Lawful start.room k.state.rows = rows_lawful first past (record { pending = tt; work = tt }) l in
     let P : Setup → Type 0 = λ u. Signs start.aaguid (hears x.event (heard past)) (turn u k.state x.at x.event).state in
-    subst P (sym same) (turn_signs first.setup k.state x.at x.event (heard past) lawful (signs_at start past l))
+    subst P (sym same) (turn_signs first.setup k.state x.at x.event (heard past) o.0 lawful (signs_at start past l o.1))
 
 -- by what was asked
-to_sign_assertion : (aaguid : List ℕ) (keys : List NewKey) (rows : List Row) (id signed : List ℕ) (v : Claim) (asked : Option Asked) → assertion_asked asked ≡ Some v → rp_of id rows ≡ Some v.rp
-    → signed ≡ assertion_bytes v.rp v.presence (counter_of id rows) ++ v.hash → IsToSign aaguid keys rows id signed asked
-to_sign_assertion aaguid keys rows id signed v (Some (GetAssertion hash rp_id allow up)) c r e =
+to_sign_assertion : (aaguid : List ℕ) (h : Heard) (rows : List Row) (id signed : List ℕ) (v : Claim) (asked : Option Asked) → assertion_asked asked ≡ Some v → rp_of id rows ≡ Some v.rp
+    → signed ≡ assertion_bytes v.rp v.presence (counter_of id rows) ++ v.hash → (v.presence ≡ true → h.granted ≡ true) → IsToSign aaguid h rows id signed asked
+to_sign_assertion aaguid h rows id signed v (Some (GetAssertion hash rp_id allow up)) c r e present =
     let s = same_Some (record { rp = rp_hash rp_id; presence = up; hash = hash }) v c in
-    (e ∙ sym (ap (λ (w : Claim). assertion_bytes w.rp w.presence (counter_of id rows) ++ w.hash) s), r ∙ sym (ap (λ (w : Claim). Some w.rp) s))
-to_sign_assertion aaguid keys rows id signed v (Some (MakeCredential hash rp_id user_id user_name discoverable exclude)) c r e = cc
-to_sign_assertion aaguid keys rows id signed v (Some GetInfo) c r e = cc
-to_sign_assertion aaguid keys rows id signed v (Some Reset) c r e = cc
-to_sign_assertion aaguid keys rows id signed v (Some GetNextAssertion) c r e = cc
-to_sign_assertion aaguid keys rows id signed v (Some Selection) c r e = cc
-to_sign_assertion aaguid keys rows id signed v None c r e = cc
+    (e ∙ sym (ap (λ (w : Claim). assertion_bytes w.rp w.presence (counter_of id rows) ++ w.hash) s), r ∙ sym (ap (λ (w : Claim). Some w.rp) s), λ k. present (sym (ap (λ (w : Claim). w.presence) s) ∙ k))
+to_sign_assertion aaguid h rows id signed v (Some (MakeCredential hash rp_id user_id user_name discoverable exclude)) c r e present = cc
+to_sign_assertion aaguid h rows id signed v (Some GetInfo) c r e present = cc
+to_sign_assertion aaguid h rows id signed v (Some Reset) c r e present = cc
+to_sign_assertion aaguid h rows id signed v (Some GetNextAssertion) c r e present = cc
+to_sign_assertion aaguid h rows id signed v (Some Selection) c r e present = cc
+to_sign_assertion aaguid h rows id signed v None c r e present = cc
 
-to_sign_creation : (aaguid : List ℕ) (keys : List NewKey) (rows : List Row) (key : NewKey) (signed rp hash : List ℕ) (asked : Option Asked) → creation_asked asked ≡ Some (rp, hash) → IsAmong key keys
-    → signed ≡ created_bytes rp aaguid key.id key.x key.y ++ hash → IsToSign aaguid keys rows key.id signed asked
-to_sign_creation aaguid keys rows key signed rp hash (Some (MakeCredential asked_hash rp_id user_id user_name discoverable exclude)) c k e =
+to_sign_creation : (aaguid : List ℕ) (h : Heard) (rows : List Row) (key : NewKey) (signed rp hash : List ℕ) (asked : Option Asked) → creation_asked asked ≡ Some (rp, hash) → IsAmong key h.keys
+    → signed ≡ created_bytes rp aaguid key.id key.x key.y ++ hash → h.granted ≡ true → IsToSign aaguid h rows key.id signed asked
+to_sign_creation aaguid h rows key signed rp hash (Some (MakeCredential asked_hash rp_id user_id user_name discoverable exclude)) c k e present =
     let s = same_Some (rp_hash rp_id, asked_hash) (rp, hash) c in
-    (key, k, refl, e ∙ sym (ap (λ (w : List ℕ × List ℕ). created_bytes w.0 aaguid key.id key.x key.y ++ w.1) s))
-to_sign_creation aaguid keys rows key signed rp hash (Some (GetAssertion asked_hash rp_id allow up)) c k e = cc
-to_sign_creation aaguid keys rows key signed rp hash (Some GetInfo) c k e = cc
-to_sign_creation aaguid keys rows key signed rp hash (Some Reset) c k e = cc
-to_sign_creation aaguid keys rows key signed rp hash (Some GetNextAssertion) c k e = cc
-to_sign_creation aaguid keys rows key signed rp hash (Some Selection) c k e = cc
-to_sign_creation aaguid keys rows key signed rp hash None c k e = cc
+    (key, k, refl, e ∙ sym (ap (λ (w : List ℕ × List ℕ). created_bytes w.0 aaguid key.id key.x key.y ++ w.1) s), present)
+to_sign_creation aaguid h rows key signed rp hash (Some (GetAssertion asked_hash rp_id allow up)) c k e present = cc
+to_sign_creation aaguid h rows key signed rp hash (Some GetInfo) c k e present = cc
+to_sign_creation aaguid h rows key signed rp hash (Some Reset) c k e present = cc
+to_sign_creation aaguid h rows key signed rp hash (Some GetNextAssertion) c k e present = cc
+to_sign_creation aaguid h rows key signed rp hash (Some Selection) c k e present = cc
+to_sign_creation aaguid h rows key signed rp hash None c k e present = cc
 
 needed_is : (aaguid : List ℕ) (h : Heard) (rows : List Row) (work : Option Job) → WorkSigns aaguid h rows work → IsNeeded aaguid h rows (needs work)
 needed_is aaguid h rows None w = tt
@@ -364,13 +425,13 @@ needed_is aaguid h rows (Some job) w = task job.task w
     task (WantsKey m) w = tt
     task (AsksAssert a) w = tt
     task (SignsAssert a n d) w =
-        to_sign_assertion aaguid h.keys rows a.id d.items (record { rp = a.rp; presence = a.presence; hash = a.hash }) h.asked w.0.0 w.0.1
-        (w.2 ∙ ap (λ n. assertion_bytes a.rp a.presence n ++ a.hash) w.1)
-    task (SignsMake m key d) w = to_sign_creation aaguid h.keys rows key d.items m.rp m.hash h.asked w.0 w.1 w.2
+        to_sign_assertion aaguid h rows a.id d.items (record { rp = a.rp; presence = a.presence; hash = a.hash }) h.asked w.0.0 w.0.1
+        (w.2 ∙ ap (λ n. assertion_bytes a.rp a.presence n ++ a.hash) w.1) w.3
+    task (SignsMake m key d) w = to_sign_creation aaguid h rows key d.items m.rp m.hash h.asked w.0 w.1 w.2 w.3
 
-pub need_is_signed : (start : Start) (h : List Step) → Lawful start.room start.rows → IsNeeded start.aaguid (heard h) (core_at (first_state start) h).state.rows (needs (core_at (first_state start) h).state.work)
-need_is_signed start h l =
-    let k = core_at (first_state start) h in needed_is start.aaguid (heard h) k.state.rows k.state.work (signs_at start h l).work
+pub need_is_signed : (start : Start) (h : List Step) → Lawful start.room start.rows → Orderly (first_state start) h → IsNeeded start.aaguid (heard h) (core_at (first_state start) h).state.rows (needs (core_at (first_state start) h).state.work)
+need_is_signed start h l o =
+    let k = core_at (first_state start) h in needed_is start.aaguid (heard h) k.state.rows k.state.work (signs_at start h l o).work
 
 -- the answer to a signature
 answered_assertion : (aaguid : List ℕ) (work : Option Job) (sig : List ℕ) (a : Asserting) (n : ℕ) (signed : List ℕ) (user : Option (List ℕ)) (asked : Option Asked)
@@ -426,11 +487,11 @@ turn_answers u s t h id signed sig g e = go s.work g.work e
     go None w e = cc
     go (Some v) w e = task v.cid v.task w e
 
-pub signature_is_answered : (start : Start) (h : List Step) (t : ℕ) (id signed sig : List ℕ) → Lawful start.room start.rows → needs (core_at (first_state start) h).state.work ≡ sign id signed
+pub signature_is_answered : (start : Start) (h : List Step) (t : ℕ) (id signed sig : List ℕ) → Lawful start.room start.rows → Orderly (first_state start) h → needs (core_at (first_state start) h).state.work ≡ sign id signed
     → IsSigned start.aaguid (core_at (first_state start) h).state.work id signed sig (core_answer (core_at (first_state start) h) t (SignatureIs (Some sig))) (heard h).asked
-signature_is_answered start h t id signed sig l e =
+signature_is_answered start h t id signed sig l o e =
     let first = first_state start in
     let k = core_at first h in
     let same : k.setup ≡ first.setup = setup_stays first h in
     let P : Setup → Type 0 = λ u. IsSigned start.aaguid k.state.work id signed sig (turn u k.state t (SignatureIs (Some sig))).answer (heard h).asked in
-    subst P (sym same) (turn_answers first.setup k.state t (heard h) id signed sig (signs_at start h l) e)
+    subst P (sym same) (turn_answers first.setup k.state t (heard h) id signed sig (signs_at start h l o) e)

@@ -9,7 +9,7 @@ ghost use Rattle.authn_core.specs.Ready.{Ready};
 ghost use Rattle.authn_core.specs.Rising.{all_rise, IsTextOf, IsNewest};
 ghost use Rattle.authn_core.specs.Signed.{Heard, Signs as SignsFor, IsNeeded, IsSigned, hears, heard};
 ghost use Rattle.authn_core.specs.Views.{needs, sign};
-ghost use Rattle.authn_core.specs.Marks.{Step, Orderly, core_at, marks, rows_of, signs_by, texts, all_differ, Text};
+ghost use Rattle.authn_core.specs.Marks.{Step, Comes, Orderly, core_at, marks, rows_of, signs_by, texts, all_differ, Text};
 
 /// Every turn leads from a ready state to a ready one: every pending id has a row, and what waits can go on.
 pub fn turns_keep_ready()
@@ -50,16 +50,17 @@ pub fn texts_to_sign_differ()
 
 /// What is signed is what is answered. After any history the bytes to sign of an assertion are the authenticator data,
 /// with the hash of the RP id, the UP flag that was asked for and the counter of the row, and the hash of the client
-/// data, of the newest request; of a registration those with the id and public key of a key that was handed in. A
-/// signature is answered with authenticator data that are, followed by that hash, just the bytes that were to sign.
+/// data, of the newest request; of a registration those with the id and public key of a key that was handed in. Where
+/// UP is set, the user's presence was granted since that request. A signature is answered with authenticator data that
+/// are, followed by that hash, just the bytes that were to sign.
 pub fn what_is_signed_is_answered()
-    ensures kept { (u : Setup) (s : State) (now : ℕ) (e : AnyEvent) (h : Heard) → Lawful u.room s.rows
-        → SignsFor u.aaguid h s → SignsFor u.aaguid (hears e h) (turn u s now e).state }
-    ensures signed { (start : Start) (h : List Step) → Lawful start.room start.rows
+    ensures kept { (u : Setup) (s : State) (now : ℕ) (e : AnyEvent) (h : Heard) → Comes s.work e
+        → Lawful u.room s.rows → SignsFor u.aaguid h s → SignsFor u.aaguid (hears e h) (turn u s now e).state }
+    ensures signed { (start : Start) (h : List Step) → Lawful start.room start.rows → Orderly (first_state start) h
         → IsNeeded start.aaguid (heard h) (core_at (first_state start) h).state.rows
         (needs (core_at (first_state start) h).state.work) }
     ensures answered { (start : Start) (h : List Step) (now : ℕ) (id signed sig : List ℕ)
-        → Lawful start.room start.rows → needs (core_at (first_state start) h).state.work ≡ sign id signed
+        → Lawful start.room start.rows → Orderly (first_state start) h → needs (core_at (first_state start) h).state.work ≡ sign id signed
         → IsSigned start.aaguid (core_at (first_state start) h).state.work id signed sig
         (core_answer (core_at (first_state start) h) now (SignatureIs (Some sig))) (heard h).asked }
 {}
