@@ -9,3 +9,6 @@ pub mod Rises
 pub mod Lawfulness
 pub mod PendingFew
 pub mod Texts
+pub mod Signed
+pub mod Rising
+mod SignedExamples

@@ -175,11 +175,11 @@ one_text h rows rows' m before (Some w) ts e l r b d = go (task_raises before w.
         subst Q (sym i.counter) ((new, old), and_is (not (list_any (same_text (record { id = id; making = makings id h; counter = counter_of id rows + 1 })) ts)) (all_differ ts) (ap not (all_new h rows id ts i.there b)) d)
 
 -- what holds of the authenticator after every history
-record Sound (k : CoreState) : Type 0 where
-  ready : Ready (k.setup).room k.state
-  lawful : Lawful (k.setup).room (k.state).rows
+pub record Sound (k : CoreState) : Type 0 where
+  pub ready : Ready (k.setup).room k.state
+  pub lawful : Lawful (k.setup).room (k.state).rows
 
-core_sound : (start : CoreState) (h : List Step) → Ready (start.setup).room start.state → Lawful (start.setup).room (start.state).rows → Sound (core_at start h)
+pub core_sound : (start : CoreState) (h : List Step) → Ready (start.setup).room start.state → Lawful (start.setup).room (start.state).rows → Sound (core_at start h)
 unfolding core_at
 core_sound start [] r l = record { ready = r; lawful = l }
 core_sound start (x ∷ past) r l =
@@ -187,7 +187,7 @@ core_sound start (x ∷ past) r l =
     let s = core_sound start past r l in
     record { ready = turn_ready k.setup k.state x.at x.event s.ready; lawful = turn_lawful k.setup k.state x.at x.event s.ready s.lawful }
 
-setup_stays : (start : CoreState) (h : List Step) → (core_at start h).setup ≡ start.setup
+pub setup_stays : (start : CoreState) (h : List Step) → (core_at start h).setup ≡ start.setup
 unfolding core_at
 setup_stays start [] = refl
 setup_stays start (x ∷ past) = setup_stays start past
@@ -207,7 +207,7 @@ pending_few start (x ∷ past) r l f =
     let few : pending_count (k.state).pending ≤ (k.setup).room = subst (λ (u : Setup). pending_count (k.state).pending ≤ u.room) (sym e) (pending_few start past r l f) in
     subst P e (turn_few k.setup k.state x.at x.event ((core_sound start past r l).lawful).few few)
 
-texts_bounded : (start : CoreState) (h : List Step) → Ready (start.setup).room start.state → Lawful (start.setup).room (start.state).rows → Orderly start h →
+pub texts_bounded : (start : CoreState) (h : List Step) → Ready (start.setup).room start.state → Lawful (start.setup).room (start.state).rows → Orderly start h →
     AllBounded (marks start h) (core_at start h).state.rows (texts start h) × (all_differ (texts start h) ≡ true)
 unfolding core_at marks texts Orderly
 texts_bounded start [] r l o = (tt, refl)

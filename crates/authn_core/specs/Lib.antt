@@ -11,3 +11,5 @@ pub mod Needs
 pub mod Ready
 pub mod Padded
 pub mod Marks
+pub mod Signed
+pub mod Rising

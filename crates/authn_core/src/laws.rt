@@ -1,12 +1,15 @@
 //! What holds over the definitions alone. Each law is the contract of a function that does nothing.
 
-ghost use Rattle.std.specs.Prelude.{◌≡◌, ◌≤◌, ℕ, List, true};
+ghost use Rattle.std.specs.Prelude.{◌≡◌, ◌≤◌, ℕ, List, ◌∷◌, true, Some, None};
 ghost use Rattle.cred_table.specs.Rows.{Lawful};
 ghost use Rattle.cred_table.specs.Waiting.{pending_count};
-ghost use Rattle.authn_core.specs.State.{Setup, State, Event as AnyEvent};
-ghost use Rattle.authn_core.specs.Turn.{CoreState, turn};
+ghost use Rattle.authn_core.specs.State.{Setup, State, Event as AnyEvent, SignatureIs};
+ghost use Rattle.authn_core.specs.Turn.{CoreState, Start, core_answer, first_state, turn};
 ghost use Rattle.authn_core.specs.Ready.{Ready};
-ghost use Rattle.authn_core.specs.Marks.{Step, Orderly, core_at, marks, rows_of, texts, all_differ};
+ghost use Rattle.authn_core.specs.Rising.{all_rise, IsTextOf, IsNewest};
+ghost use Rattle.authn_core.specs.Signed.{Heard, Signs as SignsFor, IsNeeded, IsSigned, hears, heard};
+ghost use Rattle.authn_core.specs.Views.{needs, sign};
+ghost use Rattle.authn_core.specs.Marks.{Step, Comes, Orderly, core_at, marks, rows_of, signs_by, texts, all_differ, Text};
 
 /// Every turn leads from a ready state to a ready one: every pending id has a row, and what waits can go on.
 pub fn turns_keep_ready()
@@ -28,9 +31,36 @@ pub fn rows_follow_history()
         → pending_count (core_at start h).state.pending ≤ start.setup.room }
 {}
 
-/// No two texts to sign of assertions by one row hold the same counter.
+/// No two texts to sign of assertions by one row hold the same counter: they rise, each above all before it. A text that
+/// an input adds holds its row's counter, and while an assertion's signature is waited for, the newest is to be signed.
 pub fn texts_to_sign_differ()
-    ensures { (start : CoreState) (h : List Step) → Ready start.setup.room start.state
+    ensures differ { (start : CoreState) (h : List Step) → Ready start.setup.room start.state
         → Lawful start.setup.room start.state.rows
         → Orderly start h → all_differ (texts start h) ≡ true }
+    ensures rise { (start : CoreState) (h : List Step) → Ready start.setup.room start.state
+        → Lawful start.setup.room start.state.rows
+        → Orderly start h → all_rise (texts start h) ≡ true }
+    ensures told { (start : CoreState) (h : List Step) (x : Step) (t : Text) → Ready start.setup.room start.state
+        → Lawful start.setup.room start.state.rows → Orderly start (x ∷ h)
+        → texts start (x ∷ h) ≡ t ∷ texts start h → IsTextOf t (core_at start (x ∷ h)).state }
+    ensures newest { (start : CoreState) (h : List Step) (id : List ℕ) → start.state.work ≡ None
+        → Ready start.setup.room start.state → Lawful start.setup.room start.state.rows → Orderly start h
+        → signs_by id (core_at start h).state.work ≡ true → IsNewest (texts start h) (core_at start h).state }
+{}
+
+/// What is signed is what is answered. After any history the bytes to sign of an assertion are the authenticator data,
+/// with the hash of the RP id, the UP flag that was asked for and the counter of the row, and the hash of the client
+/// data, of the newest request; of a registration those with the id and public key of a key that was handed in. Where
+/// UP is set, the user's presence was granted since that request. A signature is answered with authenticator data that
+/// are, followed by that hash, just the bytes that were to sign.
+pub fn what_is_signed_is_answered()
+    ensures kept { (u : Setup) (s : State) (now : ℕ) (e : AnyEvent) (h : Heard) → Comes s.work e
+        → Lawful u.room s.rows → SignsFor u.aaguid h s → SignsFor u.aaguid (hears e h) (turn u s now e).state }
+    ensures signed { (start : Start) (h : List Step) → Lawful start.room start.rows → Orderly (first_state start) h
+        → IsNeeded start.aaguid (heard h) (core_at (first_state start) h).state.rows
+        (needs (core_at (first_state start) h).state.work) }
+    ensures answered { (start : Start) (h : List Step) (now : ℕ) (id signed sig : List ℕ)
+        → Lawful start.room start.rows → Orderly (first_state start) h → needs (core_at (first_state start) h).state.work ≡ sign id signed
+        → IsSigned start.aaguid (core_at (first_state start) h).state.work id signed sig
+        (core_answer (core_at (first_state start) h) now (SignatureIs (Some sig))) (heard h).asked }
 {}

@@ -39,6 +39,7 @@ fn drives_that_stop(rt: HostRuntime) {
     let mut sent = ArrayVec::<Sent, 130>::new();
     let full = drive(&mut session, &[init(), ping()], &mut sent);
     assert!(rt; (full, sent.len()) == (Err(DriveFault::Full { done: 1 }), 1));
+    assert!(rt; full.map_err(|fault| fault.number()) == Err(1));
 }
 
 /// Moments with packets on channels 1 and 2, and whether each is noise while a message is open on channel 1. 500 ms
@@ -120,4 +121,5 @@ fn two_drives_that_stop(rt: HostRuntime) {
         second: 0,
     };
     assert!(rt; both == Err(expected));
+    assert!(rt; expected.number() == 1);
 }

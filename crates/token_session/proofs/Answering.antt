@@ -120,10 +120,10 @@ fits_one : (len : ℕ) → IsLeast 0 len → len ≤ 57
 fits_one len (inl a) = a.0
 fits_one len (inr b) = omega (arith, b.0)
 
-on_given : (g c : ℕ) → 1 ≤ c → c ≤ g → is_given g c ≡ true
+pub on_given : (g c : ℕ) → 1 ≤ c → c ≤ g → is_given g c ≡ true
 on_given g c low high = grind (arith, nat_tests)
 
-is_served : (k n : ℕ) → (k ≡ PING) ⊎ ((k ≡ CBOR) × (1 ≤ n)) → ((k == PING) || ((k == CBOR) && nat_le 1 n)) ≡ true
+pub is_served : (k n : ℕ) → (k ≡ PING) ⊎ ((k ≡ CBOR) × (1 ≤ n)) → ((k == PING) || ((k == CBOR) && nat_le 1 n)) ≡ true
 is_served k n (inl ping) = rw ping refl
 is_served k n (inr cbor) = let some : nat_le 1 n ≡ true = let least = cbor.1 in grind (arith, nat_tests) in rw (cbor.0, some) refl
 

@@ -18,4 +18,6 @@ pub mod Noted
 pub mod Noise
 pub mod Drives
 pub mod Credentials
+pub mod Signing
+pub mod Arriving
 pub mod Headline

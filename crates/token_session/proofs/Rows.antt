@@ -1,24 +1,27 @@
 -- Worked histories, by computation: a reader's check that the definitions say what is meant. Code and definitions share the
 -- fields, the error codes, the greeting and the authenticator's turns, and only these rows look at them from outside.
-use Rattle.std.specs.Prelude.{◌≡◌, ℕ, ◌+◌, ◌-◌, List, [], ◌∷◌, ◌++◌, length, refl, replicate, reverse, zero, suc, Some, None}
+use Rattle.std.specs.Prelude.{◌≡◌, ℕ, ◌+◌, ◌-◌, List, [], ◌∷◌, ◌++◌, length, refl, replicate, reverse, true, zero, suc, Option, Some, None}
+use Rattle.cred_table.specs.declared.row.Row.{Row}
+use Rattle.authn_core.specs.Bare.{text_of}
 use Rattle.authn_core.specs.State.{Waits}
 use Rattle.authn_core.specs.Turn.{Start}
 use Rattle.authn_core.specs.Turn as core_turn
 use Rattle.authn_core.specs.declared.task.Task.TheVariants.{Selects}
-use Rattle.ctap_message.specs.Answers.{info_answer}
+use Rattle.ctap_message.specs.Answers.{assertion_answer, info_answer}
 use Rattle.ctap_message.specs.Requests.{read_of}
-use Rattle.hid_assemble.specs.Assembly.{is_overdue, message_after, open_after}
+use Rattle.hid_assemble.specs.Assembly.{Message, is_overdue, message_after, open_after}
 use Rattle.hid_assemble.specs.Table.{continuation_row, initialization_row, ruling_of}
 use Rattle.hid_packet.specs.Message.{continuation_packet, continuation_packets, initialization_packet, padded, written}
 use Rattle.hid_packet.specs.Packet.{channel, command, continuation_data, initialization_data, is_initialization, message_length, sequence}
+use Rattle.token_session.specs.Arriving.{arriving}
 use Rattle.token_session.specs.Inputs.{asks_channel, given, is_own, own}
-use Rattle.token_session.specs.Messages.{finished, finished_long, goes_on, is_last, is_long, is_next, is_open, open_among, open_at}
+use Rattle.token_session.specs.Messages.{finished, finished_at, finished_long, goes_on, is_last, is_long, is_next, is_open, open_among, open_at, packets_of}
 use Rattle.token_session.specs.History.{admits, core, event, held, judge, judged, last_keepalive, packet_event, sent, sent_at, service_packets, time_packets}
-use Rattle.token_session.specs.Law.{run_sent}
+use Rattle.token_session.specs.Law.{onto, run_sent}
 use Rattle.token_session.specs.Machine.{State, event_after, machine, time_passed, start_state, turn}
 use Rattle.token_session.specs.Events.{keepalive_due}
 use Rattle.token_session.specs.Replies.{answer_keeps_alive, answer_packets, greeting, row_packets}
-use Rattle.token_session.specs.declared.input.Input.TheVariants.{Packet, Tick}
+use Rattle.token_session.specs.declared.input.Input.TheVariants.{Packet, Signature, Tick}
 use Rattle.token_session.specs.declared.input.Timed.{Timed}
 
 abbrev pad : List ℕ → List ℕ
@@ -232,3 +235,49 @@ none_left : runs_full (came 0 init_line ∷ came 0 (255 ∷ 255 ∷ 255 ∷ 255 
     ≡ (0, pad (255 ∷ 255 ∷ 255 ∷ 255 ∷ 191 ∷ 0 ∷ 1 ∷ 127 ∷ [])) ∷ (1, pad (255 ∷ 255 ∷ 255 ∷ 255 ∷ 191 ∷ 0 ∷ 1 ∷ 3 ∷ [])) ∷ (3, pad (255 ∷ 255 ∷ 255 ∷ 255 ∷ 191 ∷ 0 ∷ 1 ∷ 11 ∷ [])) ∷ []
 unfolding runs_full
 none_left = refl
+
+-- An assertion is pending for channel 1, by a credential with the counter 4.
+credential : Row
+credential = record { rp = replicate 32 7; id = replicate 32 0xaa; x = []; y = []; user = record { items = 1 ∷ [] }; discoverable = true; counter = 4; name = text_of [] }
+
+pending : State
+pending = record { now = 0; given = 2; current = None; core = record { setup = record { aaguid = replicate 16 0; began = 0; room = 64 }; state = record { rows = credential ∷ []; pending = Some (record { cid = 1; hash = replicate 32 34; presence = true; moment = 0; ids = replicate 32 0xaa ∷ [] }); work = None } }; keepalive_at = 0 }
+
+-- what the second of two inputs sends
+second_sends : Timed → Timed → List (List ℕ)
+unfolding channel is_initialization command message_length initialization_data sequence continuation_data read_of core_turn.turn initialization_row continuation_row ruling_of greeting row_packets answer_packets answer_keeps_alive is_overdue keepalive_due open_after message_after event_after time_passed turn start_state machine judged sent held asks_channel given is_own own is_next goes_on is_long is_open open_among open_at is_last finished_long finished packet_event event core admits judge last_keepalive time_packets service_packets sent_at pending credential
+second_sends x y = (turn (turn pending x).state y).packets
+
+-- The next assertion is signed and answered on the channel that asked: the hash of the RP id, UP and the counter 5.
+signature_answered : second_sends (came 10 (one (144 ∷ 0 ∷ 1 ∷ 8 ∷ []))) (record { at = 20; input = Signature (Some (0x30 ∷ [])) })
+    ≡ written 1 0x10 (assertion_answer (replicate 32 0xaa) (replicate 32 7 ++ 0x01 ∷ 0x00 ∷ 0x00 ∷ 0x00 ∷ 0x05 ∷ []) (0x30 ∷ []) (Some (1 ∷ [])) None)
+unfolding second_sends
+signature_answered = refl
+
+-- A PING of three packets at 0, 300 and 700, with another host's PING, a CANCEL of its own channel and a tick between.
+finishes_at : List Timed → List Timed → Timed → Option Message
+unfolding channel is_initialization command message_length initialization_data sequence continuation_data padded initialization_packet continuation_packet continuation_packets written read_of core_turn.turn initialization_row continuation_row ruling_of greeting row_packets answer_packets answer_keeps_alive is_overdue keepalive_due open_after message_after event_after time_passed turn start_state machine judged sent held asks_channel given is_own own is_next goes_on is_long is_open open_among open_at is_last finished_long finished packet_event event core admits judge last_keepalive time_packets service_packets sent_at
+finishes_at h between last = finished_at (judge at_zero last (judged at_zero (onto between h))) (judged at_zero (onto between h))
+
+own_between : List Timed → List Timed → List (List ℕ)
+unfolding channel is_initialization command message_length initialization_data sequence continuation_data padded initialization_packet continuation_packet continuation_packets written read_of core_turn.turn initialization_row continuation_row ruling_of greeting row_packets answer_packets answer_keeps_alive is_overdue keepalive_due open_after message_after event_after time_passed turn start_state machine judged sent held asks_channel given is_own own is_next goes_on is_long is_open open_among open_at is_last finished_long finished packet_event event core admits judge last_keepalive time_packets service_packets sent_at
+own_between h between = packets_of (own 1 (arriving at_zero h between))
+
+abbrev first_of_three : List Timed
+first_of_three = came 0 (one (129 ∷ 0 ∷ 126 ∷ replicate 57 1)) ∷ came 0 init_line ∷ came 0 init_line ∷ []
+
+abbrev between_three : List Timed
+between_three = came 10 (two (129 ∷ 0 ∷ 1 ∷ 97 ∷ [])) ∷ came 300 (one (0 ∷ replicate 59 2)) ∷ came 400 (one (145 ∷ 0 ∷ 0 ∷ [])) ∷ tick 600 ∷ []
+
+three_finish : finishes_at first_of_three between_three (came 700 (one (1 ∷ replicate 10 3))) ≡ Some (record { cid = 1; cmd = 1; bytes = replicate 57 1 ++ replicate 59 2 ++ replicate 10 3 })
+unfolding finishes_at
+three_finish = refl
+
+-- only the middle one is the channel's own, and 500 ms later it is too late
+own_is_middle : own_between first_of_three between_three ≡ one (0 ∷ replicate 59 2) ∷ []
+unfolding own_between
+own_is_middle = refl
+
+too_late : finishes_at first_of_three between_three (came 800 (one (1 ∷ replicate 10 3))) ≡ None
+unfolding finishes_at
+too_late = refl

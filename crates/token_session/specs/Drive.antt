@@ -23,6 +23,13 @@ abbrev pub driven_sends : ℕ → SessionState → List Timed → List (ℕ × L
 driven_sends n s [] = []
 driven_sends n s (x ∷ xs) = numbered n (sent_by s x) ++ driven_sends (n + 1) (stepped s x) xs
 
+-- the numbers of the faults
+abbrev pub drive_number : DriveFault → ℕ
+drive_number (Full done) = 1
+
+abbrev pub both_number : BothFault → ℕ
+both_number (BothFull first second) = 1
+
 -- how many inputs were stepped where a drive stopped
 abbrev pub done_in : DriveFault → ℕ
 done_in (Full done) = done

@@ -12,4 +12,6 @@ pub mod Carried
 pub mod Noise
 pub mod Drive
 pub mod Credentials
+pub mod Signing
+pub mod Arriving
 pub mod Headline

@@ -3,7 +3,7 @@ ghost use Rattle.std.specs.Prelude.{◌≡◌, ℕ, ◌+◌, ◌<◌, ◌≤◌,
 ghost use Rattle.arrayvec.specs.ArrayVec.{array_vec_len};
 ghost use Rattle.authn_core.specs.Turn.{Start};
 ghost use Rattle.token_session.specs.declared.input.Timed.{Timed as OneInput};
-ghost use Rattle.token_session.specs.Drive.{as_pair, done_in, driven, driven_sends, done_of, first_done, second_done, HadRoom};
+ghost use Rattle.token_session.specs.Drive.{as_pair, both_number, drive_number, done_in, driven, driven_sends, done_of, first_done, second_done, HadRoom};
 ghost use Rattle.token_session.specs.declared.driving.BothFault.TheVariants.{Full as BothFull};
 ghost use Rattle.token_session.specs.Law.{numbered, onto, sent_from};
 ghost use Rattle.token_session.specs.Meters.{StandsAfter};
@@ -19,17 +19,39 @@ use thiserror::Error;
 /// Why a drive stopped.
 #[derive(Clone, Copy, Debug, Error, PartialEq, Eq)]
 pub enum DriveFault {
-    /// Number 1: fewer than 130 places were free before the next input. So many inputs were stepped.
+    /// Fault 1: fewer than 130 places were free before the next input. So many inputs were stepped.
     #[error("the list of packets is full after {done} inputs")]
     Full { done: usize },
+}
+
+impl DriveFault {
+    /// The number of the fault.
+    pub fn number(&self) -> u8
+        ensures { result ≡ drive_number self.now }
+    {
+        match self {
+            DriveFault::Full { .. } => 1,
+        }
+    }
 }
 
 /// Why one of two drives stopped.
 #[derive(Clone, Copy, Debug, Error, PartialEq, Eq)]
 pub enum BothFault {
-    /// Number 1: one of the lists was full. So many inputs were stepped of each.
+    /// Fault 1: one of the lists was full. So many inputs were stepped of each.
     #[error("a list of packets is full after {first} and {second} inputs")]
     Full { first: usize, second: usize },
+}
+
+impl BothFault {
+    /// The number of the fault.
+    pub fn number(&self) -> u8
+        ensures { result ≡ both_number self.now }
+    {
+        match self {
+            BothFault::Full { .. } => 1,
+        }
+    }
 }
 
 /// Moves all packets to the list, as those of input `number`.

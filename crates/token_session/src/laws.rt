@@ -7,14 +7,18 @@ ghost use Rattle.token_session.specs.declared.input.Timed.{Timed as OneInput};
 ghost use Rattle.authn_core.specs.State.{Request};
 ghost use Rattle.cred_table.specs.Rows.{Lawful};
 ghost use Rattle.authn_core.specs.Turn.{Start, working, first_state};
-ghost use Rattle.authn_core.specs.Marks.{marks, rows_of, texts, all_differ};
+ghost use Rattle.authn_core.specs.Marks.{marks, rows_of, signs_by, texts, all_differ};
+ghost use Rattle.authn_core.specs.Rising.{all_rise, IsNewest};
+ghost use Rattle.authn_core.specs.Signed.{IsNeeded};
+ghost use Rattle.authn_core.specs.Views.{needs, sign};
 ghost use Rattle.ctap_message.specs.Answers.{info_answer};
 ghost use Rattle.hid_packet.specs.Commands.{CBOR, PING};
 ghost use Rattle.hid_packet.specs.Message.{written};
 ghost use Rattle.hid_packet.specs.declared.packet.Packet.{Packet as AnyPacket};
-ghost use Rattle.token_session.specs.declared.input.Input.TheVariants.{Packet as PacketCame};
+ghost use Rattle.token_session.specs.declared.input.Input.TheVariants.{Packet as PacketCame, Signature as SignatureCame};
 ghost use Rattle.hid_packet.specs.Carries.{CarriesMessage};
 ghost use Rattle.hid_assemble.specs.Assembly.{Message};
+ghost use Rattle.token_session.specs.Arriving.{Arrives};
 ghost use Rattle.token_session.specs.Carried.{ArriveWhole, carriers_at};
 ghost use Rattle.token_session.specs.Inputs.{end, given};
 ghost use Rattle.token_session.specs.Messages.{finished_at, open_at};
@@ -23,12 +27,15 @@ ghost use Rattle.token_session.specs.Machine.{State, machine, turn, time_passed}
 ghost use Rattle.token_session.specs.Events.{event_packets};
 ghost use Rattle.token_session.specs.Law.{all_open, keeps_alive, IsAfter, sent_now, onto, sent_from, run_state, run_sent};
 ghost use Rattle.token_session.specs.Credentials.{steps};
+ghost use Rattle.token_session.specs.Signing.{came, IsAnsweredBy};
 ghost use Rattle.token_session.specs.Headline.{IsAnswered};
 ghost use Rattle.token_session.specs.Meters.{SessionState, meters_of, session_of, stepped};
 ghost use Rattle.token_session.specs.Noise.{Quiet, is_noise_at, is_noise_after, quiet_from, quiet_sent, tick_at};
 ghost use Rattle.hid_packet.specs.declared.limit.TheConstants.{OUTBOX_CAPACITY};
 
-use authn_core::laws::{rows_follow_history, texts_to_sign_differ};
+use authn_core::laws::{
+    rows_follow_history, texts_to_sign_differ, what_is_signed_is_answered as signing_law,
+};
 use ctap_message::laws::steps_are_bounded;
 
 /// The composed turn, over any history, is in the state that the history names, and each input sends
@@ -73,6 +80,17 @@ pub fn messages_of_one_packet_finish()
         → open_at (judged start h) (judge start x (judged start h)).at ≡ None
         → working (core start (judged start h)) ≡ None
         → finished_at (judge start x (judged start h)) (judged start h)
+        ≡ Some (record { cid = cid; cmd = cmd; bytes = bytes }) }
+{}
+
+/// The packets of a PING or CBOR message on a channel that was given out, in order and each less than 500 ms after the
+/// one before, finish with just its bytes, whatever other hosts send between, where no message is open and no work waits
+/// at the first.
+pub fn messages_of_several_packets_finish()
+    ensures { (start : Start) (h between : List OneInput) (x y : OneInput) (p q : AnyPacket) (cid cmd : ℕ)
+        (bytes : List ℕ) → x.input ≡ PacketCame p → y.input ≡ PacketCame q
+        → Arrives start h x between (judge start y (judged start (onto between (x ∷ h)))) cid cmd bytes
+        → finished_at (judge start y (judged start (onto between (x ∷ h)))) (judged start (onto between (x ∷ h)))
         ≡ Some (record { cid = cid; cmd = cmd; bytes = bytes }) }
 {}
 
@@ -141,7 +159,8 @@ pub fn quiet_histories_are_alike()
 
 /// The credentials after any history are the start's and those that it made, in order, less what a granted reset or a
 /// replacing credential took out since; each counter is that of the start, or 0 for a made one, and the raises of that
-/// credential alone. They stay lawful, and no two texts to sign of assertions by one credential hold the same counter.
+/// credential alone. They stay lawful, and no two texts to sign of assertions by one credential hold the same counter:
+/// they rise in time. While an assertion's signature is waited for, the newest of them is to be signed.
 pub fn credentials_follow_history()
     ensures rows { (start : Start) (h : List OneInput)
         → (core start (judged start h)).state.rows ≡ rows_of start.rows
@@ -150,9 +169,31 @@ pub fn credentials_follow_history()
         → Lawful start.room (core start (judged start h)).state.rows }
     ensures texts { (start : Start) (h : List OneInput) → Lawful start.room start.rows
         → all_differ (texts (first_state start) (steps start (judged start h))) ≡ true }
+    ensures rise { (start : Start) (h : List OneInput) → Lawful start.room start.rows
+        → all_rise (texts (first_state start) (steps start (judged start h))) ≡ true }
+    ensures newest { (start : Start) (h : List OneInput) (id : List ℕ) → Lawful start.room start.rows
+        → signs_by id (core start (judged start h)).state.work ≡ true
+        → IsNewest (texts (first_state start) (steps start (judged start h))) (core start (judged start h)).state }
 {
     rows_follow_history();
     texts_to_sign_differ();
+}
+
+/// What is signed is what is answered. After any history the bytes to sign of an assertion are the authenticator data,
+/// with the hash of the RP id, the UP flag that was asked for and the counter of the credential, and the hash of the
+/// client data, of the newest request; of a registration those with the id and public key of a key that was handed in.
+/// Where UP is set, the user's presence was granted since that request. A signature is answered on the channel that
+/// asked, with authenticator data that are, followed by that hash, just the bytes that were to be signed.
+pub fn what_is_signed_is_answered()
+    ensures signed { (start : Start) (h : List OneInput) → Lawful start.room start.rows
+        → IsNeeded start.aaguid (came start (judged start h)) (core start (judged start h)).state.rows
+        (needs (core start (judged start h)).state.work) }
+    ensures answered { (start : Start) (h : List OneInput) (x : OneInput) (id signed sig : List ℕ)
+        → Lawful start.room start.rows → x.input ≡ SignatureCame (Some sig)
+        → needs (core start (judged start h)).state.work ≡ sign id signed
+        → IsAnsweredBy start (judged start h) (judge start x (judged start h)) id signed sig }
+{
+    signing_law();
 }
 
 /// The headline. For every start and every list of inputs, the packets sent are exactly those that the history's

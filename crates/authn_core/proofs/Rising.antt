@@ -1,0 +1,192 @@
+-- The counters of a credential's signatures rise, and each is its row's.
+use Rattle.std.proofs.Common.{◌≡◌, ℕ, ◌+◌, ◌<◌, ◌==◌, nat_lt, List, [], ◌∷◌, ◌++◌, length, Bool, true, false, cond, ◌&&◌, ◌||◌, not, Option, Some, None, option_to_list, is_some, refl, sym, ◌∙◌, ap, subst, arith}
+use Rattle.std.proofs.lemmas.Bool.Decides.{nat_tests}
+use Rattle.std.proofs.lemmas.Option.{same_Some}
+use Rattle.std.proofs.lemmas.Slice.Eq.{bytes_eq-Decides}
+use Rattle.std.specs.List.{find}
+use Rattle.std.specs.Str.{bytes_eq}
+use Rattle.cred_table.specs.declared.row.Row.{Row}
+use Rattle.cred_table.specs.Rows.{Lawful, has_id, counter_of}
+use Rattle.arrayvec.specs.ArrayVec.{ArrayVec}
+use Rattle.authn_core.specs.declared.task.Asserting.{Asserting}
+use Rattle.authn_core.specs.declared.task.Task.{Task}
+use Rattle.authn_core.specs.declared.task.Task.TheVariants.{Resets, Selects, AsksMake, WantsKey, SignsMake, AsksAssert, SignsAssert}
+use Rattle.authn_core.specs.declared.task.Job.{Job}
+use Rattle.authn_core.specs.State.{Setup, State, Event, Request, PresenceIs, KeyIs, SignatureIs, Cancel, Drop}
+use Rattle.authn_core.specs.Turn.{CoreState, core_after, turn, presence_at, key_at, signature_at, presence_turn, key_turn, signature_turn}
+use Rattle.authn_core.specs.Ready.{Ready}
+use Rattle.authn_core.specs.Marks.{Step, Comes, Orderly, Mark, Text, core_at, makings, marks, raised_by, signs_by, task_counter, task_raises, text_of, texts}
+use Rattle.authn_core.specs.Views.{needs, sign}
+use Rattle.authn_core.specs.Rising.{by_one_row, above_all, all_rise, IsTextOf, IsNewest}
+use Rattle.authn_core.proofs.Readiness.{and_is}
+use Rattle.authn_core.proofs.Rises.{RisesTo, turn_rises}
+use Rattle.authn_core.proofs.Signed.{counter_raised}
+use Rattle.authn_core.proofs.Texts.{AllBounded, core_sound, new_differs, texts_bounded}
+
+-- the new text is above all before it
+new_above : (h : List Mark) (rows : List Row) (id : List ℕ) (ts : List Text) → is_some (find (has_id id) rows) ≡ true → AllBounded h rows ts
+    → above_all (record { id = id; making = makings id h; counter = counter_of id rows + 1 }) ts ≡ true
+new_above h rows id [] e b = refl
+new_above h rows id (t ∷ ts) e b =
+    and_is (not (by_one_row (record { id = id; making = makings id h; counter = counter_of id rows + 1 }) t) || nat_lt t.counter (counter_of id rows + 1))
+    (above_all (record { id = id; making = makings id h; counter = counter_of id rows + 1 }) ts)
+    (go (bytes_eq id t.id) (makings id h == t.making) refl refl) (new_above h rows id ts e b.1)
+  where
+    go : (x y : Bool) → bytes_eq id t.id ≡ x → (makings id h == t.making) ≡ y → (not (x && y) || nat_lt t.counter (counter_of id rows + 1)) ≡ true
+    go false y p q = refl
+    go true false p q = refl
+    go true true p q =
+        let a : id ≡ t.id = (bytes_eq-Decides id t.id).0 p in
+        let d : makings id h ≡ t.making = grind (arith, nat_tests) in
+        let k : t.counter < counter_of id rows + 1 = new_differs h rows id t e b.0 (sym a) (sym d) in
+        grind (arith, nat_tests)
+
+one_rises : (h : List Mark) (rows rows' : List Row) (before now : Option Job) (ts : List Text) → RisesTo rows before rows' now → AllBounded h rows ts → all_rise ts ≡ true
+    → all_rise (option_to_list (text_of h (raised_by before now) now) ++ ts) ≡ true
+one_rises h rows rows' before None ts r b d = d
+one_rises h rows rows' before (Some w) ts r b d = go (task_raises before w.task) refl
+  where
+    go : (o : Option (List ℕ)) → task_raises before w.task ≡ o → all_rise (option_to_list (text_of h o (Some w)) ++ ts) ≡ true
+    go None f = d
+    go (Some id) f =
+        let i = r id f in
+        let P : ℕ → Type 0 = λ n. all_rise (record { id = id; making = makings id h; counter = n } ∷ ts) ≡ true in
+        subst P (sym i.counter) (and_is _ _ (new_above h rows id ts i.there b) d)
+
+pub texts_rise : (start : CoreState) (h : List Step) → Ready (start.setup).room start.state → Lawful (start.setup).room (start.state).rows → Orderly start h → all_rise (texts start h) ≡ true
+unfolding core_at texts Orderly
+texts_rise start [] r l o = refl
+texts_rise start (x ∷ past) r l o =
+    let k = core_at start past in
+    let after = core_after k x.at x.event in
+    one_rises (marks start past) k.state.rows after.state.rows k.state.work after.state.work (texts start past)
+    (turn_rises k.setup k.state x.at x.event o.0 (core_sound start past r l).ready) (texts_bounded start past r l o.1).0 (texts_rise start past r l o.1)
+
+-- what raises an id signs by it
+raises_signs : (before : Option Job) (k : Task) (cid : ℕ) (id : List ℕ) → task_raises before k ≡ Some id → (signed : List ℕ) × (needs (Some (record { cid = cid; task = k })) ≡ sign id signed)
+raises_signs before (SignsAssert a n d) cid id e = go (signs_by a.id before) e
+  where
+    go : (b : Bool) → cond b None (Some a.id) ≡ Some id → (signed : List ℕ) × (sign a.id d.items ≡ sign id signed)
+    go true e = cc
+    go false e = (d.items, ap (λ (i : List ℕ). sign i d.items) (same_Some a.id id e))
+raises_signs before Resets cid id e = cc
+raises_signs before Selects cid id e = cc
+raises_signs before (AsksMake m excluded) cid id e = cc
+raises_signs before (WantsKey m) cid id e = cc
+raises_signs before (SignsMake m key d) cid id e = cc
+raises_signs before (AsksAssert a) cid id e = cc
+
+told_of : (h : List Mark) (rows : List Row) (before : Option Job) (s : State) (w : Job) (id : List ℕ) → RisesTo rows before s.rows (Some w) → s.work ≡ Some w → task_raises before w.task ≡ Some id
+    → IsTextOf (record { id = id; making = makings id h; counter = task_counter w.task }) s
+told_of h rows before s w id r is f =
+    let i = r id f in
+    let n = raises_signs before w.task w.cid id f in
+    record { signed = n.0; needed = ap needs is ∙ n.1; counter = ap (counter_of id) i.raises ∙ counter_raised id rows i.there ∙ sym i.counter }
+
+one_told : (h : List Mark) (rows : List Row) (before : Option Job) (s : State) (ts : List Text) (t : Text) → RisesTo rows before s.rows s.work
+    → option_to_list (text_of h (raised_by before s.work) s.work) ++ ts ≡ t ∷ ts → IsTextOf t s
+one_told h rows before s ts t r e = work s.work r e refl
+  where
+    no_more : ts ≡ t ∷ ts → ⊥
+    no_more e = let n : length ts ≡ length (t ∷ ts) = ap length e in omega (arith, n)
+
+    at : (w : Job) (o : Option (List ℕ)) → RisesTo rows before s.rows (Some w) → s.work ≡ Some w → task_raises before w.task ≡ o → option_to_list (text_of h o (Some w)) ++ ts ≡ t ∷ ts → IsTextOf t s
+    at w None r is f e = absurd (no_more e)
+    at w (Some id) r is f e =
+        let same : record { id = id; making = makings id h; counter = task_counter w.task } ≡ t = cc in
+        let P : Text → Type 0 = λ x. IsTextOf x s in
+        subst P same (told_of h rows before s w id r is f)
+
+    work : (v : Option Job) → RisesTo rows before s.rows v → option_to_list (text_of h (raised_by before v) v) ++ ts ≡ t ∷ ts → s.work ≡ v → IsTextOf t s
+    work None r e is = absurd (no_more e)
+    work (Some w) r e is = at w (task_raises before w.task) r is refl e
+
+pub text_is_told : (start : CoreState) (h : List Step) (x : Step) (t : Text) → Ready (start.setup).room start.state → Lawful (start.setup).room (start.state).rows → Orderly start (x ∷ h)
+    → texts start (x ∷ h) ≡ t ∷ texts start h → IsTextOf t (core_at start (x ∷ h)).state
+unfolding core_at texts Orderly
+text_is_told start h x t r l o e =
+    let k = core_at start h in
+    one_told (marks start h) k.state.rows k.state.work (core_after k x.at x.event).state (texts start h) t
+    (turn_rises k.setup k.state x.at x.event o.0 (core_sound start h r l).ready) e
+
+-- ---- while an assertion's signature is waited for, the newest text is what is to be signed
+
+no_signs : (id : List ℕ) (work : Option Job) → work ≡ None → signs_by id work ≡ true → ⊥
+no_signs id None n e = cc
+no_signs id (Some w) n e = cc
+
+-- no reply but a signature changes a state that waits for one
+stays_task : (id : List ℕ) (cid : ℕ) (k : Task) → signs_by id (Some (record { cid = cid; task = k })) ≡ true → (a : Asserting) × (n : ℕ) × (d : ArrayVec ℕ) × (k ≡ SignsAssert a n d)
+stays_task id cid (SignsAssert a n d) e = (a, n, d, refl)
+stays_task id cid Resets e = cc
+stays_task id cid Selects e = cc
+stays_task id cid (AsksMake m excluded) e = cc
+stays_task id cid (WantsKey m) e = cc
+stays_task id cid (SignsMake m key d) e = cc
+stays_task id cid (AsksAssert a) e = cc
+
+signing_stays : (u : Setup) (s : State) (t : ℕ) (e : Event) (id other : List ℕ) → Comes s.work e → signs_by id s.work ≡ true → signs_by other (turn u s t e).state.work ≡ true → (turn u s t e).state ≡ s
+unfolding turn
+signing_stays u s t (Request cid bytes) id other c b n = absurd (no_signs id s.work c b)
+signing_stays u s t (PresenceIs p) id other c b n = go s.work b
+  where
+    go : (v : Option Job) → signs_by id v ≡ true → (presence_turn u.room s v p).state ≡ s
+    go None b = cc
+    go (Some v) b = let k = stays_task id v.cid v.task b in ap (λ (x : Task). (presence_at u.room s v.cid x p).state) k.3
+signing_stays u s t (KeyIs key) id other c b n = go s.work b
+  where
+    go : (v : Option Job) → signs_by id v ≡ true → (key_turn u.aaguid s v key).state ≡ s
+    go None b = cc
+    go (Some v) b = let k = stays_task id v.cid v.task b in ap (λ (x : Task). (key_at u.aaguid s v.cid x key).state) k.3
+signing_stays u s t (SignatureIs sig) id other c b n = go s.work b n
+  where
+    ends : (a : Asserting) (m : ℕ) (d : ArrayVec ℕ) (sig : Option (List ℕ)) → signs_by other (signature_at u.aaguid s t (SignsAssert a m d) sig).state.work ≡ true → (signature_at u.aaguid s t (SignsAssert a m d) sig).state ≡ s
+    ends a m d None n = cc
+    ends a m d (Some sig) n = cc
+
+    go : (v : Option Job) → signs_by id v ≡ true → signs_by other (signature_turn u.aaguid s t v sig).state.work ≡ true → (signature_turn u.aaguid s t v sig).state ≡ s
+    go None b n = cc
+    go (Some v) b n =
+        let k = stays_task id v.cid v.task b in
+        let P : Task → Type 0 = λ x. (signs_by other (signature_at u.aaguid s t x sig).state.work ≡ true → (signature_at u.aaguid s t x sig).state ≡ s) in
+        subst P (sym k.3) (ends k.0 k.1 k.2 sig) n
+signing_stays u s t Cancel id other c b n = cc
+signing_stays u s t Drop id other c b n = cc
+
+kept_signs : (before : Option Job) (cid : ℕ) (k : Task) (id : List ℕ) → signs_by id (Some (record { cid = cid; task = k })) ≡ true → task_raises before k ≡ None → signs_by id before ≡ true
+kept_signs before cid (SignsAssert a n d) id e f = go (signs_by a.id before) refl f
+  where
+    go : (b : Bool) → signs_by a.id before ≡ b → cond b None (Some a.id) ≡ None → signs_by id before ≡ true
+    go true k f = let P : List ℕ → Type 0 = λ x. signs_by x before ≡ true in subst P ((bytes_eq-Decides a.id id).0 e) k
+    go false k f = cc
+kept_signs before cid Resets id e f = cc
+kept_signs before cid Selects id e f = cc
+kept_signs before cid (AsksMake m excluded) id e f = cc
+kept_signs before cid (WantsKey m) id e f = cc
+kept_signs before cid (SignsMake m key d) id e f = cc
+kept_signs before cid (AsksAssert a) id e f = cc
+
+one_newest : (h : List Mark) (rows : List Row) (before : Option Job) (s : State) (ts : List Text) (id : List ℕ) → RisesTo rows before s.rows s.work → signs_by id s.work ≡ true
+    → (signs_by id before ≡ true → IsNewest ts s) → IsNewest (option_to_list (text_of h (raised_by before s.work) s.work) ++ ts) s
+one_newest h rows before s ts id r e older = work s.work r e refl
+  where
+    at : (w : Job) (o : Option (List ℕ)) → RisesTo rows before s.rows (Some w) → signs_by id (Some w) ≡ true → s.work ≡ Some w → task_raises before w.task ≡ o
+        → IsNewest (option_to_list (text_of h o (Some w)) ++ ts) s
+    at w None r e is f = older (kept_signs before w.cid w.task id e f)
+    at w (Some i) r e is f =
+        record { text = record { id = i; making = makings i h; counter = task_counter w.task }; past = ts; first = refl; told = told_of h rows before s w i r is f }
+
+    work : (v : Option Job) → RisesTo rows before s.rows v → signs_by id v ≡ true → s.work ≡ v → IsNewest (option_to_list (text_of h (raised_by before v) v) ++ ts) s
+    work None r e is = cc
+    work (Some w) r e is = at w (task_raises before w.task) r e is refl
+
+pub newest_is_signed : (start : CoreState) (h : List Step) (id : List ℕ) → start.state.work ≡ None → Ready (start.setup).room start.state → Lawful (start.setup).room (start.state).rows → Orderly start h
+    → signs_by id (core_at start h).state.work ≡ true → IsNewest (texts start h) (core_at start h).state
+unfolding core_at texts Orderly
+newest_is_signed start [] id none r l o e = absurd (no_signs id start.state.work none e)
+newest_is_signed start (x ∷ h) id none r l o e =
+    let k = core_at start h in
+    let s = (core_after k x.at x.event).state in
+    let P : State → Type 0 = λ v. IsNewest (texts start h) v in
+    one_newest (marks start h) k.state.rows k.state.work s (texts start h) id (turn_rises k.setup k.state x.at x.event o.0 (core_sound start h r l).ready) e
+    (λ b. subst P (sym (signing_stays k.setup k.state x.at x.event id id o.0 b e)) (newest_is_signed start h id none r l o.1 b))

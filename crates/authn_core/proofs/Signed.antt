@@ -1,0 +1,497 @@
+-- Every turn keeps what is to be signed that of the newest request, and a signature is answered with what was signed.
+use Rattle.std.proofs.Common.{◌≡◌, ℕ, ◌+◌, nat_lt, List, [], ◌∷◌, ◌++◌, length, reverse, Bool, true, false, cond, not, Option, Some, None, option_map, option_to_list, is_some, Result, Ok, Err, refl, sym, ◌∙◌, ap, subst, inl, inr, filter}
+use Rattle.std.proofs.lemmas.Bool.{and_parts, or_parts, not-true}
+use Rattle.std.proofs.lemmas.List.{reverse-append, map-append}
+use Rattle.std.proofs.lemmas.Option.{same_Some}
+use Rattle.std.proofs.lemmas.Slice.Eq.{bytes_eq-Decides}
+use Rattle.std.specs.List.{find, list_any}
+use Rattle.std.specs.Option.{option_or}
+use Rattle.std.specs.Str.{bytes_eq}
+use Rattle.arrayvec.specs.ArrayVec.{ArrayVec}
+use Rattle.cred_table.specs.declared.row.Row.{Row}
+use Rattle.cred_table.specs.Rows.{Lawful, has_id, is_named, is_listed, same_id, no_two, listed, ids, raised, counter_of, counter_in}
+use Rattle.cred_table.specs.Waiting.{Waiting, pending_of, stamped, first_of}
+use Rattle.fido_authdata.specs.AuthData.{assertion_bytes, created_bytes}
+use Rattle.ctap_message.specs.Answers.{created_answer, assertion_answer}
+use Rattle.ctap_message.specs.Asked.{Asked, MakeCredential, GetAssertion, GetInfo, Reset, GetNextAssertion, Selection}
+use Rattle.ctap_message.specs.Members.{has_entries}
+use Rattle.ctap_message.specs.Descriptors.{ids_of}
+use Rattle.ctap_message.specs.Requests.{read_of}
+use Rattle.authn_core.specs.declared.replies.Presence.TheVariants.{Granted, Denied, TimedOut}
+use Rattle.authn_core.specs.declared.replies.NewKey.{NewKey}
+use Rattle.authn_core.specs.declared.task.Making.{Making}
+use Rattle.authn_core.specs.declared.task.Asserting.{Asserting}
+use Rattle.authn_core.specs.declared.task.Task.{Task}
+use Rattle.authn_core.specs.declared.task.Task.TheVariants.{Resets, Selects, AsksMake, WantsKey, SignsMake, AsksAssert, SignsAssert}
+use Rattle.authn_core.specs.declared.task.Job.{Job}
+use Rattle.authn_core.specs.Hash.{rp_hash}
+use Rattle.authn_core.specs.State.{Setup, State, Event, Request, PresenceIs, KeyIs, SignatureIs, Cancel, Drop, Answer, Answered, Turned, signs}
+use Rattle.authn_core.specs.Asking.{RESET_LIMIT}
+use Rattle.authn_core.specs.MakeCredential.{fits, new_row}
+use Rattle.authn_core.specs.GetAssertion.{find_named, applicable, MOST, told, begins, is_due, next_begins, next_signs, row_signs, user_in}
+use Rattle.authn_core.specs.Turn.{Start, core_answer, first_state, requested, presence_at, key_at, signature_at, presence_turn, key_turn, signature_turn, turn}
+use Rattle.authn_core.specs.Views.{Needed, needs, sign}
+use Rattle.authn_core.specs.Marks.{Step, Comes, Orderly, core_at}
+use Rattle.authn_core.specs.Signed.{Heard, newer, hears, heard, IsAmong, rp_of, IsToSign, IsNeeded, IsSigned, Claim, assertion_asked, creation_asked, AssertsFor, TaskSigns, WorkSigns, AllOf, PendingFor, IsGranted, TaskGranted, WorkGranted, Signs}
+use Rattle.authn_core.proofs.Readiness.{cond_case}
+use Rattle.authn_core.proofs.Marked.{same_bytes}
+use Rattle.authn_core.proofs.Texts.{rows_lawful, setup_stays}
+
+-- ---- rows
+
+-- in rows that stand apart, no later row has the id
+apart : (id : List ℕ) (x : Row) (rows : List Row) → has_id id x ≡ true → list_any (same_id x) rows ≡ false → find (has_id id) rows ≡ None
+apart id x [] e h = refl
+apart id x (s ∷ rows) e h =
+    let p = or_parts (same_id x s) (list_any (same_id x) rows) h in
+    go (has_id id s) refl p.0 (apart id x rows e p.1)
+  where
+    go : (b : Bool) → has_id id s ≡ b → same_id x s ≡ false → find (has_id id) rows ≡ None → cond b (Some s) (find (has_id id) rows) ≡ None
+    go false k f ih = ih
+    go true k f ih =
+        let a : x.id ≡ id = (bytes_eq-Decides x.id id).0 e in
+        let b : s.id ≡ id = (bytes_eq-Decides s.id id).0 k in
+        let d : bytes_eq x.id s.id ≡ true = (bytes_eq-Decides x.id s.id).1 (a ∙ sym b) in cc
+
+-- what stands behind a row is found past it
+past_one : (id : List ℕ) (x r : Row) (rows : List Row) → list_any (same_id x) rows ≡ false → find (has_id id) rows ≡ Some r → find (has_id id) (x ∷ rows) ≡ Some r
+past_one id x r rows h e = go (has_id id x) refl
+  where
+    go : (b : Bool) → has_id id x ≡ b → cond b (Some x) (find (has_id id) rows) ≡ Some r
+    go false k = e
+    go true k = let n = apart id x rows k h in cc
+
+-- a row that is found is found by its id, and passes
+found_self : (q : Row → Bool) (rows : List Row) (r : Row) → no_two same_id rows ≡ true → find q rows ≡ Some r → (find (has_id r.id) rows ≡ Some r) × (q r ≡ true)
+found_self q [] r d h = cc
+found_self q (x ∷ rows) r d h =
+    let p = and_parts (not (list_any (same_id x) rows)) (no_two same_id rows) d in
+    go (not-true (list_any (same_id x) rows) p.0) (found_self q rows r p.1) (q x) refl h
+  where
+    here : q x ≡ true → (find (has_id x.id) (x ∷ rows) ≡ Some x) × (q x ≡ true)
+    here k = (rw (same_bytes x.id) refl, k)
+
+    go : list_any (same_id x) rows ≡ false → (find q rows ≡ Some r → (find (has_id r.id) rows ≡ Some r) × (q r ≡ true)) → (b : Bool) → q x ≡ b → cond b (Some x) (find q rows) ≡ Some r
+        → (find (has_id r.id) (x ∷ rows) ≡ Some r) × (q r ≡ true)
+    go n ih true k e = let P : Row → Type 0 = λ y. (find (has_id y.id) (x ∷ rows) ≡ Some y) × (q y ≡ true) in subst P (same_Some x r e) (here k)
+    go n ih false k e = let i = ih e in (past_one r.id x r rows n i.0, i.1)
+
+rp_past : (id rp : List ℕ) (x : Row) (rows : List Row) → list_any (same_id x) rows ≡ false → rp_of id rows ≡ Some rp → rp_of id (x ∷ rows) ≡ Some rp
+rp_past id rp x rows h e = go (find (has_id id) rows) refl e
+  where
+    go : (o : Option Row) → find (has_id id) rows ≡ o → option_map (λ (r : Row). r.rp) o ≡ Some rp → rp_of id (x ∷ rows) ≡ Some rp
+    go None k f = cc
+    go (Some r) k f = ap (λ (o : Option Row). option_map (λ (r : Row). r.rp) o) (past_one id x r rows h k) ∙ f
+
+all_past : (rp : List ℕ) (x : Row) (rows : List Row) (l : List (List ℕ)) → list_any (same_id x) rows ≡ false → AllOf rp rows l → AllOf rp (x ∷ rows) l
+all_past rp x rows [] h a = tt
+all_past rp x rows (id ∷ l) h a = (rp_past id rp x rows h a.0, all_past rp x rows l h a.1)
+
+of_rp : (rp id : List ℕ) (rows : List Row) (r : Row) → find (has_id id) rows ≡ Some r → bytes_eq r.rp rp ≡ true → rp_of id rows ≡ Some rp
+of_rp rp id rows r e k = ap (λ (o : Option Row). option_map (λ (r : Row). r.rp) o) e ∙ ap (λ (x : List ℕ). Some x) ((bytes_eq-Decides r.rp rp).0 k)
+
+listed_of : (rp : List ℕ) (rows : List Row) → no_two same_id rows ≡ true → AllOf rp rows (ids (filter (is_listed rp) rows))
+listed_of rp [] d = tt
+listed_of rp (r ∷ rows) d =
+    let p = and_parts (not (list_any (same_id r) rows)) (no_two same_id rows) d in
+    go (is_listed rp r) refl (all_past rp r rows (ids (filter (is_listed rp) rows)) (not-true (list_any (same_id r) rows) p.0) (listed_of rp rows p.1))
+  where
+    go : (b : Bool) → is_listed rp r ≡ b → AllOf rp (r ∷ rows) (ids (filter (is_listed rp) rows)) → AllOf rp (r ∷ rows) (ids (cond b (r ∷ filter (is_listed rp) rows) (filter (is_listed rp) rows)))
+    go true k ih = let self : find (has_id r.id) (r ∷ rows) ≡ Some r = rw (same_bytes r.id) refl in (of_rp rp r.id (r ∷ rows) r self (and_parts r.discoverable (bytes_eq r.rp rp) k).1, ih)
+    go false k ih = ih
+
+all_joined : (rp : List ℕ) (rows : List Row) (a b : List (List ℕ)) → AllOf rp rows a → AllOf rp rows b → AllOf rp rows (a ++ b)
+all_joined rp rows [] b p q = q
+all_joined rp rows (id ∷ a) b p q = (p.0, all_joined rp rows a b p.1 q)
+
+reversed_of : (rp : List ℕ) (rows l : List Row) → AllOf rp rows (ids l) → AllOf rp rows (ids (reverse l))
+reversed_of rp rows [] h = tt
+reversed_of rp rows (r ∷ l) h =
+    let e = reverse-append (r ∷ []) l in
+    let f = map-append (λ (r : Row). r.id) (reverse l) (r ∷ []) in
+    let g = all_joined rp rows (ids (reverse l)) (r.id ∷ []) (reversed_of rp rows l h.1) (h.0, tt) in
+    let P : List (List ℕ) → Type 0 = λ x. AllOf rp rows x in
+    subst P (sym (ap ids e ∙ f)) g
+
+named_of : (rp : List ℕ) (rows : List Row) (l : List (List ℕ)) (r : Row) → no_two same_id rows ≡ true → find_named rp rows l ≡ Some r → rp_of r.id rows ≡ Some rp
+named_of rp rows [] r d h = cc
+named_of rp rows (id ∷ l) r d h = go (named_of rp rows l r d) (find (is_named rp id) rows) refl h
+  where
+    go : (find_named rp rows l ≡ Some r → rp_of r.id rows ≡ Some rp) → (o : Option Row) → find (is_named rp id) rows ≡ o → option_or o (find_named rp rows l) ≡ Some r → rp_of r.id rows ≡ Some rp
+    go ih None e f = ih f
+    go ih (Some x) e f =
+        let s = found_self (is_named rp id) rows r d (e ∙ f) in
+        of_rp rp r.id rows r s.0 (and_parts (bytes_eq r.id id) (bytes_eq r.rp rp) s.1).1
+
+-- the rows that may sign are the RP's
+applicable_of : (rows : List Row) (rp : List ℕ) (given : Bool) (allow : List (List ℕ)) → no_two same_id rows ≡ true → AllOf rp rows (ids (applicable rows rp given allow))
+applicable_of rows rp given allow d = go given
+  where
+    named : (o : Option Row) → find_named rp rows allow ≡ o → AllOf rp rows (ids (option_to_list o))
+    named None e = tt
+    named (Some r) e = (named_of rp rows allow r d e, tt)
+
+    go : (b : Bool) → AllOf rp rows (ids (cond b (option_to_list (find_named rp rows allow)) (listed rp rows)))
+    go true = named (find_named rp rows allow) refl
+    go false = reversed_of rp rows (filter (is_listed rp) rows) (listed_of rp rows d)
+
+-- Raising changes no RP, and raises the counter.
+rp_raised : (q id : List ℕ) (rows : List Row) → rp_of q (raised id rows) ≡ rp_of q rows
+rp_raised q id [] = refl
+rp_raised q id (r ∷ rows) = go (has_id id r) (rp_raised q id rows)
+  where
+    at : (b c : Bool) → rp_of q (raised id rows) ≡ rp_of q rows
+        → option_map (λ (r : Row). r.rp) (cond c (Some (cond b (record r { counter = r.counter + 1 }) r)) (find (has_id q) (raised id rows))) ≡ option_map (λ (r : Row). r.rp) (cond c (Some r) (find (has_id q) rows))
+    at b false ih = ih
+    at true true ih = refl
+    at false true ih = refl
+
+    go : (b : Bool) → rp_of q (raised id rows) ≡ rp_of q rows → rp_of q (cond b (record r { counter = r.counter + 1 }) r ∷ raised id rows) ≡ rp_of q (r ∷ rows)
+    go true ih = at true (has_id q r) ih
+    go false ih = at false (has_id q r) ih
+
+pub counter_raised : (id : List ℕ) (rows : List Row) → is_some (find (has_id id) rows) ≡ true → counter_of id (raised id rows) ≡ counter_of id rows + 1
+counter_raised id [] h = cc
+counter_raised id (r ∷ rows) h = go (has_id id r) refl h (counter_raised id rows)
+  where
+    go : (b : Bool) → has_id id r ≡ b → is_some (cond b (Some r) (find (has_id id) rows)) ≡ true
+        → (is_some (find (has_id id) rows) ≡ true → counter_of id (raised id rows) ≡ counter_of id rows + 1)
+        → counter_of id (cond b (record r { counter = r.counter + 1 }) r ∷ raised id rows) ≡ counter_in (cond b (Some r) (find (has_id id) rows)) + 1
+    go true e f ih = rw e refl
+    go false e f ih = rw e (ih f)
+
+there : (id rp : List ℕ) (rows : List Row) → rp_of id rows ≡ Some rp → is_some (find (has_id id) rows) ≡ true
+there id rp rows h = go (find (has_id id) rows) h
+  where
+    go : (o : Option Row) → option_map (λ (r : Row). r.rp) o ≡ Some rp → is_some o ≡ true
+    go None h = cc
+    go (Some r) h = refl
+
+all_of_raised : (rp id : List ℕ) (rows : List Row) (l : List (List ℕ)) → AllOf rp rows l → AllOf rp (raised id rows) l
+all_of_raised rp id rows [] h = tt
+all_of_raised rp id rows (q ∷ l) h = (rp_raised q id rows ∙ h.0, all_of_raised rp id rows l h.1)
+
+-- ---- turns
+
+pending_raised : (asked : Option Asked) (id : List ℕ) (rows : List Row) (p : Option Waiting) → PendingFor asked rows p → PendingFor asked (raised id rows) p
+pending_raised asked id rows None h = tt
+pending_raised asked id rows (Some w) h = (h.0, h.1, all_of_raised h.0 id rows w.ids h.2)
+
+pending_is : (asked : Option Asked) (rows : List Row) (cid : ℕ) (hash rp : List ℕ) (up : Bool) (t : ℕ) (l : List (List ℕ)) → assertion_asked asked ≡ Some (record { rp = rp; presence = up; hash = hash }) → AllOf rp rows l
+    → PendingFor asked rows (pending_of cid hash up t l)
+pending_is asked rows cid hash rp up t [] c a = tt
+pending_is asked rows cid hash rp up t (id ∷ l) c a = (rp, c, a)
+
+pending_stamped : (asked : Option Asked) (rows : List Row) (t : ℕ) (p : Option Waiting) → PendingFor asked rows p → PendingFor asked rows (stamped t p)
+pending_stamped asked rows t None h = tt
+pending_stamped asked rows t (Some w) h = h
+
+granted_stamped : (granted : Bool) (t : ℕ) (p : Option Waiting) → IsGranted granted p → IsGranted granted (stamped t p)
+granted_stamped granted t None h = tt
+granted_stamped granted t (Some w) h = h
+
+still_granted : (granted : Bool) (cid : ℕ) (hash : List ℕ) (up : Bool) (t : ℕ) (l : List (List ℕ)) → (up ≡ true → granted ≡ true) → IsGranted granted (pending_of cid hash up t l)
+still_granted granted cid hash up t [] k = tt
+still_granted granted cid hash up t (id ∷ l) k = k
+
+ended : (aaguid : List ℕ) (h : Heard) (rows : List Row) (p : Option Waiting) → PendingFor h.asked rows p → IsGranted h.granted p → Signs aaguid h (record { rows = rows; pending = p; work = None })
+ended aaguid h rows p q k = record { pending = q; granted = k; work = tt }
+
+signs_signs : (aaguid : List ℕ) (h : Heard) (rows : List Row) (p : Option Waiting) (cid : ℕ) (a : Asserting) → PendingFor h.asked rows p → IsGranted h.granted p → AssertsFor h.asked rows a → (a.presence ≡ true → h.granted ≡ true)
+    → Signs aaguid h (signs rows p cid a).state
+signs_signs aaguid h rows p cid a q k f up =
+    record { pending = pending_raised h.asked a.id rows p q; granted = k; work = ((f.0, rp_raised a.id a.id rows ∙ f.1), sym (counter_raised a.id rows (there a.id a.rp rows f.1)), refl, up) }
+
+begins_signs : (aaguid : List ℕ) (h : Heard) (rows : List Row) (t cid : ℕ) (hash rp : List ℕ) (up given : Bool) (l : List (List ℕ)) → assertion_asked h.asked ≡ Some (record { rp = rp; presence = up; hash = hash }) → AllOf rp rows l
+    → Signs aaguid h (begins rows t cid hash rp up given l).state
+begins_signs aaguid h rows t cid hash rp up given [] c a = ended aaguid h rows None tt tt
+begins_signs aaguid h rows t cid hash rp up given (id ∷ l) c a =
+    let p = pending_is h.asked rows cid hash rp up t l c a.1 in
+    cond_case (λ (v : Turned). Signs aaguid h v.state) (nat_lt (counter_of id rows) MOST) _ _
+    (λ _. cond_case (λ (v : Turned). Signs aaguid h v.state) up _ _ (λ _. record { pending = p; granted = tt; work = (c, a.0) })
+    (λ e. signs_signs aaguid h rows (pending_of cid hash up t l) cid (record { hash = hash; rp = rp; id = id; presence = up; number = told given (length l + 1) }) p
+    (still_granted h.granted cid hash up t l (unasked up e)) (c, a.0) (unasked up e)))
+    (λ _. ended aaguid h rows None tt tt)
+  where
+    unasked : (up : Bool) → up ≡ false → up ≡ true → h.granted ≡ true
+    unasked true e k = cc
+    unasked false e k = cc
+
+next_signs_on : (aaguid : List ℕ) (h : Heard) (rows : List Row) (p : Option Waiting) (t cid : ℕ) → PendingFor h.asked rows p → IsGranted h.granted p → Signs aaguid h (next_begins rows p t cid).state
+next_signs_on aaguid h rows None t cid f k = ended aaguid h rows None tt tt
+next_signs_on aaguid h rows (Some w) t cid f k =
+    cond_case (λ (v : Turned). Signs aaguid h v.state) (is_due t cid (Some w)) _ _ (λ _. go w.ids f) (λ _. ended aaguid h rows None tt tt)
+  where
+    at : (id : List ℕ) (l : List (List ℕ)) (o : Option Row) → find (has_id id) rows ≡ o → PendingFor h.asked rows (Some (record w { ids = id ∷ l }))
+        → Signs aaguid h (row_signs rows (pending_of w.cid w.hash w.presence w.moment l) cid w.hash w.presence id o).state
+    at id l None e f = ended aaguid h rows None tt tt
+    at id l (Some r) e f =
+        let found : rp_of id rows ≡ Some r.rp = ap (λ (o : Option Row). option_map (λ (r : Row). r.rp) o) e in
+        let same : f.0 ≡ r.rp = same_Some f.0 r.rp (sym f.2.0 ∙ found) in
+        let P : List ℕ → Type 0 = λ rp. assertion_asked h.asked ≡ Some (record { rp = rp; presence = w.presence; hash = w.hash }) in
+        cond_case (λ (v : Turned). Signs aaguid h v.state) (nat_lt (counter_of id rows) MOST) _ _
+        (λ _. signs_signs aaguid h rows (pending_of w.cid w.hash w.presence w.moment l) cid (record { hash = w.hash; rp = r.rp; id = id; presence = w.presence; number = None })
+        (pending_is h.asked rows w.cid w.hash f.0 w.presence w.moment l f.1 f.2.1) (still_granted h.granted w.cid w.hash w.presence w.moment l k) (subst P same f.1, found) k)
+        (λ _. ended aaguid h rows None tt tt)
+
+    go : (l : List (List ℕ)) → PendingFor h.asked rows (Some (record w { ids = l })) → Signs aaguid h (next_signs rows (Some (record w { ids = l })) cid (first_of (Some (record w { ids = l })))).state
+    go [] f = ended aaguid h rows None tt tt
+    go (id ∷ l) f = at id l (find (has_id id) rows) refl f
+
+requested_signs : (u : Setup) (h : Heard) (rows : List Row) (p : Option Waiting) (t cid : ℕ) (read : Result Asked ℕ) → no_two same_id rows ≡ true → PendingFor h.asked rows p → IsGranted h.granted p
+    → Signs u.aaguid (newer h read) (requested u rows p t cid read).state
+requested_signs u h rows p t cid (Err code) d f k = record { pending = tt; granted = tt; work = tt }
+requested_signs u h rows p t cid (Ok GetInfo) d f k = record { pending = tt; granted = tt; work = tt }
+requested_signs u h rows p t cid (Ok Reset) d f k =
+    cond_case (λ (v : Turned). Signs u.aaguid (newer h (Ok Reset)) v.state) (nat_lt (u.began + RESET_LIMIT) t) _ _ (λ _. record { pending = tt; granted = tt; work = tt }) (λ _. record { pending = tt; granted = tt; work = tt })
+requested_signs u h rows p t cid (Ok Selection) d f k = record { pending = tt; granted = tt; work = tt }
+requested_signs u h rows p t cid (Ok (MakeCredential hash rp_id user_id user_name discoverable exclude)) d f k = record { pending = tt; granted = tt; work = refl }
+requested_signs u h rows p t cid (Ok (GetAssertion hash rp_id allow up)) d f k =
+    begins_signs u.aaguid (newer h (Ok (GetAssertion hash rp_id allow up))) rows t cid hash (rp_hash rp_id) up (has_entries allow)
+    (ids (applicable rows (rp_hash rp_id) (has_entries allow) (ids_of allow))) refl (applicable_of rows (rp_hash rp_id) (has_entries allow) (ids_of allow) d)
+requested_signs u h rows p t cid (Ok GetNextAssertion) d f k = next_signs_on u.aaguid h rows p t cid f k
+
+-- once presence was granted
+all_granted : (p : Option Waiting) → IsGranted true p
+all_granted None = tt
+all_granted (Some w) = λ _. refl
+
+granted_signs : (room : ℕ) (aaguid : List ℕ) (h : Heard) (s : State) (cid : ℕ) (k : Task) → Signs aaguid (record h { granted = true }) s → TaskSigns aaguid (record h { granted = true }) s.rows k
+    → Signs aaguid (record h { granted = true }) (presence_at room s cid k Granted).state
+granted_signs room aaguid h s cid Resets g w = record { pending = tt; granted = tt; work = tt }
+granted_signs room aaguid h s cid Selects g w = ended aaguid (record h { granted = true }) s.rows s.pending g.pending (all_granted s.pending)
+granted_signs room aaguid h s cid (AsksMake m true) g w = ended aaguid (record h { granted = true }) s.rows s.pending g.pending (all_granted s.pending)
+granted_signs room aaguid h s cid (AsksMake m false) g w =
+    cond_case (λ (v : Turned). Signs aaguid (record h { granted = true }) v.state) (fits room m s.rows) _ _ (λ _. record { pending = g.pending; granted = all_granted s.pending; work = (w, refl) })
+    (λ _. ended aaguid (record h { granted = true }) s.rows s.pending g.pending (all_granted s.pending))
+granted_signs room aaguid h s cid (AsksAssert a) g w = signs_signs aaguid (record h { granted = true }) s.rows s.pending cid a g.pending (all_granted s.pending) w (λ _. refl)
+granted_signs room aaguid h s cid k g w = g
+
+more_granted : (aaguid : List ℕ) (h : Heard) (s : State) → Signs aaguid h s → Signs aaguid (record h { granted = true }) s
+more_granted aaguid h s g = record { pending = g.pending; granted = free s.work; work = work s.work g.work }
+  where
+    free : (v : Option Job) → WorkGranted true s.pending v
+    free None = all_granted s.pending
+    free (Some job) = at job.task
+      where
+        at : (k : Task) → TaskGranted true s.pending k
+        at (AsksAssert a) = tt
+        at k = all_granted s.pending
+
+    work : (v : Option Job) → WorkSigns aaguid h s.rows v → WorkSigns aaguid (record h { granted = true }) s.rows v
+    work None w = tt
+    work (Some job) w = at job.task w
+      where
+        at : (k : Task) → TaskSigns aaguid h s.rows k → TaskSigns aaguid (record h { granted = true }) s.rows k
+        at (SignsMake m key d) w = (w.0, w.1, w.2, refl)
+        at (AsksMake m excluded) w = w
+        at (WantsKey m) w = (w.0, refl)
+        at (AsksAssert a) w = w
+        at (SignsAssert a n d) w = (w.0, w.1, w.2, λ _. refl)
+        at Resets w = tt
+        at Selects w = tt
+
+refused_signs : (room : ℕ) (aaguid : List ℕ) (h : Heard) (s : State) (cid : ℕ) (k : Task) (late : Bool) → Signs aaguid h s → TaskGranted h.granted s.pending k → Signs aaguid h (presence_at room s cid k (cond late TimedOut Denied)).state
+refused_signs room aaguid h s cid Resets false g q = ended aaguid h s.rows s.pending g.pending q
+refused_signs room aaguid h s cid Resets true g q = ended aaguid h s.rows s.pending g.pending q
+refused_signs room aaguid h s cid Selects false g q = ended aaguid h s.rows s.pending g.pending q
+refused_signs room aaguid h s cid Selects true g q = ended aaguid h s.rows s.pending g.pending q
+refused_signs room aaguid h s cid (AsksMake m true) late g q = ended aaguid h s.rows s.pending g.pending q
+refused_signs room aaguid h s cid (AsksMake m false) false g q = ended aaguid h s.rows s.pending g.pending q
+refused_signs room aaguid h s cid (AsksMake m false) true g q = ended aaguid h s.rows s.pending g.pending q
+refused_signs room aaguid h s cid (AsksAssert a) false g q = ended aaguid h s.rows None tt tt
+refused_signs room aaguid h s cid (AsksAssert a) true g q = ended aaguid h s.rows None tt tt
+refused_signs room aaguid h s cid k late g q = g
+
+key_signs : (aaguid : List ℕ) (h : Heard) (s : State) (cid : ℕ) (k : Task) (key : NewKey) → Signs aaguid (record h { keys = key ∷ h.keys }) s → TaskSigns aaguid (record h { keys = key ∷ h.keys }) s.rows k → TaskGranted h.granted s.pending k
+    → Signs aaguid (record h { keys = key ∷ h.keys }) (key_at aaguid s cid k (Some key)).state
+key_signs aaguid h s cid (WantsKey m) key g w q =
+    cond_case (λ (v : Turned). Signs aaguid (record h { keys = key ∷ h.keys }) v.state) (is_some (find (has_id key.id) s.rows)) _ _
+    (λ _. ended aaguid (record h { keys = key ∷ h.keys }) s.rows s.pending g.pending q) (λ _. record { pending = g.pending; granted = q; work = (w.0, inl refl, refl, w.1) })
+key_signs aaguid h s cid k key g w q = g
+
+refused_key : (aaguid : List ℕ) (h : Heard) (s : State) (cid : ℕ) (k : Task) → Signs aaguid h s → TaskGranted h.granted s.pending k → Signs aaguid h (key_at aaguid s cid k None).state
+refused_key aaguid h s cid (WantsKey m) g q = ended aaguid h s.rows s.pending g.pending q
+refused_key aaguid h s cid k g q = g
+
+-- one more key that was handed in
+more_work : (aaguid : List ℕ) (h : Heard) (rows : List Row) (key : NewKey) (v : Option Job) → WorkSigns aaguid h rows v → WorkSigns aaguid (record h { keys = key ∷ h.keys }) rows v
+more_work aaguid h rows key None w = tt
+more_work aaguid h rows key (Some job) w = go job.task w
+  where
+    go : (k : Task) → TaskSigns aaguid h rows k → TaskSigns aaguid (record h { keys = key ∷ h.keys }) rows k
+    go (SignsMake m k d) w = (w.0, inr w.1, w.2, w.3)
+    go (AsksMake m excluded) w = w
+    go (WantsKey m) w = w
+    go (AsksAssert a) w = w
+    go (SignsAssert a n d) w = w
+    go Resets w = tt
+    go Selects w = tt
+
+more_keys : (aaguid : List ℕ) (h : Heard) (s : State) (key : NewKey) → Signs aaguid h s → Signs aaguid (record h { keys = key ∷ h.keys }) s
+more_keys aaguid h s key g = record { pending = g.pending; granted = g.granted; work = more_work aaguid h s.rows key s.work g.work }
+
+signature_signs : (aaguid : List ℕ) (h : Heard) (s : State) (t : ℕ) (k : Task) (sig : Option (List ℕ)) → Signs aaguid h s → TaskGranted h.granted s.pending k → Signs aaguid h (signature_at aaguid s t k sig).state
+signature_signs aaguid h s t (SignsMake m key d) None g q = ended aaguid h s.rows s.pending g.pending q
+signature_signs aaguid h s t (SignsMake m key d) (Some sig) g q = record { pending = tt; granted = tt; work = tt }
+signature_signs aaguid h s t (SignsAssert a n d) None g q = ended aaguid h s.rows None tt tt
+signature_signs aaguid h s t (SignsAssert a n d) (Some sig) g q =
+    ended aaguid h s.rows (stamped t s.pending) (pending_stamped h.asked s.rows t s.pending g.pending) (granted_stamped h.granted t s.pending q)
+signature_signs aaguid h s t k sig g q = g
+
+-- Every turn keeps the invariant, where a request comes only while no work waits.
+pub turn_signs : (u : Setup) (s : State) (t : ℕ) (e : Event) (h : Heard) → Comes s.work e → Lawful u.room s.rows → Signs u.aaguid h s → Signs u.aaguid (hears e h) (turn u s t e).state
+unfolding turn
+turn_signs u s t (Request cid bytes) h c l g = requested_signs u h s.rows s.pending t cid (read_of bytes) l.distinct g.pending (subst (WorkGranted h.granted s.pending) c g.granted)
+turn_signs u s t (PresenceIs Granted) h c l g = go s.work (more_granted u.aaguid h s g).work
+  where
+    go : (v : Option Job) → WorkSigns u.aaguid (record h { granted = true }) s.rows v → Signs u.aaguid (record h { granted = true }) (presence_turn u.room s v Granted).state
+    go None w = more_granted u.aaguid h s g
+    go (Some v) w = granted_signs u.room u.aaguid h s v.cid v.task (more_granted u.aaguid h s g) w
+turn_signs u s t (PresenceIs Denied) h c l g = go s.work g.granted
+  where
+    go : (v : Option Job) → WorkGranted h.granted s.pending v → Signs u.aaguid h (presence_turn u.room s v Denied).state
+    go None q = g
+    go (Some v) q = refused_signs u.room u.aaguid h s v.cid v.task false g q
+turn_signs u s t (PresenceIs TimedOut) h c l g = go s.work g.granted
+  where
+    go : (v : Option Job) → WorkGranted h.granted s.pending v → Signs u.aaguid h (presence_turn u.room s v TimedOut).state
+    go None q = g
+    go (Some v) q = refused_signs u.room u.aaguid h s v.cid v.task true g q
+turn_signs u s t (KeyIs (Some key)) h c l g = go s.work (more_keys u.aaguid h s key g).work g.granted
+  where
+    go : (v : Option Job) → WorkSigns u.aaguid (record h { keys = key ∷ h.keys }) s.rows v → WorkGranted h.granted s.pending v → Signs u.aaguid (record h { keys = key ∷ h.keys }) (key_turn u.aaguid s v (Some key)).state
+    go None w q = more_keys u.aaguid h s key g
+    go (Some v) w q = key_signs u.aaguid h s v.cid v.task key (more_keys u.aaguid h s key g) w q
+turn_signs u s t (KeyIs None) h c l g = go s.work g.granted
+  where
+    go : (v : Option Job) → WorkGranted h.granted s.pending v → Signs u.aaguid h (key_turn u.aaguid s v None).state
+    go None q = g
+    go (Some v) q = refused_key u.aaguid h s v.cid v.task g q
+turn_signs u s t (SignatureIs sig) h c l g = go s.work g.granted
+  where
+    go : (v : Option Job) → WorkGranted h.granted s.pending v → Signs u.aaguid h (signature_turn u.aaguid s t v sig).state
+    go None q = g
+    go (Some v) q = signature_signs u.aaguid h s t v.task sig g q
+turn_signs u s t Cancel h c l g = record { pending = tt; granted = tt; work = tt }
+turn_signs u s t Drop h c l g = record { pending = tt; granted = tt; work = tt }
+
+-- ---- histories
+
+signs_at : (start : Start) (h : List Step) → Lawful start.room start.rows → Orderly (first_state start) h → Signs start.aaguid (heard h) (core_at (first_state start) h).state
+unfolding core_at heard Orderly
+signs_at start [] l o = record { pending = tt; granted = tt; work = tt }
+signs_at start (x ∷ past) l o =
+    let first = first_state start in
+    let k = core_at first past in
+    let same : k.setup ≡ first.setup = setup_stays first past in
+    let lawful : Lawful start.room k.state.rows = rows_lawful first past (record { pending = tt; work = tt }) l in
+    let P : Setup → Type 0 = λ u. Signs start.aaguid (hears x.event (heard past)) (turn u k.state x.at x.event).state in
+    subst P (sym same) (turn_signs first.setup k.state x.at x.event (heard past) o.0 lawful (signs_at start past l o.1))
+
+-- by what was asked
+to_sign_assertion : (aaguid : List ℕ) (h : Heard) (rows : List Row) (id signed : List ℕ) (v : Claim) (asked : Option Asked) → assertion_asked asked ≡ Some v → rp_of id rows ≡ Some v.rp
+    → signed ≡ assertion_bytes v.rp v.presence (counter_of id rows) ++ v.hash → (v.presence ≡ true → h.granted ≡ true) → IsToSign aaguid h rows id signed asked
+to_sign_assertion aaguid h rows id signed v (Some (GetAssertion hash rp_id allow up)) c r e present =
+    let s = same_Some (record { rp = rp_hash rp_id; presence = up; hash = hash }) v c in
+    (e ∙ sym (ap (λ (w : Claim). assertion_bytes w.rp w.presence (counter_of id rows) ++ w.hash) s), r ∙ sym (ap (λ (w : Claim). Some w.rp) s), λ k. present (sym (ap (λ (w : Claim). w.presence) s) ∙ k))
+to_sign_assertion aaguid h rows id signed v (Some (MakeCredential hash rp_id user_id user_name discoverable exclude)) c r e present = cc
+to_sign_assertion aaguid h rows id signed v (Some GetInfo) c r e present = cc
+to_sign_assertion aaguid h rows id signed v (Some Reset) c r e present = cc
+to_sign_assertion aaguid h rows id signed v (Some GetNextAssertion) c r e present = cc
+to_sign_assertion aaguid h rows id signed v (Some Selection) c r e present = cc
+to_sign_assertion aaguid h rows id signed v None c r e present = cc
+
+to_sign_creation : (aaguid : List ℕ) (h : Heard) (rows : List Row) (key : NewKey) (signed rp hash : List ℕ) (asked : Option Asked) → creation_asked asked ≡ Some (rp, hash) → IsAmong key h.keys
+    → signed ≡ created_bytes rp aaguid key.id key.x key.y ++ hash → h.granted ≡ true → IsToSign aaguid h rows key.id signed asked
+to_sign_creation aaguid h rows key signed rp hash (Some (MakeCredential asked_hash rp_id user_id user_name discoverable exclude)) c k e present =
+    let s = same_Some (rp_hash rp_id, asked_hash) (rp, hash) c in
+    (key, k, refl, e ∙ sym (ap (λ (w : List ℕ × List ℕ). created_bytes w.0 aaguid key.id key.x key.y ++ w.1) s), present)
+to_sign_creation aaguid h rows key signed rp hash (Some (GetAssertion asked_hash rp_id allow up)) c k e present = cc
+to_sign_creation aaguid h rows key signed rp hash (Some GetInfo) c k e present = cc
+to_sign_creation aaguid h rows key signed rp hash (Some Reset) c k e present = cc
+to_sign_creation aaguid h rows key signed rp hash (Some GetNextAssertion) c k e present = cc
+to_sign_creation aaguid h rows key signed rp hash (Some Selection) c k e present = cc
+to_sign_creation aaguid h rows key signed rp hash None c k e present = cc
+
+needed_is : (aaguid : List ℕ) (h : Heard) (rows : List Row) (work : Option Job) → WorkSigns aaguid h rows work → IsNeeded aaguid h rows (needs work)
+needed_is aaguid h rows None w = tt
+needed_is aaguid h rows (Some job) w = task job.task w
+  where
+    task : (k : Task) → TaskSigns aaguid h rows k → IsNeeded aaguid h rows (needs (Some (record { cid = job.cid; task = k })))
+    task Resets w = tt
+    task Selects w = tt
+    task (AsksMake m excluded) w = tt
+    task (WantsKey m) w = tt
+    task (AsksAssert a) w = tt
+    task (SignsAssert a n d) w =
+        to_sign_assertion aaguid h rows a.id d.items (record { rp = a.rp; presence = a.presence; hash = a.hash }) h.asked w.0.0 w.0.1
+        (w.2 ∙ ap (λ n. assertion_bytes a.rp a.presence n ++ a.hash) w.1) w.3
+    task (SignsMake m key d) w = to_sign_creation aaguid h rows key d.items m.rp m.hash h.asked w.0 w.1 w.2 w.3
+
+pub need_is_signed : (start : Start) (h : List Step) → Lawful start.room start.rows → Orderly (first_state start) h → IsNeeded start.aaguid (heard h) (core_at (first_state start) h).state.rows (needs (core_at (first_state start) h).state.work)
+need_is_signed start h l o =
+    let k = core_at (first_state start) h in needed_is start.aaguid (heard h) k.state.rows k.state.work (signs_at start h l o).work
+
+-- the answer to a signature
+answered_assertion : (aaguid : List ℕ) (work : Option Job) (sig : List ℕ) (a : Asserting) (n : ℕ) (signed : List ℕ) (user : Option (List ℕ)) (asked : Option Asked)
+    → assertion_asked asked ≡ Some (record { rp = a.rp; presence = a.presence; hash = a.hash }) → signed ≡ assertion_bytes a.rp a.presence n ++ a.hash
+    → IsSigned aaguid work a.id signed sig (Answered (assertion_answer a.id (assertion_bytes a.rp a.presence n) sig user a.number)) asked
+answered_assertion aaguid work sig a n signed user (Some (GetAssertion hash rp_id allow up)) c e =
+    let s = same_Some (record { rp = rp_hash rp_id; presence = up; hash = hash }) (record { rp = a.rp; presence = a.presence; hash = a.hash }) c in
+    (assertion_bytes a.rp a.presence n, user, a.number, refl, ap (λ (w : Claim). assertion_bytes a.rp a.presence n ++ w.hash) s ∙ sym e)
+answered_assertion aaguid work sig a n signed user (Some (MakeCredential hash rp_id user_id user_name discoverable exclude)) c e = cc
+answered_assertion aaguid work sig a n signed user (Some GetInfo) c e = cc
+answered_assertion aaguid work sig a n signed user (Some Reset) c e = cc
+answered_assertion aaguid work sig a n signed user (Some GetNextAssertion) c e = cc
+answered_assertion aaguid work sig a n signed user (Some Selection) c e = cc
+answered_assertion aaguid work sig a n signed user None c e = cc
+
+answered_creation : (aaguid : List ℕ) (cid : ℕ) (sig : List ℕ) (m : Making) (key : NewKey) (d : ArrayVec ℕ) (asked : Option Asked)
+    → creation_asked asked ≡ Some (m.rp, m.hash) → d.items ≡ created_bytes m.rp aaguid key.id key.x key.y ++ m.hash
+    → IsSigned aaguid (Some (record { cid = cid; task = SignsMake m key d })) key.id d.items sig (Answered (created_answer (created_bytes m.rp aaguid key.id key.x key.y) sig)) asked
+answered_creation aaguid cid sig m key d (Some (MakeCredential hash rp_id user_id user_name discoverable exclude)) c e =
+    let s = same_Some (rp_hash rp_id, hash) (m.rp, m.hash) c in
+    (new_row m key, refl, refl, refl, ap (λ (w : List ℕ × List ℕ). created_bytes m.rp aaguid key.id key.x key.y ++ w.1) s ∙ sym e)
+answered_creation aaguid cid sig m key d (Some (GetAssertion hash rp_id allow up)) c e = cc
+answered_creation aaguid cid sig m key d (Some GetInfo) c e = cc
+answered_creation aaguid cid sig m key d (Some Reset) c e = cc
+answered_creation aaguid cid sig m key d (Some GetNextAssertion) c e = cc
+answered_creation aaguid cid sig m key d (Some Selection) c e = cc
+answered_creation aaguid cid sig m key d None c e = cc
+
+abbrev IsSignedAs : (aaguid : List ℕ) → Option Job → Needed → (sig : List ℕ) → Answer → Option Asked → Type 0
+IsSignedAs aaguid work (sign id signed) sig answer asked = IsSigned aaguid work id signed sig answer asked
+IsSignedAs aaguid work n sig answer asked = Unit {0}
+
+-- The turn of a signature answers with what was to be signed.
+pub turn_answers : (u : Setup) (s : State) (t : ℕ) (h : Heard) (id signed sig : List ℕ) → Signs u.aaguid h s → needs s.work ≡ sign id signed → IsSigned u.aaguid s.work id signed sig (turn u s t (SignatureIs (Some sig))).answer h.asked
+unfolding turn
+turn_answers u s t h id signed sig g e = go s.work g.work e
+  where
+    task : (cid : ℕ) (k : Task) → TaskSigns u.aaguid h s.rows k → needs (Some (record { cid = cid; task = k })) ≡ sign id signed
+        → IsSigned u.aaguid (Some (record { cid = cid; task = k })) id signed sig (signature_at u.aaguid s t k (Some sig)).answer h.asked
+    task cid (SignsAssert a n d) w e =
+        let P : Needed → Type 0 = λ v. IsSignedAs u.aaguid (Some (record { cid = cid; task = SignsAssert a n d })) v sig (signature_at u.aaguid s t (SignsAssert a n d) (Some sig)).answer h.asked in
+        subst P e (answered_assertion u.aaguid (Some (record { cid = cid; task = SignsAssert a n d })) sig a n d.items (user_in (find (has_id a.id) s.rows)) h.asked w.0.0 w.2)
+    task cid (SignsMake m key d) w e =
+        let P : Needed → Type 0 = λ v. IsSignedAs u.aaguid (Some (record { cid = cid; task = SignsMake m key d })) v sig (signature_at u.aaguid s t (SignsMake m key d) (Some sig)).answer h.asked in
+        subst P e (answered_creation u.aaguid cid sig m key d h.asked w.0 w.2)
+    task cid Resets w e = cc
+    task cid Selects w e = cc
+    task cid (AsksMake m excluded) w e = cc
+    task cid (WantsKey m) w e = cc
+    task cid (AsksAssert a) w e = cc
+
+    go : (v : Option Job) → WorkSigns u.aaguid h s.rows v → needs v ≡ sign id signed → IsSigned u.aaguid v id signed sig (signature_turn u.aaguid s t v (Some sig)).answer h.asked
+    go None w e = cc
+    go (Some v) w e = task v.cid v.task w e
+
+pub signature_is_answered : (start : Start) (h : List Step) (t : ℕ) (id signed sig : List ℕ) → Lawful start.room start.rows → Orderly (first_state start) h → needs (core_at (first_state start) h).state.work ≡ sign id signed
+    → IsSigned start.aaguid (core_at (first_state start) h).state.work id signed sig (core_answer (core_at (first_state start) h) t (SignatureIs (Some sig))) (heard h).asked
+signature_is_answered start h t id signed sig l o e =
+    let first = first_state start in
+    let k = core_at first h in
+    let same : k.setup ≡ first.setup = setup_stays first h in
+    let P : Setup → Type 0 = λ u. IsSigned start.aaguid k.state.work id signed sig (turn u k.state t (SignatureIs (Some sig))).answer (heard h).asked in
+    subst P (sym same) (turn_answers first.setup k.state t (heard h) id signed sig (signs_at start h l o) e)

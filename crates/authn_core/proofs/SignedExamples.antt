@@ -1,0 +1,71 @@
+-- What came, what has to be signed and what is answered, by computation.
+use Rattle.std.proofs.Common.{◌≡◌, ℕ, List, [], ◌∷◌, ◌++◌, Bool, true, false, Option, Some, None, replicate, refl}
+use Rattle.cred_table.specs.declared.row.Row.{Row}
+use Rattle.cred_table.specs.Waiting.{Waiting}
+use Rattle.ctap_message.specs.Asked.{Selection}
+use Rattle.ctap_message.specs.Answers.{assertion_answer}
+use Rattle.ctap_message.specs.Requests.{read_of}
+use Rattle.authn_core.specs.Bare.{text_of}
+use Rattle.authn_core.specs.Marks.{Step, Text}
+use Rattle.authn_core.specs.Rising.{all_rise}
+use Rattle.authn_core.specs.Signed.{heard}
+use Rattle.authn_core.specs.State.{Setup, State, Event, Request, SignatureIs, Cancel, Answered}
+use Rattle.authn_core.specs.Turn.{turn}
+use Rattle.authn_core.specs.Views.{needs, sign}
+
+-- The newest request is heard through a getNextAssertion, and what can't be read asks nothing.
+abbrev came : Event → Step
+came e = record { at = 0; event = e }
+
+abbrev selects : Step
+selects = came (Request 1 (0x0b ∷ []))
+
+abbrev next : Step
+next = came (Request 1 (0x08 ∷ []))
+
+goes_on : (heard (next ∷ came Cancel ∷ selects ∷ [])).asked ≡ Some Selection
+unfolding heard read_of
+goes_on = refl
+
+unread : (heard (next ∷ came (Request 1 (0x0b ∷ 0x00 ∷ [])) ∷ selects ∷ [])).asked ≡ None
+unfolding heard read_of
+unread = refl
+
+-- the next assertion of a request with presence, by a row with the counter 4
+abbrev setup : Setup
+setup = record { aaguid = replicate 16 0; began = 0; room = 2 }
+
+abbrev row : Row
+row = record { rp = replicate 32 7; id = replicate 32 0xaa; x = []; y = []; user = record { items = 1 ∷ [] }; discoverable = true; counter = 4; name = text_of [] }
+
+abbrev pending : State
+pending = record { rows = row ∷ []; pending = Some (record { cid = 1; hash = replicate 32 34; presence = true; moment = 1000; ids = replicate 32 0xaa ∷ [] }); work = None }
+
+-- the hash of the RP id, the flag UP, the counter 5 in four bytes
+abbrev data_signed : List ℕ
+data_signed = replicate 32 7 ++ 0x01 ∷ 0x00 ∷ 0x00 ∷ 0x00 ∷ 0x05 ∷ []
+
+signed_is : needs (turn setup pending 1200 (Request 1 (0x08 ∷ []))).state.work ≡ sign (replicate 32 0xaa) (data_signed ++ replicate 32 34)
+unfolding turn read_of
+signed_is = refl
+
+answered_is : (turn setup (turn setup pending 1200 (Request 1 (0x08 ∷ []))).state 1300 (SignatureIs (Some (0x30 ∷ [])))).answer
+    ≡ Answered (assertion_answer (replicate 32 0xaa) data_signed (0x30 ∷ []) (Some (1 ∷ [])) None)
+unfolding turn read_of
+answered_is = refl
+
+-- counters that rise, stay or fall; another credential's, and one of an id that was made again
+abbrev text : (id making counter : ℕ) → Text
+text id making counter = record { id = id ∷ []; making = making; counter = counter }
+
+rising : all_rise (text 1 0 3 ∷ text 2 0 9 ∷ text 1 0 2 ∷ []) ≡ true
+rising = refl
+
+staying : all_rise (text 1 0 2 ∷ text 2 0 9 ∷ text 1 0 2 ∷ []) ≡ false
+staying = refl
+
+falling : all_rise (text 1 0 1 ∷ text 2 0 9 ∷ text 1 0 2 ∷ []) ≡ false
+falling = refl
+
+made_again : all_rise (text 1 1 1 ∷ text 1 0 2 ∷ []) ≡ true
+made_again = refl
