@@ -1,8 +1,9 @@
 //! What becomes of the work, in the words of all commands.
 
-ghost use Rattle.std.specs.Prelude.{◌≡◌, ◌<◌, ◌+◌, ◌-◌, ◌^◌, Some, None, true, is_some};
+ghost use Rattle.std.specs.Prelude.{◌≡◌, ◌<◌, ◌+◌, ◌-◌, ◌^◌, ◌++◌, Some, None, true, is_some};
 ghost use Rattle.std.specs.List.{find};
 ghost use Rattle.cred_table.specs.Rows.{has_id, raised, counter_of};
+ghost use Rattle.fido_authdata.specs.AuthData.{assertion_bytes};
 ghost use Rattle.ctap_message.specs.Answers.{refusal};
 ghost use Rattle.authn_core.specs.State.{Answered, Waits, status, signing};
 ghost use Rattle.authn_core.specs.Needs.{IsNeed};
@@ -40,40 +41,31 @@ pub(crate) fn refuse(work: &mut Option<Job>, status: Status) -> Turn
     Turn::Answer(write_status(status))
 }
 
-/// Lets work wait at the task.
-pub(crate) fn wait(work: &mut Option<Job>, cid: u32, task: Task) -> Turn
-    ensures work { work.new ≡ Some (record { cid = cid; task = task }) }
-    ensures answer { answer_of result ≡ Waits (status task) }
-{
-    let status = status_of(&task);
-    *work = Some(Job { cid, task });
-    Turn::Waits(status)
-}
-
 /// Lets an assertion go on: its row's counter is raised, and it waits for the signature.
 pub(crate) fn sign<T: Table<C>, const C: usize>(
     rows: &mut Kept<T, C>,
     work: &mut Option<Job>,
     cid: u32,
-    a: Asserting,
+    a: &Asserting,
 ) -> Turn
-    requires there { is_some (find (has_id a.id) rows.old) ≡ true }
-    requires below { counter_of a.id rows.old < 2 ^ 32 - 1 }
-    ensures rows { rows.new ≡ raised a.id rows.old }
-    ensures work { work.new ≡ Some (record { cid = cid; task = signing a (counter_of a.id rows.old + 1) }) }
-    ensures answer { answer_of result ≡ Waits (status (signing a (counter_of a.id rows.old + 1))) }
+    requires there { is_some (find (has_id a.now.id) rows.old) ≡ true }
+    requires below { counter_of a.now.id rows.old < 2 ^ 32 - 1 }
+    ensures rows { rows.new ≡ raised a.now.id rows.old }
+    ensures work { work.new ≡ Some (record { cid = cid; task = signing a.now (counter_of a.now.id rows.old + 1) }) }
+    ensures answer { answer_of result ≡ Waits (status (signing a.now (counter_of a.now.id rows.old + 1))) }
 {
     let counter = rows.raise(&a.id);
-    wait(work, cid, signing_task(a, counter))
+    let task = Task::SignsAssert(*a, counter, assertion_to_sign(a, counter));
+    *work = Some(Job { cid, task });
+    Turn::Waits(KeepaliveStatus::Processing)
 }
 
-/// Returns the bytes to sign of an assertion, as a task.
-fn signing_task(a: Asserting, counter: u32) -> Task
-    ensures { result ≡ signing a counter }
+/// Returns the bytes to sign of an assertion.
+fn assertion_to_sign(a: &Asserting, counter: u32) -> ArrayVec<u8, 196>
+    ensures { result.items ≡ assertion_bytes a.now.rp a.now.presence counter ++ a.now.hash }
 {
     let data = AuthData::assertion(&a.rp, a.presence, counter);
-    let signed = to_sign(&data, &a.hash);
-    Task::SignsAssert(a, counter, signed)
+    to_sign(&data, &a.hash)
 }
 
 /// Returns that these bytes are signed by the key of the credential.

@@ -29,32 +29,29 @@ impl<T: Table<C>, const C: usize> Core<T, C> {
         ensures { Takes self.old self.new result (requested self.old.core.setup self.old.core.state.rows
             self.old.core.state.pending self.old.latest cid (shown read.entry)) }
     {
-        let request = match read {
-            Ok(request) => request,
-            Err(status) => return self.refuse_all(status),
-        };
-        match request {
-            Request::Make {
+        match read {
+            Err(status) => self.refuse_all(status),
+            Ok(Request::Make {
                 hash,
                 rp_id,
                 user_id,
                 user_name,
                 discoverable,
                 exclude,
-            } => {
+            }) => {
                 let making = making_of(hash, rp_id, user_id, user_name, discoverable);
                 self.begin_make(cid, making, exclude)
             }
-            Request::Assert {
+            Ok(Request::Assert {
                 hash,
                 rp_id,
                 allow,
                 presence,
-            } => { self.begin_assert(cid, hash, rp_id, allow, presence) }
-            Request::Info => self.inform(),
-            Request::Next => self.next(cid),
-            Request::Reset => self.begin_reset(cid),
-            Request::Select => self.begin_selection(cid),
+            }) => { self.begin_assert(cid, hash, rp_id, allow, presence) }
+            Ok(Request::Info) => self.inform(),
+            Ok(Request::Next) => self.next(cid),
+            Ok(Request::Reset) => self.begin_reset(cid),
+            Ok(Request::Select) => self.begin_selection(cid),
         }
     }
 

@@ -1,6 +1,6 @@
 //! authenticatorGetAssertion and authenticatorGetNextAssertion (CTAP 2.1, sections 6.2 and 6.3).
 
-ghost use Rattle.std.specs.Prelude.{◌≡◌, ◌<◌, ◌≤◌, ◌-◌, ◌^◌, true, length, option_map, is_some};
+ghost use Rattle.std.specs.Prelude.{◌≡◌, ◌<◌, ◌≤◌, ◌-◌, ◌^◌, [], true, length, option_map, is_some};
 ghost use Rattle.std.specs.List.{find};
 ghost use Rattle.cred_table.specs.Rows.{has_id, ids, counter_of};
 ghost use Rattle.ctap_message.specs.Descriptors.{ids_of};
@@ -16,8 +16,9 @@ use crate::hashes::{hash_of, rp_hash_of};
 use crate::kept::Kept;
 use crate::refusals;
 use crate::replies::{Presence, Signature};
-use crate::steps::{refuse, sign, wait};
-use crate::task::{Asserting, Task};
+use crate::steps::{refuse, sign};
+use crate::task::{Asserting, Job, Task};
+use crate::work::KeepaliveStatus;
 use arrayvec::ArrayVec;
 use cred_table::{Pending, Table};
 use ctap_message::{Descriptors, write_assertion};
@@ -43,25 +44,25 @@ fn named_first<T: Table<C>, const C: usize>(
     None
 }
 
-/// Returns the ids of the applicable rows.
-fn applicable_ids<T: Table<C>, const C: usize>(
+/// Writes the ids of the applicable rows.
+fn put_applicable<T: Table<C>, const C: usize>(
     rows: &Kept<T, C>,
     rp: &[u8; 32],
     allow: Descriptors<'_>,
-) -> ArrayVec<[u8; 32], C>
-    requires { list_of allow ≡ left_of allow }
-    ensures { result.items ≡ ids (get.applicable rows.now rp.now (has_entries (left_of allow.entry))
+    found: &mut ArrayVec<[u8; 32], C>,
+)
+    requires fresh { list_of allow ≡ left_of allow }
+    requires empty { found.old.items ≡ [] }
+    ensures { found.new.items ≡ ids (get.applicable rows.now rp.now (has_entries (left_of allow.entry))
         (ids_of (left_of allow.entry))) }
 {
-    let mut found: ArrayVec<[u8; 32], C> = ArrayVec::new();
     if allow.is_given() {
         if let Some(id) = named_first(rows, rp, allow) {
-            rows.put_one(&mut found, id);
+            rows.put_one(found, id);
         }
     } else {
-        rows.listed(rp, &mut found);
+        rows.listed(rp, found);
     }
-    found
 }
 
 /// Returns the number of applicable rows, where the answer has it.
@@ -105,7 +106,8 @@ impl<T: Table<C>, const C: usize> Core<T, C> {
         let rp = rp_hash_of(rp_id);
         let hash = hash_of(hash);
         let given = allow.is_given();
-        let found = applicable_ids(&self.rows, &rp, allow);
+        let mut found: ArrayVec<[u8; 32], C> = ArrayVec::new();
+        put_applicable(&self.rows, &rp, allow, &mut found);
         self.begin_by(cid, &hash, &rp, presence, given, found.as_slice())
     }
 
@@ -140,9 +142,11 @@ impl<T: Table<C>, const C: usize> Core<T, C> {
             number: told_number(&self.rows, given, ids.len()),
         };
         if presence {
-            wait(&mut self.work, cid, Task::AsksAssert(a))
+            let task = Task::AsksAssert(a);
+            self.work = Some(Job { cid, task });
+            Turn::Waits(KeepaliveStatus::PresenceNeeded)
         } else {
-            sign(&mut self.rows, &mut self.work, cid, a)
+            sign(&mut self.rows, &mut self.work, cid, &a)
         }
     }
 
@@ -154,7 +158,7 @@ impl<T: Table<C>, const C: usize> Core<T, C> {
             self.old.core.state.pending cid a reply) }
     {
         match reply {
-            Presence::Granted => sign(&mut self.rows, &mut self.work, cid, a),
+            Presence::Granted => sign(&mut self.rows, &mut self.work, cid, &a),
             _ => {
                 self.pending.clear();
                 refuse(&mut self.work, refusals::OPERATION_DENIED)
@@ -229,6 +233,6 @@ impl<T: Table<C>, const C: usize> Core<T, C> {
             presence,
             number: None,
         };
-        sign(&mut self.rows, &mut self.work, cid, a)
+        sign(&mut self.rows, &mut self.work, cid, &a)
     }
 }

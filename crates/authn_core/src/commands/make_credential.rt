@@ -1,12 +1,12 @@
 //! authenticatorMakeCredential (CTAP 2.1, section 6.1).
 
-ghost use Rattle.std.specs.Prelude.{◌≡◌, ◌≤◌, true, false, length, is_some};
+ghost use Rattle.std.specs.Prelude.{◌≡◌, ◌≤◌, ◌++◌, true, false, length, is_some};
 ghost use Rattle.std.specs.List.{find};
 ghost use Rattle.cred_table.specs.Rows.{has_id};
+ghost use Rattle.fido_authdata.specs.AuthData.{created_bytes};
 ghost use Rattle.ctap_message.specs.Descriptors.{ids_of};
 ghost use Rattle.ctap_message.specs.DescriptorWalk.{left_of};
 ghost use Rattle.authn_core.specs.Hash.{rp_hash};
-ghost use Rattle.authn_core.specs.State.{sealing};
 ghost use Rattle.authn_core.specs.MakeCredential as make;
 ghost use Rattle.authn_core.specs.Views.{Takes};
 
@@ -15,8 +15,9 @@ use crate::hashes::{hash_of, rp_hash_of};
 use crate::kept::Kept;
 use crate::refusals;
 use crate::replies::{NewKey, Presence, Signature};
-use crate::steps::{refuse, wait};
-use crate::task::{Making, Name, Task};
+use crate::steps::refuse;
+use crate::task::{Job, Making, Name, Task};
+use crate::work::KeepaliveStatus;
 use arrayvec::ArrayVec;
 use cred_table::Table;
 use ctap_message::{Descriptors, write_created};
@@ -65,13 +66,12 @@ fn names_one<T: Table<C>, const C: usize>(
     false
 }
 
-/// Returns the bytes to sign of a new credential, as a task.
-fn sealing_task(aaguid: &[u8; 16], making: Making, key: NewKey) -> Task
-    ensures { result ≡ sealing aaguid.now making key }
+/// Returns the bytes to sign of a new credential.
+fn credential_to_sign(aaguid: &[u8; 16], making: &Making, key: &NewKey) -> ArrayVec<u8, 196>
+    ensures { result.items ≡ created_bytes making.now.rp aaguid.now key.now.id key.now.x key.now.y ++ making.now.hash }
 {
     let data = AuthData::created(&making.rp, aaguid, &key.id, &key.x, &key.y);
-    let signed = to_sign(&data, &making.hash);
-    Task::SignsMake(making, key, signed)
+    to_sign(&data, &making.hash)
 }
 
 impl<T: Table<C>, const C: usize> Core<T, C> {
@@ -82,7 +82,9 @@ impl<T: Table<C>, const C: usize> Core<T, C> {
     {
         let excluded = names_one(&self.rows, &making.rp, exclude);
         self.pending.clear();
-        wait(&mut self.work, cid, Task::AsksMake(making, excluded))
+        let task = Task::AsksMake(making, excluded);
+        self.work = Some(Job { cid, task });
+        Turn::Waits(KeepaliveStatus::PresenceNeeded)
     }
 
     /// Asks for a key where the user consents and there is room.
@@ -102,7 +104,9 @@ impl<T: Table<C>, const C: usize> Core<T, C> {
         match reply {
             Presence::Granted => {
                 if self.rows.has_room(&making) {
-                    wait(&mut self.work, cid, Task::WantsKey(making))
+                    let task = Task::WantsKey(making);
+                    self.work = Some(Job { cid, task });
+                    Turn::Waits(KeepaliveStatus::Processing)
                 } else {
                     refuse(&mut self.work, refusals::KEY_STORE_FULL)
                 }
@@ -122,8 +126,10 @@ impl<T: Table<C>, const C: usize> Core<T, C> {
                 if self.rows.has(&key.id) {
                     refuse(&mut self.work, refusals::OTHER)
                 } else {
-                    let task = sealing_task(&self.config.aaguid, making, key);
-                    wait(&mut self.work, cid, task)
+                    let signed = credential_to_sign(&self.config.aaguid, &making, &key);
+                    let task = Task::SignsMake(making, key, signed);
+                    self.work = Some(Job { cid, task });
+                    Turn::Waits(KeepaliveStatus::Processing)
                 }
             }
             None => refuse(&mut self.work, refusals::OTHER),

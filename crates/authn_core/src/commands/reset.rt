@@ -6,8 +6,9 @@ ghost use Rattle.authn_core.specs.Views.{Takes};
 use crate::authenticator::{Core, Turn};
 use crate::refusals;
 use crate::replies::Presence;
-use crate::steps::{refuse, wait};
-use crate::task::Task;
+use crate::steps::refuse;
+use crate::task::{Job, Task};
+use crate::work::KeepaliveStatus;
 use cred_table::Table;
 use ctap_message::Status;
 
@@ -24,7 +25,9 @@ impl<T: Table<C>, const C: usize> Core<T, C> {
         if self.latest - self.began > RESET_LIMIT {
             return refuse(&mut self.work, refusals::NOT_ALLOWED);
         }
-        wait(&mut self.work, cid, Task::Resets)
+        let task = Task::Resets;
+        self.work = Some(Job { cid, task });
+        Turn::Waits(KeepaliveStatus::PresenceNeeded)
     }
 
     /// Takes all rows out where the user consents.

@@ -6,8 +6,9 @@ ghost use Rattle.authn_core.specs.Views.{Takes};
 use crate::authenticator::{Core, Turn};
 use crate::refusals;
 use crate::replies::Presence;
-use crate::steps::{refuse, wait};
-use crate::task::Task;
+use crate::steps::refuse;
+use crate::task::{Job, Task};
+use crate::work::KeepaliveStatus;
 use cred_table::Table;
 use ctap_message::Status;
 
@@ -17,7 +18,9 @@ impl<T: Table<C>, const C: usize> Core<T, C> {
         ensures { Takes self.old self.new result (selection_begins self.old.core.state.rows cid) }
     {
         self.pending.clear();
-        wait(&mut self.work, cid, Task::Selects)
+        let task = Task::Selects;
+        self.work = Some(Job { cid, task });
+        Turn::Waits(KeepaliveStatus::PresenceNeeded)
     }
 
     /// Answers what the user did.
