@@ -32,12 +32,21 @@ pub(crate) fn status_of(task: &Task) -> KeepaliveStatus
     }
 }
 
+/// Ends the work, if some waits.
+pub(crate) fn end(work: &mut Option<Job>)
+    ensures { work.new ≡ None }
+{
+    if work.is_some() {
+        *work = None;
+    }
+}
+
 /// Ends the work with a status.
 pub(crate) fn refuse(work: &mut Option<Job>, status: Status) -> Turn
     ensures work { work.new ≡ None }
     ensures answer { answer_of result ≡ Answered (refusal status.0) }
 {
-    *work = None;
+    end(work);
     Turn::Answer(write_status(status))
 }
 

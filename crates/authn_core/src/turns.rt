@@ -68,16 +68,24 @@ impl<T: Table<C>, const C: usize> Core<T, C> {
         ensures { Takes self.old self.new result (presence_turn self.old.core.setup.room self.old.core.state
             self.old.core.state.work reply) }
     {
-        let Some(Job { cid, task }) = self.work.take() else {
-            return Turn::Ignored;
-        };
-        match task {
-            Task::Resets => self.reset(reply),
-            Task::Selects => self.select(reply),
-            Task::AsksMake(making, excluded) => self.make_presence(cid, making, excluded, reply),
-            Task::AsksAssert(a) => self.assert_presence(cid, a, reply),
-            task => {
-                self.work = Some(Job { cid, task });
+        match self.work.take() {
+            Some(Job {
+                task: Task::Resets, ..
+            }) => self.reset(reply),
+            Some(Job {
+                task: Task::Selects,
+                ..
+            }) => self.select(reply),
+            Some(Job {
+                cid,
+                task: Task::AsksMake(making, excluded),
+            }) => self.make_presence(cid, making, excluded, reply),
+            Some(Job {
+                cid,
+                task: Task::AsksAssert(a),
+            }) => self.assert_presence(cid, a, reply),
+            work => {
+                self.work = work;
                 Turn::Ignored
             }
         }
@@ -88,15 +96,15 @@ impl<T: Table<C>, const C: usize> Core<T, C> {
         ensures { Takes self.old self.new result (key_turn self.old.core.setup.aaguid self.old.core.state
             self.old.core.state.work key) }
     {
-        let Some(Job { cid, task }) = self.work.take() else {
-            return Turn::Ignored;
-        };
-        match task {
-            Task::WantsKey(making) => self.make_key(cid, making, key),
-            task => {
-                self.work = Some(Job { cid, task });
+        match self.work.take() {
+            Some(Job {
+                cid,
+                task: Task::WantsKey(making),
+            }) => self.make_key(cid, making, key),
+            work => {
+                self.work = work;
                 Turn::Ignored
-            }
+            },
         }
     }
 
@@ -105,16 +113,19 @@ impl<T: Table<C>, const C: usize> Core<T, C> {
         ensures { Takes self.old self.new result (signature_turn self.old.core.setup.aaguid self.old.core.state
             self.old.latest self.old.core.state.work signature) }
     {
-        let Some(Job { cid, task }) = self.work.take() else {
-            return Turn::Ignored;
-        };
-        match task {
-            Task::SignsMake(making, key, _) => self.make_signature(making, key, signature),
-            Task::SignsAssert(a, counter, _) => self.assert_signature(a, counter, signature),
-            task => {
-                self.work = Some(Job { cid, task });
+        match self.work.take() {
+            Some(Job {
+                task: Task::SignsMake(making, key, _),
+                ..
+            }) => self.make_signature(making, key, signature),
+            Some(Job {
+                task: Task::SignsAssert(a, counter, _),
+                ..
+            }) => self.assert_signature(a, counter, signature),
+            work => {
+                self.work = work;
                 Turn::Ignored
-            }
+            },
         }
     }
 }

@@ -16,7 +16,7 @@ use crate::hashes::{hash_of, rp_hash_of};
 use crate::kept::Kept;
 use crate::refusals;
 use crate::replies::{Presence, Signature};
-use crate::steps::{refuse, sign};
+use crate::steps::{end, refuse, sign};
 use crate::task::{Asserting, Job, Task};
 use crate::work::KeepaliveStatus;
 use arrayvec::ArrayVec;
@@ -181,7 +181,7 @@ impl<T: Table<C>, const C: usize> Core<T, C> {
             return refuse(&mut self.work, refusals::OTHER);
         };
         self.pending.stamp(self.latest);
-        self.work = None;
+        end(&mut self.work);
         let data = AuthData::assertion(&a.rp, a.presence, counter);
         let user = self.rows.user_of(&a.id);
         Turn::Answer(write_assertion(

@@ -15,7 +15,7 @@ use crate::hashes::{hash_of, rp_hash_of};
 use crate::kept::Kept;
 use crate::refusals;
 use crate::replies::{NewKey, Presence, Signature};
-use crate::steps::refuse;
+use crate::steps::{end, refuse};
 use crate::task::{Job, Making, Name, Task};
 use crate::work::KeepaliveStatus;
 use arrayvec::ArrayVec;
@@ -155,7 +155,7 @@ impl<T: Table<C>, const C: usize> Core<T, C> {
         let data = AuthData::created(&making.rp, aaguid, &key.id, &key.x, &key.y);
         self.rows.store(making, key);
         self.pending.clear();
-        self.work = None;
+        end(&mut self.work);
         Turn::Answer(write_created(data.bytes().as_slice(), signature.bytes()))
     }
 }
