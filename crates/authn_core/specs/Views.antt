@@ -32,8 +32,8 @@ answer_of turns.Ignored = Ignored
 abbrev pub event_of : Happening → Event
 event_of (happening.Request cid message) = Request cid message.now
 event_of (happening.Presence reply) = PresenceIs reply
-event_of (happening.Key key) = KeyIs key
-event_of (happening.Signature signature) = SignatureIs signature
+event_of (happening.Key key) = KeyIs key.now
+event_of (happening.Signature signature) = SignatureIs signature.now
 event_of happening.Cancel = Cancel
 
 -- the steps of the last request, after an event

@@ -163,7 +163,7 @@ impl<T: Table<C>, const C: usize> Core<T, C> {
         ensures latest { self.new.latest ≡ max self.old.latest at }
         ensures steps { self.new.last_steps ≡ self.old.last_steps }
     {
-        self.turn(at, &Event::Key(key))
+        self.turn(at, &Event::Key(&key))
     }
 
     /// The turn of a signature; `None` refuses one.
@@ -173,7 +173,7 @@ impl<T: Table<C>, const C: usize> Core<T, C> {
         ensures latest { self.new.latest ≡ max self.old.latest at }
         ensures steps { self.new.last_steps ≡ self.old.last_steps }
     {
-        self.turn(at, &Event::Signature(signature))
+        self.turn(at, &Event::Signature(&signature))
     }
 
     /// The turn of a CANCEL of the waiting work.
@@ -213,8 +213,8 @@ impl<T: Table<C>, const C: usize> Core<T, C> {
                 self.serve(*cid, request)
             }
             Event::Presence(reply) => self.take_presence(*reply),
-            Event::Key(key) => self.take_key(*key),
-            Event::Signature(signature) => self.take_signature(*signature),
+            Event::Key(key) => self.take_key(key),
+            Event::Signature(signature) => self.take_signature(signature),
             Event::Cancel => self.refuse_all(Status::KEEPALIVE_CANCEL),
         }
     }

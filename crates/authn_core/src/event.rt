@@ -10,9 +10,9 @@ pub(crate) enum Event<'a> {
     /// The reply of a test of user presence.
     Presence(Presence),
     /// A new key; `None` refuses one.
-    Key(Option<NewKey>),
+    Key(&'a Option<NewKey>),
     /// A signature; `None` refuses one.
-    Signature(Option<Signature>),
+    Signature(&'a Option<Signature>),
     /// A CANCEL of the waiting work.
     Cancel,
 }

@@ -92,9 +92,9 @@ impl<T: Table<C>, const C: usize> Core<T, C> {
     }
 
     /// Goes on by a key.
-    pub(crate) fn take_key(&mut self, key: Option<NewKey>) -> Turn
+    pub(crate) fn take_key(&mut self, key: &Option<NewKey>) -> Turn
         ensures { Takes self.old self.new result (key_turn self.old.core.setup.aaguid self.old.core.state
-            self.old.core.state.work key) }
+            self.old.core.state.work key.now) }
     {
         match self.work.take() {
             Some(Job {
@@ -109,9 +109,9 @@ impl<T: Table<C>, const C: usize> Core<T, C> {
     }
 
     /// Goes on by a signature.
-    pub(crate) fn take_signature(&mut self, signature: Option<Signature>) -> Turn
+    pub(crate) fn take_signature(&mut self, signature: &Option<Signature>) -> Turn
         ensures { Takes self.old self.new result (signature_turn self.old.core.setup.aaguid self.old.core.state
-            self.old.latest self.old.core.state.work signature) }
+            self.old.latest self.old.core.state.work signature.now) }
     {
         match self.work.take() {
             Some(Job {

@@ -171,10 +171,10 @@ impl<T: Table<C>, const C: usize> Core<T, C> {
         &mut self,
         a: Asserting,
         counter: u32,
-        signature: Option<Signature>,
+        signature: &Option<Signature>,
     ) -> Turn
         ensures { Takes self.old self.new result (get.assert_signed self.old.core.state.rows
-            self.old.core.state.pending self.old.latest a counter signature) }
+            self.old.core.state.pending self.old.latest a counter signature.now) }
     {
         let Some(signature) = signature else {
             self.pending.clear();

@@ -101,39 +101,33 @@ impl<T: Table<C>, const C: usize> Core<T, C> {
         if excluded {
             return refuse(&mut self.work, refusals::CREDENTIAL_EXCLUDED);
         }
-        match reply {
-            Presence::Granted => {
-                if self.rows.has_room(&making) {
-                    let task = Task::WantsKey(making);
-                    self.work = Some(Job { cid, task });
-                    Turn::Waits(KeepaliveStatus::Processing)
-                } else {
-                    refuse(&mut self.work, refusals::KEY_STORE_FULL)
-                }
-            }
-            _ => refuse(&mut self.work, refusals::OPERATION_DENIED),
+        let Presence::Granted = reply else {
+            return refuse(&mut self.work, refusals::OPERATION_DENIED);
+        };
+        if !self.rows.has_room(&making) {
+            return refuse(&mut self.work, refusals::KEY_STORE_FULL);
         }
+        let task = Task::WantsKey(making);
+        self.work = Some(Job { cid, task });
+        Turn::Waits(KeepaliveStatus::Processing)
     }
 
     /// Asks for a signature by a key with a new id.
-    pub(crate) fn make_key(&mut self, cid: u32, making: Making, key: Option<NewKey>) -> Turn
+    pub(crate) fn make_key(&mut self, cid: u32, making: Making, key: &Option<NewKey>) -> Turn
         requires { make.fits C making self.old.core.state.rows ≡ true }
         ensures { Takes self.old self.new result (make.key_wanted self.old.core.setup.aaguid
-            self.old.core.state.rows self.old.core.state.pending cid making key) }
+            self.old.core.state.rows self.old.core.state.pending cid making key.now) }
     {
-        match key {
-            Some(key) => {
-                if self.rows.has(&key.id) {
-                    refuse(&mut self.work, refusals::OTHER)
-                } else {
-                    let signed = credential_to_sign(&self.config.aaguid, &making, &key);
-                    let task = Task::SignsMake(making, key, signed);
-                    self.work = Some(Job { cid, task });
-                    Turn::Waits(KeepaliveStatus::Processing)
-                }
-            }
-            None => refuse(&mut self.work, refusals::OTHER),
+        let Some(key) = key else {
+            return refuse(&mut self.work, refusals::OTHER);
+        };
+        if self.rows.has(&key.id) {
+            return refuse(&mut self.work, refusals::OTHER);
         }
+        let signed = credential_to_sign(&self.config.aaguid, &making, key);
+        let task = Task::SignsMake(making, *key, signed);
+        self.work = Some(Job { cid, task });
+        Turn::Waits(KeepaliveStatus::Processing)
     }
 
     /// Stores the row once it is signed.
@@ -141,12 +135,12 @@ impl<T: Table<C>, const C: usize> Core<T, C> {
         &mut self,
         making: Making,
         key: NewKey,
-        signature: Option<Signature>,
+        signature: &Option<Signature>,
     ) -> Turn
         requires room { make.fits C making self.old.core.state.rows ≡ true }
         requires fresh { is_some (find (has_id key.id) self.old.core.state.rows) ≡ false }
         ensures { Takes self.old self.new result (make.make_signed self.old.core.setup.aaguid
-            self.old.core.state.rows self.old.core.state.pending making key signature) }
+            self.old.core.state.rows self.old.core.state.pending making key signature.now) }
     {
         let Some(signature) = signature else {
             return refuse(&mut self.work, refusals::OTHER);

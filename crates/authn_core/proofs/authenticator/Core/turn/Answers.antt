@@ -16,14 +16,14 @@ pub returns-in-Key : goal.returns-in-Key
 unfolding turn
 returns-in-Key g c =
     let v = c.args.self.now in
-    let t = turned v _ _ _ (max v.latest c.args.at) v.last_steps (KeyIs c.in-Key.key) c.reach.ensures c.take_key.ensures in
+    let t = turned v _ _ _ (max v.latest c.args.at) v.last_steps (KeyIs c.in-Key.key.now) c.reach.ensures c.take_key.ensures in
     rw c.in-Key.is (record { core = t.core; answer = t.answer; latest = t.latest; steps = t.steps })
 
 pub returns-in-Signature : goal.returns-in-Signature
 unfolding turn
 returns-in-Signature g c =
     let v = c.args.self.now in
-    let t = turned v _ _ _ (max v.latest c.args.at) v.last_steps (SignatureIs c.in-Signature.signature) c.reach.ensures c.take_signature.ensures in
+    let t = turned v _ _ _ (max v.latest c.args.at) v.last_steps (SignatureIs c.in-Signature.signature.now) c.reach.ensures c.take_signature.ensures in
     rw c.in-Signature.is (record { core = t.core; answer = t.answer; latest = t.latest; steps = t.steps })
 
 pub returns-in-Cancel : goal.returns-in-Cancel
