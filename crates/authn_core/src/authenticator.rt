@@ -20,7 +20,7 @@ use ctap_message::{Answer, Status, read_request};
 use std::marker::Model;
 
 /// What the turn for an event gives.
-#[derive(Drop)]
+#[derive(Clone, Debug, PartialEq, Eq, Drop)]
 pub enum Turn {
     /// The answer is due.
     Answer(Answer),
@@ -72,7 +72,7 @@ impl Need<'_> {
 }
 
 /// What an authenticator is made with.
-#[derive(Clone, Copy, Debug, PartialEq, Eq)]
+#[derive(Clone, Copy, Debug, Default, PartialEq, Eq)]
 pub struct Config {
     /// The AAGUID, which names the authenticator's model (WebAuthn Level 2, section 6.1).
     pub aaguid: [u8; 16],

@@ -25,7 +25,7 @@ pub struct NewKey {
 }
 
 /// A signature, of 1 to 72 bytes. A contract sees its bytes.
-#[derive(Clone, Copy)]
+#[derive(Clone, Copy, Debug, PartialEq, Eq)]
 pub struct Signature {
     bytes: [u8; 72],
     len: usize,

@@ -31,23 +31,27 @@ impl<T: Table<C>, const C: usize> Core<T, C> {
     {
         match read {
             Err(status) => self.refuse_all(status),
-            Ok(Request::Make {
-                hash,
-                rp_id,
-                user_id,
-                user_name,
-                discoverable,
-                exclude,
-            }) => {
+            Ok(
+                Request::Make {
+                    hash,
+                    rp_id,
+                    user_id,
+                    user_name,
+                    discoverable,
+                    exclude,
+                },
+            ) => {
                 let making = making_of(hash, rp_id, user_id, user_name, discoverable);
                 self.begin_make(cid, making, exclude)
             }
-            Ok(Request::Assert {
-                hash,
-                rp_id,
-                allow,
-                presence,
-            }) => { self.begin_assert(cid, hash, rp_id, allow, presence) }
+            Ok(
+                Request::Assert {
+                    hash,
+                    rp_id,
+                    allow,
+                    presence,
+                },
+            ) => { self.begin_assert(cid, hash, rp_id, allow, presence) }
             Ok(Request::Info) => self.inform(),
             Ok(Request::Next) => self.next(cid),
             Ok(Request::Reset) => self.begin_reset(cid),
@@ -69,21 +73,30 @@ impl<T: Table<C>, const C: usize> Core<T, C> {
             self.old.core.state.work reply) }
     {
         match self.work.take() {
-            Some(Job {
-                task: Task::Resets, ..
-            }) => self.reset(reply),
-            Some(Job {
-                task: Task::Selects,
-                ..
-            }) => self.select(reply),
-            Some(Job {
-                cid,
-                task: Task::AsksMake(making, excluded),
-            }) => self.make_presence(cid, making, excluded, reply),
-            Some(Job {
-                cid,
-                task: Task::AsksAssert(a),
-            }) => self.assert_presence(cid, a, reply),
+            Some(
+                Job {
+                    task: Task::Resets,
+                    ..
+                },
+            ) => self.reset(reply),
+            Some(
+                Job {
+                    task: Task::Selects,
+                    ..
+                },
+            ) => self.select(reply),
+            Some(
+                Job {
+                    cid,
+                    task: Task::AsksMake(making, excluded),
+                },
+            ) => self.make_presence(cid, making, excluded, reply),
+            Some(
+                Job {
+                    cid,
+                    task: Task::AsksAssert(a),
+                },
+            ) => self.assert_presence(cid, a, reply),
             work => {
                 self.work = work;
                 Turn::Ignored
@@ -97,14 +110,16 @@ impl<T: Table<C>, const C: usize> Core<T, C> {
             self.old.core.state.work key.now) }
     {
         match self.work.take() {
-            Some(Job {
-                cid,
-                task: Task::WantsKey(making),
-            }) => self.make_key(cid, making, key),
+            Some(
+                Job {
+                    cid,
+                    task: Task::WantsKey(making),
+                },
+            ) => self.make_key(cid, making, key),
             work => {
                 self.work = work;
                 Turn::Ignored
-            },
+            }
         }
     }
 
@@ -114,18 +129,22 @@ impl<T: Table<C>, const C: usize> Core<T, C> {
             self.old.latest self.old.core.state.work signature.now) }
     {
         match self.work.take() {
-            Some(Job {
-                task: Task::SignsMake(making, key, _),
-                ..
-            }) => self.make_signature(making, key, signature),
-            Some(Job {
-                task: Task::SignsAssert(a, counter, _),
-                ..
-            }) => self.assert_signature(a, counter, signature),
+            Some(
+                Job {
+                    task: Task::SignsMake(making, key, _),
+                    ..
+                },
+            ) => self.make_signature(making, key, signature),
+            Some(
+                Job {
+                    task: Task::SignsAssert(a, counter, _),
+                    ..
+                },
+            ) => self.assert_signature(a, counter, signature),
             work => {
                 self.work = work;
                 Turn::Ignored
-            },
+            }
         }
     }
 }
