@@ -21,7 +21,7 @@ use Rattle.authn_core.specs.declared.task.Task.{Task}
 use Rattle.authn_core.specs.declared.task.Task.TheVariants.{Resets, Selects, AsksMake, WantsKey, SignsMake, AsksAssert, SignsAssert}
 use Rattle.authn_core.specs.declared.task.Job.{Job}
 use Rattle.authn_core.specs.Hash.{rp_hash}
-use Rattle.authn_core.specs.State.{Setup, State, Event, Request, PresenceIs, KeyIs, SignatureIs, Cancel, Drop, Turned, signs}
+use Rattle.authn_core.specs.State.{Setup, State, Event, Request, PresenceIs, KeyIs, SignatureIs, Cancel, Drop, Turned, signs, signing}
 use Rattle.authn_core.specs.Asking.{RESET_LIMIT}
 use Rattle.authn_core.specs.MakeCredential.{fits}
 use Rattle.authn_core.specs.GetAssertion.{find_named, applicable, MOST, begins, is_due, row_signs, next_signs, next_begins}
@@ -134,7 +134,7 @@ all_raised id rows (q ∷ l) h =
     and_is (is_some (find (has_id q) (raised id rows))) (all_there (raised id rows) l) (there_raised q id rows ∙ p.0) (all_raised id rows l p.1)
 
 -- Turns keep a state ready.
-pending_ready : (rows : List Row) (cid : ℕ) (hash : List ℕ) (up : Bool) (t : ℕ) (l : List (List ℕ)) → AllThere rows l → PendingReady rows (pending_of cid hash up t l)
+pub pending_ready : (rows : List Row) (cid : ℕ) (hash : List ℕ) (up : Bool) (t : ℕ) (l : List (List ℕ)) → AllThere rows l → PendingReady rows (pending_of cid hash up t l)
 pending_ready rows cid hash up t [] h = tt
 pending_ready rows cid hash up t (id ∷ l) h = h
 
@@ -157,7 +157,7 @@ first_there rows (Some w) id h e = go w.ids h e
         let P : List ℕ → Type 0 = λ y. is_some (find (has_id y) rows) ≡ true in
         subst P f (and_both (is_some (find (has_id x) rows)) (all_there rows l) h).0
 
-rest_ready : (rows : List Row) (p : Option Waiting) → PendingReady rows p → PendingReady rows (rest_of p)
+pub rest_ready : (rows : List Row) (p : Option Waiting) → PendingReady rows p → PendingReady rows (rest_of p)
 rest_ready rows None h = tt
 rest_ready rows (Some w) h = go w.ids h
   where
@@ -167,6 +167,12 @@ rest_ready rows (Some w) h = go w.ids h
 
 signs_ready : (room : ℕ) (rows : List Row) (p : Option Waiting) (cid : ℕ) (a : Asserting) → PendingReady rows p → is_some (find (has_id a.id) rows) ≡ true → Ready room (signs rows p cid a).state
 signs_ready room rows p cid a q h = record { pending = pending_raised a.id rows p q; work = there_raised a.id a.id rows ∙ h }
+
+-- the same of the fields
+pub signed_ready : (room : ℕ) (rows : List Row) (p : Option Waiting) (cid : ℕ) (a : Asserting) (after : List Row) (work : Option Job) → after ≡ raised a.id rows →
+    work ≡ Some (record { cid = cid; task = signing a (counter_of a.id rows + 1) }) → PendingReady rows p → is_some (find (has_id a.id) rows) ≡ true → Ready room (record { rows = after; pending = p; work = work })
+signed_ready room rows p cid a after work e f q h =
+    subst (λ (s : State). Ready room s) (sym (λ i. record { rows = e i; pending = p; work = f i })) (signs_ready room rows p cid a q h)
 
 ended_ready : (room : ℕ) (rows : List Row) (p : Option Waiting) → PendingReady rows p → Ready room (record { rows = rows; pending = p; work = None })
 ended_ready room rows p q = record { pending = q; work = tt }

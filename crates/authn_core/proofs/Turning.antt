@@ -1,33 +1,39 @@
--- An authenticator's turn, by the parts that it has.
-use Rattle.std.proofs.Common.{◌≡◌, ℕ, max, List, Option, Some, refl, sym, subst, ap, ◌∙◌}
+-- An authenticator's turn, by the fields that it has.
+use Rattle.std.proofs.Common.{◌≡◌, ℕ, List, Option, Some, Result, refl, sym, subst, ap, ◌∙◌}
+use Rattle.ctap_message.specs.Asked.{Asked}
+use Rattle.ctap_message.specs.Requests.{read_of}
+use Rattle.authn_core.specs.declared.authenticator.Turn.{Turn}
 use Rattle.authn_core.specs.declared.replies.Presence.{Presence}
 use Rattle.authn_core.specs.declared.task.Job.{Job}
 use Rattle.authn_core.specs.declared.task.Task.{Task}
 use Rattle.authn_core.specs.Ready.{TaskReady, WorkReady}
-use Rattle.authn_core.specs.State.{Answer, Event, Setup, State}
-use Rattle.authn_core.specs.Turn.{Held, core_after, core_answer, presence_at, presence_turn, signature_at, signature_turn, turn}
+use Rattle.authn_core.specs.State.{Event, Request, State}
+use Rattle.authn_core.specs.Turn.{Held, core_after, core_answer, presence_at, presence_turn, requested, signature_at, signature_turn, turn}
+use Rattle.authn_core.specs.Views.{answer_of, moved, Takes}
 
--- the authenticator that clauses see
-abbrev pub held : Setup → State → ℕ → ℕ → Held
-held u s l steps = record { core = record { setup = u; state = s }; latest = l; last_steps = steps }
+-- A turn at a moment is one at that moment.
+pub record TurnedAt (v w : Held) (a : Turn) (m n : ℕ) (e : Event) : Type 0 where
+  pub core : w.core ≡ core_after v.core m e
+  pub answer : answer_of a ≡ core_answer v.core m e
+  pub latest : w.latest ≡ m
+  pub steps : w.last_steps ≡ n
 
-module _ (u : Setup) (s : State) (l steps : ℕ) (v : Held) (is : held u s l steps ≡ v) where
-  pub core_at : (n : ℕ) (e : Event) (r : State) → r ≡ (turn u s n e).state → record { setup = u; state = r } ≡ core_after v.core n e
-  core_at n e r h = (λ i. record { setup = u; state = h i }) ∙ ap (λ (w : Held). core_after w.core n e) is
+pub turned : (v w x : Held) (a : Turn) (m n : ℕ) (e : Event) → x ≡ moved v m n → Takes x w a (turn x.core.setup x.core.state x.latest e) → TurnedAt v w a m n e
+turned v w x a m n e is h =
+    let k : Takes (moved v m n) w a (turn v.core.setup v.core.state m e) = subst (λ (y : Held). Takes y w a (turn y.core.setup y.core.state y.latest e)) is h in
+    record {
+      core = ap (λ (y : Held). y.core) k.0;
+      answer = k.1;
+      latest = ap (λ (y : Held). y.latest) k.0;
+      steps = ap (λ (y : Held). y.last_steps) k.0;
+    }
 
-  pub answer_at : (n : ℕ) (e : Event) (a : Answer) → a ≡ (turn u s n e).answer → a ≡ core_answer v.core n e
-  answer_at n e a h = h ∙ ap (λ (w : Held). core_answer w.core n e) is
-
-  -- the moment of an event is the greatest so far
-  module _ (at t : ℕ) (moment : t ≡ max l at) where
-    pub latest_turned : t ≡ max v.latest at
-    latest_turned = moment ∙ ap (λ (w : Held). max w.latest at) is
-
-    pub core_turned : (e : Event) (r : State) → r ≡ (turn u s t e).state → record { setup = u; state = r } ≡ core_after v.core (max v.latest at) e
-    core_turned e r h = core_at t e r h ∙ ap (λ n. core_after v.core n e) latest_turned
-
-    pub answer_turned : (e : Event) (a : Answer) → a ≡ (turn u s t e).answer → a ≡ core_answer v.core (max v.latest at) e
-    answer_turned e a h = answer_at t e a h ∙ ap (λ n. core_answer v.core n e) latest_turned
+-- a request that was read is the one of its bytes
+pub asked : (x w : Held) (a : Turn) (cid : ℕ) (bytes : List ℕ) (read : Result Asked ℕ) → read ≡ read_of bytes → Takes x w a (requested x.core.setup x.core.state.rows x.core.state.pending x.latest cid read) →
+    Takes x w a (turn x.core.setup x.core.state x.latest (Request cid bytes))
+unfolding turn
+asked x w a cid bytes read e h =
+    subst (λ (q : Result Asked ℕ). Takes x w a (requested x.core.setup x.core.state.rows x.core.state.pending x.latest cid q)) e h
 
 -- The work that was taken out is that of the state before.
 module _ (s v : State) (is : s ≡ v) (job : Job) (taken : Option Job) (was : taken ≡ s.work) (some : taken ≡ Some job) where

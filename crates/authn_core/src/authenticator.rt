@@ -7,18 +7,20 @@ ghost use Rattle.authn_core.specs.Bare.{bare_rows};
 ghost use Rattle.authn_core.specs.State.{Request as Asks, PresenceIs, KeyIs, SignatureIs, Cancel, Drop as DropWork};
 ghost use Rattle.authn_core.specs.Turn.{first_state, core_after, core_answer, waiting};
 ghost use Rattle.authn_core.specs.Needs.{IsNeed};
-ghost use Rattle.authn_core.specs.Views.{answer_of, needs, needed, is_presence, is_key, is_sign, work_of};
+ghost use Rattle.authn_core.specs.Views.{answer_of, event_of, steps_after, needs, needed, is_presence, is_key, is_sign, work_of};
 
+use crate::event::Event;
 use crate::kept::Kept;
-use crate::parts::{Parts, need_of, status_of};
 use crate::replies::{NewKey, Presence, Signature};
+use crate::steps::{need_of, status_of};
+use crate::task::Job;
 use crate::work::{KeepaliveStatus, Work};
 use cred_table::{Pending, Table};
-use ctap_message::{Answer, read_request};
+use ctap_message::{Answer, Status, read_request};
 use std::marker::Model;
 
 /// What the turn for an event gives.
-#[derive(Drop)]
+#[derive(Clone, Debug, PartialEq, Eq, Drop)]
 pub enum Turn {
     /// The answer is due.
     Answer(Answer),
@@ -70,7 +72,7 @@ impl Need<'_> {
 }
 
 /// What an authenticator is made with.
-#[derive(Clone, Copy, Debug, PartialEq, Eq)]
+#[derive(Clone, Copy, Debug, Default, PartialEq, Eq)]
 pub struct Config {
     /// The AAGUID, which names the authenticator's model (WebAuthn Level 2, section 6.1).
     pub aaguid: [u8; 16],
@@ -80,16 +82,19 @@ pub struct Config {
 /// start and of all moments that were handed in so far. No call takes memory.
 #[derive(Drop)]
 pub struct Core<T: Table<C>, const C: usize> {
-    config: Config,
-    began: u64,
-    latest: u64,
-    last_steps: u64,
-    parts: Parts<T, C>,
+    pub(crate) config: Config,
+    pub(crate) began: u64,
+    pub(crate) latest: u64,
+    pub(crate) last_steps: u64,
+    pub(crate) rows: Kept<T, C>,
+    pub(crate) pending: Pending<C>,
+    pub(crate) work: Option<Job>,
 }
 
 // Clauses see the authenticator's state, and the steps of the last request.
 impl<T: Table<C>, const C: usize> Model for Core<T, C> {
     ghost use Rattle.std.specs.Prelude.{◌≤◌};
+    ghost use Rattle.authn_core.specs.State.{State};
     ghost use Rattle.authn_core.specs.Turn.{Held};
     ghost use Rattle.authn_core.specs.Ready.{Ready};
 
@@ -97,15 +102,14 @@ impl<T: Table<C>, const C: usize> Model for Core<T, C> {
 
     ghost view = { λ s. record {
       core = record {
-        setup =
-            record { aaguid = s.config.aaguid; began = s.began; room = C };
-        state = s.parts;
+        setup = record { aaguid = s.config.aaguid; began = s.began; room = C };
+        state = record { rows = s.rows; pending = s.pending; work = s.work };
       };
       latest = s.latest;
       last_steps = s.last_steps;
     } };
 
-    ghost invariant = { λ s. (s.began ≤ s.latest) × Ready C s.parts };
+    ghost invariant = { λ s. (s.began ≤ s.latest) × Ready C (record { rows = s.rows; pending = s.pending; work = s.work }) };
 }
 
 impl<T: Table<C>, const C: usize> Core<T, C> {
@@ -125,65 +129,51 @@ impl<T: Table<C>, const C: usize> Core<T, C> {
             began: start,
             latest: start,
             last_steps: 0,
-            parts: Parts {
-                kept: Kept::new(table),
-                pending: Pending::new(),
-                work: None,
-            },
+            rows: Kept::new(table),
+            pending: Pending::new(),
+            work: None,
         }
     }
 
     /// The turn of a request that came at `at` on the channel `cid`: `message` is its command byte and what follows.
     /// Work that waits ends with no answer of its own.
-    #[tactic(auto, unfolding(crate::specs::Turn::turn))]
     pub fn request(&mut self, at: u64, cid: u32, message: &[u8]) -> Turn
         ensures core { self.new.core ≡ core_after self.old.core (max self.old.latest at) (Asks cid message.now) }
         ensures answer { answer_of result ≡ core_answer self.old.core (max self.old.latest at) (Asks cid message.now) }
         ensures latest { self.new.latest ≡ max self.old.latest at }
         ensures steps { self.new.last_steps ≡ min (steps_of message.now) LARGEST }
     {
-        self.latest = self.latest.max(at);
-        let (request, steps) = read_request(message);
-        self.last_steps = steps;
-        self.parts
-            .request(&self.config.aaguid, self.began, self.latest, cid, request)
+        self.turn(at, &Event::Request { cid, message })
     }
 
     /// The turn of the reply of a test of user presence.
-    #[tactic(auto, unfolding(crate::specs::Turn::turn))]
     pub fn presence(&mut self, at: u64, reply: Presence) -> Turn
         ensures core { self.new.core ≡ core_after self.old.core (max self.old.latest at) (PresenceIs reply) }
         ensures answer { answer_of result ≡ core_answer self.old.core (max self.old.latest at) (PresenceIs reply) }
         ensures latest { self.new.latest ≡ max self.old.latest at }
         ensures steps { self.new.last_steps ≡ self.old.last_steps }
     {
-        self.latest = self.latest.max(at);
-        self.parts.presence(reply)
+        self.turn(at, &Event::Presence(reply))
     }
 
     /// The turn of a new key; `None` refuses one.
-    #[tactic(auto, unfolding(crate::specs::Turn::turn))]
     pub fn key(&mut self, at: u64, key: Option<NewKey>) -> Turn
         ensures core { self.new.core ≡ core_after self.old.core (max self.old.latest at) (KeyIs key) }
         ensures answer { answer_of result ≡ core_answer self.old.core (max self.old.latest at) (KeyIs key) }
         ensures latest { self.new.latest ≡ max self.old.latest at }
         ensures steps { self.new.last_steps ≡ self.old.last_steps }
     {
-        self.latest = self.latest.max(at);
-        self.parts.key(&self.config.aaguid, key)
+        self.turn(at, &Event::Key(&key))
     }
 
     /// The turn of a signature; `None` refuses one.
-    #[tactic(auto, unfolding(crate::specs::Turn::turn))]
     pub fn signature(&mut self, at: u64, signature: Option<Signature>) -> Turn
         ensures core { self.new.core ≡ core_after self.old.core (max self.old.latest at) (SignatureIs signature) }
         ensures answer { answer_of result ≡ core_answer self.old.core (max self.old.latest at) (SignatureIs signature) }
         ensures latest { self.new.latest ≡ max self.old.latest at }
         ensures steps { self.new.last_steps ≡ self.old.last_steps }
     {
-        self.latest = self.latest.max(at);
-        self.parts
-            .signature(&self.config.aaguid, self.latest, signature)
+        self.turn(at, &Event::Signature(&signature))
     }
 
     /// The turn of a CANCEL of the waiting work.
@@ -194,7 +184,7 @@ impl<T: Table<C>, const C: usize> Core<T, C> {
         ensures latest { self.new.latest ≡ self.old.latest }
         ensures steps { self.new.last_steps ≡ self.old.last_steps }
     {
-        self.parts.cancel()
+        self.turn(0, &Event::Cancel)
     }
 
     /// Ends the waiting work with no answer.
@@ -204,7 +194,29 @@ impl<T: Table<C>, const C: usize> Core<T, C> {
         ensures latest { self.new.latest ≡ self.old.latest }
         ensures steps { self.new.last_steps ≡ self.old.last_steps }
     {
-        self.parts.drop_work();
+        self.pending.clear();
+        self.work = None;
+    }
+
+    /// Takes the turn of an event that came at `at`.
+    fn turn(&mut self, at: u64, event: &Event<'_>) -> Turn
+        ensures core { self.new.core ≡ core_after self.old.core (max self.old.latest at) (event_of event.now) }
+        ensures answer { answer_of result ≡ core_answer self.old.core (max self.old.latest at) (event_of event.now) }
+        ensures latest { self.new.latest ≡ max self.old.latest at }
+        ensures steps { self.new.last_steps ≡ steps_after self.old.last_steps (event_of event.now) }
+    {
+        self.reach(at);
+        match event {
+            Event::Request { cid, message } => {
+                let (request, steps) = read_request(message);
+                self.last_steps = steps;
+                self.serve(*cid, request)
+            }
+            Event::Presence(reply) => self.take_presence(*reply),
+            Event::Key(key) => self.take_key(key),
+            Event::Signature(signature) => self.take_signature(signature),
+            Event::Cancel => self.refuse_all(Status::KEEPALIVE_CANCEL),
+        }
     }
 
     /// What the waiting work needs, nothing where none waits. At most 196 bytes are to sign.
@@ -212,14 +224,14 @@ impl<T: Table<C>, const C: usize> Core<T, C> {
         ensures value { needed result ≡ needs self.now.core.state.work }
         ensures sized { IsNeed (needed result) }
     {
-        need_of(&self.parts.work)
+        need_of(&self.work)
     }
 
     /// The work that waits.
     pub fn work(&self) -> Option<Work>
         ensures { waiting self.now.core ≡ option_map work_of result }
     {
-        match &self.parts.work {
+        match &self.work {
             Some(job) => Some(Work {
                 cid: job.cid,
                 status: status_of(&job.task),
@@ -232,7 +244,7 @@ impl<T: Table<C>, const C: usize> Core<T, C> {
     pub fn table(&self) -> &T
         ensures { bare_rows (T.rows result.now) ≡ self.now.core.state.rows }
     {
-        self.parts.kept.table()
+        self.rows.table()
     }
 
     /// The number of credentials, at most `C`.
@@ -240,7 +252,7 @@ impl<T: Table<C>, const C: usize> Core<T, C> {
         ensures value { result ≡ length self.now.core.state.rows }
         ensures few { (result ≤ C) × (C ≤ 256) }
     {
-        self.parts.kept.len()
+        self.rows.len()
     }
 
     /// The number of pending assertions.
@@ -248,7 +260,7 @@ impl<T: Table<C>, const C: usize> Core<T, C> {
         ensures value { result ≡ pending_count self.now.core.state.pending }
         ensures few { result ≤ C }
     {
-        self.parts.pending.len()
+        self.pending.len()
     }
 
     /// The steps that reading the last request took, 0 before one.

@@ -141,6 +141,13 @@ impl<T: Table<C>, const C: usize> Kept<T, C> {
         }
     }
 
+    /// Whether an id names a row of the RP.
+    pub(crate) fn has_named(&self, rp: &[u8; 32], id: &[u8]) -> bool
+        ensures { result ≡ is_some (find (is_named rp.now id.now) self.now) }
+    {
+        self.named(rp, id).is_some()
+    }
+
     /// Writes the ids of the RP's discoverable rows, newest first.
     #[tactic(auto, using(crate::proofs::BareRows::listed_bare))]
     pub(crate) fn listed(&self, rp: &[u8; 32], out: &mut ArrayVec<[u8; 32], C>)

@@ -16,12 +16,16 @@
 #![tactic(auto)]
 
 mod authenticator;
+mod commands;
+mod event;
+mod hashes;
 mod kept;
 pub mod laws;
-mod parts;
 mod refusals;
 mod replies;
+mod steps;
 mod task;
+mod turns;
 mod work;
 
 pub use authenticator::{Config, Core, Need, Turn};

@@ -17,7 +17,7 @@ pub enum Presence {
 }
 
 /// A new key pair's public key by its coordinates, with the id of its credential.
-#[derive(Clone, Copy, Debug)]
+#[derive(Clone, Copy, Debug, PartialEq, Eq)]
 pub struct NewKey {
     pub id: [u8; 32],
     pub x: [u8; 32],
@@ -25,7 +25,7 @@ pub struct NewKey {
 }
 
 /// A signature, of 1 to 72 bytes. A contract sees its bytes.
-#[derive(Clone, Copy)]
+#[derive(Clone, Copy, Debug, PartialEq, Eq)]
 pub struct Signature {
     bytes: [u8; 72],
     len: usize,

@@ -22,7 +22,7 @@ impl KeepaliveStatus {
 }
 
 /// Work that waits: the channel that asked, and what it waits for.
-#[derive(Clone, Copy, Debug)]
+#[derive(Clone, Copy, Debug, PartialEq, Eq)]
 pub struct Work {
     pub cid: u32,
     pub status: KeepaliveStatus,

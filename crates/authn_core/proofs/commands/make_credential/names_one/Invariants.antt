@@ -2,11 +2,11 @@ use Rattle.std.proofs.Common.{◌≡◌}
 use Rattle.ctap_message.specs.Descriptors.{ids_of}
 use Rattle.ctap_message.specs.DescriptorWalk.{left_of}
 use Rattle.authn_core.specs.MakeCredential.{names_one}
-use Rattle.authn_core.proofs.parts.Parts.names_one.Given as goal
+use Rattle.authn_core.proofs.commands.make_credential.names_one.Given as goal
 
 abbrev pub invariant-walk : goal.invariant-walk
 invariant-walk g l = record {
   next : (goal.iterator-walk g).can_next l.exclude;
   finite : (goal.iterator-walk g).is_finite l.exclude;
-  same : names_one l.rp l.self.rows (ids_of (left_of l.fn.exclude)) ≡ names_one l.rp l.self.rows (ids_of (left_of l.exclude));
+  same : names_one l.rp l.rows (ids_of (left_of l.fn.exclude)) ≡ names_one l.rp l.rows (ids_of (left_of l.exclude));
 }

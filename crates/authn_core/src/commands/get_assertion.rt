@@ -1,0 +1,238 @@
+//! authenticatorGetAssertion and authenticatorGetNextAssertion (CTAP 2.1, sections 6.2 and 6.3).
+
+ghost use Rattle.std.specs.Prelude.{◌≡◌, ◌<◌, ◌≤◌, ◌-◌, ◌^◌, [], true, length, option_map, is_some};
+ghost use Rattle.std.specs.List.{find};
+ghost use Rattle.cred_table.specs.Rows.{has_id, ids, counter_of};
+ghost use Rattle.ctap_message.specs.Descriptors.{ids_of};
+ghost use Rattle.ctap_message.specs.Members.{has_entries};
+ghost use Rattle.ctap_message.specs.DescriptorWalk.{list_of, left_of};
+ghost use Rattle.authn_core.specs.Hash.{rp_hash};
+ghost use Rattle.authn_core.specs.GetAssertion as get;
+ghost use Rattle.authn_core.specs.Views.{Takes};
+ghost use Rattle.authn_core.specs.Ready.{AllThere};
+
+use crate::authenticator::{Core, Turn};
+use crate::hashes::{hash_of, rp_hash_of};
+use crate::kept::Kept;
+use crate::refusals;
+use crate::replies::{Presence, Signature};
+use crate::steps::{end, refuse, sign};
+use crate::task::{Asserting, Job, Task};
+use crate::work::KeepaliveStatus;
+use arrayvec::ArrayVec;
+use cred_table::{Pending, Table};
+use ctap_message::{Descriptors, write_assertion};
+use fido_authdata::AuthData;
+
+/// How long after an assertion's answer the next one may be asked for, in milliseconds.
+const NEXT_LIMIT: u64 = 30_000;
+
+/// Returns the id of the row of the first id that names one of the RP.
+fn named_first<T: Table<C>, const C: usize>(
+    rows: &Kept<T, C>,
+    rp: &[u8; 32],
+    allow: Descriptors<'_>,
+) -> Option<[u8; 32]>
+    ensures { result ≡ option_map (λ row. row.id) (get.find_named rp.now rows.now (ids_of (left_of allow.entry))) }
+{
+    let mut allow = allow;
+    'walk: while let Some(id) = allow.next() {
+        if let Some(found) = rows.named(rp, id) {
+            return Some(found);
+        }
+    }
+    None
+}
+
+/// Writes the ids of the applicable rows.
+fn put_applicable<T: Table<C>, const C: usize>(
+    rows: &Kept<T, C>,
+    rp: &[u8; 32],
+    allow: Descriptors<'_>,
+    found: &mut ArrayVec<[u8; 32], C>,
+)
+    requires fresh { list_of allow ≡ left_of allow }
+    requires empty { found.old.items ≡ [] }
+    ensures { found.new.items ≡ ids (get.applicable rows.now rp.now (has_entries (left_of allow.entry))
+        (ids_of (left_of allow.entry))) }
+{
+    if allow.is_given() {
+        if let Some(id) = named_first(rows, rp, allow) {
+            rows.put_one(found, id);
+        }
+    } else {
+        rows.listed(rp, found);
+    }
+}
+
+/// Returns the number of applicable rows, where the answer has it.
+fn told_number<T: Table<C>, const C: usize>(rows: &Kept<T, C>, given: bool, n: usize) -> Option<u16>
+    requires { n ≤ C }
+    ensures { result ≡ get.told given n }
+{
+    rows.room();
+    if n > 1 && !given {
+        Some(n as u16)
+    } else {
+        None
+    }
+}
+
+/// Whether something is pending for the channel, and the time isn't over.
+fn is_due<const C: usize>(pending: &Pending<C>, now: u64, cid: u32) -> bool
+    ensures { result ≡ get.is_due now cid pending.now }
+{
+    if pending.len() == 0 {
+        return false;
+    }
+    pending.cid() == cid && now.saturating_sub(pending.moment()) <= NEXT_LIMIT
+}
+
+impl<T: Table<C>, const C: usize> Core<T, C> {
+    /// Lets the first applicable row sign.
+    pub(crate) fn begin_assert(
+        &mut self,
+        cid: u32,
+        hash: &[u8],
+        rp_id: &str,
+        allow: Descriptors<'_>,
+        presence: bool,
+    ) -> Turn
+        requires hash { length hash.now ≡ 32 }
+        requires fresh { list_of allow ≡ left_of allow }
+        ensures { Takes self.old self.new result (get.assert_begins self.old.core.state.rows self.old.latest cid
+            hash.now (rp_hash rp_id.now) (has_entries (left_of allow.entry)) (ids_of (left_of allow.entry)) presence) }
+    {
+        let rp = rp_hash_of(rp_id);
+        let hash = hash_of(hash);
+        let given = allow.is_given();
+        let mut found: ArrayVec<[u8; 32], C> = ArrayVec::new();
+        put_applicable(&self.rows, &rp, allow, &mut found);
+        self.begin_by(cid, &hash, &rp, presence, given, found.as_slice())
+    }
+
+    /// Lets the row with the first of the ids sign; the others are pending. With `presence` the user is asked first.
+    fn begin_by(
+        &mut self,
+        cid: u32,
+        hash: &[u8; 32],
+        rp: &[u8; 32],
+        presence: bool,
+        given: bool,
+        ids: &[[u8; 32]],
+    ) -> Turn
+        requires few { length ids.now ≤ C }
+        requires there { AllThere self.old.core.state.rows ids.now }
+        ensures { Takes self.old self.new result (get.begins self.old.core.state.rows self.old.latest cid hash.now
+            rp.now presence given ids.now) }
+    {
+        self.pending.fill(cid, hash, presence, self.latest, ids);
+        let Some(first) = self.pending.next() else {
+            return refuse(&mut self.work, refusals::NO_CREDENTIALS);
+        };
+        if self.rows.counter(&first) >= u32::MAX {
+            self.pending.clear();
+            return refuse(&mut self.work, refusals::LIMIT_EXCEEDED);
+        }
+        let a = Asserting {
+            hash: *hash,
+            rp: *rp,
+            id: first,
+            presence,
+            number: told_number(&self.rows, given, ids.len()),
+        };
+        if presence {
+            let task = Task::AsksAssert(a);
+            self.work = Some(Job { cid, task });
+            Turn::Waits(KeepaliveStatus::PresenceNeeded)
+        } else {
+            sign(&mut self.rows, &mut self.work, cid, &a)
+        }
+    }
+
+    /// Lets the row sign where the user consents.
+    pub(crate) fn assert_presence(&mut self, cid: u32, a: Asserting, reply: Presence) -> Turn
+        requires there { is_some (find (has_id a.id) self.old.core.state.rows) ≡ true }
+        requires below { counter_of a.id self.old.core.state.rows < 2 ^ 32 - 1 }
+        ensures { Takes self.old self.new result (get.assert_asked self.old.core.state.rows
+            self.old.core.state.pending cid a reply) }
+    {
+        match reply {
+            Presence::Granted => sign(&mut self.rows, &mut self.work, cid, &a),
+            _ => {
+                self.pending.clear();
+                refuse(&mut self.work, refusals::OPERATION_DENIED)
+            }
+        }
+    }
+
+    /// Answers with the signature, and the time to ask for the next one begins.
+    pub(crate) fn assert_signature(
+        &mut self,
+        a: Asserting,
+        counter: u32,
+        signature: &Option<Signature>,
+    ) -> Turn
+        ensures { Takes self.old self.new result (get.assert_signed self.old.core.state.rows
+            self.old.core.state.pending self.old.latest a counter signature.now) }
+    {
+        let Some(signature) = signature else {
+            self.pending.clear();
+            return refuse(&mut self.work, refusals::OTHER);
+        };
+        self.pending.stamp(self.latest);
+        end(&mut self.work);
+        let data = AuthData::assertion(&a.rp, a.presence, counter);
+        let user = self.rows.user_of(&a.id);
+        Turn::Answer(write_assertion(
+            &a.id,
+            data.bytes().as_slice(),
+            signature.bytes(),
+            user,
+            a.number,
+        ))
+    }
+
+    // ---- the next one
+
+    /// Lets the first pending row sign.
+    pub(crate) fn next(&mut self, cid: u32) -> Turn
+        ensures { Takes self.old self.new result (get.next_begins self.old.core.state.rows
+            self.old.core.state.pending self.old.latest cid) }
+    {
+        if !is_due(&self.pending, self.latest, cid) {
+            self.pending.clear();
+            return refuse(&mut self.work, refusals::NOT_ALLOWED);
+        }
+        let hash = self.pending.hash();
+        let presence = self.pending.presence();
+        let Some(id) = self.pending.next() else {
+            return refuse(&mut self.work, refusals::NOT_ALLOWED);
+        };
+        self.next_signs(cid, hash, presence, id)
+    }
+
+    /// Lets the row with the id sign.
+    fn next_signs(&mut self, cid: u32, hash: [u8; 32], presence: bool, id: [u8; 32]) -> Turn
+        requires { is_some (find (has_id id) self.old.core.state.rows) ≡ true }
+        ensures { Takes self.old self.new result (get.row_signs self.old.core.state.rows self.old.core.state.pending
+            cid hash presence id (find (has_id id) self.old.core.state.rows)) }
+    {
+        let Some(rp) = self.rows.rp_of(&id) else {
+            self.pending.clear();
+            return refuse(&mut self.work, refusals::NOT_ALLOWED);
+        };
+        if self.rows.counter(&id) >= u32::MAX {
+            self.pending.clear();
+            return refuse(&mut self.work, refusals::LIMIT_EXCEEDED);
+        }
+        let a = Asserting {
+            hash,
+            rp,
+            id,
+            presence,
+            number: None,
+        };
+        sign(&mut self.rows, &mut self.work, cid, &a)
+    }
+}

@@ -1,0 +1,23 @@
+//! authenticatorGetInfo (CTAP 2.1, section 6.4).
+
+ghost use Rattle.std.specs.Prelude.{None};
+ghost use Rattle.ctap_message.specs.Answers.{info_answer};
+ghost use Rattle.authn_core.specs.State.{answers};
+ghost use Rattle.authn_core.specs.Views.{Takes};
+
+use crate::authenticator::{Core, Turn};
+use crate::steps::end;
+use cred_table::Table;
+use ctap_message::write_info;
+
+impl<T: Table<C>, const C: usize> Core<T, C> {
+    /// Answers with what the authenticator is.
+    pub(crate) fn inform(&mut self) -> Turn
+        ensures { Takes self.old self.new result
+            (answers self.old.core.state.rows None (info_answer self.old.core.setup.aaguid)) }
+    {
+        self.pending.clear();
+        end(&mut self.work);
+        Turn::Answer(write_info(&self.config.aaguid))
+    }
+}

@@ -1,0 +1,155 @@
+//! authenticatorMakeCredential (CTAP 2.1, section 6.1).
+
+ghost use Rattle.std.specs.Prelude.{◌≡◌, ◌≤◌, ◌++◌, true, false, length, is_some};
+ghost use Rattle.std.specs.List.{find};
+ghost use Rattle.cred_table.specs.Rows.{has_id};
+ghost use Rattle.fido_authdata.specs.AuthData.{created_bytes};
+ghost use Rattle.ctap_message.specs.Descriptors.{ids_of};
+ghost use Rattle.ctap_message.specs.DescriptorWalk.{left_of};
+ghost use Rattle.authn_core.specs.Hash.{rp_hash};
+ghost use Rattle.authn_core.specs.MakeCredential as make;
+ghost use Rattle.authn_core.specs.Views.{Takes};
+
+use crate::authenticator::{Core, Turn};
+use crate::hashes::{hash_of, rp_hash_of};
+use crate::kept::Kept;
+use crate::refusals;
+use crate::replies::{NewKey, Presence, Signature};
+use crate::steps::{end, refuse};
+use crate::task::{Job, Making, Name, Task};
+use crate::work::KeepaliveStatus;
+use arrayvec::ArrayVec;
+use cred_table::Table;
+use ctap_message::{Descriptors, write_created};
+use fido_authdata::{AuthData, to_sign};
+
+/// Returns what is to be made.
+pub(crate) fn making_of(
+    hash: &[u8],
+    rp_id: &str,
+    user_id: &[u8],
+    user_name: &str,
+    discoverable: bool,
+) -> Making
+    requires hash { length hash.now ≡ 32 }
+    requires user { length user_id.now ≤ 64 }
+    ensures { result ≡ make.making hash.now rp_id.now user_id.now user_name.now discoverable }
+{
+    let mut user: ArrayVec<u8, 64> = ArrayVec::new();
+    user.try_extend_from_slice(user_id).unwrap();
+    let hash = hash_of(hash);
+    let rp = rp_hash_of(rp_id);
+    let name = Name::kept(user_name);
+    Making {
+        hash,
+        rp,
+        user,
+        name,
+        discoverable,
+    }
+}
+
+/// Whether one of the ids names a row of the RP.
+fn names_one<T: Table<C>, const C: usize>(
+    rows: &Kept<T, C>,
+    rp: &[u8; 32],
+    exclude: Descriptors<'_>,
+) -> bool
+    ensures { result ≡ make.names_one rp.now rows.now (ids_of (left_of exclude.entry)) }
+{
+    let mut exclude = exclude;
+    'walk: while let Some(id) = exclude.next() {
+        if rows.has_named(rp, id) {
+            return true;
+        }
+    }
+    false
+}
+
+/// Returns the bytes to sign of a new credential.
+fn credential_to_sign(aaguid: &[u8; 16], making: &Making, key: &NewKey) -> ArrayVec<u8, 196>
+    ensures { result.items ≡ created_bytes making.now.rp aaguid.now key.now.id key.now.x key.now.y ++ making.now.hash }
+{
+    let data = AuthData::created(&making.rp, aaguid, &key.id, &key.x, &key.y);
+    to_sign(&data, &making.hash)
+}
+
+impl<T: Table<C>, const C: usize> Core<T, C> {
+    /// Asks for the user's presence, also where a credential is excluded.
+    pub(crate) fn begin_make(&mut self, cid: u32, making: Making, exclude: Descriptors<'_>) -> Turn
+        ensures { Takes self.old self.new result (make.make_begins self.old.core.state.rows cid making
+            (ids_of (left_of exclude.entry))) }
+    {
+        let excluded = names_one(&self.rows, &making.rp, exclude);
+        self.pending.clear();
+        let task = Task::AsksMake(making, excluded);
+        self.work = Some(Job { cid, task });
+        Turn::Waits(KeepaliveStatus::PresenceNeeded)
+    }
+
+    /// Asks for a key where the user consents and there is room.
+    pub(crate) fn make_presence(
+        &mut self,
+        cid: u32,
+        making: Making,
+        excluded: bool,
+        reply: Presence,
+    ) -> Turn
+        ensures { Takes self.old self.new result (make.make_asked C self.old.core.state.rows
+            self.old.core.state.pending cid making excluded reply) }
+    {
+        if excluded {
+            return refuse(&mut self.work, refusals::CREDENTIAL_EXCLUDED);
+        }
+        let Presence::Granted = reply else {
+            return refuse(&mut self.work, refusals::OPERATION_DENIED);
+        };
+        if !self.rows.has_room(&making) {
+            return refuse(&mut self.work, refusals::KEY_STORE_FULL);
+        }
+        let task = Task::WantsKey(making);
+        self.work = Some(Job { cid, task });
+        Turn::Waits(KeepaliveStatus::Processing)
+    }
+
+    /// Asks for a signature by a key with a new id.
+    pub(crate) fn make_key(&mut self, cid: u32, making: Making, key: &Option<NewKey>) -> Turn
+        requires { make.fits C making self.old.core.state.rows ≡ true }
+        ensures { Takes self.old self.new result (make.key_wanted self.old.core.setup.aaguid
+            self.old.core.state.rows self.old.core.state.pending cid making key.now) }
+    {
+        let Some(key) = key else {
+            return refuse(&mut self.work, refusals::OTHER);
+        };
+        if self.rows.has(&key.id) {
+            return refuse(&mut self.work, refusals::OTHER);
+        }
+        let signed = credential_to_sign(&self.config.aaguid, &making, key);
+        let task = Task::SignsMake(making, *key, signed);
+        self.work = Some(Job { cid, task });
+        Turn::Waits(KeepaliveStatus::Processing)
+    }
+
+    /// Stores the row once it is signed.
+    pub(crate) fn make_signature(
+        &mut self,
+        making: Making,
+        key: NewKey,
+        signature: &Option<Signature>,
+    ) -> Turn
+        requires room { make.fits C making self.old.core.state.rows ≡ true }
+        requires fresh { is_some (find (has_id key.id) self.old.core.state.rows) ≡ false }
+        ensures { Takes self.old self.new result (make.make_signed self.old.core.setup.aaguid
+            self.old.core.state.rows self.old.core.state.pending making key signature.now) }
+    {
+        let Some(signature) = signature else {
+            return refuse(&mut self.work, refusals::OTHER);
+        };
+        let aaguid = &self.config.aaguid;
+        let data = AuthData::created(&making.rp, aaguid, &key.id, &key.x, &key.y);
+        self.rows.store(making, key);
+        self.pending.clear();
+        end(&mut self.work);
+        Turn::Answer(write_created(data.bytes().as_slice(), signature.bytes()))
+    }
+}

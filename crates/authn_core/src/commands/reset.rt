@@ -1,0 +1,48 @@
+//! authenticatorReset (CTAP 2.1, section 6.6).
+
+ghost use Rattle.authn_core.specs.Asking.{reset_begins, reset_asked};
+ghost use Rattle.authn_core.specs.Views.{Takes};
+
+use crate::authenticator::{Core, Turn};
+use crate::refusals;
+use crate::replies::Presence;
+use crate::steps::refuse;
+use crate::task::{Job, Task};
+use crate::work::KeepaliveStatus;
+use cred_table::Table;
+use ctap_message::Status;
+
+/// How long after the start a reset may be asked for, in milliseconds.
+const RESET_LIMIT: u64 = 10_000;
+
+impl<T: Table<C>, const C: usize> Core<T, C> {
+    /// Asks for the user's presence, where the time for a reset isn't over.
+    pub(crate) fn begin_reset(&mut self, cid: u32) -> Turn
+        ensures { Takes self.old self.new result (reset_begins self.old.core.state.rows self.old.core.setup.began
+            self.old.latest cid) }
+    {
+        self.pending.clear();
+        if self.latest - self.began > RESET_LIMIT {
+            return refuse(&mut self.work, refusals::NOT_ALLOWED);
+        }
+        let task = Task::Resets;
+        self.work = Some(Job { cid, task });
+        Turn::Waits(KeepaliveStatus::PresenceNeeded)
+    }
+
+    /// Takes all rows out where the user consents.
+    pub(crate) fn reset(&mut self, reply: Presence) -> Turn
+        ensures { Takes self.old self.new result (reset_asked self.old.core.state.rows self.old.core.state.pending
+            reply) }
+    {
+        match reply {
+            Presence::Granted => {
+                self.rows.clear();
+                self.pending.clear();
+                refuse(&mut self.work, Status::OK)
+            }
+            Presence::Denied => refuse(&mut self.work, refusals::OPERATION_DENIED),
+            Presence::TimedOut => refuse(&mut self.work, refusals::USER_ACTION_TIMEOUT),
+        }
+    }
+}
