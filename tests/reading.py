@@ -1,0 +1,199 @@
+#!/usr/bin/env python3
+"""Compares docs/READING.md with the definitions that the headline theorem needs.
+
+    tests/reading.py            ends with 1 where the page misses a definition, names one that isn't needed, or where
+                                the counts that it says aren't those of today
+    tests/reading.py --write    writes the lists of definitions and the counts into the page anew
+
+From the clauses of `every_history_is_answered` it follows each name that a definition uses, through the `use` lines, to
+the definition itself. What the page says of a file stands above its list and is written by hand; a definition's
+sentence is the comment above it. It needs no toolchain.
+"""
+
+from __future__ import annotations
+
+import re
+import sys
+import textwrap
+from dataclasses import dataclass, field
+from pathlib import Path
+
+TOP = Path(__file__).resolve().parent.parent
+PAGE = TOP / "docs" / "READING.md"
+ROOTS = (
+    ("token_session/specs/Headline.antt", "IsAnswered"),
+    ("token_session/specs/Carried.antt", "ArriveWhole"),
+    ("cred_table/specs/Rows.antt", "Lawful"),
+)
+USE = re.compile(r"use ([\w.]+)\.\{(.*)\}")
+DECLARES = re.compile(r"(?:(?:unfoldable|abbrev|pub|record|data) )*(\S+)")
+TOKEN = re.compile(r"[^\s(){}\[\],.;:]+")
+LIST = re.compile(r"<!-- definitions: (\S+) -->\n(.*?)<!-- end -->", re.DOTALL)
+COUNTS = re.compile(r"\*\*(\d+) definitions, ([\d,]+) lines, (\d+) files\*\*")
+
+
+@dataclass
+class Definition:
+    """A definition: its lines, and the comment above it."""
+
+    name: str
+    comment: str
+    lines: list[str] = field(default_factory=list)
+
+    def words(self) -> set[str]:
+        return {word for line in self.lines for word in TOKEN.findall(line.split(" -- ")[0])}
+
+    def makes(self) -> set[str]:
+        """Returns the constructors of a data type."""
+        if not re.match(r"\s*(pub )?data ", self.lines[0]):
+            return set()
+        found = (re.match(r"\s+(?:pub )?(\S+) :", line) for line in self.lines[1:])
+        return {it.group(1) for it in found if it}
+
+    def sentence(self) -> str:
+        """Returns the comment's first sentence."""
+        first = re.split(r"(?<=[a-z)\]0-9\"])\. ", self.comment)[0].strip().rstrip(".:;")
+        return first[:1].upper() + first[1:]
+
+
+@dataclass
+class File:
+    """The definitions of a file in their order, and where the names come from that it uses."""
+
+    definitions: dict[str, Definition] = field(default_factory=dict)
+    uses: dict[str, tuple[str, str]] = field(default_factory=dict)
+
+    def holding(self, name: str) -> Definition | None:
+        """Returns the definition with this name, or the data type with this constructor."""
+        if name in self.definitions:
+            return self.definitions[name]
+        return next((it for it in self.definitions.values() if name in it.makes()), None)
+
+
+def take_uses(found: File, line: str) -> bool:
+    """Takes a `use` line. Returns whether it is one."""
+    use = USE.match(line)
+    if use is None:
+        return False
+    for word in use.group(2).split(","):
+        name, _, other = word.strip().partition(" as ")
+        found.uses[other or name] = (use.group(1), name)
+    return True
+
+
+def read(path: Path) -> File:
+    """Returns what a file defines. In a `mutual` block definitions are indented."""
+    found, comment, current, indent = File(), list[str](), None, ""
+    for line in path.read_text(encoding="utf-8").splitlines():
+        text = line.strip()
+        if not text:
+            comment, current = [], None
+        elif text.startswith("--"):
+            comment.append(text[2:].strip())
+        elif re.fullmatch(r"(\w+ )?mutual", line):
+            indent = "  "
+        elif not take_uses(found, line):
+            indent = indent if line.startswith(" ") else ""
+            if not line.startswith(indent + " "):
+                name = DECLARES.match(text).group(1)  # type: ignore[union-attr]
+                current = found.definitions.setdefault(name, Definition(name, " ".join(comment)))
+                comment = []
+            if current:
+                current.lines.append(line)
+    return found
+
+
+def path_of(module: str) -> Path | None:
+    """Returns the file of a module of this repository's definitions."""
+    parts = module.split(".")
+    if parts[0] != "Rattle" or parts[2:3] != ["specs"]:
+        return None
+    path = TOP / "crates" / parts[1] / "specs" / ("/".join(parts[3:]) + ".antt")
+    return path if path.is_file() else None
+
+
+class Walk:
+    """The definitions that the headline needs, by their files."""
+
+    def __init__(self) -> None:
+        self.files: dict[Path, File] = {}
+        self.needed: dict[Path, set[str]] = {}
+        for path, name in ROOTS:
+            self.visit(TOP / "crates" / path, name)
+
+    def file(self, path: Path) -> File:
+        if path not in self.files:
+            self.files[path] = read(path)
+        return self.files[path]
+
+    def visit(self, path: Path, name: str) -> None:
+        """Takes a definition and all that it uses."""
+        here = self.file(path)
+        definition = here.holding(name)
+        if definition is None:
+            raise SystemExit(f"tests/reading.py: {path.relative_to(TOP)} doesn't define {name}")
+        if definition.name in self.needed.setdefault(path, set()):
+            return
+        self.needed[path].add(definition.name)
+        for word in sorted(definition.words()):
+            if here.holding(word):
+                self.visit(path, word)
+            elif word in here.uses:
+                module, other = here.uses[word]
+                there = path_of(module)
+                if there:
+                    self.visit(there, other)
+
+    def listed(self, path: Path) -> list[Definition]:
+        return [it for name, it in self.file(path).definitions.items() if name in self.needed.get(path, set())]
+
+    def text(self, path: Path) -> str:
+        """Returns a file's list as the page has it."""
+        lines = (f"- `{it.name}`" + (f": {it.sentence()}." if it.comment else "") for it in self.listed(path))
+        return "".join(f"{textwrap.fill(line, 120, subsequent_indent='  ')}\n" for line in lines)
+
+    def counts(self) -> tuple[int, int, int]:
+        every = [it for path in self.needed for it in self.listed(path)]
+        return len(every), sum(len([line for line in it.lines if line.strip()]) for it in every), len(self.needed)
+
+
+def said(walk: Walk) -> str:
+    definitions, lines, files = walk.counts()
+    return f"**{definitions} definitions, {lines:,} lines, {files} files**"
+
+
+def write(walk: Walk, page: str) -> None:
+    """Writes the lists and the counts."""
+    page = LIST.sub(lambda it: f"<!-- definitions: {it.group(1)} -->\n{walk.text(TOP / it.group(1))}<!-- end -->", page)
+    PAGE.write_text(COUNTS.sub(said(walk), page), encoding="utf-8")
+
+
+def faults(walk: Walk, page: str) -> list[str]:
+    """Returns what the page has wrong."""
+    lists = {
+        TOP / it.group(1): set(re.findall(r"^- `([^`]+)`", it.group(2), re.MULTILINE)) for it in LIST.finditer(page)
+    }
+    found = []
+    for path in sorted({*lists, *walk.needed}):
+        has, needs, name = lists.get(path, set()), walk.needed.get(path, set()), path.relative_to(TOP)
+        found += [f"{name}: {it} is needed and isn't on the page" for it in sorted(needs - has)]
+        found += [f"{name}: {it} is on the page and isn't needed" for it in sorted(has - needs)]
+    if said(walk) not in page:
+        found.append(f"the page doesn't say {said(walk)}")
+    return found
+
+
+def main() -> int:
+    walk, page = Walk(), PAGE.read_text(encoding="utf-8")
+    if sys.argv[1:] == ["--write"]:
+        write(walk, page)
+        return 0
+    found = faults(walk, page)
+    for line in found:
+        print(line)
+    print(f"docs/READING.md: {said(walk).strip('*')}, {len(found)} faults")
+    return 1 if found else 0
+
+
+if __name__ == "__main__":
+    sys.exit(main())
