@@ -1,5 +1,5 @@
--- The counters of a credential's signatures rise in time: each text to sign of an assertion holds a greater counter than
--- all texts before it by the same row (WebAuthn Level 2, sections 6.1.1 and 7.2, step 21).
+-- The counters of a credential's signatures rise in time: each text to sign of an assertion holds a greater counter
+-- than all texts before it by the same row (WebAuthn Level 2, sections 6.1.1 and 7.2, step 21).
 use Rattle.std.specs.Prelude.{ℕ, ◌≡◌, List, [], ◌∷◌, nat_lt, Bool, true, ◌&&◌, ◌||◌, not, ◌==◌}
 use Rattle.std.specs.Str.{bytes_eq}
 use Rattle.cred_table.specs.Rows.{counter_of}

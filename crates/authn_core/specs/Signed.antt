@@ -57,9 +57,9 @@ rp_of id rows = option_map (λ (r : Row). r.rp) (find (has_id id) rows)
 -- ---- what has to be signed, and answered
 
 -- For an assertion: the authenticator data with the hash of the RP id, the UP flag as it was asked for and the counter
--- of the row, which is one of that RP's; and the hash of the client data (WebAuthn Level 2, sections 6.1 and 6.3.3). For
--- a new credential: the authenticator data with the id and the public key, of a key that was handed in, and that hash
--- (sections 6.3.2, 6.5.1 and 8.2). Where UP is set, the user's presence was granted. Nothing else is signed.
+-- of the row, which is one of that RP's; and the hash of the client data (WebAuthn Level 2, sections 6.1 and 6.3.3).
+-- For a new credential: the authenticator data with the id and the public key, of a key that was handed in, and that
+-- hash (sections 6.3.2, 6.5.1 and 8.2). Where UP is set, the user's presence was granted. Nothing else is signed.
 abbrev pub IsToSign : (aaguid : List ℕ) → Heard → List Row → (id signed : List ℕ) → Option Asked → Type 0
 IsToSign aaguid h rows id signed (Some (GetAssertion hash rp_id allow presence)) =
     (signed ≡ assertion_bytes (rp_hash rp_id) presence (counter_of id rows) ++ hash)

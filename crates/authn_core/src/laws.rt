@@ -31,8 +31,8 @@ pub fn rows_follow_history()
         → pending_count (core_at start h).state.pending ≤ start.setup.room }
 {}
 
-/// No two texts to sign of assertions by one row hold the same counter: they rise, each above all before it. A text that
-/// an input adds holds its row's counter, and while an assertion's signature is waited for, the newest is to be signed.
+/// No two texts to sign of assertions by one row hold the same counter: they rise, each above all before it. A text
+/// that an input adds holds its row's counter. While an assertion's signature is waited for, the newest is to be signed.
 pub fn texts_to_sign_differ()
     ensures differ { (start : CoreState) (h : List Step) → Ready start.setup.room start.state
         → Lawful start.setup.room start.state.rows
@@ -60,7 +60,8 @@ pub fn what_is_signed_is_answered()
         → IsNeeded start.aaguid (heard h) (core_at (first_state start) h).state.rows
         (needs (core_at (first_state start) h).state.work) }
     ensures answered { (start : Start) (h : List Step) (now : ℕ) (id signed sig : List ℕ)
-        → Lawful start.room start.rows → Orderly (first_state start) h → needs (core_at (first_state start) h).state.work ≡ sign id signed
+        → Lawful start.room start.rows → Orderly (first_state start) h
+        → needs (core_at (first_state start) h).state.work ≡ sign id signed
         → IsSigned start.aaguid (core_at (first_state start) h).state.work id signed sig
         (core_answer (core_at (first_state start) h) now (SignatureIs (Some sig))) (heard h).asked }
 {}

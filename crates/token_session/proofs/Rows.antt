@@ -1,5 +1,6 @@
 -- Worked histories, by computation: a reader's check that the definitions say what is meant. Code and definitions share the
 -- fields, the error codes, the greeting and the authenticator's turns, and only these rows look at them from outside.
+use Rattle.std.proofs.Common.{arith, inl, inr}
 use Rattle.std.specs.Prelude.{◌≡◌, ℕ, ◌+◌, ◌-◌, List, [], ◌∷◌, ◌++◌, length, refl, replicate, reverse, true, zero, suc, Option, Some, None}
 use Rattle.cred_table.specs.declared.row.Row.{Row}
 use Rattle.authn_core.specs.Bare.{text_of}
@@ -13,7 +14,7 @@ use Rattle.hid_assemble.specs.Assembly.{Message, is_overdue, message_after, open
 use Rattle.hid_assemble.specs.Table.{continuation_row, initialization_row, ruling_of}
 use Rattle.hid_packet.specs.Message.{continuation_packet, continuation_packets, initialization_packet, padded, written}
 use Rattle.hid_packet.specs.Packet.{channel, command, continuation_data, initialization_data, is_initialization, message_length, sequence}
-use Rattle.token_session.specs.Arriving.{arriving}
+use Rattle.token_session.specs.Arriving.{Arrives, arriving}
 use Rattle.token_session.specs.Inputs.{asks_channel, given, is_own, own}
 use Rattle.token_session.specs.Messages.{finished, finished_at, finished_long, goes_on, is_last, is_long, is_next, is_open, open_among, open_at, packets_of}
 use Rattle.token_session.specs.History.{admits, core, event, held, judge, judged, last_keepalive, packet_event, sent, sent_at, service_packets, time_packets}
@@ -281,3 +282,17 @@ own_is_middle = refl
 too_late : finishes_at first_of_three between_three (came 800 (one (1 ∷ replicate 10 3))) ≡ None
 unfolding finishes_at
 too_late = refl
+
+-- so the message arrives, by the law's own premises
+arrives : Arrives at_zero (came 0 init_line ∷ came 0 init_line ∷ []) (came 0 (one (129 ∷ 0 ∷ 126 ∷ replicate 57 1))) between_three (judge at_zero (came 700 (one (1 ∷ replicate 10 3))) (judged at_zero (onto between_three first_of_three))) 1 1
+    (replicate 57 1 ++ replicate 59 2 ++ replicate 10 3)
+unfolding channel is_initialization command message_length initialization_data sequence continuation_data padded initialization_packet continuation_packet continuation_packets written read_of core_turn.turn initialization_row continuation_row ruling_of greeting row_packets answer_packets answer_keeps_alive is_overdue keepalive_due open_after message_after event_after time_passed turn start_state machine judged sent held asks_channel given is_own own is_next goes_on is_long is_open open_among open_at is_last finished_long finished packet_event event core admits judge last_keepalive time_packets service_packets sent_at
+arrives = record {
+  low = omega arith;
+  high = omega arith;
+  served = inl refl;
+  free = refl;
+  idle = refl;
+  carried = record { short = omega arith; begins = refl; on = refl; asks = refl; counts = refl; continues = (refl, refl, refl, (refl, refl, refl, tt)); least = inr (omega arith, omega arith); joins = refl };
+  soon = (omega arith, (omega arith, tt));
+}

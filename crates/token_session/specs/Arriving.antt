@@ -1,4 +1,5 @@
--- A message of several packets that comes among what other hosts send (CTAP 2.1, sections 11.2.4, 11.2.5.1 and 11.2.5.2).
+-- A message of several packets that comes among what other hosts send (CTAP 2.1, sections 11.2.4, 11.2.5.1 and
+-- 11.2.5.2).
 use Rattle.std.specs.Prelude.{◌≡◌, ℕ, ◌+◌, ◌≤◌, ◌<◌, ◌⊎◌, List, [], ◌∷◌, ◌++◌, length, None}
 use Rattle.hid_packet.specs.Carries.{CarriesMessage}
 use Rattle.hid_packet.specs.Commands.{PING, CBOR}
@@ -20,8 +21,8 @@ ComeSoon since [] = Unit {0}
 ComeSoon since (e ∷ es) = (e.at < since + MESSAGE_TIMEOUT) × ComeSoon e.at es
 
 -- After a history, where nothing is open and no work waits, an input brings the first packet of a message on a channel
--- that was given out; any inputs follow, and then the one with its last packet. The channel's own packets among them are
--- the message's, in order, each less than 500 ms after the one before.
+-- that was given out; any inputs follow, and then the one with its last packet. The channel's own packets among them
+-- are the message's, in order, each less than 500 ms after the one before.
 pub record Arrives (start : Start) (h : List Timed) (x : Timed) (between : List Timed) (last : Judged)
     (cid cmd : ℕ) (bytes : List ℕ) : Type 0 where
   pub low : 1 ≤ cid
@@ -29,5 +30,6 @@ pub record Arrives (start : Start) (h : List Timed) (x : Timed) (between : List 
   pub served : (cmd ≡ PING) ⊎ ((cmd ≡ CBOR) × (1 ≤ length bytes))
   pub free : open_at (judged start h) (judge start x (judged start h)).at ≡ None
   pub idle : working (core start (judged start h)) ≡ None
-  pub carried : CarriesMessage (packet x.input ∷ packets_of (own cid (arriving start (x ∷ h) between)) ++ packet last.input ∷ []) cid cmd bytes
+  pub carried : CarriesMessage
+      (packet x.input ∷ packets_of (own cid (arriving start (x ∷ h) between)) ++ packet last.input ∷ []) cid cmd bytes
   pub soon : ComeSoon (judge start x (judged start h)).at (own cid (arriving start (x ∷ h) between) ++ last ∷ [])

@@ -84,8 +84,8 @@ pub fn messages_of_one_packet_finish()
 {}
 
 /// The packets of a PING or CBOR message on a channel that was given out, in order and each less than 500 ms after the
-/// one before, finish with just its bytes, whatever other hosts send between, where no message is open and no work waits
-/// at the first.
+/// one before, finish with just its bytes, whatever other hosts send between, where no message is open and no work
+/// waits at the first.
 pub fn messages_of_several_packets_finish()
     ensures { (start : Start) (h between : List OneInput) (x y : OneInput) (p q : AnyPacket) (cid cmd : ℕ)
         (bytes : List ℕ) → x.input ≡ PacketCame p → y.input ≡ PacketCame q
