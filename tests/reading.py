@@ -29,6 +29,7 @@ USE = re.compile(r"use ([\w.]+)\.\{(.*)\}")
 DECLARES = re.compile(r"(?:(?:unfoldable|abbrev|pub|record|data) )*(\S+)")
 TOKEN = re.compile(r"[^\s(){}\[\],.;:]+")
 LIST = re.compile(r"<!-- definitions: (\S+) -->\n(.*?)<!-- end -->", re.DOTALL)
+CODE = re.compile(r"<!-- types of the code -->\n.*?<!-- end -->", re.DOTALL)
 COUNTS = re.compile(r"\*\*(\d+) definitions, ([\d,]+) lines, (\d+) files\*\*")
 
 
@@ -118,6 +119,7 @@ class Walk:
     def __init__(self) -> None:
         self.files: dict[Path, File] = {}
         self.needed: dict[Path, set[str]] = {}
+        self.declared: set[str] = set()
         for path, name in ROOTS:
             self.visit(TOP / "crates" / path, name)
 
@@ -143,6 +145,8 @@ class Walk:
                 there = path_of(module)
                 if there:
                     self.visit(there, other)
+                elif ".specs.declared." in module and ".The" not in module:
+                    self.declared.add(f"{module.split('.')[1]}: `{other}`")
 
     def listed(self, path: Path) -> list[Definition]:
         return [it for name, it in self.file(path).definitions.items() if name in self.needed.get(path, set())]
@@ -157,6 +161,11 @@ class Walk:
         return len(every), sum(len([line for line in it.lines if line.strip()]) for it in every), len(self.needed)
 
 
+def code_types(walk: Walk) -> str:
+    """Returns the list of types that the code declares and a definition names, as the page has it."""
+    return "".join(f"- {it}\n" for it in sorted(walk.declared))
+
+
 def said(walk: Walk) -> str:
     definitions, lines, files = walk.counts()
     return f"**{definitions} definitions, {lines:,} lines, {files} files**"
@@ -165,6 +174,7 @@ def said(walk: Walk) -> str:
 def write(walk: Walk, page: str) -> None:
     """Writes the lists and the counts."""
     page = LIST.sub(lambda it: f"<!-- definitions: {it.group(1)} -->\n{walk.text(TOP / it.group(1))}<!-- end -->", page)
+    page = CODE.sub(f"<!-- types of the code -->\n{code_types(walk)}<!-- end -->", page)
     PAGE.write_text(COUNTS.sub(said(walk), page), encoding="utf-8")
 
 
@@ -178,6 +188,8 @@ def faults(walk: Walk, page: str) -> list[str]:
         has, needs, name = lists.get(path, set()), walk.needed.get(path, set()), path.relative_to(TOP)
         found += [f"{name}: {it} is needed and isn't on the page" for it in sorted(needs - has)]
         found += [f"{name}: {it} is on the page and isn't needed" for it in sorted(has - needs)]
+    if f"<!-- types of the code -->\n{code_types(walk)}<!-- end -->" not in page:
+        found.append("the types of the code on the page aren't those that the definitions name")
     if said(walk) not in page:
         found.append(f"the page doesn't say {said(walk)}")
     return found

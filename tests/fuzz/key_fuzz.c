@@ -187,8 +187,85 @@ static void end(struct hidlog_key *key) {
     if (outcome.status != 0 || outcome.written != written_len || memcmp(replayed, written, written_len) != 0) {
         abort();
     }
-    if (hidlog_key_free(key) != 0 || hidlog_key_tick(key, 0) != HIDLOG_KEY_NOT_MADE) {
+}
+
+// What is saved makes another key, which saves the same.
+static void save(struct hidlog_key *key) {
+    static const uint8_t aaguid[16];
+    static uint8_t saved[HIDLOG_SNAPSHOT_LONGEST], again[HIDLOG_SNAPSHOT_LONGEST];
+    struct hidlog_key other = {0};
+    int32_t len = hidlog_key_save(key, saved, sizeof saved);
+    other.memory = aligned_alloc(16, (hidlog_key_size() + 15) / 16 * 16);
+    if (len < 0 || other.memory == NULL || hidlog_key_make(&other, aaguid, 0, saved, (size_t)len) != 0 ||
+        hidlog_key_save(&other, again, sizeof again) != len || memcmp(saved, again, (size_t)len) != 0 ||
+        hidlog_key_credentials(&other) != hidlog_key_credentials(key) || hidlog_key_free(&other) != 0) {
         abort();
+    }
+    free(other.memory);
+}
+
+// Whether one of the credentials has this id.
+static int has(struct hidlog_key *key, const uint8_t id[32]) {
+    struct hidlog_credential credential;
+    for (size_t i = 0; hidlog_key_credential(key, i, &credential) == 0; i++) {
+        if (memcmp(credential.id, id, 32) == 0) {
+            return 1;
+        }
+    }
+    return 0;
+}
+
+static void add_one(struct hidlog_key *key, struct bytes *from) {
+    struct hidlog_credential c = {0};
+    take(from, c.rp, 1);
+    take(from, c.id, 1);
+    take(from, c.user, 2);
+    take(from, c.name, 4);
+    c.user_len = next_byte(from) % 68;
+    c.name_len = next_byte(from) % 68;
+    c.discoverable = next_byte(from) % 3;
+    c.counter = (uint32_t)next_byte(from) << 24;
+    int32_t before = hidlog_key_credentials(key), is_there = has(key, c.id), result = hidlog_key_add(key, 7, &c);
+    int32_t after = hidlog_key_credentials(key);
+    int is_wrong = c.user_len > 64 || c.name_len > 64 || c.discoverable > 1;
+    if ((result == 0 && (is_wrong || after != before + 1 - is_there || !has(key, c.id))) ||
+        (result != 0 && (after != before || (is_wrong && result != HIDLOG_KEY_BAD_ARGUMENT)))) {
+        abort();
+    }
+}
+
+static void remove_one(struct hidlog_key *key, struct bytes *from) {
+    uint8_t id[32] = {0};
+    struct hidlog_credential credential;
+    if (hidlog_key_credential(key, next_byte(from) % 4, &credential) == 0) {
+        memcpy(id, credential.id, sizeof id);
+    }
+    int is_there = has(key, id);
+    if (hidlog_key_remove(key, 8, id) != (is_there ? 0 : HIDLOG_KEY_BAD_ARGUMENT) || has(key, id)) {
+        abort();
+    }
+}
+
+// Puts credentials in and takes them out, unless work waits.
+static void change(struct hidlog_key *key, struct bytes *from) {
+    struct hidlog_need need;
+    save(key);
+    if (hidlog_key_need(key, &need) != HIDLOG_NEED_NOTHING) {
+        if (hidlog_key_clear(key, 0) != HIDLOG_KEY_WORK_WAITS) {
+            abort();
+        }
+        return;
+    }
+    for (int i = 0; i < 72 && from->left > 0; i++) {
+        uint8_t which = next_byte(from) % 16;
+        if (which == 0 && hidlog_key_clear(key, 9) != 0) {
+            abort();
+        } else if (which < 4) {
+            remove_one(key, from);
+        } else {
+            add_one(key, from);
+        }
+        save(key);
     }
 }
 
@@ -202,7 +279,8 @@ int LLVMFuzzerTestOneInput(const uint8_t *data, size_t size) {
     if (key.memory == NULL || hidlog_key_make(&key, aaguid, 0, data, 0) != 0) {
         abort();
     }
-    for (int i = 0; i < INPUTS && from.left > 0; i++) {
+    int inputs = next_byte(&from) % (INPUTS + 1);
+    for (int i = 0; i < inputs && from.left > 0; i++) {
         uint8_t step = next_byte(&from);
         at += step < 200 ? step : (uint64_t)step * 50;
         int32_t waiting = input(&key, &from, at);
@@ -211,6 +289,10 @@ int LLVMFuzzerTestOneInput(const uint8_t *data, size_t size) {
         look(&key);
     }
     end(&key);
+    change(&key, &from);
+    if (hidlog_key_free(&key) != 0 || hidlog_key_tick(&key, 0) != HIDLOG_KEY_NOT_MADE) {
+        abort();
+    }
     free(key.memory);
     return 0;
 }
