@@ -1,0 +1,88 @@
+#!/usr/bin/env python3
+"""Finds words that this repository doesn't use where a plainer one says the same (docs/WORKING_HERE.md, "How a change goes").
+
+    tests/words.py [PAGE ..]    by default README.md, the pages of docs/ and the comments of the crates' code
+
+A page may hold none of them, except in code, links and outputs. In older pages and in the code's comments there are still
+some: their number is below, and may only get smaller. Ends with 1 where there are more.
+"""
+
+from __future__ import annotations
+
+import re
+import sys
+from pathlib import Path
+
+TOP = Path(__file__).resolve().parent.parent
+WORDS = {
+    "return, write, send or yield, not give": r"\b(?:gives|gave|giving|to give|that give|which give)\b(?! (?:up|out)\b)",
+    "capacity or space, not room": r"\broom\b",
+    "be, hold or wait, not stand": r"\bstands?\b(?!-)",
+    "say or report, not tell": r"\b(?:tells?|told)\b",
+    "allocate, not take memory": r"\btakes? (?:no |any )?memory\b",
+    "except or without, not less or but for": r"\bbut for\b|, less (?:the|what)\b",
+    "there is none, not none is had": r"\b(?:is|are) had\b",
+    "fail, not give up": r"\bgiv(?:e|es|en|ing) up\b",
+}
+# What is left in a page, or in a crate's comments (the folder of its code). These numbers only get smaller.
+LEFT = {
+    "docs/CONFORMANCE.md": 5,
+    "docs/DECISIONS.md": 46,
+    "docs/DEFINITIONS.md": 22,
+    "docs/READING.md": 21,
+    "crates": 204,
+}
+EXCEPTIONS = (
+    re.compile(r"`[^`]*`"),  # names of code
+    re.compile(r"\]\([^)]*\)"),  # links
+    re.compile(r"^    .*"),  # what a program prints
+)
+
+
+def pages() -> list[Path]:
+    return [TOP / "README.md", TOP / "CHANGELOG.md", TOP / "SECURITY.md", *sorted((TOP / "docs").glob("*.md"))]
+
+
+def comments() -> list[Path]:
+    return sorted((TOP / "crates").glob("*/src/**/*.rt"))
+
+
+def lines_of(path: Path) -> list[str]:
+    """Returns the lines that a person reads: all of a page, the comments of code."""
+    text = path.read_text(encoding="utf-8").splitlines()
+    if path.suffix == ".md":
+        return text
+    return [line.strip() if re.match(r"\s*//[/!]? ", line) else "" for line in text]
+
+
+def found_in(path: Path) -> list[str]:
+    """Returns each word that is found, with its place and what to write."""
+    found = []
+    for number, line in enumerate(lines_of(path), 1):
+        for exception in EXCEPTIONS:
+            line = exception.sub("", line)
+        for advice, pattern in WORDS.items():
+            found += [f"{path.relative_to(TOP)}:{number}: {it.group(0)}: {advice}" for it in re.finditer(pattern, line)]
+    return found
+
+
+def too_many(name: str, found: list[str]) -> bool:
+    """Says where there are more than were left. Returns whether there are."""
+    left = LEFT.get(name, 0)
+    if len(found) > left:
+        print("\n".join(found))
+        print(f"{name}: {len(found)} words, and {left} are left")
+    return len(found) > left
+
+
+def main() -> int:
+    given = [Path(it).resolve() for it in sys.argv[1:]]
+    wrong = [too_many(str(it.relative_to(TOP)), found_in(it)) for it in given or pages()]
+    if not given:
+        wrong.append(too_many("crates", [line for it in comments() for line in found_in(it)]))
+    print(f"{len(wrong)} places, {sum(wrong)} with words that came back")
+    return 1 if any(wrong) else 0
+
+
+if __name__ == "__main__":
+    sys.exit(main())
