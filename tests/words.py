@@ -30,6 +30,7 @@ LEFT = {
     "docs/DECISIONS.md": 46,
     "docs/DEFINITIONS.md": 22,
     "docs/READING.md": 21,
+    "docs/WORKING_HERE.md": 1,  # where the words are named
     "crates": 204,
 }
 EXCEPTIONS = (
