@@ -1,7 +1,7 @@
-// web/security_key.js against python-fido2's server: what a service tests, with the key in the place of
+// The key against python-fido2's server: what a service tests, with the key in the place of
 // navigator.credentials.
-import { install, makeKey } from "../../web/security_key.js";
-import { expect, post, rejection, results, run, wait } from "./harness.js";
+import { install, SecurityKey } from "../../web/dist/security_key.mjs";
+import { expect, post, rejection, results, run, until, wait } from "./harness.js";
 
 const fromText = (text) => {
     const plain = atob(text.replaceAll("-", "+").replaceAll("_", "/"));
@@ -83,7 +83,7 @@ const choosesAmongAccounts = async (key) => {
     await register({ user: "ann", resident: true });
     await register({ user: "bob", resident: true });
     expect((await signIn()).user === "bob", "the newest account comes first");
-    key.choose = (accounts) => accounts.findIndex((it) => new TextDecoder().decode(it.userHandle) === "ann");
+    key.account = (accounts) => accounts.find((it) => it.userHandle === btoa("ann") && it.userName === "ann");
     expect((await signIn()).user === "ann", "the account that is chosen");
 };
 
@@ -123,18 +123,18 @@ const servesOneAtATime = async (key) => {
     const first = register({ user: "ann" });
     await wait(50);
     const options = { challenge: new Uint8Array(32), rpId: "localhost" };
-    await isRefused(navigator.credentials.get({ publicKey: options }), "NotAllowedError");
+    await isRefused(navigator.credentials.get({ publicKey: options }), "OperationError");
     await first;
 };
 
 const asksByAClick = async (key) => {
     key.presence = "click";
     const registering = register({ user: "ann" });
-    await wait(50);
+    await until(() => document.querySelector("dialog button"), "a dialog");
     document.querySelector("dialog button").click();
     await registering;
     const signing = isRefused(signIn({ user: "ann" }), "NotAllowedError");
-    await wait(50);
+    await until(() => document.querySelector("dialog button"), "a dialog");
     document.querySelectorAll("dialog button")[1].click();
     await signing;
     expect(!document.querySelector("dialog"), "the dialog is gone");
@@ -148,9 +148,6 @@ const refusesWhatItCannot = async () => {
     await isRefused(register({ user: "ann" }, { publicKey: other }), "NotAllowedError");
     const none = { pubKeyCredParams: [{ type: "password", alg: -7 }] };
     await isRefused(register({ user: "ann" }, { publicKey: none }), "NotSupportedError");
-    const unnamed = { user: { id: new Uint8Array(0), name: "", displayName: "" } };
-    const error = await rejection(register({ user: "ann" }, { publicKey: unnamed }));
-    expect(error instanceof TypeError, "a user without an id");
     await isRefused(signIn({ user: "ann" }), "NotAllowedError");
 };
 
@@ -182,7 +179,7 @@ const callWebCrypto = async () => {
 /** A registration and a sign-in with a new key. */
 const registerAndSignIn = async () => {
     const options = (more) => ({ publicKey: { challenge: new Uint8Array(32), rpId: "localhost", ...more } });
-    const key = await makeKey({ clock: steady() });
+    const key = new SecurityKey({ clock: steady() });
     const made = await key.create(options({
         rp: { id: "localhost", name: "A service" }, user: { id: Uint8Array.of(1), name: "ann", displayName: "Ann" },
         pubKeyCredParams: [{ type: "public-key", alg: -7 }],
