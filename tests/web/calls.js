@@ -1,7 +1,7 @@
 // The calls that are made of Chromium's virtual authenticator and of the key: each registers or signs in with one option
 // or one wrong argument, and gives what a page would see of it.
 
-const HANGS = 1500;
+const HANGS = 400;
 const bytes = (...list) => Uint8Array.of(...list);
 const challenge = () => new Uint8Array(32).fill(7);
 const text = (buffer) => new TextDecoder().decode(buffer);
@@ -36,7 +36,7 @@ const seenOfRegistration = (made) => {
         type: made.type, attachment: made.authenticatorAttachment, idBytes: made.rawId.byteLength,
         clientData: JSON.parse(text(response.clientDataJSON)), flags: authData[32] & 0x45,
         counter: new DataView(authData.buffer).getUint32(33),
-        transports: response.getTransports(), algorithm: response.getPublicKeyAlgorithm(),
+        fmt: /fmt.(packed|none)/.exec(text(response.attestationObject))?.[1], transports: response.getTransports(), algorithm: response.getPublicKeyAlgorithm(),
         spkiBytes: response.getPublicKey()?.byteLength, extensions: made.getClientExtensionResults(),
         json: Object.keys(json).sort(), responseJson: Object.keys(json.response).sort(),
         isSameId: json.id === made.id && json.rawId === made.id, own: JSON.stringify(made) === JSON.stringify(json),
@@ -165,7 +165,8 @@ const optionsOfRegistration = () => ({
     "create, userVerification required": () => create(selection({ userVerification: "required" })),
     "create, userVerification preferred": () => create(selection({ userVerification: "preferred" })),
     "create, userVerification unknown": () => create(selection({ userVerification: "maybe" })),
-    "create, attachment platform": () => create(selection({ authenticatorAttachment: "platform" })),
+    "create, attachment platform": () =>
+        create(selection({ authenticatorAttachment: "platform" }), { signal: AbortSignal.timeout(HANGS) }),
     "create, attachment cross-platform": () => create(selection({ authenticatorAttachment: "cross-platform" })),
     "create, attachment unknown": () => create(selection({ authenticatorAttachment: "internal" })),
     "create, authenticatorSelection null": () => create(selection(null)),
@@ -177,7 +178,8 @@ const optionsOfRegistration = () => ({
     "create, attestation unknown": () => create(creation({ attestation: "some" })),
     "create, hints unknown": () => create(creation({ hints: ["pigeon"] })),
     "create, mediation unknown": () => create(creation(), { mediation: "now" }),
-    "create, mediation conditional": () => create(creation(), { mediation: "conditional" }),
+    "create, mediation conditional": () =>
+        create(creation(), { mediation: "conditional", signal: AbortSignal.timeout(HANGS) }),
     "create, mediation silent": () => create(creation(), { mediation: "silent" }),
     "create, mediation required": () => create(creation(), { mediation: "required" }),
     "create, signal not a signal": () => create(creation(), { signal: {} }),
@@ -187,7 +189,9 @@ const optionsOfRegistration = () => ({
     "create, aborted before, and wrong": () => create(without("challenge"), { signal: AbortSignal.abort() }),
     "create, aborted before, and of another site": () =>
         create(creation({ rp: { name: "A", id: "example.com" } }), { signal: AbortSignal.abort() }),
-    "create, password too": () => navigator.credentials.create({ publicKey: creation(), password: {} }),
+    "create, password too": () => navigator.credentials.create({
+        publicKey: creation(), password: { id: "ann", password: "x", origin: location.origin },
+    }),
     "create detached": () => (0, navigator.credentials.create)({ publicKey: creation() }),
 });
 
@@ -266,7 +270,8 @@ const signIns = () => ({
     }),
     "get, an unknown type": async () => get(allowing(await register(), { type: "other" })),
     "get, no type": async () => get(allowing(await register(), { type: undefined })),
-    "get, transports of another kind": async () => get(allowing(await register(), { transports: ["internal"] })),
+    "get, transports of another kind": async () =>
+        get(allowing(await register(), { transports: ["internal"] }), { signal: AbortSignal.timeout(HANGS) }),
     "get, unknown transports": async () => get(allowing(await register(), { transports: ["pigeon"] })),
     "get, transports a text": async () => get(allowing(await register(), { transports: "usb" })),
     "get, userVerification required": signIn({ userVerification: "required" }),
@@ -404,15 +409,11 @@ export const callsOf = (environment) => ({
     ...atTheSameTime(environment),
 });
 
-/** What came of a call: a value, or an error's name and text. A call that hangs is said to. */
+/** What came of a call: a value, or an error's name and text. */
 export const outcomeOf = async (call) => {
-    const hangs = new Promise((done) => setTimeout(done, HANGS, { hangs: true }));
-    const made = (async () => {
-        try {
-            return { value: (await call()) ?? null };
-        } catch (error) {
-            return { error: error?.name ?? String(error), text: error?.message ?? "" };
-        }
-    })();
-    return Promise.race([made, hangs]);
+    try {
+        return { value: (await call()) ?? null };
+    } catch (error) {
+        return { error: error?.name ?? String(error), text: error?.message ?? "" };
+    }
 };

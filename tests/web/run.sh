@@ -24,7 +24,7 @@ run_pages() {
     done
     if [ "$browser" = chromium ]; then
         open_from_file
-        "$with_fido2" "$here/virtual_authenticator.py" || true
+        "$with_fido2" "$here/virtual_authenticator.py" || [ $? = 3 ] || failed=1
     fi
     check_logs "$room/$browser"
 }
@@ -56,6 +56,11 @@ check_logs() {
 }
 
 "$top/web/build.sh" --check || failed=1
+if command -v tsc >/dev/null; then
+    tsc -p "$top/web/tsconfig.json" || failed=1
+else
+    echo "tests/web: tsc is missing, types are not checked (apt-get install node-typescript)" >&2
+fi
 wanted=${1:-all}
 if [ "$wanted" != firefox ]; then
     if command -v chromium >/dev/null; then

@@ -6,6 +6,7 @@ address after the words, and waits for what the page posts to /done. Logs that t
 It ends with 0 where all tests of the page passed.
 """
 
+import contextlib
 import json
 import os
 import signal
@@ -57,26 +58,31 @@ class Handler(SimpleHTTPRequestHandler):
     def log_message(self, *_):
         """Says nothing of each request."""
 
-    def do_POST(self):
+    def answer(self, path, given):
         """Answers a call of the page."""
-        given = json.loads(self.rfile.read(int(self.headers["Content-Length"])))
-        status, answer = 200, {}
-        if self.path == "/done":
+        if path == "/done":
             self.server.results = given
             self.server.is_done.set()
-        elif self.path == "/processor":
-            answer = {"seconds": processor_seconds(self.server.browser)}
-        else:
-            try:
-                answer = getattr(self.server.relying_party, self.path.removeprefix("/rp/"))(**given)
-            except Exception as error:
-                status, answer = 400, {"error": f"{type(error).__name__}: {error}"}
+            return {}
+        if path == "/processor":
+            return {"seconds": processor_seconds(self.server.browser)}
+        return getattr(self.server.relying_party, path.removeprefix("/rp/"))(**given)
+
+    def do_POST(self):
+        """Answers a call of the page, and an error with its text."""
+        given = json.loads(self.rfile.read(int(self.headers["Content-Length"])))
+        try:
+            status, answer = 200, self.answer(self.path, given)
+        except Exception as error:
+            status, answer = 400, {"error": f"{type(error).__name__}: {error}"}
         body = json.dumps(answer).encode()
         self.send_response(status)
         self.send_header("Content-Type", "application/json")
         self.send_header("Content-Length", str(len(body)))
         self.end_headers()
-        self.wfile.write(body)
+        # The browser may be closed by now.
+        with contextlib.suppress(ConnectionError):
+            self.wfile.write(body)
 
 
 def run_browser(words, url, server):

@@ -2618,9 +2618,12 @@ const originsAbove = () => {
         return Array.from(listed);
     }
     const origins = [];
-    for (let frame = globalThis; frame.parent && frame.parent !== frame; frame = frame.parent) {
+    /** @type {Window | undefined} */
+    let frame = globalThis.window;
+    while (frame?.parent && frame.parent !== frame) {
+        frame = frame.parent;
         try {
-            origins.push(frame.parent.location.origin);
+            origins.push(frame.location.origin);
         } catch {
             origins.push(null);
         }
@@ -2642,7 +2645,7 @@ const crossing = (origin) => {
 
 /** A frame of another origin needs leave of the frames above. @param {"create" | "get"} name @param {string} origin */
 const checkPolicy = (name, origin) => {
-    const policy = globalThis.document?.featurePolicy;
+    const { featurePolicy: policy } = /** @type {any} */ (globalThis.document ?? {});
     const feature = `publickey-credentials-${name}`;
     if (crossing(origin).crossOrigin && policy && !policy.allowsFeature(feature)) {
         throw failure("NotAllowedError", `The '${feature}' feature is not enabled in this document. Permissions Policy may `
@@ -2916,6 +2919,7 @@ const accountOf = async (accounts, which) => {
 /** What a test picks, for sign-ins that wait for it. */
 class Choices {
     #queue = [];
+    /** @type {(value?: unknown) => void} */
     #wake = () => {};
 
     /** Picks for the sign-in that waits, or for the next one. Gives the account once it is signed in. */
@@ -3372,7 +3376,7 @@ const dictionariesOf = (bytes, suffix) => {
     });
     const extensions = dictionary(`AuthenticationExtensionsClientInputs${suffix}`, {
         appid: optional(text), appidExclude: optional(text), credBlob: optional(bytes), credProps: optional(boolean),
-        credentialProtectionPolicy: optional(text), enforceCredentialProtectionPolicy: optional(boolean),
+        credentialProtectionPolicy: optional(text), enforceCredentialProtectionPolicy: optional(boolean, false),
         getCredBlob: optional(boolean), hmacCreateSecret: optional(boolean), largeBlob: optional(largeBlob),
         minPinLength: optional(boolean), prf: optional(prf), uvm: optional(boolean),
     });
@@ -3525,7 +3529,9 @@ const rowsIn = (state, credentials) => {
     return state.credentials.map((it) => credentials.restored(it, fromBase64url(it.rpIdHash)));
 };
 
-/** @param {unknown} store */
+/** @typedef {Pick<Storage, "getItem" | "setItem">} KeptIn */
+
+/** @param {any} store */
 const checkStore = (store) => {
     const isStore = typeof store?.getItem === "function" && typeof store?.setItem === "function";
     checkKind("store", store, isStore, "a Storage, such as sessionStorage");
@@ -3535,7 +3541,7 @@ const checkStore = (store) => {
 class Store {
     #seen = null;
 
-    /** @param {Storage} storage */
+    /** @param {KeptIn} storage */
     constructor(storage) {
         this.storage = storage;
     }
@@ -3891,7 +3897,8 @@ class SecurityKey extends EventTarget {
 
     #pageOrigin() {
         const origin = this.#origin ?? globalThis.location?.origin;
-        checkKind("origin", origin, URL.canParse?.(origin) ?? Boolean(origin), "this page's, or the option origin of install");
+        checkKind("origin", origin, typeof origin === "string" && /^https?:\/\/./.test(origin),
+            "a page's, such as https://example.com; where there is no page, give install the option origin");
         return origin;
     }
 
@@ -4059,7 +4066,7 @@ class SecurityKey extends EventTarget {
     once(type) {
         checkName("event", type, EVENTS);
         return new Promise((done) => {
-            this.addEventListener(type, (event) => done(event.detail), { once: true });
+            this.addEventListener(type, (/** @type {CustomEvent} */ event) => done(event.detail), { once: true });
         });
     }
 }

@@ -27,6 +27,7 @@ export const accountOf = async (accounts, which) => {
 /** What a test picks, for sign-ins that wait for it. */
 export class Choices {
     #queue = [];
+    /** @type {(value?: unknown) => void} */
     #wake = () => {};
 
     /** Picks for the sign-in that waits, or for the next one. Gives the account once it is signed in. */

@@ -21,7 +21,7 @@ const dictionariesOf = (bytes, suffix) => {
     });
     const extensions = dictionary(`AuthenticationExtensionsClientInputs${suffix}`, {
         appid: optional(text), appidExclude: optional(text), credBlob: optional(bytes), credProps: optional(boolean),
-        credentialProtectionPolicy: optional(text), enforceCredentialProtectionPolicy: optional(boolean),
+        credentialProtectionPolicy: optional(text), enforceCredentialProtectionPolicy: optional(boolean, false),
         getCredBlob: optional(boolean), hmacCreateSecret: optional(boolean), largeBlob: optional(largeBlob),
         minPinLength: optional(boolean), prf: optional(prf), uvm: optional(boolean),
     });

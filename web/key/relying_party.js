@@ -55,9 +55,12 @@ const originsAbove = () => {
         return Array.from(listed);
     }
     const origins = [];
-    for (let frame = globalThis; frame.parent && frame.parent !== frame; frame = frame.parent) {
+    /** @type {Window | undefined} */
+    let frame = globalThis.window;
+    while (frame?.parent && frame.parent !== frame) {
+        frame = frame.parent;
         try {
-            origins.push(frame.parent.location.origin);
+            origins.push(frame.location.origin);
         } catch {
             origins.push(null);
         }
@@ -79,7 +82,7 @@ const crossing = (origin) => {
 
 /** A frame of another origin needs leave of the frames above. @param {"create" | "get"} name @param {string} origin */
 export const checkPolicy = (name, origin) => {
-    const policy = globalThis.document?.featurePolicy;
+    const { featurePolicy: policy } = /** @type {any} */ (globalThis.document ?? {});
     const feature = `publickey-credentials-${name}`;
     if (crossing(origin).crossOrigin && policy && !policy.allowsFeature(feature)) {
         throw failure("NotAllowedError", `The '${feature}' feature is not enabled in this document. Permissions Policy may `

@@ -199,7 +199,8 @@ export class SecurityKey extends EventTarget {
 
     #pageOrigin() {
         const origin = this.#origin ?? globalThis.location?.origin;
-        checkKind("origin", origin, URL.canParse?.(origin) ?? Boolean(origin), "this page's, or the option origin of install");
+        checkKind("origin", origin, typeof origin === "string" && /^https?:\/\/./.test(origin),
+            "a page's, such as https://example.com; where there is no page, give install the option origin");
         return origin;
     }
 
@@ -367,7 +368,7 @@ export class SecurityKey extends EventTarget {
     once(type) {
         checkName("event", type, EVENTS);
         return new Promise((done) => {
-            this.addEventListener(type, (event) => done(event.detail), { once: true });
+            this.addEventListener(type, (/** @type {CustomEvent} */ event) => done(event.detail), { once: true });
         });
     }
 }

@@ -21,7 +21,9 @@ export const rowsIn = (state, credentials) => {
     return state.credentials.map((it) => credentials.restored(it, fromBase64url(it.rpIdHash)));
 };
 
-/** @param {unknown} store */
+/** @typedef {Pick<Storage, "getItem" | "setItem">} KeptIn */
+
+/** @param {any} store */
 export const checkStore = (store) => {
     const isStore = typeof store?.getItem === "function" && typeof store?.setItem === "function";
     checkKind("store", store, isStore, "a Storage, such as sessionStorage");
@@ -31,7 +33,7 @@ export const checkStore = (store) => {
 export class Store {
     #seen = null;
 
-    /** @param {Storage} storage */
+    /** @param {KeptIn} storage */
     constructor(storage) {
         this.storage = storage;
     }

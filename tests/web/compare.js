@@ -1,0 +1,120 @@
+// The same calls of Chromium's own virtual authenticator and of the key, in one page: what a page sees of each, and where
+// that differs, why.
+import { install } from "../../web/dist/security_key.mjs";
+import { callsOf, outcomeOf } from "./calls.js";
+import { post, results } from "./harness.js";
+
+const ROUNDS = 60;
+
+/** Why a call may differ: by the call's name, and the part that differs. */
+const REASONS = [
+    [/./, /flags$/, "the key verifies no users, so the flag UV isn't set"],
+    [/./, /counter$/, "a new credential's counter is 0 (docs/PROFILE.md)"],
+    [/./, /fmt$/, "a self attestation with no AAGUID is handed on, as WebAuthn says; Chromium's has a certificate"],
+    [/userVerification required/, /./, "the key verifies no users"],
+    [/RS256/, /./, "the key makes ES256 keys alone"],
+    [/conditional/, /./, "the sign-in waits until the test picks an account; Chromium's signs in by itself"],
+    [/attachment platform|of another kind/, /./, "no such authenticator: refused at once, where Chromium waits for one"],
+    [/in the same turn/, /./, "an aborted request is over at once; Chromium's answer may come before"],
+    [/isConditionalMediationAvailable|getClientCapabilities/, /./, "they say what this key does"],
+];
+
+/** The parts of a value by their paths. */
+const partsOf = (value, path = "") => {
+    if (typeof value !== "object" || value === null || Array.isArray(value)) {
+        return [[path, JSON.stringify(value)]];
+    }
+    return Object.entries(value).flatMap(([name, inner]) => partsOf(inner, path ? `${path}.${name}` : name));
+};
+
+/** What is compared of an outcome: all but an error's text, and a member that Chromium adds at random. */
+const comparedOf = ({ text, ...outcome }) =>
+    new Map(partsOf(outcome).filter(([path]) => !path.includes("other_keys_can_be_added_here")));
+
+/** The differences of two outcomes, with their reasons. */
+const differences = (name, native, own) => {
+    const [one, other] = [comparedOf(native), comparedOf(own)];
+    const isOtherEnd = one.has("error") !== other.has("error");
+    const paths = isOtherEnd ? ["error"] : [...new Set([...one.keys(), ...other.keys()])];
+    return paths.filter((path) => one.get(path) !== other.get(path)).map((path) => ({
+        name, path, native: one.get(path) ?? "done", own: other.get(path) ?? "done",
+        reason: REASONS.find(([call, part]) => call.test(name) && part.test(path))?.[2],
+    }));
+};
+
+const outcomesOf = async (environment) => {
+    const outcomes = new Map();
+    for (const [name, call] of Object.entries(callsOf(environment))) {
+        await environment.clear();
+        outcomes.set(name, await outcomeOf(call));
+    }
+    return outcomes;
+};
+
+const options = (more) => ({ publicKey: { challenge: new Uint8Array(32), ...more } });
+
+/** The median of a registration and a sign-in, in milliseconds. */
+const median = async () => {
+    const all = [];
+    for (let round = 0; round < ROUNDS; round += 1) {
+        const begun = performance.now();
+        const made = await navigator.credentials.create(options({
+            rp: { id: "localhost", name: "A service" }, user: { id: Uint8Array.of(round), name: "ann", displayName: "Ann" },
+            pubKeyCredParams: [{ type: "public-key", alg: -7 }],
+        }));
+        await navigator.credentials.get(options({ allowCredentials: [{ type: "public-key", id: made.rawId }] }));
+        all.push(performance.now() - begun);
+    }
+    return all.sort((one, other) => one - other)[ROUNDS / 2].toFixed(2);
+};
+
+/** Prints the differences of each reason, and fails at one that has none. */
+const report = (found, count, sameTexts) => {
+    const lines = new Map();
+    for (const { name, path, native, own, reason } of found) {
+        const said = `${name}: ${path} ${native}, here ${own}`;
+        lines.set(reason, [...(lines.get(reason) ?? []), reason === undefined ? said : name]);
+    }
+    const other = new Set(found.filter(({ path }) => !/(flags|counter|fmt)$/.test(path)).map((it) => it.name)).size;
+    results.figures.push(`${count} calls, of which ${count - other} gave the same but for UV, counter and fmt; of the`
+        + ` errors ${sameTexts}`);
+    for (const [reason, names] of lines) {
+        const shown = names.length > 4 ? `${names.length} calls` : names.join("; ");
+        results.figures.push(`${reason ?? "NO REASON"}: ${shown}`);
+    }
+    const error = (lines.get(undefined) ?? []).join("\n");
+    results.tests.push({ name: `${count} calls beside Chromium's virtual authenticator`, error });
+};
+
+/** How many errors of the same name have the same text. */
+const textsOf = (native, own) => {
+    const both = [...native].filter(([name, it]) => it.error && it.error === own.get(name).error);
+    const same = both.filter(([name, it]) => it.text === own.get(name).text);
+    return `${same.length} of ${both.length} have the same text`;
+};
+
+const compare = async () => {
+    const devtools = (command, parameters = {}) => post("/devtools", { command, parameters });
+    const native = await outcomesOf({
+        presence: (enabled) => devtools("WebAuthn.setAutomaticPresenceSimulation", { enabled }),
+        clear: () => devtools("WebAuthn.clearCredentials"),
+    });
+    const nativeTime = await median();
+    const key = install();
+    const own = await outcomesOf({
+        presence: (enabled) => key.setAutomaticPresenceSimulation(enabled), clear: () => key.clearCredentials(),
+    });
+    await key.clearCredentials();
+    const ownTime = await median();
+    key.uninstall();
+    const found = [...native].flatMap(([name, outcome]) => differences(name, outcome, own.get(name)));
+    report(found, native.size, textsOf(native, own));
+    results.figures.push(`a registration and a sign-in by the clock: Chromium's ${nativeTime} ms, here ${ownTime} ms`);
+};
+
+try {
+    await compare();
+} catch (error) {
+    results.tests.push({ name: "the comparison", error: `${error}\n${error.stack}` });
+}
+await post("/done", results);
