@@ -2379,6 +2379,7 @@ return { STATUSES, statusName };
 
 parts["authenticator.js"] = (() => {
 // CTAP2 over CTAPHID to the proved core: requests in, answers out, and the caller that gives the key what it needs.
+const { toHex } = parts["bytes.js"];
 const { CANCEL, CBOR, Collector, INIT } = parts["packets.js"];
 const { clearInterval, pause, setInterval, unlessEnded } = parts["platform.js"];
 const { Session } = parts["session.js"];
@@ -2497,12 +2498,14 @@ class Authenticator {
         if (!message && this.faults.delay) {
             this.session.recording.note(`fault: ${this.faults.delay} ms pass before the answer`);
             await this.#passing(pause(this.faults.delay, turn.signal), turn.signal);
+            turn.signal.throwIfAborted();
         }
         while (!message) {
+            turn.signal.throwIfAborted();
             message = this.#collector.add(await this.#worked(turn));
         }
         if (message.command !== CBOR) {
-            throw new Error("the authenticator did not answer");
+            throw new Error(`the authenticator answered with message ${message.command} ${toHex(message.bytes)}`);
         }
         return message.bytes;
     }
@@ -2514,23 +2517,30 @@ class Authenticator {
         if (word === "granted") {
             await this.#passing(turn.enter(), turn.signal);
         }
+        turn.signal.throwIfAborted();
         // Where other credentials came meanwhile, the request is sent again to the session that has them.
         const answer = session === this.session ? null : this.#send(bytes);
         return answer ?? this.#collector.add(this.session.presence(word));
     }
 
-    /** Gives the key what it needs beside the user. @param {Turn} turn */
+    /**
+     * Gives the key what it needs beside the user. After each wait the request may be over, and another one served.
+     * @param {Turn} turn
+     */
     async #worked({ signal, made }) {
         const { need } = this.session;
         if (need.kind === "key") {
             const pair = await unlessEnded(this.privateKeys.make(), signal);
+            signal.throwIfAborted();
             made(pair.id);
             return this.session.newKey(pair);
         }
         if (need.kind === "signature") {
-            return this.session.signature(await unlessEnded(this.#sign(need), signal));
+            const signature = await unlessEnded(this.#sign(need), signal);
+            signal.throwIfAborted();
+            return this.session.signature(signature);
         }
-        throw new Error("the authenticator did not answer");
+        throw new Error(`the authenticator did not answer, and needs ${need.kind}`);
     }
 
     /** @param {import("./held.js").Need} need */
@@ -2755,6 +2765,7 @@ return { checkCreationExtensions, creationResults, checkRequestExtensions, reque
 
 parts["ceremonies.js"] = (() => {
 // Registration and sign-in: what of the page's options goes to the authenticator, as requests of CTAP2.
+const { fromBase64url } = parts["bytes.js"];
 const { writeCbor } = parts["cbor.js"];
 const { checkCreationExtensions, checkRequestExtensions } = parts["extensions.js"];
 const { notAllowed, notSupported } = parts["errors.js"];
@@ -2855,7 +2866,7 @@ const signInOf = (options, origin) => {
     return {
         rpId, extensions, question: `Sign in at ${rpId}?`, allowed: allowed.map((it) => it.get("id")),
         request: (hash, list = allowed) => requestOf(GET_ASSERTION, [rpId, hash, filled(list)]),
-        only: (credentialId) => descriptorsOf([{ type: PUBLIC_KEY, id: credentialId }]),
+        only: (credentialId) => descriptorsOf([{ type: PUBLIC_KEY, id: fromBase64url(credentialId) }]),
     };
 };
 return { GET_NEXT_ASSERTION, registrationOf, signInOf };
@@ -3642,6 +3653,7 @@ const checkPresence = (presence) => {
 class User {
     #presence;
     #delay;
+    #changes = new EventTarget();
 
     /** @param {{ presence: unknown, delay: unknown }} options */
     constructor({ presence, delay }) {
@@ -3656,6 +3668,7 @@ class User {
     set presence(presence) {
         checkPresence(presence);
         this.#presence = presence;
+        this.#changes.dispatchEvent(new Event("change"));
     }
 
     get delay() {
@@ -3667,9 +3680,12 @@ class User {
         this.#delay = delay;
     }
 
-    /** Whether the user answers by themselves. */
-    get isConsenting() {
-        return this.#presence !== "none";
+    /** Waits until presence is another. @param {AbortSignal} signal */
+    #changed(signal) {
+        const changed = new Promise((done) => {
+            this.#changes.addEventListener("change", done, { once: true });
+        });
+        return unlessEnded(changed, signal);
     }
 
     /**
@@ -3683,7 +3699,8 @@ class User {
         const presence = this.#presence;
         const word = typeof presence === "function" ? await unlessEnded(presence(question, signal), signal) : presence;
         if (word === "none") {
-            return unlessEnded(new Promise(() => {}), signal);
+            await this.#changed(signal);
+            return this.answer(question, signal);
         }
         if (word === "click") {
             return clicked(question, signal);

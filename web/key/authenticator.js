@@ -1,4 +1,5 @@
 // CTAP2 over CTAPHID to the proved core: requests in, answers out, and the caller that gives the key what it needs.
+import { toHex } from "./bytes.js";
 import { CANCEL, CBOR, Collector, INIT } from "./packets.js";
 import { clearInterval, pause, setInterval, unlessEnded } from "./platform.js";
 import { Session } from "./session.js";
@@ -117,12 +118,14 @@ export class Authenticator {
         if (!message && this.faults.delay) {
             this.session.recording.note(`fault: ${this.faults.delay} ms pass before the answer`);
             await this.#passing(pause(this.faults.delay, turn.signal), turn.signal);
+            turn.signal.throwIfAborted();
         }
         while (!message) {
+            turn.signal.throwIfAborted();
             message = this.#collector.add(await this.#worked(turn));
         }
         if (message.command !== CBOR) {
-            throw new Error("the authenticator did not answer");
+            throw new Error(`the authenticator answered with message ${message.command} ${toHex(message.bytes)}`);
         }
         return message.bytes;
     }
@@ -134,23 +137,30 @@ export class Authenticator {
         if (word === "granted") {
             await this.#passing(turn.enter(), turn.signal);
         }
+        turn.signal.throwIfAborted();
         // Where other credentials came meanwhile, the request is sent again to the session that has them.
         const answer = session === this.session ? null : this.#send(bytes);
         return answer ?? this.#collector.add(this.session.presence(word));
     }
 
-    /** Gives the key what it needs beside the user. @param {Turn} turn */
+    /**
+     * Gives the key what it needs beside the user. After each wait the request may be over, and another one served.
+     * @param {Turn} turn
+     */
     async #worked({ signal, made }) {
         const { need } = this.session;
         if (need.kind === "key") {
             const pair = await unlessEnded(this.privateKeys.make(), signal);
+            signal.throwIfAborted();
             made(pair.id);
             return this.session.newKey(pair);
         }
         if (need.kind === "signature") {
-            return this.session.signature(await unlessEnded(this.#sign(need), signal));
+            const signature = await unlessEnded(this.#sign(need), signal);
+            signal.throwIfAborted();
+            return this.session.signature(signature);
         }
-        throw new Error("the authenticator did not answer");
+        throw new Error(`the authenticator did not answer, and needs ${need.kind}`);
     }
 
     /** @param {import("./held.js").Need} need */

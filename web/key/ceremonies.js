@@ -1,4 +1,5 @@
 // Registration and sign-in: what of the page's options goes to the authenticator, as requests of CTAP2.
+import { fromBase64url } from "./bytes.js";
 import { writeCbor } from "./cbor.js";
 import { checkCreationExtensions, checkRequestExtensions } from "./extensions.js";
 import { notAllowed, notSupported } from "./errors.js";
@@ -99,6 +100,6 @@ export const signInOf = (options, origin) => {
     return {
         rpId, extensions, question: `Sign in at ${rpId}?`, allowed: allowed.map((it) => it.get("id")),
         request: (hash, list = allowed) => requestOf(GET_ASSERTION, [rpId, hash, filled(list)]),
-        only: (credentialId) => descriptorsOf([{ type: PUBLIC_KEY, id: credentialId }]),
+        only: (credentialId) => descriptorsOf([{ type: PUBLIC_KEY, id: fromBase64url(credentialId) }]),
     };
 };

@@ -38,6 +38,7 @@ const checkPresence = (presence) => {
 export class User {
     #presence;
     #delay;
+    #changes = new EventTarget();
 
     /** @param {{ presence: unknown, delay: unknown }} options */
     constructor({ presence, delay }) {
@@ -52,6 +53,7 @@ export class User {
     set presence(presence) {
         checkPresence(presence);
         this.#presence = presence;
+        this.#changes.dispatchEvent(new Event("change"));
     }
 
     get delay() {
@@ -63,9 +65,12 @@ export class User {
         this.#delay = delay;
     }
 
-    /** Whether the user answers by themselves. */
-    get isConsenting() {
-        return this.#presence !== "none";
+    /** Waits until presence is another. @param {AbortSignal} signal */
+    #changed(signal) {
+        const changed = new Promise((done) => {
+            this.#changes.addEventListener("change", done, { once: true });
+        });
+        return unlessEnded(changed, signal);
     }
 
     /**
@@ -79,7 +84,8 @@ export class User {
         const presence = this.#presence;
         const word = typeof presence === "function" ? await unlessEnded(presence(question, signal), signal) : presence;
         if (word === "none") {
-            return unlessEnded(new Promise(() => {}), signal);
+            await this.#changed(signal);
+            return this.answer(question, signal);
         }
         if (word === "click") {
             return clicked(question, signal);
