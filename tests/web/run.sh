@@ -43,10 +43,12 @@ open_from_file() {
 
 # The recordings are logs that replay exactly.
 check_logs() {
-    local log
+    local log snapshot
     for log in "$1"/*.log; do
         [ -e "$log" ] || continue
-        if "$program" check <"$log" >"$room/said" 2>&1; then
+        snapshot=()
+        [ ! -e "$log.snapshot" ] || snapshot=(--load "$log.snapshot")
+        if "$program" check "${snapshot[@]}" <"$log" >"$room/said" 2>&1; then
             echo "ok  hidlog check ${log##*/}: $(cat "$room/said")"
         else
             echo "FAILED  hidlog check ${log##*/}: $(cat "$room/said")"

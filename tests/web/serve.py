@@ -14,7 +14,9 @@ import subprocess
 import sys
 import tempfile
 import threading
+from base64 import b64decode
 from http.server import SimpleHTTPRequestHandler, ThreadingHTTPServer
+from urllib.parse import parse_qs, urlsplit
 
 from relying_party import RelyingParty
 
@@ -52,7 +54,11 @@ class Handler(SimpleHTTPRequestHandler):
         # Pages that are isolated get a clock of five microseconds.
         self.send_header("Cross-Origin-Opener-Policy", "same-origin")
         self.send_header("Cross-Origin-Embedder-Policy", "require-corp")
+        self.send_header("Cross-Origin-Resource-Policy", "cross-origin")
         self.send_header("Cache-Control", "no-store")
+        # A page names its own policy in its address.
+        for policy in parse_qs(urlsplit(self.path).query).get("csp", []):
+            self.send_header("Content-Security-Policy", policy)
         super().end_headers()
 
     def log_message(self, *_):
@@ -104,8 +110,9 @@ def report(results, folder):
         print(f"the page posted nothing within {SECONDS} seconds")
         return False
     for name, text in results["logs"].items():
-        with open(os.path.join(folder, name), "w", encoding="utf-8") as file:
-            file.write(text)
+        data = b64decode(text) if name.endswith(".snapshot") else text.encode()
+        with open(os.path.join(folder, name), "wb") as file:
+            file.write(data)
     for test in results["tests"]:
         print(f"{'ok' if not test['error'] else 'FAILED'}  {test['name']}{test['error'] and ': ' + test['error']}")
     for line in results["figures"]:
