@@ -396,11 +396,6 @@ const statics = () => ({
     ],
     "new PublicKeyCredential": async () => new PublicKeyCredential(),
     "preventSilentAccess": async () => (await navigator.credentials.preventSilentAccess()) ?? "undefined",
-    "signalUnknownCredential": async () => {
-        const { id } = await register();
-        await PublicKeyCredential.signalUnknownCredential({ rpId: "localhost", credentialId: id });
-        return "done";
-    },
 });
 
 /** All calls, by their names. @param environment what they need beside the page */
@@ -416,4 +411,10 @@ export const outcomeOf = async (call) => {
     } catch (error) {
         return { error: error?.name ?? String(error), text: error?.message ?? "" };
     }
+};
+
+/** How a call ended: "done", or an error's name; of two calls both. */
+export const endOf = ({ value, error }) => {
+    const isOfSeveral = Array.isArray(value) && value.every((it) => it === "done" || /Error$/.test(it));
+    return error ?? (isOfSeveral ? value.join(" and ") : "done");
 };

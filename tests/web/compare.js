@@ -1,23 +1,11 @@
 // The same calls of Chromium's own virtual authenticator and of the key, in one page: what a page sees of each, and where
 // that differs, why.
 import { install } from "../../web/dist/security_key.mjs";
-import { callsOf, outcomeOf } from "./calls.js";
+import { callsOf, endOf, outcomeOf } from "./calls.js";
 import { post, results } from "./harness.js";
+import { reasonOf } from "./reasons.js";
 
 const ROUNDS = 60;
-
-/** Why a call may differ: by the call's name, and the part that differs. */
-const REASONS = [
-    [/./, /flags$/, "the key verifies no users, so the flag UV isn't set"],
-    [/./, /counter$/, "a new credential's counter is 0 (docs/PROFILE.md)"],
-    [/./, /fmt$/, "a self attestation with no AAGUID is handed on, as WebAuthn says; Chromium's has a certificate"],
-    [/userVerification required/, /./, "the key verifies no users"],
-    [/RS256/, /./, "the key makes ES256 keys alone"],
-    [/conditional/, /./, "the sign-in waits until the test picks an account; Chromium's signs in by itself"],
-    [/attachment platform|of another kind/, /./, "no such authenticator: refused at once, where Chromium waits for one"],
-    [/in the same turn/, /./, "an aborted request is over at once; Chromium's answer may come before"],
-    [/isConditionalMediationAvailable|getClientCapabilities/, /./, "they say what this key does"],
-];
 
 /** The parts of a value by their paths. */
 const partsOf = (value, path = "") => {
@@ -38,7 +26,7 @@ const differences = (name, native, own) => {
     const paths = isOtherEnd ? ["error"] : [...new Set([...one.keys(), ...other.keys()])];
     return paths.filter((path) => one.get(path) !== other.get(path)).map((path) => ({
         name, path, native: one.get(path) ?? "done", own: other.get(path) ?? "done",
-        reason: REASONS.find(([call, part]) => call.test(name) && part.test(path))?.[2],
+        reason: reasonOf(name, path),
     }));
 };
 
@@ -108,6 +96,9 @@ const compare = async () => {
     const ownTime = await median();
     key.uninstall();
     const found = [...native].flatMap(([name, outcome]) => differences(name, outcome, own.get(name)));
+    const expected = [...native].filter(([name]) => !reasonOf(name, "error"));
+    const ends = Object.fromEntries(expected.map(([name, outcome]) => [name, endOf(outcome)]));
+    results.logs["chromium_outcomes.json"] = `${JSON.stringify(ends, null, 1)}\n`;
     report(found, native.size, textsOf(native, own));
     results.figures.push(`a registration and a sign-in by the clock: Chromium's ${nativeTime} ms, here ${ownTime} ms`);
 };

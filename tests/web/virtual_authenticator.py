@@ -1,9 +1,11 @@
 #!/usr/bin/env python3
 """Compares the key with Chromium's own virtual authenticator: what a page sees of the same calls, and how long they take.
 
-It opens compare.html with a virtual authenticator that verifies users, and prints what the page found.
+    virtual_authenticator.py            prints what compare.html found, whose virtual authenticator verifies users
+    virtual_authenticator.py --write    writes chromium_outcomes.json too: how each call ends in Chromium, for other browsers
 """
 
+import os
 import sys
 import threading
 from http.server import ThreadingHTTPServer
@@ -12,6 +14,7 @@ from driver import Driver, is_there
 from serve import Handler
 
 SECONDS = 90
+OUTCOMES = os.path.join(os.path.dirname(os.path.abspath(__file__)), "chromium_outcomes.json")
 AUTHENTICATOR = {
     "protocol": "ctap2",
     "transport": "usb",
@@ -55,6 +58,13 @@ def main():
     if results is None:
         print(f"FAILED  the comparison posted nothing within {SECONDS} seconds")
         return 1
+    outcomes = results["logs"].get("chromium_outcomes.json", "")
+    if "--write" in sys.argv:
+        with open(OUTCOMES, "w", encoding="utf-8") as file:
+            file.write(outcomes)
+    with open(OUTCOMES, encoding="utf-8") as file:
+        if file.read() != outcomes:
+            print(f"    {os.path.basename(OUTCOMES)} is of another Chromium: virtual_authenticator.py --write")
     for line in results["figures"]:
         print(f"    {line}")
     for test in results["tests"]:

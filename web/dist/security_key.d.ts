@@ -140,6 +140,11 @@ export function install(options?: Options): InstalledKey;
 /** The key in place, or null. */
 export function current(): InstalledKey | null;
 
+/** Calls a command of Chromium's DevTools domain WebAuthn on the key in place, such as "WebAuthn.getCredentials". */
+export function send(command: string, parameters?: object): Promise<any>;
+
 declare global {
-    var hidlogKey: { SecurityKey: typeof SecurityKey; install: typeof install; current: typeof current };
+    var hidlogKey: {
+        SecurityKey: typeof SecurityKey; install: typeof install; current: typeof current; send: typeof send;
+    };
 }

@@ -3,32 +3,6 @@
 "use strict";
 const parts = {};
 
-parts["errors.js"] = (() => {
-// The errors of a page's calls, with the texts that Chromium gives them.
-
-/** @param {string} name @param {string} text @returns {DOMException} */
-const failure = (name, text) => new DOMException(text, name);
-
-/** The one error that says no more than that it wasn't allowed. @param {string} why what it was, for whoever reads a test */
-const notAllowed = (why) => failure(
-    "NotAllowedError",
-    `The operation either timed out or was not allowed (${why}). `
-        + "See: https://www.w3.org/TR/webauthn-2/#sctn-privacy-considerations-client.",
-);
-
-/** @param {string} text */
-const notSupported = (text) => failure("NotSupportedError", text);
-
-const excluded = () => failure(
-    "InvalidStateError",
-    "The user attempted to register an authenticator that contains one of the credentials already registered with the "
-        + "relying party.",
-);
-
-const busy = () => failure("OperationError", "A request is already pending.");
-return { failure, notAllowed, notSupported, excluded, busy };
-})();
-
 parts["bytes.js"] = (() => {
 // Bytes, and the texts that stand for them.
 
@@ -118,6 +92,60 @@ const joined = (...parts) => {
     return bytes;
 };
 return { toHex, fromHex, utf8, fromBase64, toBase64url, fromBase64url, isBuffer, copyOf, bufferOf, isSame, joined };
+})();
+
+parts["checks.js"] = (() => {
+// Checks of what a test hands in: a typo is refused at once, with the words that there are.
+
+/** @param {unknown} value */
+const shown = (value) => (typeof value === "function" ? "a function" : JSON.stringify(value) ?? String(value));
+
+/** @param {string} what @param {string} name @param {readonly string[]} names those that there are */
+const checkName = (what, name, names) => {
+    if (!names.includes(name)) {
+        throw new TypeError(`there is no ${what} ${JSON.stringify(name)}; there are ${names.join(", ")}`);
+    }
+};
+
+/** @param {string} name @param {unknown} value @param {boolean} holds @param {string} wanted what it has to be */
+const checkKind = (name, value, holds, wanted) => {
+    if (!holds) {
+        throw new TypeError(`${name} is ${shown(value)}; it has to be ${wanted}`);
+    }
+};
+
+/** Refuses members that there aren't. @param {string} what @param {object} given @param {readonly string[]} names */
+const checkMembers = (what, given, names) => {
+    checkKind(`the ${what}s`, given, typeof given === "object" && given !== null, "an object");
+    Object.keys(given).forEach((name) => checkName(what, name, names));
+};
+return { checkName, checkKind, checkMembers };
+})();
+
+parts["errors.js"] = (() => {
+// The errors of a page's calls, with the texts that Chromium gives them.
+
+/** @param {string} name @param {string} text @returns {DOMException} */
+const failure = (name, text) => new DOMException(text, name);
+
+/** The one error that says no more than that it wasn't allowed. @param {string} why what it was, for whoever reads a test */
+const notAllowed = (why) => failure(
+    "NotAllowedError",
+    `The operation either timed out or was not allowed (${why}). `
+        + "See: https://www.w3.org/TR/webauthn-2/#sctn-privacy-considerations-client.",
+);
+
+/** @param {string} text */
+const notSupported = (text) => failure("NotSupportedError", text);
+
+const excluded = () => failure(
+    "InvalidStateError",
+    "The user attempted to register an authenticator that contains one of the credentials already registered with the "
+        + "relying party.",
+);
+
+const busy = () => failure("OperationError", "A request is already pending.");
+return { failure, notAllowed, notSupported, excluded, busy };
 })();
 
 parts["cbor.js"] = (() => {
@@ -2872,34 +2900,6 @@ const signInOf = (options, origin) => {
 return { GET_NEXT_ASSERTION, registrationOf, signInOf };
 })();
 
-parts["checks.js"] = (() => {
-// Checks of what a test hands in: a typo is refused at once, with the words that there are.
-
-/** @param {unknown} value */
-const shown = (value) => (typeof value === "function" ? "a function" : JSON.stringify(value) ?? String(value));
-
-/** @param {string} what @param {string} name @param {readonly string[]} names those that there are */
-const checkName = (what, name, names) => {
-    if (!names.includes(name)) {
-        throw new TypeError(`there is no ${what} ${JSON.stringify(name)}; there are ${names.join(", ")}`);
-    }
-};
-
-/** @param {string} name @param {unknown} value @param {boolean} holds @param {string} wanted what it has to be */
-const checkKind = (name, value, holds, wanted) => {
-    if (!holds) {
-        throw new TypeError(`${name} is ${shown(value)}; it has to be ${wanted}`);
-    }
-};
-
-/** Refuses members that there aren't. @param {string} what @param {object} given @param {readonly string[]} names */
-const checkMembers = (what, given, names) => {
-    checkKind(`the ${what}s`, given, typeof given === "object" && given !== null, "an object");
-    Object.keys(given).forEach((name) => checkName(what, name, names));
-};
-return { checkName, checkKind, checkMembers };
-})();
-
 parts["choices.js"] = (() => {
 // Which account signs in: what a test picks among those that the key finds.
 const { checkKind } = parts["checks.js"];
@@ -3098,6 +3098,12 @@ class Credentials {
             throw new RangeError(`the key holds no credential with the id ${toBase64url(id)}`);
         }
         return place;
+    }
+
+    /** Rows with one less. @param {Row[]} rows @param {any} credentialId */
+    static without(rows, credentialId) {
+        const place = Credentials.placeOf(rows, credentialId);
+        return rows.filter((_, at) => at !== place);
     }
 
     /** Rows with changed properties of one. @param {Row[]} rows @param {any} credentialId @param {any} properties */
@@ -3738,6 +3744,15 @@ const OPTIONS = ["presence", "delay", "account", "clock", "state", "store", "ori
 const EVENTS = ["credentialAdded", "credentialAsserted", "credentialDeleted", "credentialUpdated"];
 const CREDENTIAL_EXCLUDED = 0x19;
 
+/** The map that an answer is. @param {Uint8Array} bytes @returns {Map<number, any>} */
+const readAnswer = (bytes) => {
+    try {
+        return readCbor(bytes).value;
+    } catch (error) {
+        throw notAllowed(`the authenticator's answer is no CBOR: ${error.message}`);
+    }
+};
+
 /** Moments of the log: milliseconds since the key was made, or those of a test, never one earlier than the last. */
 const clockOf = (given, begun, state) => {
     const start = now();
@@ -3949,7 +3964,7 @@ class SecurityKey extends EventTarget {
     /** The answer of the key to a request, or the error that a page sees for it. */
     async #exchange(bytes, turn) {
         try {
-            return readCbor(await this.#key.request(bytes, turn)).value;
+            return readAnswer(await this.#key.request(bytes, turn));
         } catch (error) {
             if (error instanceof CtapError) {
                 throw error.status === CREDENTIAL_EXCLUDED ? excluded() : notAllowed(error.message);
@@ -4040,7 +4055,7 @@ class SecurityKey extends EventTarget {
 
     /** @param {string} credentialId */
     async removeCredential(credentialId) {
-        await this.#change((rows) => rows.toSpliced(Credentials.placeOf(rows, credentialId), 1));
+        await this.#change((rows) => Credentials.without(rows, credentialId));
         this.#dispatch("credentialDeleted", { credentialId });
     }
 
@@ -4281,11 +4296,91 @@ const current = () => placed?.key ?? null;
 return { InstalledKey, install, current };
 })();
 
+parts["dev_tools.js"] = (() => {
+// The commands of Chromium's DevTools on virtual authenticators, on the key in place: the same names, the same members.
+const { fromBase64url } = parts["bytes.js"];
+const { checkKind, checkMembers, checkName } = parts["checks.js"];
+const { current, install } = parts["place.js"];
+
+const ID = "hidlogKey";
+const BYTES = ["credentialId", "privateKey", "userHandle"];
+const OVERRIDES = ["authenticatorId", "isBogusSignature", "isBadUV", "isBadUP"];
+// What a virtual authenticator can be, and what this key is.
+const ABILITIES = {
+    protocol: "ctap2", ctap2Version: "ctap2_0", transport: "usb", hasResidentKey: true, hasUserVerification: false,
+    hasLargeBlob: false, hasCredBlob: false, hasMinPinLength: false, hasPrf: false, isUserVerified: false,
+    defaultBackupEligibility: false, defaultBackupState: false,
+};
+
+/** A credential with its bytes in base64, as DevTools has them. */
+const inBase64 = (credential) => {
+    const texts = BYTES.map((name) => [name, btoa(String.fromCharCode(...fromBase64url(credential[name])))]);
+    return { ...credential, ...Object.fromEntries(texts) };
+};
+
+const keyInPlace = () => {
+    const key = current();
+    if (!key) {
+        throw new Error("hidlogKey: no key is in place: send WebAuthn.addVirtualAuthenticator first, or call install");
+    }
+    return key;
+};
+
+const removeKey = () => {
+    current()?.uninstall();
+    return {};
+};
+
+const addKey = async ({ options }) => {
+    const { automaticPresenceSimulation = true, ...abilities } = options;
+    checkMembers("option of a virtual authenticator", abilities, Object.keys(ABILITIES));
+    for (const [name, value] of Object.entries(abilities)) {
+        checkKind(name, value, value === ABILITIES[name], `${JSON.stringify(ABILITIES[name])}, which is what this key is`);
+    }
+    await (current() ?? install()).setAutomaticPresenceSimulation(automaticPresenceSimulation);
+    return { authenticatorId: ID };
+};
+
+const overrideBits = (parameters) => {
+    checkMembers("override", parameters, OVERRIDES);
+    keyInPlace().faults.wrongSignature = parameters.isBogusSignature ?? false;
+    for (const name of OVERRIDES.slice(2)) {
+        checkKind(name, parameters[name], !parameters[name], "false: the key has no such fault");
+    }
+};
+
+const COMMANDS = {
+    enable: () => ({}),
+    disable: removeKey,
+    addVirtualAuthenticator: addKey,
+    removeVirtualAuthenticator: removeKey,
+    addCredential: ({ credential }) => keyInPlace().addCredential(credential).then(() => ({})),
+    getCredential: async ({ credentialId }) => ({ credential: inBase64(await keyInPlace().getCredential(credentialId)) }),
+    getCredentials: async () => ({ credentials: (await keyInPlace().getCredentials()).map(inBase64) }),
+    removeCredential: ({ credentialId }) => keyInPlace().removeCredential(credentialId),
+    clearCredentials: () => keyInPlace().clearCredentials(),
+    setAutomaticPresenceSimulation: ({ enabled }) => keyInPlace().setAutomaticPresenceSimulation(enabled),
+    setUserVerified: ({ isUserVerified }) => keyInPlace().setUserVerified(isUserVerified),
+    setCredentialProperties: ({ authenticatorId, credentialId, ...properties }) =>
+        keyInPlace().setCredentialProperties(credentialId, properties),
+    setResponseOverrideBits: overrideBits,
+};
+
+/** Calls a command as DevTools does, such as "WebAuthn.getCredentials". @param {string} command @param {any} [parameters] */
+const send = async (command, parameters = {}) => {
+    const name = String(command).replace(/^WebAuthn\./, "");
+    checkName("command", name, Object.keys(COMMANDS));
+    return (await COMMANDS[name](parameters)) ?? {};
+};
+return { send };
+})();
+
 parts["index.js"] = (() => {
 // What the script and the module give.
+const { send } = parts["dev_tools.js"];
 const { current, install } = parts["place.js"];
 const { SecurityKey } = parts["security_key.js"];
-return { current, install, SecurityKey };
+return { send, current, install, SecurityKey };
 })();
 
 globalThis.hidlogKey = { ...parts["index.js"] };

@@ -142,6 +142,12 @@ export class Credentials {
         return place;
     }
 
+    /** Rows with one less. @param {Row[]} rows @param {any} credentialId */
+    static without(rows, credentialId) {
+        const place = Credentials.placeOf(rows, credentialId);
+        return rows.filter((_, at) => at !== place);
+    }
+
     /** Rows with changed properties of one. @param {Row[]} rows @param {any} credentialId @param {any} properties */
     changed(rows, credentialId, properties) {
         checkMembers("property of a credential", properties, [...PROPERTIES, "backupEligibility", "backupState"]);

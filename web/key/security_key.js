@@ -23,6 +23,15 @@ const OPTIONS = ["presence", "delay", "account", "clock", "state", "store", "ori
 const EVENTS = ["credentialAdded", "credentialAsserted", "credentialDeleted", "credentialUpdated"];
 const CREDENTIAL_EXCLUDED = 0x19;
 
+/** The map that an answer is. @param {Uint8Array} bytes @returns {Map<number, any>} */
+const readAnswer = (bytes) => {
+    try {
+        return readCbor(bytes).value;
+    } catch (error) {
+        throw notAllowed(`the authenticator's answer is no CBOR: ${error.message}`);
+    }
+};
+
 /** Moments of the log: milliseconds since the key was made, or those of a test, never one earlier than the last. */
 const clockOf = (given, begun, state) => {
     const start = now();
@@ -234,7 +243,7 @@ export class SecurityKey extends EventTarget {
     /** The answer of the key to a request, or the error that a page sees for it. */
     async #exchange(bytes, turn) {
         try {
-            return readCbor(await this.#key.request(bytes, turn)).value;
+            return readAnswer(await this.#key.request(bytes, turn));
         } catch (error) {
             if (error instanceof CtapError) {
                 throw error.status === CREDENTIAL_EXCLUDED ? excluded() : notAllowed(error.message);
@@ -325,7 +334,7 @@ export class SecurityKey extends EventTarget {
 
     /** @param {string} credentialId */
     async removeCredential(credentialId) {
-        await this.#change((rows) => rows.toSpliced(Credentials.placeOf(rows, credentialId), 1));
+        await this.#change((rows) => Credentials.without(rows, credentialId));
         this.#dispatch("credentialDeleted", { credentialId });
     }
 
