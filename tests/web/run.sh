@@ -25,8 +25,26 @@ run_pages() {
     if [ "$browser" = chromium ]; then
         open_from_file
         "$with_fido2" "$here/virtual_authenticator.py" || [ $? = 3 ] || failed=1
+        run_examples
     fi
     check_logs "$room/$browser"
+}
+
+# The examples, with Debian's Selenium, and with node.
+run_examples() {
+    local example
+    if /usr/bin/python3 -c 'import selenium' 2>/dev/null && command -v chromedriver >/dev/null; then
+        for example in "$top"/examples/web/*.py; do
+            "$example" || failed=1
+        done
+    else
+        echo "tests/web: selenium is missing (apt-get install python3-selenium chromium-driver)" >&2
+    fi
+    if command -v node >/dev/null; then
+        node --test "$top/examples/web/" >"$room/said" && echo "ok  examples/web with node" || { cat "$room/said"; failed=1; }
+    else
+        echo "tests/web: node is missing" >&2
+    fi
 }
 
 # The page is opened as a file, with no server.

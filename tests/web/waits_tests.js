@@ -122,6 +122,17 @@ const isTakenOver = async (key) => {
     await choosing;
 };
 
+const endsWithTheKey = async () => {
+    const key = install({ presence: "none" });
+    const waiting = create();
+    await wait(20);
+    key.uninstall();
+    await refuses(waiting, "AbortError", "taken out");
+    const length = key.log().length;
+    await wait(250);
+    expect(key.log().length === length && install().uninstall() === undefined, "nothing goes on");
+};
+
 const NAMES = ["isUserVerifyingPlatformAuthenticatorAvailable", "isConditionalMediationAvailable", "getClientCapabilities",
     "parseCreationOptionsFromJSON", "parseRequestOptionsFromJSON"];
 
@@ -189,6 +200,7 @@ export const waitsTests = {
     "a wait takes its time by the clock": withKey(waitsByTheClock),
     "conditional mediation waits for a choice": withKey(picksAnAccount),
     "conditional mediation is taken over and aborted": withKey(isTakenOver),
+    "a key that is taken out ends what waits": endsWithTheKey,
     "static functions say what the key does": replacesStatics,
     "the 1,000th sign-in costs as much as the first": isFlat,
 };

@@ -112,6 +112,9 @@ export class SecurityKey extends EventTarget {
     /** Picks the account of the sign-in with mediation "conditional" that waits, or of the next one. */
     choose(which?: Which): Promise<Credential>;
 
+    /** Ends a request of the page that waits, with an AbortError. */
+    endRequest(): void;
+
     addCredential(credential: NewCredential): Promise<Credential>;
     getCredentials(): Promise<Credential[]>;
     getCredential(credentialId: Bytes): Promise<Credential>;
@@ -130,7 +133,7 @@ export class SecurityKey extends EventTarget {
 }
 
 export interface InstalledKey extends SecurityKey {
-    /** Puts back what `install` replaced. */
+    /** Puts back what `install` replaced, and ends a request that waits. */
     uninstall(): void;
 }
 

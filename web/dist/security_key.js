@@ -3510,6 +3510,11 @@ class Requests {
         }
     }
 
+    /** Ends the request that waits, where one does. @param {unknown} reason */
+    end(reason) {
+        this.#current?.end(reason);
+    }
+
     #end(current, ending, reason) {
         this.#forget(current);
         ending.abort(reason);
@@ -3729,7 +3734,7 @@ const { GET_NEXT_ASSERTION, registrationOf, signInOf } = parts["ceremonies.js"];
 const { checkKind, checkMembers, checkName } = parts["checks.js"];
 const { accountOf, checkWhich, Choices } = parts["choices.js"];
 const { Credentials, snapshotOf } = parts["credentials.js"];
-const { excluded, notAllowed } = parts["errors.js"];
+const { excluded, failure, notAllowed } = parts["errors.js"];
 const { creationResults, requestResults } = parts["extensions.js"];
 const { Faults } = parts["faults.js"];
 const { readCreation, readRequest } = parts["options.js"];
@@ -4017,6 +4022,11 @@ class SecurityKey extends EventTarget {
         return this.#choices.choose(which);
     }
 
+    /** Ends a request of the page that waits. */
+    endRequest() {
+        this.#requests.end(failure("AbortError", "The key was taken out of the page."));
+    }
+
     // What a virtual authenticator's commands do.
 
     #shown(credentialId) {
@@ -4272,8 +4282,9 @@ const put = (key) => {
 
 /** A key that can be in the place of navigator.credentials. */
 class InstalledKey extends SecurityKey {
-    /** Puts back what `install` replaced. */
+    /** Puts back what `install` replaced, and ends a request that waits. */
     uninstall() {
+        this.endRequest();
         if (placed?.key === this) {
             placed.undo();
             placed = null;

@@ -78,8 +78,9 @@ const put = (key) => {
 
 /** A key that can be in the place of navigator.credentials. */
 export class InstalledKey extends SecurityKey {
-    /** Puts back what `install` replaced. */
+    /** Puts back what `install` replaced, and ends a request that waits. */
     uninstall() {
+        this.endRequest();
         if (placed?.key === this) {
             placed.undo();
             placed = null;

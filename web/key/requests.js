@@ -45,6 +45,11 @@ export class Requests {
         }
     }
 
+    /** Ends the request that waits, where one does. @param {unknown} reason */
+    end(reason) {
+        this.#current?.end(reason);
+    }
+
     #end(current, ending, reason) {
         this.#forget(current);
         ending.abort(reason);

@@ -8,7 +8,7 @@ import { GET_NEXT_ASSERTION, registrationOf, signInOf } from "./ceremonies.js";
 import { checkKind, checkMembers, checkName } from "./checks.js";
 import { accountOf, checkWhich, Choices } from "./choices.js";
 import { Credentials, snapshotOf } from "./credentials.js";
-import { excluded, notAllowed } from "./errors.js";
+import { excluded, failure, notAllowed } from "./errors.js";
 import { creationResults, requestResults } from "./extensions.js";
 import { Faults } from "./faults.js";
 import { readCreation, readRequest } from "./options.js";
@@ -294,6 +294,11 @@ export class SecurityKey extends EventTarget {
     /** Picks the account of the sign-in that waits for one (mediation "conditional"), or of the next such. */
     choose(which = 0) {
         return this.#choices.choose(which);
+    }
+
+    /** Ends a request of the page that waits. */
+    endRequest() {
+        this.#requests.end(failure("AbortError", "The key was taken out of the page."));
     }
 
     // What a virtual authenticator's commands do.
