@@ -151,7 +151,7 @@ const refusesWhatItCannot = async () => {
     await isRefused(signIn({ user: "ann" }), "NotAllowedError");
 };
 
-const ROUNDS = 100;
+const ROUNDS = 50;
 const BATCHES = 3;
 
 /** The browser's processor time for each of many rounds, in milliseconds. */

@@ -14,14 +14,12 @@ failed=0
 ran=0
 
 run_pages() {
-    local browser=$1 page
+    local browser=$1
     shift
     echo "== $("$1" --version 2>/dev/null)"
     ran=1
-    for page in viewer.html key.html; do
-        mkdir -p "$room/$browser"
-        "$with_fido2" "$here/serve.py" "$room/$browser" "$page" "$@" || failed=1
-    done
+    mkdir -p "$room/$browser"
+    "$with_fido2" "$here/serve.py" "$room/$browser" viewer.html,key.html "$@" || failed=1
     if [ "$browser" = chromium ]; then
         open_from_file
         "$with_fido2" "$here/virtual_authenticator.py" || [ $? = 3 ] || failed=1

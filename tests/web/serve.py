@@ -1,9 +1,9 @@
 #!/usr/bin/env python3
-"""Runs a page of tests in a browser: serve.py FOLDER PAGE BROWSER WORD..
+"""Runs pages of tests in a browser, one after the other: serve.py FOLDER PAGE[,PAGE..] BROWSER WORD..
 
-Serves the repository's files on 127.0.0.1 alone, with the relying party under /rp/, starts the browser with the page's
-address after the words, and waits for what the page posts to /done. Logs that the page recorded are written to FOLDER.
-It ends with 0 where all tests of the page passed.
+Serves the repository's files on 127.0.0.1 alone, with the relying party under /rp/, starts the browser with the first
+page's address after the words, and waits for what each page posts to /done. Logs that the pages recorded are written to
+FOLDER. It ends with 0 where all tests passed.
 """
 
 import contextlib
@@ -67,7 +67,9 @@ class Handler(SimpleHTTPRequestHandler):
     def answer(self, path, given):
         """Answers a call of the page."""
         if path == "/done":
-            self.server.results = given
+            self.server.results.append(given)
+            if self.server.pages:
+                return {"next": self.server.pages.pop(0)}
             self.server.is_done.set()
             return {}
         if path == "/processor":
@@ -105,29 +107,32 @@ def run_browser(words, url, server):
 
 
 def report(results, folder):
-    """Prints what came of each test, and keeps the logs. Returns whether all passed."""
-    if results is None:
-        print(f"the page posted nothing within {SECONDS} seconds")
-        return False
+    """Prints what came of each test of a page, and keeps the logs. Returns whether all passed."""
     for name, text in results["logs"].items():
         data = b64decode(text) if name.endswith(".snapshot") else text.encode()
         with open(os.path.join(folder, name), "wb") as file:
             file.write(data)
     for test in results["tests"]:
-        print(f"{'ok' if not test['error'] else 'FAILED'}  {test['name']}{test['error'] and ': ' + test['error']}")
+        took = f" ({test['seconds']:.1f} s)" if test["seconds"] >= 1 else ""
+        print(f"{'FAILED' if test['error'] else 'ok'}  {test['name']}{took}{test['error'] and ': ' + test['error']}")
     for line in results["figures"]:
         print(f"    {line}")
     return bool(results["tests"]) and not any(test["error"] for test in results["tests"])
 
 
 def main():
-    folder, page, *words = sys.argv[1:]
+    folder, listed, *words = sys.argv[1:]
+    first, *rest = listed.split(",")
     server = ThreadingHTTPServer(("127.0.0.1", 0), Handler)
     origin = f"http://localhost:{server.server_address[1]}"
-    server.relying_party, server.results, server.is_done = RelyingParty(origin), None, threading.Event()
+    server.relying_party, server.results, server.is_done = RelyingParty(origin), [], threading.Event()
+    server.pages = [f"{origin}/tests/web/{page}" for page in rest]
     threading.Thread(target=server.serve_forever, daemon=True).start()
-    run_browser(words, f"{origin}/tests/web/{page}", server)
-    return 0 if report(server.results, folder) else 1
+    run_browser(words, f"{origin}/tests/web/{first}", server)
+    passed = [report(it, folder) for it in server.results]
+    if not server.is_done.is_set():
+        print(f"FAILED  a page posted nothing within {SECONDS} seconds")
+    return 0 if server.is_done.is_set() and all(passed) else 1
 
 
 if __name__ == "__main__":

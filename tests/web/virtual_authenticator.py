@@ -43,7 +43,7 @@ def compare(driver, server):
     made = driver.devtools("WebAuthn.addVirtualAuthenticator", options=AUTHENTICATOR)
     server.authenticator = made["authenticatorId"]
     driver.open(f"http://localhost:{server.server_address[1]}/tests/web/compare.html")
-    return server.results if server.is_done.wait(SECONDS) else None
+    return server.results[0] if server.is_done.wait(SECONDS) else None
 
 
 def main():
@@ -51,7 +51,7 @@ def main():
         print("tests/web: chromedriver is missing (apt-get install chromium-driver)", file=sys.stderr)
         return 3
     server = ThreadingHTTPServer(("127.0.0.1", 0), Comparing)
-    server.results, server.is_done = None, threading.Event()
+    server.results, server.pages, server.is_done = [], [], threading.Event()
     threading.Thread(target=server.serve_forever, daemon=True).start()
     with Driver() as driver:
         results = compare(driver, server)
