@@ -1,8 +1,8 @@
 """Joins JavaScript modules to one classic script: bundle.py GLOBAL MODULE..
 
 The script sets GLOBAL to an object of what the modules export. Each module becomes a function that runs once, after
-those that it imports; an import of a file `*.wasm` is the file's bytes in base64. It takes what web/key/ is written in:
-named imports without `as`, exported declarations, and names that are passed on.
+those that it imports; an import of a file `*.wasm` is the file's bytes in base64. It takes what web/key/ is written
+in: named imports without `as`, exported declarations, and names that are passed on.
 """
 
 from __future__ import annotations

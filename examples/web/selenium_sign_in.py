@@ -21,7 +21,7 @@ PAGE = """<!doctype html><title>A service</title>
 <button id="register">Register</button> <button id="sign-in">Sign in</button> <p id="said"></p>
 <script>
 const challenge = new Uint8Array(32);
-const say = (promise) => promise.then((text) => { said.textContent = text; }, (error) => { said.textContent = error.name; });
+const say = async (promise) => { said.textContent = await promise.catch((error) => error.name); };
 const register = async () => {
     const made = await navigator.credentials.create({ publicKey: {
         challenge, rp: { name: "A service" }, user: { id: new Uint8Array([1]), name: "ann", displayName: "Ann" },

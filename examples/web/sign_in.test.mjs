@@ -1,7 +1,7 @@
 // Tests a sign-in function with node alone: node --test examples/web/sign_in.test.mjs (node 20).
 //
-// Vitest and Jest run the same lines with their own `test`. Where an environment such as jsdom hides node's WebCrypto, give
-// install the option crypto: (await import("node:crypto")).webcrypto.
+// Vitest and Jest run the same lines with their own `test`. Where an environment such as jsdom hides node's
+// WebCrypto, give install the option crypto: (await import("node:crypto")).webcrypto.
 import assert from "node:assert/strict";
 import { after, before, test } from "node:test";
 import { install } from "../../web/dist/security_key.mjs";

@@ -1,5 +1,5 @@
-// The calls that are made of Chromium's virtual authenticator and of the key: each registers or signs in with one option
-// or one wrong argument, and gives what a page would see of it.
+// The calls that are made of Chromium's virtual authenticator and of the key: each registers or signs in with one
+// option or one wrong argument, and gives what a page would see of it.
 
 const HANGS = 400;
 const bytes = (...list) => Uint8Array.of(...list);
@@ -36,7 +36,8 @@ const seenOfRegistration = (made) => {
         type: made.type, attachment: made.authenticatorAttachment, idBytes: made.rawId.byteLength,
         clientData: JSON.parse(text(response.clientDataJSON)), flags: authData[32] & 0x45,
         counter: new DataView(authData.buffer).getUint32(33),
-        fmt: /fmt.(packed|none)/.exec(text(response.attestationObject))?.[1], transports: response.getTransports(), algorithm: response.getPublicKeyAlgorithm(),
+        fmt: /fmt.(packed|none)/.exec(text(response.attestationObject))?.[1],
+        transports: response.getTransports(), algorithm: response.getPublicKeyAlgorithm(),
         spkiBytes: response.getPublicKey()?.byteLength, extensions: made.getClientExtensionResults(),
         json: Object.keys(json).sort(), responseJson: Object.keys(json.response).sort(),
         isSameId: json.id === made.id && json.rawId === made.id, own: JSON.stringify(made) === JSON.stringify(json),
@@ -50,7 +51,8 @@ const seenOfSignIn = (used) => {
     const authData = new Uint8Array(response.authenticatorData);
     return {
         is: used instanceof PublicKeyCredential && response instanceof AuthenticatorAssertionResponse,
-        type: used.type, attachment: used.authenticatorAttachment, clientData: JSON.parse(text(response.clientDataJSON)),
+        type: used.type, attachment: used.authenticatorAttachment,
+        clientData: JSON.parse(text(response.clientDataJSON)),
         flags: authData[32] & 0x45, length: authData.length,
         user: response.userHandle && [...new Uint8Array(response.userHandle)],
         extensions: used.getClientExtensionResults(), json: Object.keys(json).sort(),
@@ -82,7 +84,7 @@ const whileWaiting = (environment, later) => async () => {
     }
 };
 
-const registrations = () => ({
+const registrations = {
     "create": () => create(creation()),
     "create, no publicKey": () => navigator.credentials.create({}),
     "create, nothing": () => navigator.credentials.create(),
@@ -138,9 +140,9 @@ const registrations = () => ({
     "create, alg out of range": () => create(creation({ pubKeyCredParams: [{ type: "public-key", alg: 2 ** 31 }] })),
     "create, alg a fraction": () => create(creation({ pubKeyCredParams: [{ type: "public-key", alg: -7.9 }] })),
     "create, no type": () => create(creation({ pubKeyCredParams: [{ alg: -7 }] })),
-});
+};
 
-const optionsOfRegistration = () => ({
+const optionsOfRegistration = {
     "create, timeout 0": () => create(creation({ timeout: 0 })),
     "create, timeout -1": () => create(creation({ timeout: -1 })),
     "create, timeout 2^32": () => create(creation({ timeout: 2 ** 32 })),
@@ -149,7 +151,8 @@ const optionsOfRegistration = () => ({
     "create, timeout undefined": () => create(creation({ timeout: undefined })),
     "create, excludeCredentials empty": () => create(creation({ excludeCredentials: [] })),
     "create, excludeCredentials null": () => create(creation({ excludeCredentials: null })),
-    "create, excluded": async () => create(creation({ excludeCredentials: allowing(await register()).allowCredentials })),
+    "create, excluded": async () =>
+        create(creation({ excludeCredentials: allowing(await register()).allowCredentials })),
     "create, excluded under an unknown type": async () =>
         create(creation({ excludeCredentials: [{ type: "other", id: (await register()).rawId }] })),
     "create, excluded without a type": async () =>
@@ -185,7 +188,8 @@ const optionsOfRegistration = () => ({
     "create, signal not a signal": () => create(creation(), { signal: {} }),
     "create, signal null": () => create(creation(), { signal: null }),
     "create, aborted before": () => create(creation(), { signal: AbortSignal.abort() }),
-    "create, aborted before with a reason": () => create(creation(), { signal: AbortSignal.abort(new RangeError("x")) }),
+    "create, aborted before with a reason": () =>
+        create(creation(), { signal: AbortSignal.abort(new RangeError("x")) }),
     "create, aborted before, and wrong": () => create(without("challenge"), { signal: AbortSignal.abort() }),
     "create, aborted before, and of another site": () =>
         create(creation({ rp: { name: "A", id: "example.com" } }), { signal: AbortSignal.abort() }),
@@ -193,9 +197,9 @@ const optionsOfRegistration = () => ({
         publicKey: creation(), password: { id: "ann", password: "x", origin: location.origin },
     }),
     "create detached": () => (0, navigator.credentials.create)({ publicKey: creation() }),
-});
+};
 
-const extensionCalls = () => ({
+const extensionCalls = {
     "create, extensions empty": () => create(creation({ extensions: {} })),
     "create, extensions null": () => create(creation({ extensions: null })),
     "create, extensions a text": () => create(creation({ extensions: "credProps" })),
@@ -210,7 +214,8 @@ const extensionCalls = () => ({
     "create, largeBlob read": () => create(creation({ extensions: { largeBlob: { read: true } } })),
     "create, appid": () => create(creation({ extensions: { appid: location.origin } })),
     "create, appidExclude": () => create(creation({ extensions: { appidExclude: location.origin } })),
-    "create, appidExclude of another site": () => create(creation({ extensions: { appidExclude: "https://example.com" } })),
+    "create, appidExclude of another site": () =>
+        create(creation({ extensions: { appidExclude: "https://example.com" } })),
     "create, appidExclude no URL": () => create(creation({ extensions: { appidExclude: "x" } })),
     "create, prf": () => create(creation({ extensions: { prf: {} } })),
     "create, minPinLength": () => create(creation({ extensions: { minPinLength: true } })),
@@ -241,9 +246,9 @@ const extensionCalls = () => ({
     "get, prf without first": signIn({ extensions: { prf: { eval: {} } } }),
     "get, getCredBlob": signIn({ extensions: { getCredBlob: true } }),
     "get, uvm": signIn({ extensions: { uvm: true } }),
-});
+};
 
-const signIns = () => ({
+const signIns = {
     "get": signIn(),
     "get, no publicKey": () => navigator.credentials.get({}),
     "get, nothing": () => navigator.credentials.get(),
@@ -257,16 +262,15 @@ const signIns = () => ({
     "get, rpId in capitals": signIn({ rpId: "LOCALHOST" }),
     "get, allowCredentials a text": signIn({ allowCredentials: "x" }),
     "get, allowCredentials null": signIn({ allowCredentials: null }),
-    "get, an unknown id": () => get({ challenge: challenge(), allowCredentials: [{ type: "public-key", id: bytes(9) }] }),
-    "get, an id of 0 bytes": () =>
-        get({ challenge: challenge(), allowCredentials: [{ type: "public-key", id: bytes() }] }),
+    "get, an unknown id": () => get(allowing({ rawId: bytes(9) })),
+    "get, an id of 0 bytes": () => get(allowing({ rawId: bytes() })),
     "get, an unknown id and a known one": async () => get({
         challenge: challenge(),
         allowCredentials: [{ type: "public-key", id: bytes(9) }, ...allowing(await register()).allowCredentials],
     }),
     "get, 65 unknown ids": () => get({
         challenge: challenge(),
-        allowCredentials: Array.from({ length: 65 }, (_, at) => ({ type: "public-key", id: new Uint8Array(32).fill(at) })),
+        allowCredentials: Array.from({ length: 65 }, (_, at) => ({ type: "public-key", id: bytes(at) })),
     }),
     "get, an unknown type": async () => get(allowing(await register(), { type: "other" })),
     "get, no type": async () => get(allowing(await register(), { type: undefined })),
@@ -291,9 +295,9 @@ const signIns = () => ({
     },
     "get, discoverable by its id": async () =>
         get(allowing(await register({ authenticatorSelection: { residentKey: "required" } }))),
-});
+};
 
-const atTheSameTime = (environment) => ({
+const whileTheUserIsAsked = (environment) => ({
     "two at the same time": whileWaiting(environment, () => both(
         () => navigator.credentials.create({ publicKey: creation({ timeout: 300 }) }),
         () => navigator.credentials.get({ publicKey: { challenge: challenge() } }),
@@ -316,12 +320,12 @@ const atTheSameTime = (environment) => ({
         return both(() => first, () => register());
     },
     "a time-out": whileWaiting(environment, () => create(creation({ timeout: 200 }))),
+});
+
+const conditional = {
     "conditional, then aborted": async () => {
-        const signal = AbortSignal.timeout(200);
-        return both(
-            () => navigator.credentials.get({ publicKey: { challenge: challenge() }, mediation: "conditional", signal }),
-            () => null,
-        );
+        const more = { mediation: "conditional", signal: AbortSignal.timeout(200) };
+        return both(() => navigator.credentials.get({ publicKey: { challenge: challenge() }, ...more }), () => null);
     },
     "conditional, then create": () => both(
         () => navigator.credentials.get({ publicKey: { challenge: challenge() }, mediation: "conditional" }),
@@ -347,21 +351,26 @@ const atTheSameTime = (environment) => ({
         const made = await register();
         return get(allowing(made), { mediation: "conditional", signal });
     },
-});
+};
 
 const known = (name, ...words) => async () => {
     const found = await PublicKeyCredential[name](...words);
     return found;
 };
 
-const statics = () => ({
+const creationJson = (more) => ({
+    challenge: "AQ", rp: { name: "A" }, user: { id: "AQ", name: "a", displayName: "A" }, pubKeyCredParams: [], ...more,
+});
+
+const statics = {
     "isUserVerifyingPlatformAuthenticatorAvailable": known("isUserVerifyingPlatformAuthenticatorAvailable"),
     "isConditionalMediationAvailable": known("isConditionalMediationAvailable"),
     "getClientCapabilities": known("getClientCapabilities"),
     "parseCreationOptionsFromJSON": async () => {
         const parsed = PublicKeyCredential.parseCreationOptionsFromJSON({
             challenge: "AQID", rp: { name: "A" }, user: { id: "AQ", name: "a", displayName: "A" },
-            pubKeyCredParams: [{ type: "public-key", alg: -7 }], excludeCredentials: [{ type: "public-key", id: "AQI" }],
+            pubKeyCredParams: [{ type: "public-key", alg: -7 }],
+            excludeCredentials: [{ type: "public-key", id: "AQI" }],
             attestation: "direct", extensions: { credProps: true, prf: { eval: { first: "AQ" } } }, unknown: 1,
         });
         return {
@@ -370,20 +379,19 @@ const statics = () => ({
             prf: parsed.extensions.prf.eval.first.byteLength, extensions: Object.keys(parsed.extensions).sort(),
         };
     },
-    "parseCreationOptionsFromJSON, no base64url": known("parseCreationOptionsFromJSON", {
-        challenge: "a+b/", rp: { name: "A" }, user: { id: "AQ", name: "a", displayName: "A" }, pubKeyCredParams: [],
-    }),
+    "parseCreationOptionsFromJSON, no base64url":
+        known("parseCreationOptionsFromJSON", creationJson({ challenge: "a+b/" })),
     "parseCreationOptionsFromJSON, padded": async () => {
-        const parsed = PublicKeyCredential.parseCreationOptionsFromJSON({
-            challenge: "AQ==", rp: { name: "A" }, user: { id: "AQ", name: "a", displayName: "A" }, pubKeyCredParams: [],
-        });
+        const parsed = PublicKeyCredential.parseCreationOptionsFromJSON(creationJson({ challenge: "AQ==" }));
         return parsed.challenge.byteLength;
     },
-    "parseCreationOptionsFromJSON, no user": known("parseCreationOptionsFromJSON", { challenge: "AQ", rp: { name: "A" } }),
+    "parseCreationOptionsFromJSON, no user":
+        known("parseCreationOptionsFromJSON", { challenge: "AQ", rp: { name: "A" } }),
     "parseCreationOptionsFromJSON, nothing": known("parseCreationOptionsFromJSON"),
     "parseRequestOptionsFromJSON": async () => {
         const parsed = PublicKeyCredential.parseRequestOptionsFromJSON({
-            challenge: "AQID", allowCredentials: [{ type: "public-key", id: "AQI", transports: ["usb"] }], rpId: "localhost",
+            challenge: "AQID", rpId: "localhost",
+            allowCredentials: [{ type: "public-key", id: "AQI", transports: ["usb"] }],
         });
         return { names: Object.keys(parsed).sort(), id: parsed.allowCredentials[0].id.byteLength };
     },
@@ -396,12 +404,12 @@ const statics = () => ({
     ],
     "new PublicKeyCredential": async () => new PublicKeyCredential(),
     "preventSilentAccess": async () => (await navigator.credentials.preventSilentAccess()) ?? "undefined",
-});
+};
 
 /** All calls, by their names. @param environment what they need beside the page */
 export const callsOf = (environment) => ({
-    ...registrations(), ...optionsOfRegistration(), ...extensionCalls(), ...signIns(), ...statics(),
-    ...atTheSameTime(environment),
+    ...registrations, ...optionsOfRegistration, ...extensionCalls, ...signIns, ...statics,
+    ...whileTheUserIsAsked(environment), ...conditional,
 });
 
 /** What came of a call: a value, or an error's name and text. */

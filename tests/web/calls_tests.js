@@ -64,7 +64,8 @@ const tellsItsOrigins = async () => {
     expect(clientData.origin === `http://a.localhost:${location.port}`, "the frame's own origin");
     if (document.featurePolicy) {
         const refused = await toldBy(address, "");
-        expect(refused.error === "NotAllowedError" && refused.text.includes("Permissions Policy"), "a frame without leave");
+        const isRefused = refused.error === "NotAllowedError" && refused.text.includes("Permissions Policy");
+        expect(isRefused, "a frame without leave");
     }
 };
 

@@ -1,5 +1,5 @@
-// The same calls of Chromium's own virtual authenticator and of the key, in one page: what a page sees of each, and where
-// that differs, why.
+// The same calls of Chromium's own virtual authenticator and of the key, in one page: what a page sees of each, and
+// where that differs, why.
 import { install } from "../../web/dist/security_key.mjs";
 import { callsOf, endOf, outcomeOf } from "./calls.js";
 import { post, results } from "./harness.js";
@@ -47,7 +47,8 @@ const median = async () => {
     for (let round = 0; round < ROUNDS; round += 1) {
         const begun = performance.now();
         const made = await navigator.credentials.create(options({
-            rp: { id: "localhost", name: "A service" }, user: { id: Uint8Array.of(round), name: "ann", displayName: "Ann" },
+            rp: { id: "localhost", name: "A service" },
+            user: { id: Uint8Array.of(round), name: "ann", displayName: "Ann" },
             pubKeyCredParams: [{ type: "public-key", alg: -7 }],
         }));
         await navigator.credentials.get(options({ allowCredentials: [{ type: "public-key", id: made.rawId }] }));

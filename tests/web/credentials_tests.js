@@ -32,8 +32,8 @@ const addsCredentials = async (key) => {
     const { pkcs8, publicKey } = await foreignKey();
     const credentialId = toText(new Uint8Array(32).fill(7));
     await key.addCredential({
-        credentialId, isResidentCredential: true, rpId: "localhost", privateKey: toText(pkcs8), userHandle: toText([1, 2]),
-        userName: "ann", signCount: 41,
+        credentialId, isResidentCredential: true, rpId: "localhost", privateKey: toText(pkcs8),
+        userHandle: toText([1, 2]), userName: "ann", signCount: 41,
     });
     const used = await get();
     expect(used.id === credentialId && counterOf(used) === 42, "it signs in with its counter");
@@ -114,7 +114,8 @@ const servesDevTools = async () => {
     const base64 = (bytes) => btoa(String.fromCharCode(...bytes));
     const credentialId = base64(new Uint8Array(32).fill(255));
     await send("WebAuthn.addCredential", { authenticatorId, credential: {
-        credentialId, isResidentCredential: true, rpId: "localhost", privateKey: base64(pkcs8), userHandle: "AQ==", signCount: 1,
+        credentialId, isResidentCredential: true, rpId: "localhost", privateKey: base64(pkcs8), userHandle: "AQ==",
+        signCount: 1,
     } });
     await get();
     const { credentials } = await send("WebAuthn.getCredentials", { authenticatorId });
@@ -124,7 +125,8 @@ const servesDevTools = async () => {
     await send("WebAuthn.setCredentialProperties", { authenticatorId, credentialId, signCount: 9 });
     expect((await send("WebAuthn.getCredential", { credentialId })).credential.signCount === 9, "changed");
     await send("WebAuthn.removeCredential", { authenticatorId, credentialId });
-    await refuses(send("WebAuthn.addVirtualAuthenticator", { options: { isUserVerified: true } }), "TypeError", "false");
+    const verifying = send("WebAuthn.addVirtualAuthenticator", { options: { isUserVerified: true } });
+    await refuses(verifying, "TypeError", "false");
     await refuses(send("WebAuthn.getCredental"), "TypeError", "getCredential");
     await send("WebAuthn.removeVirtualAuthenticator", { authenticatorId });
     expect(current() === null, "put back");
@@ -140,7 +142,8 @@ const makesFaults = async (key) => {
     key.faults.clear();
     key.faults.counterStays = true;
     const [one, other] = [await get(), await get()];
-    expect(counterOf(one) === 2 && counterOf(other) === 2 && await isSignedBy(publicKey, other), "a counter that stays");
+    expect(counterOf(one) === 2 && counterOf(other) === 2, "a counter that stays");
+    expect(await isSignedBy(publicKey, other), "which is signed");
     key.faults.clear();
     key.faults.otherRp = "example.com";
     const foreign = new Uint8Array((await get()).response.authenticatorData).subarray(0, 32);

@@ -1,4 +1,5 @@
-// A page in a frame, which a test drives: a key with the options of the address, and what came of a first registration.
+// A page in a frame, which a test drives: a key with the options of the address, and what came of a first
+// registration.
 "use strict";
 
 const words = new URLSearchParams(location.search);
@@ -6,7 +7,7 @@ const stores = { session: () => sessionStorage, local: () => localStorage };
 const store = stores[words.get("store")]?.();
 globalThis.key = hidlogKey.install(store ? { store } : {});
 // What the page's own first script sees.
-globalThis.atFirst = { isKey: hidlogKey.current() === key, promised: navigator.credentials.get({}).catch((it) => it.name) };
+globalThis.atFirst = { isKey: hidlogKey.current() === key };
 
 const publicKey = (name = "ann") => ({
     challenge: new Uint8Array(32), rp: { name: "A service" },

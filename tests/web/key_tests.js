@@ -202,9 +202,9 @@ const isFast = async () => {
     const all = await batchTimes(registerAndSignIn);
     const crypto = await batchTimes(callWebCrypto);
     const own = (all.least - crypto.least).toFixed(2);
-    results.figures.push(`a registration and a sign-in: ${all.least.toFixed(2)} ms of processor time, WebCrypto's calls`
-        + ` alone ${crypto.least.toFixed(2)} ms, so ${own} ms beside them (the least of ${BATCHES} times ${ROUNDS};`
-        + ` the first ${ROUNDS} took ${all.first.toFixed(2)} ms)`);
+    results.figures.push(`a registration and a sign-in: ${all.least.toFixed(2)} ms of processor time, WebCrypto's`
+        + ` calls alone ${crypto.least.toFixed(2)} ms, so ${own} ms beside them (the least of ${BATCHES} times`
+        + ` ${ROUNDS}; the first ${ROUNDS} took ${all.first.toFixed(2)} ms)`);
 };
 
 export const keyTests = {

@@ -16,7 +16,9 @@ const publicKey = (more) => ({ challenge: new Uint8Array(32), ...more });
 /** The functions of "your page". */
 const page = {
     register: (name) => navigator.credentials.create({
-        publicKey: publicKey({ rp: { name: "A" }, pubKeyCredParams: [{ type: "public-key", alg: -7 }], ...named(name) }),
+        publicKey: publicKey({
+            rp: { name: "A" }, pubKeyCredParams: [{ type: "public-key", alg: -7 }], ...named(name),
+        }),
     }),
     signIn: (more = {}) => navigator.credentials.get({ publicKey: publicKey({}), ...more }),
 };
@@ -46,7 +48,9 @@ const runsItsTags = async () => {
     expect(await framedWith(text), "the key is in place");
 };
 
-/** What Playwright's and Puppeteer's pages do with what they are handed: they run it in the page before its scripts. */
+/**
+ * What Playwright's and Puppeteer's pages do with what they are handed: they run it in the page before its scripts.
+ */
 const standIn = () => ({
     addInitScript: async (given) => {
         const source = typeof given === "function" ? `(${given})()` : await fetched(given.path);

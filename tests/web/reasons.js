@@ -8,7 +8,7 @@ const REASONS = [
     [/userVerification required/, /./, "the key verifies no users"],
     [/RS256/, /./, "the key makes ES256 keys alone"],
     [/conditional/, /./, "the sign-in waits until the test picks an account; Chromium's signs in by itself"],
-    [/attachment platform|of another kind/, /./, "no such authenticator: refused at once, where Chromium waits for one"],
+    [/attachment platform|of another kind/, /./, "no such authenticator: refused at once, where Chromium waits"],
     [/in the same turn/, /./, "an aborted request is over at once; Chromium's answer may come before"],
     [/isConditionalMediationAvailable|getClientCapabilities/, /./, "they say what this key does"],
 ];

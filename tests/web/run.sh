@@ -39,7 +39,12 @@ run_examples() {
         echo "tests/web: selenium is missing (apt-get install python3-selenium chromium-driver)" >&2
     fi
     if command -v node >/dev/null; then
-        node --test "$top/examples/web/" >"$room/said" && echo "ok  examples/web with node" || { cat "$room/said"; failed=1; }
+        if node --test "$top/examples/web/" "$here" >"$room/said"; then
+            echo "ok  the key in node, and the example: $(grep '^# pass' "$room/said")"
+        else
+            cat "$room/said"
+            failed=1
+        fi
     else
         echo "tests/web: node is missing" >&2
     fi
@@ -75,7 +80,7 @@ check_logs() {
 
 "$top/web/build.sh" --check || failed=1
 if command -v tsc >/dev/null; then
-    tsc -p "$top/web/tsconfig.json" || failed=1
+    tsc -p "$top/web/tsconfig.json" && tsc -p "$here/tsconfig.json" && echo "ok  types" || failed=1
 else
     echo "tests/web: tsc is missing, types are not checked (apt-get install node-typescript)" >&2
 fi

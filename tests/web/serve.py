@@ -2,8 +2,8 @@
 """Runs pages of tests in a browser, one after the other: serve.py FOLDER PAGE[,PAGE..] BROWSER WORD..
 
 Serves the repository's files on 127.0.0.1 alone, with the relying party under /rp/, starts the browser with the first
-page's address after the words, and waits for what each page posts to /done. Logs that the pages recorded are written to
-FOLDER. It ends with 0 where all tests passed.
+page's address after the words, and waits for what each page posts to /done. Logs that the pages recorded are written
+to FOLDER. It ends with 0 where all tests passed.
 """
 
 import contextlib

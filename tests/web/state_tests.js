@@ -91,7 +91,8 @@ const changesInAWait = async (key) => {
     await create(named("ann"));
     key.presence = "none";
     const waiting = get();
-    const added = await key.addCredential({ rpId: "localhost", userName: "bob", userHandle: "Ym9i", isResidentCredential: true });
+    const bob = { rpId: "localhost", userName: "bob", userHandle: "Ym9i", isResidentCredential: true };
+    const added = await key.addCredential(bob);
     key.presence = "granted";
     expect((await waiting).id === added.credentialId, "the credential that was added while the user was asked");
 };

@@ -1,8 +1,8 @@
 #!/usr/bin/env python3
-"""Compares the key with Chromium's own virtual authenticator: what a page sees of the same calls, and how long they take.
+"""Compares the key with Chromium's own virtual authenticator: what a page sees of the same calls, and their time.
 
     virtual_authenticator.py            prints what compare.html found, whose virtual authenticator verifies users
-    virtual_authenticator.py --write    writes chromium_outcomes.json too: how each call ends in Chromium, for other browsers
+    virtual_authenticator.py --write    writes chromium_outcomes.json too: how each call ends, for other browsers
 """
 
 import os

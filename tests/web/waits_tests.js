@@ -133,8 +133,8 @@ const endsWithTheKey = async () => {
     expect(key.log().length === length && install().uninstall() === undefined, "nothing goes on");
 };
 
-const NAMES = ["isUserVerifyingPlatformAuthenticatorAvailable", "isConditionalMediationAvailable", "getClientCapabilities",
-    "parseCreationOptionsFromJSON", "parseRequestOptionsFromJSON"];
+const NAMES = ["isUserVerifyingPlatformAuthenticatorAvailable", "isConditionalMediationAvailable",
+    "getClientCapabilities", "parseCreationOptionsFromJSON", "parseRequestOptionsFromJSON"];
 
 const replacesStatics = async () => {
     const before = NAMES.map((name) => PublicKeyCredential[name]);
@@ -184,8 +184,8 @@ const isFlat = async () => {
         late.push(await timeOf(used, usedOptions));
     }
     const [one, other] = [Math.min(...first), Math.min(...late)];
-    results.figures.push(`a sign-in takes ${one.toFixed(2)} ms among the first ${BATCH}, and ${other.toFixed(2)} ms after`
-        + ` the 1,000th (the least of ${BATCHES})`);
+    results.figures.push(`a sign-in takes ${one.toFixed(2)} ms among the first ${BATCH}, and ${other.toFixed(2)} ms`
+        + ` after the 1,000th (the least of ${BATCHES})`);
     expect(other <= 1.2 * one, `the 1,000th sign-in takes ${(other / one).toFixed(2)} of the first`);
 };
 

@@ -29,19 +29,25 @@ const fromHex = (text) => {
     return bytes;
 };
 
-const encoder = new TextEncoder();
-
 /** The UTF-8 form of a text. Most are ASCII, for which an encoder takes longer. @param {string} text */
 const utf8 = (text) => {
     const bytes = new Uint8Array(text.length);
     for (let at = 0; at < text.length; at += 1) {
         bytes[at] = text.charCodeAt(at);
         if (text.charCodeAt(at) > 127) {
-            return encoder.encode(text);
+            return new TextEncoder().encode(text);
         }
     }
     return bytes;
 };
+
+/**
+ * The text that bytes of UTF-8 are. Most are short and ASCII, for which a decoder takes longer.
+ * @param {Uint8Array} bytes
+ */
+const textOf = (bytes) =>
+    bytes.length > 64 || bytes.some((byte) => byte > 127)
+        ? new TextDecoder("utf-8", { fatal: true }).decode(bytes) : String.fromCharCode(...bytes);
 
 /** @param {string} text base64 @returns {Uint8Array} */
 const fromBase64 = (text) => Uint8Array.from(atob(text), (letter) => letter.charCodeAt(0));
@@ -91,18 +97,12 @@ const joined = (...parts) => {
     }
     return bytes;
 };
-return { toHex, fromHex, utf8, fromBase64, toBase64url, fromBase64url, isBuffer, copyOf, bufferOf, isSame, joined };
+return { toHex, fromHex, utf8, textOf, fromBase64, toBase64url, fromBase64url, isBuffer, copyOf, bufferOf, isSame, joined };
 })();
 
 parts["cbor.js"] = (() => {
 // CBOR items of definite length, as CTAP2 has them.
-const { utf8 } = parts["bytes.js"];
-
-const decoder = new TextDecoder("utf-8", { fatal: true });
-
-/** The text that bytes are. Most are short and ASCII, for which a decoder takes longer. */
-const textOf = (bytes) =>
-    bytes.length > 64 || bytes.some((byte) => byte > 127) ? decoder.decode(bytes) : String.fromCharCode(...bytes);
+const { textOf, utf8 } = parts["bytes.js"];
 
 /** A reader of CBOR items of definite length. What it can't read throws. */
 class CborReader {

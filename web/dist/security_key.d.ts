@@ -1,6 +1,8 @@
 // Types of the key in a page: of the module security_key.mjs, and of what the script security_key.js sets.
 
-/** What the user does when they are asked. "click" asks by two buttons in the page; "none" is a user who does nothing. */
+/**
+ * What the user does when they are asked. "click" asks by two buttons in the page; "none" is a user who does nothing.
+ */
 export type Word = "granted" | "denied" | "timeout" | "click" | "none";
 export type Presence = Word | ((question: string, signal: AbortSignal) => Word | Promise<Word>);
 
@@ -64,7 +66,9 @@ export interface Options {
     crypto?: Crypto;
 }
 
-/** Faults that a page or a service has to survive, each of them off at first, and written into the log as a comment. */
+/**
+ * Faults that a page or a service has to survive, each of them off at first, and written into the log as a comment.
+ */
 export interface Faults {
     /** Every request is answered by this status, a number or a name such as "KEY_STORE_FULL". */
     status: number | string | null;
@@ -129,6 +133,9 @@ export class SecurityKey extends EventTarget {
     once<Type extends keyof Events>(type: Type): Promise<Events[Type]>;
     addEventListener<Type extends keyof Events>(
         type: Type, listener: (event: CustomEvent<Events[Type]>) => void, options?: AddEventListenerOptions | boolean,
+    ): void;
+    addEventListener(
+        type: string, listener: EventListenerOrEventListenerObject | null, options?: AddEventListenerOptions | boolean,
     ): void;
 }
 

@@ -29,19 +29,25 @@ const fromHex = (text) => {
     return bytes;
 };
 
-const encoder = new TextEncoder();
-
 /** The UTF-8 form of a text. Most are ASCII, for which an encoder takes longer. @param {string} text */
 const utf8 = (text) => {
     const bytes = new Uint8Array(text.length);
     for (let at = 0; at < text.length; at += 1) {
         bytes[at] = text.charCodeAt(at);
         if (text.charCodeAt(at) > 127) {
-            return encoder.encode(text);
+            return new TextEncoder().encode(text);
         }
     }
     return bytes;
 };
+
+/**
+ * The text that bytes of UTF-8 are. Most are short and ASCII, for which a decoder takes longer.
+ * @param {Uint8Array} bytes
+ */
+const textOf = (bytes) =>
+    bytes.length > 64 || bytes.some((byte) => byte > 127)
+        ? new TextDecoder("utf-8", { fatal: true }).decode(bytes) : String.fromCharCode(...bytes);
 
 /** @param {string} text base64 @returns {Uint8Array} */
 const fromBase64 = (text) => Uint8Array.from(atob(text), (letter) => letter.charCodeAt(0));
@@ -91,7 +97,7 @@ const joined = (...parts) => {
     }
     return bytes;
 };
-return { toHex, fromHex, utf8, fromBase64, toBase64url, fromBase64url, isBuffer, copyOf, bufferOf, isSame, joined };
+return { toHex, fromHex, utf8, textOf, fromBase64, toBase64url, fromBase64url, isBuffer, copyOf, bufferOf, isSame, joined };
 })();
 
 parts["checks.js"] = (() => {
@@ -128,7 +134,10 @@ parts["errors.js"] = (() => {
 /** @param {string} name @param {string} text @returns {DOMException} */
 const failure = (name, text) => new DOMException(text, name);
 
-/** The one error that says no more than that it wasn't allowed. @param {string} why what it was, for whoever reads a test */
+/**
+ * The one error that says no more than that it wasn't allowed.
+ * @param {string} why what it was, for whoever reads a test
+ */
 const notAllowed = (why) => failure(
     "NotAllowedError",
     `The operation either timed out or was not allowed (${why}). `
@@ -150,13 +159,7 @@ return { failure, notAllowed, notSupported, excluded, busy };
 
 parts["cbor.js"] = (() => {
 // CBOR items of definite length, as CTAP2 has them.
-const { utf8 } = parts["bytes.js"];
-
-const decoder = new TextDecoder("utf-8", { fatal: true });
-
-/** The text that bytes are. Most are short and ASCII, for which a decoder takes longer. */
-const textOf = (bytes) =>
-    bytes.length > 64 || bytes.some((byte) => byte > 127) ? decoder.decode(bytes) : String.fromCharCode(...bytes);
+const { textOf, utf8 } = parts["bytes.js"];
 
 /** A reader of CBOR items of definite length. What it can't read throws. */
 class CborReader {
@@ -333,7 +336,11 @@ const derOf = (raw) => {
 /** @param {Uint8Array} x @param {Uint8Array} y */
 const spkiOf = (x, y) => joined(SPKI_HEAD, x, y);
 
-/** A private key as this file writes it, whose public key stands at its end. @param {Uint8Array} pkcs8 @returns {PrivateKey} */
+/**
+ * A private key as this file writes it, whose public key stands at its end.
+ * @param {Uint8Array} pkcs8
+ * @returns {PrivateKey}
+ */
 const privateKeyIn = (pkcs8) => ({ pkcs8, x: pkcs8.slice(-64, -32), y: pkcs8.slice(-32) });
 
 class PrivateKeys {
@@ -499,7 +506,8 @@ const signedIn = (answer, clientData, extensions) => {
     };
     const handle = user ? bufferOf(user) : null;
     const response = madeOf("AuthenticatorAssertionResponse", { ...parts, userHandle: handle });
-    return credentialOf(answer.get(1).get("id"), response, handle ? { ...parts, userHandle: handle } : parts, extensions);
+    const responseJson = handle ? { ...parts, userHandle: handle } : parts;
+    return credentialOf(answer.get(1).get("id"), response, responseJson, extensions);
 };
 return { credentialIdIn, registered, signedIn };
 })();
@@ -553,10 +561,11 @@ class Collector {
                 continue;
             }
             if (packet[4] >= 0x80) {
-                this.open = { command: packet[4] - 0x80, length: view.getUint16(5), parts: [packet.subarray(7)], size: 57 };
+                const [command, length] = [packet[4] - 0x80, view.getUint16(5)];
+                this.open = { command, length, parts: [packet.subarray(7)], size: PACKET - 7 };
             } else if (this.open) {
                 this.open.parts.push(packet.subarray(5));
-                this.open.size += 59;
+                this.open.size += PACKET - 5;
             }
             whole = this.#whole() ?? whole;
         }
@@ -613,6 +622,13 @@ const compiled = (bytes) => {
     }
 };
 
+/** Throws the reason of a signal that has ended what it is for. @param {AbortSignal | undefined} signal */
+const checkEnded = (signal) => {
+    if (signal?.aborted) {
+        throw signal.reason;
+    }
+};
+
 /**
  * Waits for a promise, unless the signal ends the wait with its reason.
  * @template T @param {Promise<T> | T} awaited @param {AbortSignal} signal @returns {Promise<T>}
@@ -628,7 +644,11 @@ const unlessEnded = (awaited, signal) =>
         Promise.resolve(awaited).then(done, fail).finally(() => signal.removeEventListener("abort", end));
     });
 
-/** Waits for milliseconds, unless the signal ends the wait. @param {number} milliseconds @param {AbortSignal} signal */
+/**
+ * Waits for milliseconds, unless the signal ends the wait.
+ * @param {number} milliseconds
+ * @param {AbortSignal} signal
+ */
 const pause = (milliseconds, signal) => {
     let timer;
     const waited = new Promise((done) => {
@@ -636,7 +656,7 @@ const pause = (milliseconds, signal) => {
     });
     return unlessEnded(waited, signal).finally(() => clearTimeout(timer));
 };
-return { setTimeout, clearTimeout, setInterval, clearInterval, now, webCrypto, compiled, unlessEnded, pause };
+return { setTimeout, clearTimeout, setInterval, clearInterval, now, webCrypto, compiled, checkEnded, unlessEnded, pause };
 })();
 
 parts["hidlog.wasm"] = [
@@ -2097,8 +2117,8 @@ parts["hidlog.wasm"] = [
 ].join("");
 
 parts["held.js"] = (() => {
-// The proved key, held in the memory of a WebAssembly instance (release/hidlog.h): one input a call, packets out. A call
-// costs the same however many came before.
+// The proved key, held in the memory of a WebAssembly instance (release/hidlog.h): one input a call, packets out. A
+// call costs the same however many came before.
 const wasm = parts["hidlog.wasm"];
 const { copyOf, fromBase64 } = parts["bytes.js"];
 const { PACKET } = parts["packets.js"];
@@ -2409,7 +2429,7 @@ parts["authenticator.js"] = (() => {
 // CTAP2 over CTAPHID to the proved core: requests in, answers out, and the caller that gives the key what it needs.
 const { toHex } = parts["bytes.js"];
 const { CANCEL, CBOR, Collector, INIT } = parts["packets.js"];
-const { clearInterval, pause, setInterval, unlessEnded } = parts["platform.js"];
+const { checkEnded, clearInterval, pause, setInterval, unlessEnded } = parts["platform.js"];
 const { Session } = parts["session.js"];
 const { statusName } = parts["statuses.js"];
 
@@ -2501,7 +2521,7 @@ class Authenticator {
             }
             isOver = true;
         };
-        turn.signal.throwIfAborted();
+        checkEnded(turn.signal);
         turn.signal.addEventListener("abort", end);
         try {
             const answer = this.faults.answerInstead(await this.#answer(bytes, turn), this.session.recording);
@@ -2526,10 +2546,10 @@ class Authenticator {
         if (!message && this.faults.delay) {
             this.session.recording.note(`fault: ${this.faults.delay} ms pass before the answer`);
             await this.#passing(pause(this.faults.delay, turn.signal), turn.signal);
-            turn.signal.throwIfAborted();
+            checkEnded(turn.signal);
         }
         while (!message) {
-            turn.signal.throwIfAborted();
+            checkEnded(turn.signal);
             message = this.#collector.add(await this.#worked(turn));
         }
         if (message.command !== CBOR) {
@@ -2545,7 +2565,7 @@ class Authenticator {
         if (word === "granted") {
             await this.#passing(turn.enter(), turn.signal);
         }
-        turn.signal.throwIfAborted();
+        checkEnded(turn.signal);
         // Where other credentials came meanwhile, the request is sent again to the session that has them.
         const answer = session === this.session ? null : this.#send(bytes);
         return answer ?? this.#collector.add(this.session.presence(word));
@@ -2559,13 +2579,13 @@ class Authenticator {
         const { need } = this.session;
         if (need.kind === "key") {
             const pair = await unlessEnded(this.privateKeys.make(), signal);
-            signal.throwIfAborted();
+            checkEnded(signal);
             made(pair.id);
             return this.session.newKey(pair);
         }
         if (need.kind === "signature") {
             const signature = await unlessEnded(this.#sign(need), signal);
-            signal.throwIfAborted();
+            checkEnded(signal);
             return this.session.signature(signature);
         }
         throw new Error(`the authenticator did not answer, and needs ${need.kind}`);
@@ -2637,7 +2657,11 @@ const checkAppId = (name, appid, origin) => {
     }
 };
 
-/** The RP id, which has to be the host's domain or one above it. @param {string | undefined} id @param {string} origin */
+/**
+ * The RP id, which has to be the host's domain or one above it.
+ * @param {string | undefined} id
+ * @param {string} origin
+ */
 const rpIdOf = (id, origin) => {
     const host = new URL(origin).hostname;
     if (isAddress(host) || !host) {
@@ -2686,8 +2710,8 @@ const checkPolicy = (name, origin) => {
     const { featurePolicy: policy } = /** @type {any} */ (globalThis.document ?? {});
     const feature = `publickey-credentials-${name}`;
     if (crossing(origin).crossOrigin && policy && !policy.allowsFeature(feature)) {
-        throw failure("NotAllowedError", `The '${feature}' feature is not enabled in this document. Permissions Policy may `
-            + "be used to delegate Web Authentication capabilities to cross-origin child frames.");
+        throw failure("NotAllowedError", `The '${feature}' feature is not enabled in this document. Permissions `
+            + "Policy may be used to delegate Web Authentication capabilities to cross-origin child frames.");
     }
 };
 
@@ -2705,7 +2729,11 @@ const { fromBase64url } = parts["bytes.js"];
 const { failure, notAllowed, notSupported } = parts["errors.js"];
 const { checkAppId } = parts["relying_party.js"];
 
-const POLICIES = ["userVerificationOptional", "userVerificationOptionalWithCredentialIDList", "userVerificationRequired"];
+const POLICIES = ["userVerificationOptional", "userVerificationOptionalWithCredentialIDList",
+    "userVerificationRequired"];
+const WRONG_POLICY = "Requested protection policy is inconsistent or incongruent with other requested parameters.";
+const ONLY_APPID = "The 'appid' extension is only valid when requesting an assertion for a pre-existing credential"
+    + " was registered using the legacy FIDO U2F API.";
 
 /** @param {any} extensions @param {any} selection */
 const checkProtection = ({ credentialProtectionPolicy, enforceCredentialProtectionPolicy }, selection) => {
@@ -2716,7 +2744,7 @@ const checkProtection = ({ credentialProtectionPolicy, enforceCredentialProtecti
         throw notSupported("Required parameters missing in `options.publicKey`.");
     }
     if (credentialProtectionPolicy === POLICIES[2] && selection.userVerification !== "required") {
-        throw notSupported("Requested protection policy is inconsistent or incongruent with other requested parameters.");
+        throw notSupported(WRONG_POLICY);
     }
     if (enforceCredentialProtectionPolicy && credentialProtectionPolicy !== POLICIES[0]) {
         throw notAllowed("the key has no credential protection");
@@ -2727,13 +2755,13 @@ const checkProtection = ({ credentialProtectionPolicy, enforceCredentialProtecti
 const checkCreationExtensions = (extensions, selection, origin) => {
     const { appid, appidExclude, largeBlob, prf } = extensions;
     if (appid !== undefined) {
-        throw notSupported("The 'appid' extension is only valid when requesting an assertion for a pre-existing credential "
-            + "that was registered using the legacy FIDO U2F API.");
+        throw notSupported(ONLY_APPID);
     }
     checkAppId("appidExclude", appidExclude, origin);
     for (const name of ["read", "write"]) {
         if (largeBlob?.[name]) {
-            throw notSupported(`The 'largeBlob' extension's '${name}' parameter is only valid when requesting an assertion`);
+            throw notSupported(
+                `The 'largeBlob' extension's '${name}' parameter is only valid when requesting an assertion`);
         }
     }
     if (prf?.evalByCredential) {
@@ -2775,7 +2803,8 @@ const checkRequestExtensions = ({ appid, credProps, largeBlob, prf }, hasList, o
         throw notSupported("The 'largeBlob' extension's 'support' parameter is only valid when creating a credential");
     }
     if (largeBlob?.read && largeBlob.write) {
-        throw notSupported("Only one of the 'largeBlob' extension's 'read' and 'write' parameters is allowed at a time");
+        throw notSupported(
+            "Only one of the 'largeBlob' extension's 'read' and 'write' parameters is allowed at a time");
     }
     checkPrf(prf, hasList);
     checkAppId("appid", appid, origin);
@@ -2806,6 +2835,7 @@ const ES256 = -7;
 const RS256 = -257;
 const PUBLIC_KEY = "public-key";
 const TRANSPORTS = ["usb", "nfc", "ble", "smart-card", "hybrid", "internal"];
+const RESIDENT_KEY = ["required", "preferred", "discouraged"];
 const LIST_MOST = 64;
 
 /** Descriptors of the one type that there is, as CTAP2 has them. */
@@ -2844,7 +2874,7 @@ const parametersOf = (list) => {
 };
 
 const isDiscoverable = ({ residentKey, requireResidentKey = false }) =>
-    ["required", "preferred", "discouraged"].includes(residentKey) ? residentKey !== "discouraged" : requireResidentKey;
+    RESIDENT_KEY.includes(residentKey) ? residentKey !== "discouraged" : requireResidentKey;
 
 /** What the key can't do. @param {string | undefined} userVerification @param {string} [attachment] */
 const checkAbilities = (userVerification, attachment) => {
@@ -2919,7 +2949,7 @@ const checkWhich = (name, which) =>
 const accountOf = async (accounts, which) => {
     const given = typeof which === "function" ? await which(accounts) : which;
     const found = accounts.find((it, place) =>
-        [place, it.userName, it.credentialId].includes(given) || it === given || it.credentialId === given?.credentialId);
+        [it, place, it.userName, it.credentialId].includes(given) || it.credentialId === given?.credentialId);
     if (!found) {
         const names = accounts.map((it) => it.userName || it.credentialId).join(", ") || "none";
         throw new RangeError(`there is no account ${JSON.stringify(given)} to sign in with; there are: ${names}`);
@@ -2957,7 +2987,7 @@ return { checkWhich, accountOf, Choices };
 
 parts["credentials.js"] = (() => {
 // The credentials of a key as WebDriver's virtual authenticators show them, and as the core's snapshots have them.
-const { copyOf, fromBase64url, isBuffer, isSame, toBase64url, toHex, utf8 } = parts["bytes.js"];
+const { copyOf, fromBase64url, isBuffer, isSame, textOf, toBase64url, toHex, utf8 } = parts["bytes.js"];
 const { writeCbor } = parts["cbor.js"];
 const { checkKind, checkMembers } = parts["checks.js"];
 const { privateKeyIn } = parts["private_keys.js"];
@@ -3006,7 +3036,7 @@ const snapshotOf = (rows) => {
         return new Uint8Array(0);
     }
     const items = rows.map(({ rp, id, x, y, user, discoverable, counter, name }) =>
-        new Map([rp, id, x, y, user, discoverable, counter, new TextDecoder().decode(name)].map((it, at) => [at + 1, it])));
+        new Map([rp, id, x, y, user, discoverable, counter, textOf(name)].map((it, at) => [at + 1, it])));
     return writeCbor(new Map([[1, SNAPSHOT_VERSION], [2, items]]));
 };
 
@@ -3019,7 +3049,8 @@ const checkValues = ({ signCount, userName, userDisplayName, isResidentCredentia
         "a number from 0 to 2^32-1");
     checkKind("userName", userName, typeof userName === "string", "a text");
     checkKind("userDisplayName", userDisplayName, typeof userDisplayName === "string", "a text");
-    checkKind("isResidentCredential", isResidentCredential, typeof isResidentCredential === "boolean", "true or false");
+    const isBoolean = typeof isResidentCredential === "boolean";
+    checkKind("isResidentCredential", isResidentCredential, isBoolean, "true or false");
 };
 
 class Credentials {
@@ -3046,7 +3077,8 @@ class Credentials {
 
     /** The row of a credential that `shown` showed, with the hash of its RP id. */
     restored(credential, rp) {
-        const [id, pkcs8, user] = ["credentialId", "privateKey", "userHandle"].map((it) => bytesOf(it, credential[it]));
+        const names = ["credentialId", "privateKey", "userHandle"];
+        const [id, pkcs8, user] = names.map((it) => bytesOf(it, credential[it]));
         const held = privateKeyIn(pkcs8);
         this.privateKeys.set(id, this.privateKeys.get(id) ?? held);
         this.label(id, credential);
@@ -3127,8 +3159,8 @@ return { PROPERTIES, snapshotOf, Credentials };
 })();
 
 parts["faults.js"] = (() => {
-// Faults that a page or a service has to survive. They are made outside of the proved core, whose log stays as it is: each
-// one is a comment in it.
+// Faults that a page or a service has to survive. They are made outside of the proved core, whose log stays as it is:
+// each one is a comment in it.
 const { isSame, joined, toHex, utf8 } = parts["bytes.js"];
 const { checkKind, checkName } = parts["checks.js"];
 const { STATUSES, statusName } = parts["statuses.js"];
@@ -3166,8 +3198,8 @@ const checked = (name, value) => {
     }
     const isText = name === "otherRp" && (value === null || typeof value === "string");
     const isNumber = typeof OFF[name] === "number" && Number.isInteger(value) && value >= 0;
-    checkKind(`faults.${name}`, value, isText || isNumber || (typeof OFF[name] === "boolean" && typeof value === "boolean"),
-        KINDS[name]);
+    const isBoolean = typeof OFF[name] === "boolean" && typeof value === "boolean";
+    checkKind(`faults.${name}`, value, isText || isNumber || isBoolean, KINDS[name]);
     return value;
 };
 
@@ -3370,33 +3402,41 @@ return { required, optional, text, boolean, long, unsignedLong, buffer, abortSig
 })();
 
 parts["options.js"] = (() => {
-// The arguments of navigator.credentials.create and get: the dictionaries of WebAuthn Level 3 and of Credential Management,
-// as Chromium converts them.
+// The arguments of navigator.credentials.create and get: the dictionaries of WebAuthn Level 3 and of Credential
+// Management, as Chromium converts them.
 const {
-    abortSignal, boolean, buffer, dictionary, enumeration, long, optional, record, required, sequence, text, unsignedLong,
+    abortSignal, boolean, buffer, dictionary, enumeration, long, optional, record, required, sequence, text,
+    unsignedLong,
 } = parts["webidl.js"];
 
 const MEDIATION = ["silent", "optional", "conditional", "required"];
 const ENTITY = "PublicKeyCredentialEntity";
 
-/** The dictionaries whose buffers are converted by this: bytes for calls, base64url for JSON. */
-const dictionariesOf = (bytes, suffix) => {
-    const descriptor = dictionary(`PublicKeyCredentialDescriptor${suffix}`, {
-        id: required(bytes), transports: optional(sequence(text)), type: required(text),
+/** The dictionary of extensions. */
+const extensionsOf = (bytes, suffix) => {
+    const prfValues = dictionary("AuthenticationExtensionsPRFValues", {
+        first: required(bytes), second: optional(bytes),
     });
-    const prfValues = dictionary("AuthenticationExtensionsPRFValues", { first: required(bytes), second: optional(bytes) });
     const prf = dictionary("AuthenticationExtensionsPRFInputs", {
         eval: optional(prfValues), evalByCredential: optional(record(prfValues)),
     });
     const largeBlob = dictionary("AuthenticationExtensionsLargeBlobInputs", {
         read: optional(boolean), support: optional(text), write: optional(bytes),
     });
-    const extensions = dictionary(`AuthenticationExtensionsClientInputs${suffix}`, {
+    return dictionary(`AuthenticationExtensionsClientInputs${suffix}`, {
         appid: optional(text), appidExclude: optional(text), credBlob: optional(bytes), credProps: optional(boolean),
         credentialProtectionPolicy: optional(text), enforceCredentialProtectionPolicy: optional(boolean, false),
         getCredBlob: optional(boolean), hmacCreateSecret: optional(boolean), largeBlob: optional(largeBlob),
         minPinLength: optional(boolean), prf: optional(prf), uvm: optional(boolean),
     });
+};
+
+/** The dictionaries of calls, whose buffers are converted by this: bytes, or base64url for JSON. */
+const dictionariesOf = (bytes, suffix) => {
+    const descriptor = dictionary(`PublicKeyCredentialDescriptor${suffix}`, {
+        id: required(bytes), transports: optional(sequence(text)), type: required(text),
+    });
+    const extensions = extensionsOf(bytes, suffix);
     const rp = dictionary("PublicKeyCredentialRpEntity", { name: required(text, ENTITY), id: optional(text) });
     const user = dictionary(`PublicKeyCredentialUserEntity${suffix}`, {
         name: required(text, ENTITY), displayName: required(text), id: required(bytes),
@@ -3429,7 +3469,9 @@ const shared = {
     mediation: optional(enumeration("CredentialMediationRequirement", MEDIATION), "optional"),
     signal: optional(abortSignal),
 };
-const credentialCreation = dictionary("CredentialCreationOptions", { publicKey: optional(creationOptions), ...shared });
+const credentialCreation = dictionary("CredentialCreationOptions", {
+    publicKey: optional(creationOptions), ...shared,
+});
 const credentialRequest = dictionary("CredentialRequestOptions", { publicKey: optional(requestOptions), ...shared });
 
 const executing = (name, type) => `Failed to execute '${name}' on '${type}': `;
@@ -3463,7 +3505,8 @@ return { readCreation, readRequest, readCreationJson, readRequestJson };
 })();
 
 parts["requests.js"] = (() => {
-// The requests of a page: one at a time, each ended by its answer, its signal, its time-out, or another that takes over.
+// The requests of a page: one at a time, each ended by its answer, its signal, its time-out, or another that takes
+// over.
 const { busy, failure, notAllowed } = parts["errors.js"];
 const { clearTimeout, setTimeout } = parts["platform.js"];
 
@@ -3528,8 +3571,8 @@ return { Requests };
 })();
 
 parts["state.js"] = (() => {
-// What outlives a page: the credentials with their counters and private keys, and the moment, as one value of JSON; and a
-// store that holds it, which several tabs may share.
+// What outlives a page: the credentials with their counters and private keys, and the moment, as one value of JSON;
+// and a store that holds it, which several tabs may share.
 const { fromBase64url, toBase64url } = parts["bytes.js"];
 const { checkKind } = parts["checks.js"];
 
@@ -3539,7 +3582,11 @@ const NAME = "hidlogKey";
 /** @typedef {import("./credentials.js").Credential & { rpIdHash: string }} KeptCredential */
 /** @typedef {{ form: string, moment: number, credentials: KeptCredential[] }} State */
 
-/** @param {number} moment @param {import("./held.js").Row[]} rows @param {import("./credentials.js").Credentials} credentials */
+/**
+ * @param {number} moment
+ * @param {import("./held.js").Row[]} rows
+ * @param {import("./credentials.js").Credentials} credentials
+ */
 const stateOf = (moment, rows, credentials) => ({
     form: FORM, moment,
     credentials: rows.map((row) => ({ ...credentials.shown(row), rpIdHash: toBase64url(row.rp) })),
@@ -3547,7 +3594,8 @@ const stateOf = (moment, rows, credentials) => ({
 
 /** The rows in a state. @param {any} state @param {import("./credentials.js").Credentials} credentials */
 const rowsIn = (state, credentials) => {
-    checkKind("state", state, state?.form === FORM && Array.isArray(state.credentials), `what key.state() gave ("${FORM}")`);
+    const isState = state?.form === FORM && Array.isArray(state.credentials);
+    checkKind("state", state, isState, `what key.state() gave ("${FORM}")`);
     return state.credentials.map((it) => credentials.restored(it, fromBase64url(it.rpIdHash)));
 };
 
@@ -3724,8 +3772,8 @@ return { User };
 })();
 
 parts["security_key.js"] = (() => {
-// A security key in a page: registrations and sign-ins as navigator.credentials serves them, and what a test does with a
-// virtual authenticator. The key is the proved core; each session of it is a log that replays exactly.
+// A security key in a page: registrations and sign-ins as navigator.credentials serves them, and what a test does
+// with a virtual authenticator. The key is the proved core; each session of it is a log that replays exactly.
 const { registered, signedIn } = parts["answers.js"];
 const { Authenticator, CtapError } = parts["authenticator.js"];
 const { isSame, toBase64url } = parts["bytes.js"];
@@ -3738,7 +3786,7 @@ const { excluded, failure, notAllowed } = parts["errors.js"];
 const { creationResults, requestResults } = parts["extensions.js"];
 const { Faults } = parts["faults.js"];
 const { readCreation, readRequest } = parts["options.js"];
-const { now, unlessEnded, webCrypto } = parts["platform.js"];
+const { checkEnded, now, unlessEnded, webCrypto } = parts["platform.js"];
 const { PrivateKeys } = parts["private_keys.js"];
 const { checkPolicy, clientDataOf } = parts["relying_party.js"];
 const { Requests } = parts["requests.js"];
@@ -3791,7 +3839,7 @@ class SecurityKey extends EventTarget {
         super();
         checkMembers("option", options, OPTIONS);
         const { presence = "granted", delay = 0, account = 0, clock, state, store, crypto, origin } = options;
-        checkKind("clock", clock, clock === undefined || typeof clock === "function", "a function that gives milliseconds");
+        checkKind("clock", clock, ["undefined", "function"].includes(typeof clock), "a function of milliseconds");
         this.#user = new User({ presence, delay });
         this.account = account;
         this.#origin = origin;
@@ -3814,7 +3862,8 @@ class SecurityKey extends EventTarget {
 
     /** The proved key, which is made when it is asked for first. */
     get #key() {
-        this.#authenticator ??= new Authenticator(this.#privateKeys, this.#faults, this.#clock, snapshotOf(this.#start));
+        const snapshot = snapshotOf(this.#start);
+        this.#authenticator ??= new Authenticator(this.#privateKeys, this.#faults, this.#clock, snapshot);
         return this.#authenticator;
     }
 
@@ -3895,7 +3944,7 @@ class SecurityKey extends EventTarget {
     /** As navigator.credentials.create. @param {any} options */
     async create(options) {
         const { publicKey, signal, mediation } = readCreation(options);
-        signal?.throwIfAborted();
+        checkEnded(signal);
         const origin = this.#pageOrigin();
         checkPolicy("create", origin);
         const asked = registrationOf(publicKey, origin);
@@ -3916,7 +3965,7 @@ class SecurityKey extends EventTarget {
     /** As navigator.credentials.get. @param {any} options */
     async get(options) {
         const { publicKey, signal, mediation } = readRequest(options);
-        signal?.throwIfAborted();
+        checkEnded(signal);
         const origin = this.#pageOrigin();
         checkPolicy("get", origin);
         const asked = signInOf(publicKey, origin);
@@ -4091,7 +4140,7 @@ class SecurityKey extends EventTarget {
 
     /** @param {boolean} isUserVerified */
     async setUserVerified(isUserVerified) {
-        checkKind("isUserVerified", isUserVerified, isUserVerified === false, "false, since this key verifies no users");
+        checkKind("isUserVerified", isUserVerified, isUserVerified === false, "false: this key verifies no users");
     }
 
     // Events.
@@ -4125,9 +4174,9 @@ const CAPABILITIES = {
     conditionalCreate: false, conditionalGet: true, hybridTransport: false, passkeyPlatformAuthenticator: false,
     relatedOrigins: false, signalAllAcceptedCredentials: false, signalCurrentUserDetails: false,
     signalUnknownCredential: false, userVerifyingPlatformAuthenticator: false,
-    "extension:appid": false, "extension:appidExclude": false, "extension:credBlob": false, "extension:credProps": true,
-    "extension:credentialProtectionPolicy": false, "extension:hmacCreateSecret": false, "extension:largeBlob": false,
-    "extension:minPinLength": false, "extension:prf": false,
+    "extension:appid": false, "extension:appidExclude": false, "extension:credBlob": false,
+    "extension:credProps": true, "extension:credentialProtectionPolicy": false, "extension:hmacCreateSecret": false,
+    "extension:largeBlob": false, "extension:minPinLength": false, "extension:prf": false,
 };
 
 /** Gives the buffer of a text in base64url, by the name of its member. @param {string} where */
@@ -4202,12 +4251,14 @@ return { STATICS };
 })();
 
 parts["place.js"] = (() => {
-// The place of a key: the functions of navigator.credentials and of PublicKeyCredential that it takes over, and puts back.
+// The place of a key: the functions of navigator.credentials and of PublicKeyCredential that it takes over, and puts
+// back.
 const { notSupported } = parts["errors.js"];
 const { SecurityKey } = parts["security_key.js"];
 const { STATICS } = parts["statics.js"];
 
-const ONE_TYPE = "Only exactly one of 'password', 'federated', and 'publicKey' credential types are currently supported.";
+const ONE_TYPE = "Only exactly one of 'password', 'federated', and 'publicKey' credential types are currently"
+    + " supported.";
 const TYPES = ["CredentialsContainer", "PublicKeyCredential", "AuthenticatorAttestationResponse",
     "AuthenticatorAssertionResponse"];
 
@@ -4217,7 +4268,8 @@ let placed = null;
 /** Sets a property, and gives what sets it back. */
 const replaced = (object, name, value) => {
     const before = Object.getOwnPropertyDescriptor(object, name);
-    Object.defineProperty(object, name, { value, writable: true, configurable: true, enumerable: before?.enumerable ?? false });
+    const enumerable = before?.enumerable ?? false;
+    Object.defineProperty(object, name, { value, writable: true, configurable: true, enumerable });
     return () => (before ? Object.defineProperty(object, name, before) : Reflect.deleteProperty(object, name));
 };
 
@@ -4292,7 +4344,10 @@ class InstalledKey extends SecurityKey {
     }
 }
 
-/** Puts a new key in the place of navigator.credentials, at once. @param {import("../dist/security_key.js").Options} [options] */
+/**
+ * Puts a new key in the place of navigator.credentials, at once.
+ * @param {import("../dist/security_key.js").Options} [options]
+ */
 const install = (options) => {
     if (placed) {
         throw new Error("hidlogKey: a key is in place already; uninstall it first: hidlogKey.current().uninstall()");
@@ -4308,7 +4363,8 @@ return { InstalledKey, install, current };
 })();
 
 parts["dev_tools.js"] = (() => {
-// The commands of Chromium's DevTools on virtual authenticators, on the key in place: the same names, the same members.
+// The commands of Chromium's DevTools on virtual authenticators, on the key in place: the same names, the same
+// members.
 const { fromBase64url } = parts["bytes.js"];
 const { checkKind, checkMembers, checkName } = parts["checks.js"];
 const { current, install } = parts["place.js"];
@@ -4346,7 +4402,8 @@ const addKey = async ({ options }) => {
     const { automaticPresenceSimulation = true, ...abilities } = options;
     checkMembers("option of a virtual authenticator", abilities, Object.keys(ABILITIES));
     for (const [name, value] of Object.entries(abilities)) {
-        checkKind(name, value, value === ABILITIES[name], `${JSON.stringify(ABILITIES[name])}, which is what this key is`);
+        const own = JSON.stringify(ABILITIES[name]);
+        checkKind(name, value, value === ABILITIES[name], `${own}, which is what this key is`);
     }
     await (current() ?? install()).setAutomaticPresenceSimulation(automaticPresenceSimulation);
     return { authenticatorId: ID };
@@ -4366,7 +4423,8 @@ const COMMANDS = {
     addVirtualAuthenticator: addKey,
     removeVirtualAuthenticator: removeKey,
     addCredential: ({ credential }) => keyInPlace().addCredential(credential).then(() => ({})),
-    getCredential: async ({ credentialId }) => ({ credential: inBase64(await keyInPlace().getCredential(credentialId)) }),
+    getCredential: async ({ credentialId }) =>
+        ({ credential: inBase64(await keyInPlace().getCredential(credentialId)) }),
     getCredentials: async () => ({ credentials: (await keyInPlace().getCredentials()).map(inBase64) }),
     removeCredential: ({ credentialId }) => keyInPlace().removeCredential(credentialId),
     clearCredentials: () => keyInPlace().clearCredentials(),
@@ -4377,7 +4435,11 @@ const COMMANDS = {
     setResponseOverrideBits: overrideBits,
 };
 
-/** Calls a command as DevTools does, such as "WebAuthn.getCredentials". @param {string} command @param {any} [parameters] */
+/**
+ * Calls a command as DevTools does, such as "WebAuthn.getCredentials".
+ * @param {string} command
+ * @param {any} [parameters]
+ */
 const send = async (command, parameters = {}) => {
     const name = String(command).replace(/^WebAuthn\./, "");
     checkName("command", name, Object.keys(COMMANDS));

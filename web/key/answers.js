@@ -81,5 +81,6 @@ export const signedIn = (answer, clientData, extensions) => {
     };
     const handle = user ? bufferOf(user) : null;
     const response = madeOf("AuthenticatorAssertionResponse", { ...parts, userHandle: handle });
-    return credentialOf(answer.get(1).get("id"), response, handle ? { ...parts, userHandle: handle } : parts, extensions);
+    const responseJson = handle ? { ...parts, userHandle: handle } : parts;
+    return credentialOf(answer.get(1).get("id"), response, responseJson, extensions);
 };

@@ -1,7 +1,7 @@
 // CTAP2 over CTAPHID to the proved core: requests in, answers out, and the caller that gives the key what it needs.
 import { toHex } from "./bytes.js";
 import { CANCEL, CBOR, Collector, INIT } from "./packets.js";
-import { clearInterval, pause, setInterval, unlessEnded } from "./platform.js";
+import { checkEnded, clearInterval, pause, setInterval, unlessEnded } from "./platform.js";
 import { Session } from "./session.js";
 import { statusName } from "./statuses.js";
 
@@ -93,7 +93,7 @@ export class Authenticator {
             }
             isOver = true;
         };
-        turn.signal.throwIfAborted();
+        checkEnded(turn.signal);
         turn.signal.addEventListener("abort", end);
         try {
             const answer = this.faults.answerInstead(await this.#answer(bytes, turn), this.session.recording);
@@ -118,10 +118,10 @@ export class Authenticator {
         if (!message && this.faults.delay) {
             this.session.recording.note(`fault: ${this.faults.delay} ms pass before the answer`);
             await this.#passing(pause(this.faults.delay, turn.signal), turn.signal);
-            turn.signal.throwIfAborted();
+            checkEnded(turn.signal);
         }
         while (!message) {
-            turn.signal.throwIfAborted();
+            checkEnded(turn.signal);
             message = this.#collector.add(await this.#worked(turn));
         }
         if (message.command !== CBOR) {
@@ -137,7 +137,7 @@ export class Authenticator {
         if (word === "granted") {
             await this.#passing(turn.enter(), turn.signal);
         }
-        turn.signal.throwIfAborted();
+        checkEnded(turn.signal);
         // Where other credentials came meanwhile, the request is sent again to the session that has them.
         const answer = session === this.session ? null : this.#send(bytes);
         return answer ?? this.#collector.add(this.session.presence(word));
@@ -151,13 +151,13 @@ export class Authenticator {
         const { need } = this.session;
         if (need.kind === "key") {
             const pair = await unlessEnded(this.privateKeys.make(), signal);
-            signal.throwIfAborted();
+            checkEnded(signal);
             made(pair.id);
             return this.session.newKey(pair);
         }
         if (need.kind === "signature") {
             const signature = await unlessEnded(this.#sign(need), signal);
-            signal.throwIfAborted();
+            checkEnded(signal);
             return this.session.signature(signature);
         }
         throw new Error(`the authenticator did not answer, and needs ${need.kind}`);

@@ -23,19 +23,25 @@ export const fromHex = (text) => {
     return bytes;
 };
 
-const encoder = new TextEncoder();
-
 /** The UTF-8 form of a text. Most are ASCII, for which an encoder takes longer. @param {string} text */
 export const utf8 = (text) => {
     const bytes = new Uint8Array(text.length);
     for (let at = 0; at < text.length; at += 1) {
         bytes[at] = text.charCodeAt(at);
         if (text.charCodeAt(at) > 127) {
-            return encoder.encode(text);
+            return new TextEncoder().encode(text);
         }
     }
     return bytes;
 };
+
+/**
+ * The text that bytes of UTF-8 are. Most are short and ASCII, for which a decoder takes longer.
+ * @param {Uint8Array} bytes
+ */
+export const textOf = (bytes) =>
+    bytes.length > 64 || bytes.some((byte) => byte > 127)
+        ? new TextDecoder("utf-8", { fatal: true }).decode(bytes) : String.fromCharCode(...bytes);
 
 /** @param {string} text base64 @returns {Uint8Array} */
 export const fromBase64 = (text) => Uint8Array.from(atob(text), (letter) => letter.charCodeAt(0));

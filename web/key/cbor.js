@@ -1,11 +1,5 @@
 // CBOR items of definite length, as CTAP2 has them.
-import { utf8 } from "./bytes.js";
-
-const decoder = new TextDecoder("utf-8", { fatal: true });
-
-/** The text that bytes are. Most are short and ASCII, for which a decoder takes longer. */
-const textOf = (bytes) =>
-    bytes.length > 64 || bytes.some((byte) => byte > 127) ? decoder.decode(bytes) : String.fromCharCode(...bytes);
+import { textOf, utf8 } from "./bytes.js";
 
 /** A reader of CBOR items of definite length. What it can't read throws. */
 class CborReader {

@@ -12,6 +12,7 @@ const ES256 = -7;
 const RS256 = -257;
 const PUBLIC_KEY = "public-key";
 const TRANSPORTS = ["usb", "nfc", "ble", "smart-card", "hybrid", "internal"];
+const RESIDENT_KEY = ["required", "preferred", "discouraged"];
 const LIST_MOST = 64;
 
 /** Descriptors of the one type that there is, as CTAP2 has them. */
@@ -50,7 +51,7 @@ const parametersOf = (list) => {
 };
 
 const isDiscoverable = ({ residentKey, requireResidentKey = false }) =>
-    ["required", "preferred", "discouraged"].includes(residentKey) ? residentKey !== "discouraged" : requireResidentKey;
+    RESIDENT_KEY.includes(residentKey) ? residentKey !== "discouraged" : requireResidentKey;
 
 /** What the key can't do. @param {string | undefined} userVerification @param {string} [attachment] */
 const checkAbilities = (userVerification, attachment) => {

@@ -16,7 +16,7 @@ export const checkWhich = (name, which) =>
 export const accountOf = async (accounts, which) => {
     const given = typeof which === "function" ? await which(accounts) : which;
     const found = accounts.find((it, place) =>
-        [place, it.userName, it.credentialId].includes(given) || it === given || it.credentialId === given?.credentialId);
+        [it, place, it.userName, it.credentialId].includes(given) || it.credentialId === given?.credentialId);
     if (!found) {
         const names = accounts.map((it) => it.userName || it.credentialId).join(", ") || "none";
         throw new RangeError(`there is no account ${JSON.stringify(given)} to sign in with; there are: ${names}`);

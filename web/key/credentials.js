@@ -1,5 +1,5 @@
 // The credentials of a key as WebDriver's virtual authenticators show them, and as the core's snapshots have them.
-import { copyOf, fromBase64url, isBuffer, isSame, toBase64url, toHex, utf8 } from "./bytes.js";
+import { copyOf, fromBase64url, isBuffer, isSame, textOf, toBase64url, toHex, utf8 } from "./bytes.js";
 import { writeCbor } from "./cbor.js";
 import { checkKind, checkMembers } from "./checks.js";
 import { privateKeyIn } from "./private_keys.js";
@@ -48,7 +48,7 @@ export const snapshotOf = (rows) => {
         return new Uint8Array(0);
     }
     const items = rows.map(({ rp, id, x, y, user, discoverable, counter, name }) =>
-        new Map([rp, id, x, y, user, discoverable, counter, new TextDecoder().decode(name)].map((it, at) => [at + 1, it])));
+        new Map([rp, id, x, y, user, discoverable, counter, textOf(name)].map((it, at) => [at + 1, it])));
     return writeCbor(new Map([[1, SNAPSHOT_VERSION], [2, items]]));
 };
 
@@ -61,7 +61,8 @@ const checkValues = ({ signCount, userName, userDisplayName, isResidentCredentia
         "a number from 0 to 2^32-1");
     checkKind("userName", userName, typeof userName === "string", "a text");
     checkKind("userDisplayName", userDisplayName, typeof userDisplayName === "string", "a text");
-    checkKind("isResidentCredential", isResidentCredential, typeof isResidentCredential === "boolean", "true or false");
+    const isBoolean = typeof isResidentCredential === "boolean";
+    checkKind("isResidentCredential", isResidentCredential, isBoolean, "true or false");
 };
 
 export class Credentials {
@@ -88,7 +89,8 @@ export class Credentials {
 
     /** The row of a credential that `shown` showed, with the hash of its RP id. */
     restored(credential, rp) {
-        const [id, pkcs8, user] = ["credentialId", "privateKey", "userHandle"].map((it) => bytesOf(it, credential[it]));
+        const names = ["credentialId", "privateKey", "userHandle"];
+        const [id, pkcs8, user] = names.map((it) => bytesOf(it, credential[it]));
         const held = privateKeyIn(pkcs8);
         this.privateKeys.set(id, this.privateKeys.get(id) ?? held);
         this.label(id, credential);

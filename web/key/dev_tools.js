@@ -1,4 +1,5 @@
-// The commands of Chromium's DevTools on virtual authenticators, on the key in place: the same names, the same members.
+// The commands of Chromium's DevTools on virtual authenticators, on the key in place: the same names, the same
+// members.
 import { fromBase64url } from "./bytes.js";
 import { checkKind, checkMembers, checkName } from "./checks.js";
 import { current, install } from "./place.js";
@@ -36,7 +37,8 @@ const addKey = async ({ options }) => {
     const { automaticPresenceSimulation = true, ...abilities } = options;
     checkMembers("option of a virtual authenticator", abilities, Object.keys(ABILITIES));
     for (const [name, value] of Object.entries(abilities)) {
-        checkKind(name, value, value === ABILITIES[name], `${JSON.stringify(ABILITIES[name])}, which is what this key is`);
+        const own = JSON.stringify(ABILITIES[name]);
+        checkKind(name, value, value === ABILITIES[name], `${own}, which is what this key is`);
     }
     await (current() ?? install()).setAutomaticPresenceSimulation(automaticPresenceSimulation);
     return { authenticatorId: ID };
@@ -56,7 +58,8 @@ const COMMANDS = {
     addVirtualAuthenticator: addKey,
     removeVirtualAuthenticator: removeKey,
     addCredential: ({ credential }) => keyInPlace().addCredential(credential).then(() => ({})),
-    getCredential: async ({ credentialId }) => ({ credential: inBase64(await keyInPlace().getCredential(credentialId)) }),
+    getCredential: async ({ credentialId }) =>
+        ({ credential: inBase64(await keyInPlace().getCredential(credentialId)) }),
     getCredentials: async () => ({ credentials: (await keyInPlace().getCredentials()).map(inBase64) }),
     removeCredential: ({ credentialId }) => keyInPlace().removeCredential(credentialId),
     clearCredentials: () => keyInPlace().clearCredentials(),
@@ -67,7 +70,11 @@ const COMMANDS = {
     setResponseOverrideBits: overrideBits,
 };
 
-/** Calls a command as DevTools does, such as "WebAuthn.getCredentials". @param {string} command @param {any} [parameters] */
+/**
+ * Calls a command as DevTools does, such as "WebAuthn.getCredentials".
+ * @param {string} command
+ * @param {any} [parameters]
+ */
 export const send = async (command, parameters = {}) => {
     const name = String(command).replace(/^WebAuthn\./, "");
     checkName("command", name, Object.keys(COMMANDS));

@@ -3,7 +3,10 @@
 /** @param {string} name @param {string} text @returns {DOMException} */
 export const failure = (name, text) => new DOMException(text, name);
 
-/** The one error that says no more than that it wasn't allowed. @param {string} why what it was, for whoever reads a test */
+/**
+ * The one error that says no more than that it wasn't allowed.
+ * @param {string} why what it was, for whoever reads a test
+ */
 export const notAllowed = (why) => failure(
     "NotAllowedError",
     `The operation either timed out or was not allowed (${why}). `

@@ -3,7 +3,11 @@ import { fromBase64url } from "./bytes.js";
 import { failure, notAllowed, notSupported } from "./errors.js";
 import { checkAppId } from "./relying_party.js";
 
-const POLICIES = ["userVerificationOptional", "userVerificationOptionalWithCredentialIDList", "userVerificationRequired"];
+const POLICIES = ["userVerificationOptional", "userVerificationOptionalWithCredentialIDList",
+    "userVerificationRequired"];
+const WRONG_POLICY = "Requested protection policy is inconsistent or incongruent with other requested parameters.";
+const ONLY_APPID = "The 'appid' extension is only valid when requesting an assertion for a pre-existing credential"
+    + " was registered using the legacy FIDO U2F API.";
 
 /** @param {any} extensions @param {any} selection */
 const checkProtection = ({ credentialProtectionPolicy, enforceCredentialProtectionPolicy }, selection) => {
@@ -14,7 +18,7 @@ const checkProtection = ({ credentialProtectionPolicy, enforceCredentialProtecti
         throw notSupported("Required parameters missing in `options.publicKey`.");
     }
     if (credentialProtectionPolicy === POLICIES[2] && selection.userVerification !== "required") {
-        throw notSupported("Requested protection policy is inconsistent or incongruent with other requested parameters.");
+        throw notSupported(WRONG_POLICY);
     }
     if (enforceCredentialProtectionPolicy && credentialProtectionPolicy !== POLICIES[0]) {
         throw notAllowed("the key has no credential protection");
@@ -25,13 +29,13 @@ const checkProtection = ({ credentialProtectionPolicy, enforceCredentialProtecti
 export const checkCreationExtensions = (extensions, selection, origin) => {
     const { appid, appidExclude, largeBlob, prf } = extensions;
     if (appid !== undefined) {
-        throw notSupported("The 'appid' extension is only valid when requesting an assertion for a pre-existing credential "
-            + "that was registered using the legacy FIDO U2F API.");
+        throw notSupported(ONLY_APPID);
     }
     checkAppId("appidExclude", appidExclude, origin);
     for (const name of ["read", "write"]) {
         if (largeBlob?.[name]) {
-            throw notSupported(`The 'largeBlob' extension's '${name}' parameter is only valid when requesting an assertion`);
+            throw notSupported(
+                `The 'largeBlob' extension's '${name}' parameter is only valid when requesting an assertion`);
         }
     }
     if (prf?.evalByCredential) {
@@ -73,7 +77,8 @@ export const checkRequestExtensions = ({ appid, credProps, largeBlob, prf }, has
         throw notSupported("The 'largeBlob' extension's 'support' parameter is only valid when creating a credential");
     }
     if (largeBlob?.read && largeBlob.write) {
-        throw notSupported("Only one of the 'largeBlob' extension's 'read' and 'write' parameters is allowed at a time");
+        throw notSupported(
+            "Only one of the 'largeBlob' extension's 'read' and 'write' parameters is allowed at a time");
     }
     checkPrf(prf, hasList);
     checkAppId("appid", appid, origin);

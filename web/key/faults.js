@@ -1,5 +1,5 @@
-// Faults that a page or a service has to survive. They are made outside of the proved core, whose log stays as it is: each
-// one is a comment in it.
+// Faults that a page or a service has to survive. They are made outside of the proved core, whose log stays as it is:
+// each one is a comment in it.
 import { isSame, joined, toHex, utf8 } from "./bytes.js";
 import { checkKind, checkName } from "./checks.js";
 import { STATUSES, statusName } from "./statuses.js";
@@ -37,8 +37,8 @@ const checked = (name, value) => {
     }
     const isText = name === "otherRp" && (value === null || typeof value === "string");
     const isNumber = typeof OFF[name] === "number" && Number.isInteger(value) && value >= 0;
-    checkKind(`faults.${name}`, value, isText || isNumber || (typeof OFF[name] === "boolean" && typeof value === "boolean"),
-        KINDS[name]);
+    const isBoolean = typeof OFF[name] === "boolean" && typeof value === "boolean";
+    checkKind(`faults.${name}`, value, isText || isNumber || isBoolean, KINDS[name]);
     return value;
 };
 

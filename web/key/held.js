@@ -1,5 +1,5 @@
-// The proved key, held in the memory of a WebAssembly instance (release/hidlog.h): one input a call, packets out. A call
-// costs the same however many came before.
+// The proved key, held in the memory of a WebAssembly instance (release/hidlog.h): one input a call, packets out. A
+// call costs the same however many came before.
 import wasm from "../../release/hidlog.wasm";
 import { copyOf, fromBase64 } from "./bytes.js";
 import { PACKET } from "./packets.js";

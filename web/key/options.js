@@ -1,30 +1,38 @@
-// The arguments of navigator.credentials.create and get: the dictionaries of WebAuthn Level 3 and of Credential Management,
-// as Chromium converts them.
+// The arguments of navigator.credentials.create and get: the dictionaries of WebAuthn Level 3 and of Credential
+// Management, as Chromium converts them.
 import {
-    abortSignal, boolean, buffer, dictionary, enumeration, long, optional, record, required, sequence, text, unsignedLong,
+    abortSignal, boolean, buffer, dictionary, enumeration, long, optional, record, required, sequence, text,
+    unsignedLong,
 } from "./webidl.js";
 
 const MEDIATION = ["silent", "optional", "conditional", "required"];
 const ENTITY = "PublicKeyCredentialEntity";
 
-/** The dictionaries whose buffers are converted by this: bytes for calls, base64url for JSON. */
-const dictionariesOf = (bytes, suffix) => {
-    const descriptor = dictionary(`PublicKeyCredentialDescriptor${suffix}`, {
-        id: required(bytes), transports: optional(sequence(text)), type: required(text),
+/** The dictionary of extensions. */
+const extensionsOf = (bytes, suffix) => {
+    const prfValues = dictionary("AuthenticationExtensionsPRFValues", {
+        first: required(bytes), second: optional(bytes),
     });
-    const prfValues = dictionary("AuthenticationExtensionsPRFValues", { first: required(bytes), second: optional(bytes) });
     const prf = dictionary("AuthenticationExtensionsPRFInputs", {
         eval: optional(prfValues), evalByCredential: optional(record(prfValues)),
     });
     const largeBlob = dictionary("AuthenticationExtensionsLargeBlobInputs", {
         read: optional(boolean), support: optional(text), write: optional(bytes),
     });
-    const extensions = dictionary(`AuthenticationExtensionsClientInputs${suffix}`, {
+    return dictionary(`AuthenticationExtensionsClientInputs${suffix}`, {
         appid: optional(text), appidExclude: optional(text), credBlob: optional(bytes), credProps: optional(boolean),
         credentialProtectionPolicy: optional(text), enforceCredentialProtectionPolicy: optional(boolean, false),
         getCredBlob: optional(boolean), hmacCreateSecret: optional(boolean), largeBlob: optional(largeBlob),
         minPinLength: optional(boolean), prf: optional(prf), uvm: optional(boolean),
     });
+};
+
+/** The dictionaries of calls, whose buffers are converted by this: bytes, or base64url for JSON. */
+const dictionariesOf = (bytes, suffix) => {
+    const descriptor = dictionary(`PublicKeyCredentialDescriptor${suffix}`, {
+        id: required(bytes), transports: optional(sequence(text)), type: required(text),
+    });
+    const extensions = extensionsOf(bytes, suffix);
     const rp = dictionary("PublicKeyCredentialRpEntity", { name: required(text, ENTITY), id: optional(text) });
     const user = dictionary(`PublicKeyCredentialUserEntity${suffix}`, {
         name: required(text, ENTITY), displayName: required(text), id: required(bytes),
@@ -57,7 +65,9 @@ const shared = {
     mediation: optional(enumeration("CredentialMediationRequirement", MEDIATION), "optional"),
     signal: optional(abortSignal),
 };
-const credentialCreation = dictionary("CredentialCreationOptions", { publicKey: optional(creationOptions), ...shared });
+const credentialCreation = dictionary("CredentialCreationOptions", {
+    publicKey: optional(creationOptions), ...shared,
+});
 const credentialRequest = dictionary("CredentialRequestOptions", { publicKey: optional(requestOptions), ...shared });
 
 const executing = (name, type) => `Failed to execute '${name}' on '${type}': `;

@@ -46,10 +46,11 @@ export class Collector {
                 continue;
             }
             if (packet[4] >= 0x80) {
-                this.open = { command: packet[4] - 0x80, length: view.getUint16(5), parts: [packet.subarray(7)], size: 57 };
+                const [command, length] = [packet[4] - 0x80, view.getUint16(5)];
+                this.open = { command, length, parts: [packet.subarray(7)], size: PACKET - 7 };
             } else if (this.open) {
                 this.open.parts.push(packet.subarray(5));
-                this.open.size += 59;
+                this.open.size += PACKET - 5;
             }
             whole = this.#whole() ?? whole;
         }

@@ -1,9 +1,11 @@
-// The place of a key: the functions of navigator.credentials and of PublicKeyCredential that it takes over, and puts back.
+// The place of a key: the functions of navigator.credentials and of PublicKeyCredential that it takes over, and puts
+// back.
 import { notSupported } from "./errors.js";
 import { SecurityKey } from "./security_key.js";
 import { STATICS } from "./statics.js";
 
-const ONE_TYPE = "Only exactly one of 'password', 'federated', and 'publicKey' credential types are currently supported.";
+const ONE_TYPE = "Only exactly one of 'password', 'federated', and 'publicKey' credential types are currently"
+    + " supported.";
 const TYPES = ["CredentialsContainer", "PublicKeyCredential", "AuthenticatorAttestationResponse",
     "AuthenticatorAssertionResponse"];
 
@@ -13,7 +15,8 @@ let placed = null;
 /** Sets a property, and gives what sets it back. */
 const replaced = (object, name, value) => {
     const before = Object.getOwnPropertyDescriptor(object, name);
-    Object.defineProperty(object, name, { value, writable: true, configurable: true, enumerable: before?.enumerable ?? false });
+    const enumerable = before?.enumerable ?? false;
+    Object.defineProperty(object, name, { value, writable: true, configurable: true, enumerable });
     return () => (before ? Object.defineProperty(object, name, before) : Reflect.deleteProperty(object, name));
 };
 
@@ -88,7 +91,10 @@ export class InstalledKey extends SecurityKey {
     }
 }
 
-/** Puts a new key in the place of navigator.credentials, at once. @param {import("../dist/security_key.js").Options} [options] */
+/**
+ * Puts a new key in the place of navigator.credentials, at once.
+ * @param {import("../dist/security_key.js").Options} [options]
+ */
 export const install = (options) => {
     if (placed) {
         throw new Error("hidlogKey: a key is in place already; uninstall it first: hidlogKey.current().uninstall()");

@@ -34,6 +34,13 @@ export const compiled = (bytes) => {
     }
 };
 
+/** Throws the reason of a signal that has ended what it is for. @param {AbortSignal | undefined} signal */
+export const checkEnded = (signal) => {
+    if (signal?.aborted) {
+        throw signal.reason;
+    }
+};
+
 /**
  * Waits for a promise, unless the signal ends the wait with its reason.
  * @template T @param {Promise<T> | T} awaited @param {AbortSignal} signal @returns {Promise<T>}
@@ -49,7 +56,11 @@ export const unlessEnded = (awaited, signal) =>
         Promise.resolve(awaited).then(done, fail).finally(() => signal.removeEventListener("abort", end));
     });
 
-/** Waits for milliseconds, unless the signal ends the wait. @param {number} milliseconds @param {AbortSignal} signal */
+/**
+ * Waits for milliseconds, unless the signal ends the wait.
+ * @param {number} milliseconds
+ * @param {AbortSignal} signal
+ */
 export const pause = (milliseconds, signal) => {
     let timer;
     const waited = new Promise((done) => {

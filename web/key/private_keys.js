@@ -34,7 +34,11 @@ const derOf = (raw) => {
 /** @param {Uint8Array} x @param {Uint8Array} y */
 export const spkiOf = (x, y) => joined(SPKI_HEAD, x, y);
 
-/** A private key as this file writes it, whose public key stands at its end. @param {Uint8Array} pkcs8 @returns {PrivateKey} */
+/**
+ * A private key as this file writes it, whose public key stands at its end.
+ * @param {Uint8Array} pkcs8
+ * @returns {PrivateKey}
+ */
 export const privateKeyIn = (pkcs8) => ({ pkcs8, x: pkcs8.slice(-64, -32), y: pkcs8.slice(-32) });
 
 export class PrivateKeys {

@@ -36,7 +36,11 @@ export const checkAppId = (name, appid, origin) => {
     }
 };
 
-/** The RP id, which has to be the host's domain or one above it. @param {string | undefined} id @param {string} origin */
+/**
+ * The RP id, which has to be the host's domain or one above it.
+ * @param {string | undefined} id
+ * @param {string} origin
+ */
 export const rpIdOf = (id, origin) => {
     const host = new URL(origin).hostname;
     if (isAddress(host) || !host) {
@@ -85,8 +89,8 @@ export const checkPolicy = (name, origin) => {
     const { featurePolicy: policy } = /** @type {any} */ (globalThis.document ?? {});
     const feature = `publickey-credentials-${name}`;
     if (crossing(origin).crossOrigin && policy && !policy.allowsFeature(feature)) {
-        throw failure("NotAllowedError", `The '${feature}' feature is not enabled in this document. Permissions Policy may `
-            + "be used to delegate Web Authentication capabilities to cross-origin child frames.");
+        throw failure("NotAllowedError", `The '${feature}' feature is not enabled in this document. Permissions `
+            + "Policy may be used to delegate Web Authentication capabilities to cross-origin child frames.");
     }
 };
 

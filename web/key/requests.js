@@ -1,4 +1,5 @@
-// The requests of a page: one at a time, each ended by its answer, its signal, its time-out, or another that takes over.
+// The requests of a page: one at a time, each ended by its answer, its signal, its time-out, or another that takes
+// over.
 import { busy, failure, notAllowed } from "./errors.js";
 import { clearTimeout, setTimeout } from "./platform.js";
 

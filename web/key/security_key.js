@@ -1,5 +1,5 @@
-// A security key in a page: registrations and sign-ins as navigator.credentials serves them, and what a test does with a
-// virtual authenticator. The key is the proved core; each session of it is a log that replays exactly.
+// A security key in a page: registrations and sign-ins as navigator.credentials serves them, and what a test does
+// with a virtual authenticator. The key is the proved core; each session of it is a log that replays exactly.
 import { registered, signedIn } from "./answers.js";
 import { Authenticator, CtapError } from "./authenticator.js";
 import { isSame, toBase64url } from "./bytes.js";
@@ -12,7 +12,7 @@ import { excluded, failure, notAllowed } from "./errors.js";
 import { creationResults, requestResults } from "./extensions.js";
 import { Faults } from "./faults.js";
 import { readCreation, readRequest } from "./options.js";
-import { now, unlessEnded, webCrypto } from "./platform.js";
+import { checkEnded, now, unlessEnded, webCrypto } from "./platform.js";
 import { PrivateKeys } from "./private_keys.js";
 import { checkPolicy, clientDataOf } from "./relying_party.js";
 import { Requests } from "./requests.js";
@@ -65,7 +65,7 @@ export class SecurityKey extends EventTarget {
         super();
         checkMembers("option", options, OPTIONS);
         const { presence = "granted", delay = 0, account = 0, clock, state, store, crypto, origin } = options;
-        checkKind("clock", clock, clock === undefined || typeof clock === "function", "a function that gives milliseconds");
+        checkKind("clock", clock, ["undefined", "function"].includes(typeof clock), "a function of milliseconds");
         this.#user = new User({ presence, delay });
         this.account = account;
         this.#origin = origin;
@@ -88,7 +88,8 @@ export class SecurityKey extends EventTarget {
 
     /** The proved key, which is made when it is asked for first. */
     get #key() {
-        this.#authenticator ??= new Authenticator(this.#privateKeys, this.#faults, this.#clock, snapshotOf(this.#start));
+        const snapshot = snapshotOf(this.#start);
+        this.#authenticator ??= new Authenticator(this.#privateKeys, this.#faults, this.#clock, snapshot);
         return this.#authenticator;
     }
 
@@ -169,7 +170,7 @@ export class SecurityKey extends EventTarget {
     /** As navigator.credentials.create. @param {any} options */
     async create(options) {
         const { publicKey, signal, mediation } = readCreation(options);
-        signal?.throwIfAborted();
+        checkEnded(signal);
         const origin = this.#pageOrigin();
         checkPolicy("create", origin);
         const asked = registrationOf(publicKey, origin);
@@ -190,7 +191,7 @@ export class SecurityKey extends EventTarget {
     /** As navigator.credentials.get. @param {any} options */
     async get(options) {
         const { publicKey, signal, mediation } = readRequest(options);
-        signal?.throwIfAborted();
+        checkEnded(signal);
         const origin = this.#pageOrigin();
         checkPolicy("get", origin);
         const asked = signInOf(publicKey, origin);
@@ -365,7 +366,7 @@ export class SecurityKey extends EventTarget {
 
     /** @param {boolean} isUserVerified */
     async setUserVerified(isUserVerified) {
-        checkKind("isUserVerified", isUserVerified, isUserVerified === false, "false, since this key verifies no users");
+        checkKind("isUserVerified", isUserVerified, isUserVerified === false, "false: this key verifies no users");
     }
 
     // Events.

@@ -1,5 +1,5 @@
-// What outlives a page: the credentials with their counters and private keys, and the moment, as one value of JSON; and a
-// store that holds it, which several tabs may share.
+// What outlives a page: the credentials with their counters and private keys, and the moment, as one value of JSON;
+// and a store that holds it, which several tabs may share.
 import { fromBase64url, toBase64url } from "./bytes.js";
 import { checkKind } from "./checks.js";
 
@@ -9,7 +9,11 @@ const NAME = "hidlogKey";
 /** @typedef {import("./credentials.js").Credential & { rpIdHash: string }} KeptCredential */
 /** @typedef {{ form: string, moment: number, credentials: KeptCredential[] }} State */
 
-/** @param {number} moment @param {import("./held.js").Row[]} rows @param {import("./credentials.js").Credentials} credentials */
+/**
+ * @param {number} moment
+ * @param {import("./held.js").Row[]} rows
+ * @param {import("./credentials.js").Credentials} credentials
+ */
 export const stateOf = (moment, rows, credentials) => ({
     form: FORM, moment,
     credentials: rows.map((row) => ({ ...credentials.shown(row), rpIdHash: toBase64url(row.rp) })),
@@ -17,7 +21,8 @@ export const stateOf = (moment, rows, credentials) => ({
 
 /** The rows in a state. @param {any} state @param {import("./credentials.js").Credentials} credentials */
 export const rowsIn = (state, credentials) => {
-    checkKind("state", state, state?.form === FORM && Array.isArray(state.credentials), `what key.state() gave ("${FORM}")`);
+    const isState = state?.form === FORM && Array.isArray(state.credentials);
+    checkKind("state", state, isState, `what key.state() gave ("${FORM}")`);
     return state.credentials.map((it) => credentials.restored(it, fromBase64url(it.rpIdHash)));
 };
 

@@ -7,9 +7,9 @@ const CAPABILITIES = {
     conditionalCreate: false, conditionalGet: true, hybridTransport: false, passkeyPlatformAuthenticator: false,
     relatedOrigins: false, signalAllAcceptedCredentials: false, signalCurrentUserDetails: false,
     signalUnknownCredential: false, userVerifyingPlatformAuthenticator: false,
-    "extension:appid": false, "extension:appidExclude": false, "extension:credBlob": false, "extension:credProps": true,
-    "extension:credentialProtectionPolicy": false, "extension:hmacCreateSecret": false, "extension:largeBlob": false,
-    "extension:minPinLength": false, "extension:prf": false,
+    "extension:appid": false, "extension:appidExclude": false, "extension:credBlob": false,
+    "extension:credProps": true, "extension:credentialProtectionPolicy": false, "extension:hmacCreateSecret": false,
+    "extension:largeBlob": false, "extension:minPinLength": false, "extension:prf": false,
 };
 
 /** Gives the buffer of a text in base64url, by the name of its member. @param {string} where */
