@@ -69,6 +69,16 @@ const tellsItsOrigins = async () => {
     }
 };
 
+const takesOtherRealms = async () => {
+    const frame = await framed("frame.html");
+    const { AbortController: Other, Uint8Array: Bytes, eval: run } = frame.contentWindow;
+    const controller = new Other();
+    const made = await create({ challenge: new Bytes(16), user: run(
+        '({ id: new Uint8Array([1]).buffer, name: "ann", displayName: "Ann" })') }, { signal: controller.signal });
+    expect(made.id.length === 43, "buffers and a signal of another frame");
+    frame.remove();
+};
+
 const refusesAddresses = async () => {
     const told = await toldBy(`http://127.0.0.1:${location.port}/tests/web/frame.html?tell`,
         "publickey-credentials-create *");
@@ -92,6 +102,7 @@ export const callsTests = {
     "a credential's JSON": withKey(hasItsJson),
     "navigator.credentials stays what it is": staysTheContainer,
     "clientDataJSON tells the origins of frames": tellsItsOrigins,
+    "arguments of another frame": withKey(takesOtherRealms),
     "an IP address is no RP id": refusesAddresses,
     "the key and a Content-Security-Policy": needsNoEval,
 };

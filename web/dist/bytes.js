@@ -97,7 +97,7 @@ const joined = (...parts) => {
     }
     return bytes;
 };
-return { toHex, fromHex, utf8, textOf, fromBase64, toBase64url, fromBase64url, isBuffer, copyOf, bufferOf, isSame, joined };
+return { toHex, fromHex, utf8, textOf, fromBase64, toBase64url, fromBase64url, isBuffer, tagOf, copyOf, bufferOf, isSame, joined };
 })();
 
 parts["cbor.js"] = (() => {

@@ -97,7 +97,7 @@ const joined = (...parts) => {
     }
     return bytes;
 };
-return { toHex, fromHex, utf8, textOf, fromBase64, toBase64url, fromBase64url, isBuffer, copyOf, bufferOf, isSame, joined };
+return { toHex, fromHex, utf8, textOf, fromBase64, toBase64url, fromBase64url, isBuffer, tagOf, copyOf, bufferOf, isSame, joined };
 })();
 
 parts["checks.js"] = (() => {
@@ -638,7 +638,6 @@ const unlessEnded = (awaited, signal) =>
         const end = () => fail(signal.reason);
         if (signal.aborted) {
             end();
-            return;
         }
         signal.addEventListener("abort", end, { once: true });
         Promise.resolve(awaited).then(done, fail).finally(() => signal.removeEventListener("abort", end));
@@ -2733,7 +2732,7 @@ const POLICIES = ["userVerificationOptional", "userVerificationOptionalWithCrede
     "userVerificationRequired"];
 const WRONG_POLICY = "Requested protection policy is inconsistent or incongruent with other requested parameters.";
 const ONLY_APPID = "The 'appid' extension is only valid when requesting an assertion for a pre-existing credential"
-    + " was registered using the legacy FIDO U2F API.";
+    + " that was registered using the legacy FIDO U2F API.";
 
 /** @param {any} extensions @param {any} selection */
 const checkProtection = ({ credentialProtectionPolicy, enforceCredentialProtectionPolicy }, selection) => {
@@ -3307,7 +3306,7 @@ return { Faults };
 parts["webidl.js"] = (() => {
 // Conversions of arguments as WebIDL has them, with the texts of Chromium's errors. A converter takes a value and the
 // front of an error's text.
-const { copyOf, isBuffer } = parts["bytes.js"];
+const { copyOf, isBuffer, tagOf } = parts["bytes.js"];
 
 /** @typedef {(value: any, where: string) => any} Converter */
 /** @typedef {{ convert: Converter, isRequired?: boolean, from?: string, fallback?: any }} Member */
@@ -3342,7 +3341,7 @@ const buffer = (value, where) => {
 
 /** @type {Converter} */
 const abortSignal = (value, where) => {
-    if (!(value instanceof AbortSignal)) {
+    if (tagOf(value) !== "AbortSignal") {
         throw new TypeError(`${where}Failed to convert value to 'AbortSignal'.`);
     }
     return value;

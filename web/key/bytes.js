@@ -67,7 +67,7 @@ export const fromBase64url = (text) => {
 export const isBuffer = (value) => ArrayBuffer.isView(value) || tagOf(value) === "ArrayBuffer";
 
 /** The name of a platform's object, of any realm. @param {unknown} value */
-const tagOf = (value) => Object.prototype.toString.call(value).slice(8, -1);
+export const tagOf = (value) => Object.prototype.toString.call(value).slice(8, -1);
 
 /** A copy of the bytes of an ArrayBuffer or of a view. @param {any} source @returns {Uint8Array} */
 export const copyOf = (source) =>

@@ -7,7 +7,7 @@ const POLICIES = ["userVerificationOptional", "userVerificationOptionalWithCrede
     "userVerificationRequired"];
 const WRONG_POLICY = "Requested protection policy is inconsistent or incongruent with other requested parameters.";
 const ONLY_APPID = "The 'appid' extension is only valid when requesting an assertion for a pre-existing credential"
-    + " was registered using the legacy FIDO U2F API.";
+    + " that was registered using the legacy FIDO U2F API.";
 
 /** @param {any} extensions @param {any} selection */
 const checkProtection = ({ credentialProtectionPolicy, enforceCredentialProtectionPolicy }, selection) => {

@@ -50,7 +50,6 @@ export const unlessEnded = (awaited, signal) =>
         const end = () => fail(signal.reason);
         if (signal.aborted) {
             end();
-            return;
         }
         signal.addEventListener("abort", end, { once: true });
         Promise.resolve(awaited).then(done, fail).finally(() => signal.removeEventListener("abort", end));

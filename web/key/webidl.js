@@ -1,6 +1,6 @@
 // Conversions of arguments as WebIDL has them, with the texts of Chromium's errors. A converter takes a value and the
 // front of an error's text.
-import { copyOf, isBuffer } from "./bytes.js";
+import { copyOf, isBuffer, tagOf } from "./bytes.js";
 
 /** @typedef {(value: any, where: string) => any} Converter */
 /** @typedef {{ convert: Converter, isRequired?: boolean, from?: string, fallback?: any }} Member */
@@ -35,7 +35,7 @@ export const buffer = (value, where) => {
 
 /** @type {Converter} */
 export const abortSignal = (value, where) => {
-    if (!(value instanceof AbortSignal)) {
+    if (tagOf(value) !== "AbortSignal") {
         throw new TypeError(`${where}Failed to convert value to 'AbortSignal'.`);
     }
     return value;
