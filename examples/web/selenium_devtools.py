@@ -45,16 +45,25 @@ def run_suite(driver, session):
     """Registers, changes the counter, and removes the credential."""
     session.send("WebAuthn.enable")
     key = session.send("WebAuthn.addVirtualAuthenticator", options=OPTIONS)["authenticatorId"]
-    driver.execute_script("""window.registering = navigator.credentials.create({ publicKey: {
+    driver.execute_script(
+        """window.registering = navigator.credentials.create({ publicKey: {
         challenge, rp: { name: "A service" }, user: { id: new Uint8Array([1]), name: "ann", displayName: "Ann" },
-        pubKeyCredParams: [{ type: "public-key", alg: -7 }] } })""")
+        pubKeyCredParams: [{ type: "public-key", alg: -7 }] } })"""
+    )
     driver.execute_async_script("registering.then(arguments[0])")
     (credential,) = session.send("WebAuthn.getCredentials", authenticatorId=key)["credentials"]
     assert credential["rpId"] == "localhost" and not credential["isResidentCredential"], credential
-    session.send("WebAuthn.addCredential", authenticatorId=key, credential={
-        **{name: credential[name] for name in ("rpId", "privateKey")},
-        "credentialId": "/" * 42 + "8=", "userHandle": "AQ==", "signCount": 7, "isResidentCredential": False,
-    })
+    session.send(
+        "WebAuthn.addCredential",
+        authenticatorId=key,
+        credential={
+            **{name: credential[name] for name in ("rpId", "privateKey")},
+            "credentialId": "/" * 42 + "8=",
+            "userHandle": "AQ==",
+            "signCount": 7,
+            "isResidentCredential": False,
+        },
+    )
     found = session.send("WebAuthn.getCredential", authenticatorId=key, credentialId="/" * 42 + "8=")["credential"]
     assert found["signCount"] == 7 and found["privateKey"] == credential["privateKey"], found
     session.send("WebAuthn.clearCredentials", authenticatorId=key)

@@ -54,15 +54,30 @@ class Driver:
             self._process.wait()
 
     def call(self, path, given):
-        """Calls a command of WebDriver, and returns its value."""
+        """Calls a command of WebDriver, and returns its value. Without members it is asked, and with some told."""
         kind = {"Content-Type": "application/json"}
-        request = urllib.request.Request(f"{self._address}{self._session}{path}", json.dumps(given).encode(), kind)
+        body = None if given is None else json.dumps(given).encode()
+        request = urllib.request.Request(f"{self._address}{self._session}{path}", body, kind)
         with urllib.request.urlopen(request, timeout=SECONDS) as answer:
             return json.load(answer)["value"]
 
     def open(self, url):
         """Opens a page."""
         self.call("/url", {"url": url})
+
+    def window(self):
+        """Returns the handle of the tab that is driven."""
+        return self.call("/window", None)
+
+    def open_tab(self):
+        """Opens a tab, and drives it from now on. Returns its handle."""
+        handle = self.call("/window/new", {"type": "tab"})["handle"]
+        self.switch(handle)
+        return handle
+
+    def switch(self, handle):
+        """Drives another tab."""
+        self.call("/window", {"handle": handle})
 
     def devtools(self, command, **parameters):
         """Calls a command of DevTools."""

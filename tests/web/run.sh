@@ -23,6 +23,7 @@ run_pages() {
     if [ "$browser" = chromium ]; then
         open_from_file
         "$with_fido2" "$here/virtual_authenticator.py" || [ $? = 3 ] || failed=1
+        "$with_fido2" "$here/two_tabs.py" || [ $? = 3 ] || failed=1
         run_examples
     fi
     check_logs "$room/$browser"

@@ -110,6 +110,27 @@ const keepsItsStore = async () => {
     sessionStorage.clear();
 };
 
+/** A store that fails fails the request, and the next one is served. */
+const survivesAFullStore = async () => {
+    const full = new DOMException("no room", "QuotaExceededError");
+    const store = { text: null, isFull: false, getItem: () => store.text, setItem: (_, text) => {
+        if (store.isFull) {
+            throw full;
+        }
+        store.text = text;
+    } };
+    const key = new SecurityKey({ store });
+    await key.create({ publicKey: creationOptions(named("ann")) });
+    store.isFull = true;
+    await refuses(key.get(getOptions), "QuotaExceededError");
+    store.isFull = false;
+    expect(counterOf(await key.get(getOptions)) === 2, "the next one is served");
+    store.text = "{";
+    await refuses(key.get(getOptions), "TypeError", "something else");
+    store.text = null;
+    expect(counterOf(await key.get(getOptions)) === 3, "and the next");
+};
+
 export const stateTests = {
     "the state is a value that can be stored": withKey(survivesAsAValue),
     "the state survives reloads in a store": survivesReloads,
@@ -117,4 +138,5 @@ export const stateTests = {
     "changes of another tab count while the user is asked": seesChangesInAWait,
     "credentials are added while the user is asked": withKey(changesInAWait),
     "a store that is cleared, or of something else": keepsItsStore,
+    "a store that fails": survivesAFullStore,
 };

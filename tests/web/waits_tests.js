@@ -152,8 +152,8 @@ const replacesStatics = async () => {
     expect(after.every((it, at) => it === functions[at]), "the functions are put back");
 };
 
-const BATCH = 200;
-const BATCHES = 6;
+const BATCH = 40;
+const BATCHES = 25;
 
 /** The least time of a sign-in among batches, of which the browser's pauses spoil some. */
 const timeOf = async (key, options) => {

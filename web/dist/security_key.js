@@ -3570,13 +3570,11 @@ return { Requests };
 })();
 
 parts["state.js"] = (() => {
-// What outlives a page: the credentials with their counters and private keys, and the moment, as one value of JSON;
-// and a store that holds it, which several tabs may share.
+// What outlives a page: the credentials with their counters and private keys, and the moment, as one value of JSON.
 const { fromBase64url, toBase64url } = parts["bytes.js"];
 const { checkKind } = parts["checks.js"];
 
 const FORM = "hidlog web key 1";
-const NAME = "hidlogKey";
 
 /** @typedef {import("./credentials.js").Credential & { rpIdHash: string }} KeptCredential */
 /** @typedef {{ form: string, moment: number, credentials: KeptCredential[] }} State */
@@ -3597,8 +3595,21 @@ const rowsIn = (state, credentials) => {
     checkKind("state", state, isState, `what key.state() gave ("${FORM}")`);
     return state.credentials.map((it) => credentials.restored(it, fromBase64url(it.rpIdHash)));
 };
+return { stateOf, rowsIn };
+})();
+
+parts["store.js"] = (() => {
+// A store that holds the state of a key, which several tabs may share: one of them at a time changes it.
+const { checkKind } = parts["checks.js"];
+const { setTimeout } = parts["platform.js"];
+
+const NAME = "hidlogKey";
+// How often, and how many times, a tab looks for what another has written.
+const LOOK_MS = 5;
+const LOOKS = 400;
 
 /** @typedef {Pick<Storage, "getItem" | "setItem">} KeptIn */
+/** @typedef {import("./state.js").State & { version: number }} Stored */
 
 /** @param {any} store */
 const checkStore = (store) => {
@@ -3606,46 +3617,76 @@ const checkStore = (store) => {
     checkKind("store", store, isStore, "a Storage, such as sessionStorage");
 };
 
-/** A store that is shared with other tabs: what it holds is seen before each change, and changed by one at a time. */
-class Store {
-    #seen = null;
+/** Whether other tabs have the same store. @param {KeptIn | undefined} storage */
+const isOfTabs = (storage) => {
+    try {
+        return storage !== undefined && storage === globalThis.localStorage;
+    } catch {
+        return false;
+    }
+};
 
-    /** @param {KeptIn} storage */
+/** @param {number} milliseconds */
+const passed = (milliseconds) => new Promise((done) => {
+    setTimeout(done, milliseconds);
+});
+
+/** Waits for a lock of all tabs. @param {string} name @returns {Promise<() => void>} what releases it */
+const granted = (name) => new Promise((held) => {
+    navigator.locks.request(name, () => new Promise((release) => {
+        held(() => release(undefined));
+    }));
+});
+
+class Store {
+    #last = Promise.resolve();
+    /** @type {string | null} */
+    #seen = null;
+    #unmark = () => {};
+    #version = 0;
+
+    /** @param {KeptIn | undefined} storage */
     constructor(storage) {
         this.storage = storage;
+        this.isShared = isOfTabs(storage) && Boolean(globalThis.navigator?.locks);
     }
 
-    /** The state that another has written since, or null. @returns {State | null} */
+    /** The state that another has written since, or null. @returns {Stored | null} */
     news() {
-        const text = this.storage.getItem(NAME);
+        const text = this.storage?.getItem(NAME) ?? null;
         if (text === null || text === this.#seen) {
             return null;
         }
-        this.#seen = text;
         try {
-            return JSON.parse(text);
+            const stored = JSON.parse(text);
+            this.#seen = text;
+            this.#version = Math.max(this.#version, stored.version);
+            return stored;
         } catch (error) {
             throw new TypeError(`the store holds something else under "${NAME}"`, { cause: error });
         }
     }
 
-    /** @param {State} state */
-    write(state) {
-        this.#seen = JSON.stringify(state);
-        this.storage.setItem(NAME, this.#seen);
+    /**
+     * Writes a state, where there is a store. Other tabs are told its version by a lock that is held.
+     * @param {() => import("./state.js").State} state
+     */
+    async write(state) {
+        if (!this.storage) {
+            return;
+        }
+        const text = JSON.stringify({ ...state(), version: this.#version + 1 });
+        this.storage.setItem(NAME, text);
+        this.#seen = text;
+        this.#version += 1;
+        if (this.isShared) {
+            const unmark = this.#unmark;
+            this.#unmark = await granted(`${NAME} ${this.#version}`);
+            unmark();
+        }
     }
-}
 
-/** One holder at a time: in this page, and with a store in all tabs of its origin. */
-class Lock {
-    #last = Promise.resolve();
-
-    /** @param {boolean} isShared */
-    constructor(isShared) {
-        this.locks = isShared ? globalThis.navigator?.locks : undefined;
-    }
-
-    /** Waits for the lock. @returns {Promise<() => void>} what releases it */
+    /** Waits until no other holds the store. @returns {Promise<() => void>} what releases it */
     async hold() {
         const before = this.#last;
         let free = () => {};
@@ -3653,21 +3694,31 @@ class Lock {
             free = done;
         });
         await before;
-        if (!this.locks) {
+        if (!this.isShared) {
             return free;
         }
-        const release = await new Promise((held) => {
-            this.locks.request(NAME, () => new Promise((done) => {
-                held(done);
-            }));
-        });
+        const release = await granted(NAME);
+        await this.#catchUp();
         return () => {
             release();
             free();
         };
     }
+
+    /** Waits until this tab sees what the last holder wrote: a browser's processes tell one another later. */
+    async #catchUp() {
+        const { held } = await navigator.locks.query();
+        const newest = Math.max(0, ...held.map(({ name }) => Number(name.split(`${NAME} `)[1] ?? 0)));
+        for (let looks = 0; this.#storedVersion() < newest && looks < LOOKS; looks += 1) {
+            await passed(LOOK_MS);
+        }
+    }
+
+    #storedVersion() {
+        return JSON.parse(this.storage.getItem(NAME) ?? "{}").version ?? 0;
+    }
 }
-return { stateOf, rowsIn, checkStore, Store, Lock };
+return { checkStore, Store };
 })();
 
 parts["user.js"] = (() => {
@@ -3789,7 +3840,8 @@ const { checkEnded, now, unlessEnded, webCrypto } = parts["platform.js"];
 const { PrivateKeys } = parts["private_keys.js"];
 const { checkPolicy, clientDataOf } = parts["relying_party.js"];
 const { Requests } = parts["requests.js"];
-const { checkStore, Lock, rowsIn, stateOf, Store } = parts["state.js"];
+const { rowsIn, stateOf } = parts["state.js"];
+const { checkStore, Store } = parts["store.js"];
 const { User } = parts["user.js"];
 
 const OPTIONS = ["presence", "delay", "account", "clock", "state", "store", "origin", "crypto"];
@@ -3824,12 +3876,11 @@ class SecurityKey extends EventTarget {
     #clock;
     #credentials;
     #faults;
-    #lock;
     #origin;
     #privateKeys;
     #requests = new Requests();
     #start;
-    #store = null;
+    #store;
     #time = { moment: 0 };
     #user;
 
@@ -3845,12 +3896,11 @@ class SecurityKey extends EventTarget {
         this.#privateKeys = new PrivateKeys(crypto ? () => crypto : webCrypto);
         this.#faults = new Faults((bytes) => this.#privateKeys.hash(bytes));
         this.#credentials = new Credentials(this.#privateKeys);
-        this.#lock = new Lock(store !== undefined);
         if (store !== undefined) {
             checkStore(store);
-            this.#store = new Store(store);
         }
-        const kept = this.#store?.news() ?? state;
+        this.#store = new Store(store);
+        const kept = this.#store.news() ?? state;
         this.#start = kept === undefined ? [] : rowsIn(kept, this.#credentials);
         this.#time.moment = kept?.moment ?? 0;
         this.#clock = clockOf(clock, this.#time.moment, this.#time);
@@ -3914,7 +3964,7 @@ class SecurityKey extends EventTarget {
 
     /** Takes up what another tab has put into the store. */
     #refresh() {
-        const news = this.#store?.news();
+        const news = this.#store.news();
         if (news) {
             this.#time.moment = Math.max(this.#time.moment, news.moment);
             this.#take(rowsIn(news, this.#credentials));
@@ -3929,13 +3979,23 @@ class SecurityKey extends EventTarget {
         }
     }
 
+    /** Waits for the store, and takes up what it has. Gives what writes to it and lets others have it. */
     async #hold() {
-        const release = await this.#lock.hold();
-        this.#refresh();
-        return () => {
-            this.#store?.write(this.state());
-            release();
+        const free = await this.#store.hold();
+        const release = async () => {
+            try {
+                await this.#store.write(() => this.state());
+            } finally {
+                free();
+            }
         };
+        try {
+            this.#refresh();
+            return release;
+        } catch (error) {
+            free();
+            throw error;
+        }
     }
 
     // Registrations and sign-ins.
@@ -3998,19 +4058,20 @@ class SecurityKey extends EventTarget {
                 const held = await this.#hold();
                 release = held;
                 if (signal.aborted) {
-                    turn.leave();
+                    await turn.leave();
                 }
             },
-            leave: () => {
-                release?.();
+            leave: async () => {
+                const held = release;
                 release = null;
+                await held?.();
             },
         };
         try {
             this.#refresh();
             return await serve(turn);
         } finally {
-            turn.leave();
+            await turn.leave();
         }
     }
 
@@ -4088,7 +4149,7 @@ class SecurityKey extends EventTarget {
         try {
             this.#take(await change(this.#rows));
         } finally {
-            release();
+            await release();
         }
     }
 

@@ -16,7 +16,8 @@ import { checkEnded, now, unlessEnded, webCrypto } from "./platform.js";
 import { PrivateKeys } from "./private_keys.js";
 import { checkPolicy, clientDataOf } from "./relying_party.js";
 import { Requests } from "./requests.js";
-import { checkStore, Lock, rowsIn, stateOf, Store } from "./state.js";
+import { rowsIn, stateOf } from "./state.js";
+import { checkStore, Store } from "./store.js";
 import { User } from "./user.js";
 
 const OPTIONS = ["presence", "delay", "account", "clock", "state", "store", "origin", "crypto"];
@@ -51,12 +52,11 @@ export class SecurityKey extends EventTarget {
     #clock;
     #credentials;
     #faults;
-    #lock;
     #origin;
     #privateKeys;
     #requests = new Requests();
     #start;
-    #store = null;
+    #store;
     #time = { moment: 0 };
     #user;
 
@@ -72,12 +72,11 @@ export class SecurityKey extends EventTarget {
         this.#privateKeys = new PrivateKeys(crypto ? () => crypto : webCrypto);
         this.#faults = new Faults((bytes) => this.#privateKeys.hash(bytes));
         this.#credentials = new Credentials(this.#privateKeys);
-        this.#lock = new Lock(store !== undefined);
         if (store !== undefined) {
             checkStore(store);
-            this.#store = new Store(store);
         }
-        const kept = this.#store?.news() ?? state;
+        this.#store = new Store(store);
+        const kept = this.#store.news() ?? state;
         this.#start = kept === undefined ? [] : rowsIn(kept, this.#credentials);
         this.#time.moment = kept?.moment ?? 0;
         this.#clock = clockOf(clock, this.#time.moment, this.#time);
@@ -141,7 +140,7 @@ export class SecurityKey extends EventTarget {
 
     /** Takes up what another tab has put into the store. */
     #refresh() {
-        const news = this.#store?.news();
+        const news = this.#store.news();
         if (news) {
             this.#time.moment = Math.max(this.#time.moment, news.moment);
             this.#take(rowsIn(news, this.#credentials));
@@ -156,13 +155,23 @@ export class SecurityKey extends EventTarget {
         }
     }
 
+    /** Waits for the store, and takes up what it has. Gives what writes to it and lets others have it. */
     async #hold() {
-        const release = await this.#lock.hold();
-        this.#refresh();
-        return () => {
-            this.#store?.write(this.state());
-            release();
+        const free = await this.#store.hold();
+        const release = async () => {
+            try {
+                await this.#store.write(() => this.state());
+            } finally {
+                free();
+            }
         };
+        try {
+            this.#refresh();
+            return release;
+        } catch (error) {
+            free();
+            throw error;
+        }
     }
 
     // Registrations and sign-ins.
@@ -225,19 +234,20 @@ export class SecurityKey extends EventTarget {
                 const held = await this.#hold();
                 release = held;
                 if (signal.aborted) {
-                    turn.leave();
+                    await turn.leave();
                 }
             },
-            leave: () => {
-                release?.();
+            leave: async () => {
+                const held = release;
                 release = null;
+                await held?.();
             },
         };
         try {
             this.#refresh();
             return await serve(turn);
         } finally {
-            turn.leave();
+            await turn.leave();
         }
     }
 
@@ -315,7 +325,7 @@ export class SecurityKey extends EventTarget {
         try {
             this.#take(await change(this.#rows));
         } finally {
-            release();
+            await release();
         }
     }
 
