@@ -5,6 +5,7 @@
 #     web/build.sh            writes them
 #     web/build.sh --check    status 1 where one of them is not what would be written
 set -euo pipefail
+export PYTHONDONTWRITEBYTECODE=1
 cd "$(dirname "${BASH_SOURCE[0]}")/.."
 work=$(mktemp -d)
 trap 'rm -rf "$work"' EXIT

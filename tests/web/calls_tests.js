@@ -3,7 +3,7 @@ import { install } from "../../web/dist/security_key.mjs";
 import { callsOf, endOf, outcomeOf } from "./calls.js";
 import { framed, toldBy } from "./frames.js";
 import { expect, results } from "./harness.js";
-import { create, creationOptions, get, getBy, named, withKey } from "./options.js";
+import { create, creationOptions, get, getBy, named, toText, withKey } from "./options.js";
 import { reasonOf } from "./reasons.js";
 
 const endsAsInChromium = async (key) => {
@@ -25,8 +25,6 @@ const endsAsInChromium = async (key) => {
 
 const REGISTRATION = ["attestationObject", "authenticatorData", "clientDataJSON", "publicKey", "publicKeyAlgorithm",
     "transports"];
-const toText = (buffer) =>
-    btoa(String.fromCharCode(...new Uint8Array(buffer))).replace(/\+/g, "-").replace(/\//g, "_").replace(/=+$/, "");
 
 const hasItsJson = async () => {
     const made = await create(named("ann"));

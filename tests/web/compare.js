@@ -3,9 +3,11 @@
 import { install } from "../../web/dist/security_key.mjs";
 import { callsOf, endOf, outcomeOf } from "./calls.js";
 import { post, results } from "./harness.js";
+import { create, getBy } from "./options.js";
 import { reasonOf } from "./reasons.js";
 
 const ROUNDS = 60;
+const MOST_SHOWN = 20;
 
 /** The parts of a value by their paths. */
 const partsOf = (value, path = "") => {
@@ -39,19 +41,12 @@ const outcomesOf = async (environment) => {
     return outcomes;
 };
 
-const options = (more) => ({ publicKey: { challenge: new Uint8Array(32), ...more } });
-
 /** The median of a registration and a sign-in, in milliseconds. */
 const median = async () => {
     const all = [];
     for (let round = 0; round < ROUNDS; round += 1) {
         const begun = performance.now();
-        const made = await navigator.credentials.create(options({
-            rp: { id: "localhost", name: "A service" },
-            user: { id: Uint8Array.of(round), name: "ann", displayName: "Ann" },
-            pubKeyCredParams: [{ type: "public-key", alg: -7 }],
-        }));
-        await navigator.credentials.get(options({ allowCredentials: [{ type: "public-key", id: made.rawId }] }));
+        await getBy(await create({ user: { id: Uint8Array.of(round), name: "ann", displayName: "Ann" } }));
         all.push(performance.now() - begun);
     }
     return all.sort((one, other) => one - other)[ROUNDS / 2].toFixed(2);
@@ -62,16 +57,16 @@ const report = (found, count, sameTexts) => {
     const lines = new Map();
     for (const { name, path, native, own, reason } of found) {
         const said = `${name}: ${path} ${native}, here ${own}`;
-        lines.set(reason, [...(lines.get(reason) ?? []), reason === undefined ? said : name]);
+        lines.set(reason, new Set(lines.get(reason)).add(reason === undefined ? said : name));
     }
     const other = new Set(found.filter(({ path }) => !/(flags|counter|fmt)$/.test(path)).map((it) => it.name)).size;
     results.figures.push(`${count} calls, of which ${count - other} gave the same but for UV, counter and fmt; of the`
         + ` errors ${sameTexts}`);
     for (const [reason, names] of lines) {
-        const shown = names.length > 4 ? `${names.length} calls` : names.join("; ");
+        const shown = names.size > MOST_SHOWN ? `${names.size} calls` : [...names].join("; ");
         results.figures.push(`${reason ?? "NO REASON"}: ${shown}`);
     }
-    const error = (lines.get(undefined) ?? []).join("\n");
+    const error = [...(lines.get(undefined) ?? [])].join("\n");
     results.tests.push({ name: `${count} calls beside Chromium's virtual authenticator`, error });
 };
 

@@ -1,11 +1,7 @@
 // What a test does with a virtual authenticator: credentials listed, added, changed and removed, events, faults.
 import { current, send } from "../../web/dist/security_key.mjs";
 import { expect, results } from "./harness.js";
-import { counterOf, create, get, getBy, named, refuses, withKey } from "./options.js";
-
-const P256 = { name: "ECDSA", namedCurve: "P-256" };
-const toText = (bytes) =>
-    btoa(String.fromCharCode(...bytes)).replace(/\+/g, "-").replace(/\//g, "_").replace(/=+$/, "");
+import { counterOf, create, get, getBy, named, P256, refuses, toText, withKey } from "./options.js";
 
 /** A key pair that isn't the key's: its private key in PKCS #8, and its public key. */
 const foreignKey = async () => {
@@ -42,9 +38,8 @@ const addsCredentials = async (key) => {
     const [listed] = await key.getCredentials();
     expect(listed.signCount === 42 && listed.rpId === "localhost" && listed.userName === "ann", "it is listed");
     expect(listed.privateKey === toText(pkcs8), "with its private key");
-    const made = await key.addCredential({ rpId: "localhost" });
-    expect((await getBy({ rawId: Uint8Array.from(atob(made.credentialId.replace(/-/g, "+").replace(/_/g, "/")),
-        (it) => it.charCodeAt(0)) })).id === made.credentialId, "one that is made whole");
+    const made = await key.addCredential({ rpId: "localhost", isResidentCredential: true, userHandle: toText([3]) });
+    expect((await get()).id === made.credentialId, "one that is made whole");
 };
 
 const refusesWrongOnes = async (key) => {

@@ -1,7 +1,8 @@
 // The key against python-fido2's server: what a service tests, with the key in the place of
 // navigator.credentials.
 import { install, SecurityKey } from "../../web/dist/security_key.mjs";
-import { expect, post, rejection, results, until, wait } from "./harness.js";
+import { expect, post, rejection, results, until } from "./harness.js";
+import { creationOptions, P256 } from "./options.js";
 
 const fromText = (text) => {
     const plain = atob(text.replaceAll("-", "+").replaceAll("_", "/"));
@@ -67,7 +68,7 @@ const registersAndSignsIn = async () => {
     expect(made instanceof PublicKeyCredential, "no PublicKeyCredential");
     expect(made.response.getTransports()[0] === "usb", "its transport");
     const spki = made.response.getPublicKey();
-    const key = await crypto.subtle.importKey("spki", spki, { name: "ECDSA", namedCurve: "P-256" }, true, ["verify"]);
+    const key = await crypto.subtle.importKey("spki", spki, P256, true, ["verify"]);
     expect(key.type === "public", "its public key");
     const first = await signIn({ user: "ann" });
     const second = await signIn({ user: "ann" });
@@ -119,11 +120,12 @@ const canBeAborted = async (key) => {
 };
 
 const servesOneAtATime = async (key) => {
-    key.delay = 150;
+    key.presence = "none";
     const first = register({ user: "ann" });
-    await wait(50);
+    await until(() => key.log().includes("# need presence"), "the first request");
     const options = { challenge: new Uint8Array(32), rpId: "localhost" };
     await isRefused(navigator.credentials.get({ publicKey: options }), "OperationError");
+    key.presence = "granted";
     await first;
 };
 
@@ -166,9 +168,8 @@ const processorTime = async (round) => {
 
 /** The calls of WebCrypto that a registration and a sign-in make. */
 const callWebCrypto = async () => {
-    const curve = { name: "ECDSA", namedCurve: "P-256" };
     const [clientData, signed] = [new Uint8Array(120), new Uint8Array(196)];
-    const { publicKey, privateKey } = await crypto.subtle.generateKey(curve, false, ["sign"]);
+    const { publicKey, privateKey } = await crypto.subtle.generateKey(P256, false, ["sign"]);
     await crypto.subtle.exportKey("raw", publicKey);
     for (let count = 0; count < 2; count += 1) {
         await crypto.subtle.digest("SHA-256", clientData);
@@ -178,13 +179,10 @@ const callWebCrypto = async () => {
 
 /** A registration and a sign-in with a new key. */
 const registerAndSignIn = async () => {
-    const options = (more) => ({ publicKey: { challenge: new Uint8Array(32), rpId: "localhost", ...more } });
     const key = new SecurityKey({ clock: steady() });
-    const made = await key.create(options({
-        rp: { id: "localhost", name: "A service" }, user: { id: Uint8Array.of(1), name: "ann", displayName: "Ann" },
-        pubKeyCredParams: [{ type: "public-key", alg: -7 }],
-    }));
-    await key.get(options({ allowCredentials: [{ type: "public-key", id: made.rawId }] }));
+    const made = await key.create({ publicKey: creationOptions() });
+    const allowCredentials = [{ type: "public-key", id: made.rawId }];
+    await key.get({ publicKey: { challenge: new Uint8Array(32), allowCredentials } });
 };
 
 /** The first batch, for which the browser compiles what is used, and the least of the later ones. */

@@ -22,6 +22,12 @@ export const get = (more = {}, rest = {}) =>
 
 export const getBy = (made, rest = {}) => get({ allowCredentials: [{ type: "public-key", id: made.rawId }] }, rest);
 
+/** Bytes as base64url. */
+export const toText = (bytes) =>
+    btoa(String.fromCharCode(...new Uint8Array(bytes))).replace(/\+/g, "-").replace(/\//g, "_").replace(/=+$/, "");
+
+export const P256 = { name: "ECDSA", namedCurve: "P-256" };
+
 export const counterOf = (used) => new DataView(used.response.authenticatorData).getUint32(33);
 
 /** A test on a key of its own. */

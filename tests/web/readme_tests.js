@@ -1,7 +1,7 @@
 // The snippets of web/README.md, each of them run as it stands there.
 import "../../web/dist/security_key.mjs";
 import { expect, results } from "./harness.js";
-import { named } from "./options.js";
+import { create, get, named } from "./options.js";
 
 const BLOCK = /^```(\w+)(?: (\w+))?\n([\s\S]*?)^```$/gm;
 const AsyncFunction = (async () => {}).constructor;
@@ -11,16 +11,10 @@ const fetched = async (path) => (await fetch(`../../${path}`)).text();
 const blocksOf = async () =>
     Array.from((await fetched("web/README.md")).matchAll(BLOCK), ([, kind, tool, text]) => ({ kind, tool, text }));
 
-const publicKey = (more) => ({ challenge: new Uint8Array(32), ...more });
-
 /** The functions of "your page". */
 const page = {
-    register: (name) => navigator.credentials.create({
-        publicKey: publicKey({
-            rp: { name: "A" }, pubKeyCredParams: [{ type: "public-key", alg: -7 }], ...named(name),
-        }),
-    }),
-    signIn: (more = {}) => navigator.credentials.get({ publicKey: publicKey({}), ...more }),
+    register: (name) => create(named(name)),
+    signIn: (more = {}) => get({}, more),
 };
 
 const runsItsSnippets = async () => {

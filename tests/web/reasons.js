@@ -7,6 +7,7 @@ const REASONS = [
     [/./, /fmt$/, "a self attestation with no AAGUID is handed on, as WebAuthn says; Chromium's has a certificate"],
     [/userVerification required/, /./, "the key verifies no users"],
     [/RS256/, /./, "the key makes ES256 keys alone"],
+    [/create, mediation conditional/, /./, "the key makes no credential without asking"],
     [/conditional/, /./, "the sign-in waits until the test picks an account; Chromium's signs in by itself"],
     [/attachment platform|of another kind/, /./, "no such authenticator: refused at once, where Chromium waits"],
     [/in the same turn/, /./, "an aborted request is over at once; Chromium's answer may come before"],

@@ -1,7 +1,7 @@
 // Waits for the user: what ends them, what is served afterwards, and what a wait and a sign-in cost.
 import { install, SecurityKey } from "../../web/dist/security_key.mjs";
 import { expect, results, wait } from "./harness.js";
-import { counterOf, create, get, getBy, named, refuses, withKey } from "./options.js";
+import { counterOf, create, creationOptions, get, getBy, named, refuses, withKey } from "./options.js";
 
 const survivesAThrow = async (key) => {
     const mistake = new RangeError("a mistake of the test");
@@ -70,10 +70,10 @@ const isOverAtAnyMoment = async (key) => {
 
 const refusesASecond = async (key) => {
     key.presence = "none";
-    const first = create({ timeout: 100 });
+    const first = create({ timeout: 400 });
     await refuses(create(), "OperationError", "already pending");
     await refuses(get({}, { mediation: "conditional" }), "OperationError");
-    await refuses(first, "NotAllowedError", "100 ms");
+    await refuses(first, "NotAllowedError", "400 ms");
     key.presence = "granted";
     await create();
 };
@@ -169,8 +169,7 @@ const isFlat = async () => {
     const options = (made) => ({
         publicKey: { challenge: new Uint8Array(32), allowCredentials: [{ type: "public-key", id: made.rawId }] },
     });
-    const publicKey = { ...named("ann"), challenge: new Uint8Array(32), rp: { name: "A" },
-        pubKeyCredParams: [{ type: "public-key", alg: -7 }] };
+    const publicKey = creationOptions();
     const used = new SecurityKey();
     const usedOptions = options(await used.create({ publicKey }));
     for (let count = 0; count < 1000; count += 1) {
