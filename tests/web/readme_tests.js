@@ -52,7 +52,7 @@ const standIn = () => ({
     },
     evaluateOnNewDocument: async (source) => (0, eval)(source),
     goto: async () => {},
-    evaluate: async (given) => given(),
+    evaluate: async (given, words) => given(words),
 });
 
 const runsItsInjections = async () => {
