@@ -68,6 +68,11 @@ const isOverAtAnyMoment = async (key) => {
     }
 };
 
+const onAStore = () => {
+    localStorage.clear();
+    return { store: localStorage };
+};
+
 const refusesASecond = async (key) => {
     key.presence = "none";
     const first = create({ timeout: 400 });
@@ -194,6 +199,7 @@ export const waitsTests = {
     "unknown options are refused at once": refusesUnknownOptions,
     "an aborted request is over at once": withKey(isOverAtOnce),
     "a request is aborted at any moment": withKey(isOverAtAnyMoment),
+    "a request on a store of tabs is aborted at any moment": withKey(isOverAtAnyMoment, onAStore),
     "a second request is an OperationError": withKey(refusesASecond),
     "presence is switched on while a request waits": withKey(waitsForAChange),
     "a wait takes its time by the clock": withKey(waitsByTheClock),

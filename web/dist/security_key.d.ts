@@ -116,8 +116,8 @@ export class SecurityKey extends EventTarget {
     /** Picks the account of the sign-in with mediation "conditional" that waits, or of the next one. */
     choose(which?: Which): Promise<Credential>;
 
-    /** Ends a request of the page that waits, with an AbortError. */
-    endRequest(): void;
+    /** Ends a request of the page that waits, with an AbortError, and lets go of the store. */
+    close(): void;
 
     addCredential(credential: NewCredential): Promise<Credential>;
     getCredentials(): Promise<Credential[]>;

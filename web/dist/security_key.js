@@ -3606,7 +3606,7 @@ const { setTimeout } = parts["platform.js"];
 const NAME = "hidlogKey";
 // How often, and how many times, a tab looks for what another has written.
 const LOOK_MS = 5;
-const LOOKS = 400;
+const LOOKS = 100;
 
 /** @typedef {Pick<Storage, "getItem" | "setItem">} KeptIn */
 /** @typedef {import("./state.js").State & { version: number }} Stored */
@@ -3631,9 +3631,14 @@ const passed = (milliseconds) => new Promise((done) => {
     setTimeout(done, milliseconds);
 });
 
-/** Waits for a lock of all tabs. @param {string} name @returns {Promise<() => void>} what releases it */
-const granted = (name) => new Promise((held) => {
-    navigator.locks.request(name, () => new Promise((release) => {
+/**
+ * Waits for a lock of all tabs.
+ * @param {string} name
+ * @param {LockMode} mode
+ * @returns {Promise<() => void>} what releases it
+ */
+const granted = (name, mode) => new Promise((held) => {
+    navigator.locks.request(name, { mode }, () => new Promise((release) => {
         held(() => release(undefined));
     }));
 });
@@ -3660,7 +3665,7 @@ class Store {
         try {
             const stored = JSON.parse(text);
             this.#seen = text;
-            this.#version = Math.max(this.#version, stored.version);
+            this.#version = Math.max(this.#version, stored.version ?? 0);
             return stored;
         } catch (error) {
             throw new TypeError(`the store holds something else under "${NAME}"`, { cause: error });
@@ -3681,7 +3686,7 @@ class Store {
         this.#version += 1;
         if (this.isShared) {
             const unmark = this.#unmark;
-            this.#unmark = await granted(`${NAME} ${this.#version}`);
+            this.#unmark = await granted(`${NAME} ${this.#version}`, "shared");
             unmark();
         }
     }
@@ -3697,7 +3702,7 @@ class Store {
         if (!this.isShared) {
             return free;
         }
-        const release = await granted(NAME);
+        const release = await granted(NAME, "exclusive");
         await this.#catchUp();
         return () => {
             release();
@@ -3712,6 +3717,14 @@ class Store {
         for (let looks = 0; this.#storedVersion() < newest && looks < LOOKS; looks += 1) {
             await passed(LOOK_MS);
         }
+        // A page may have cleared the store, so that it never comes.
+        this.#version = Math.max(this.#version, newest);
+    }
+
+    /** Lets go of what other tabs are told. */
+    close() {
+        this.#unmark();
+        this.#unmark = () => {};
     }
 
     #storedVersion() {
@@ -4131,9 +4144,10 @@ class SecurityKey extends EventTarget {
         return this.#choices.choose(which);
     }
 
-    /** Ends a request of the page that waits. */
-    endRequest() {
+    /** Ends a request of the page that waits, and lets go of the store. */
+    close() {
         this.#requests.end(failure("AbortError", "The key was taken out of the page."));
+        this.#store.close();
     }
 
     // What a virtual authenticator's commands do.
@@ -4396,7 +4410,7 @@ const put = (key) => {
 class InstalledKey extends SecurityKey {
     /** Puts back what `install` replaced, and ends a request that waits. */
     uninstall() {
-        this.endRequest();
+        this.close();
         if (placed?.key === this) {
             placed.undo();
             placed = null;

@@ -83,7 +83,7 @@ const put = (key) => {
 export class InstalledKey extends SecurityKey {
     /** Puts back what `install` replaced, and ends a request that waits. */
     uninstall() {
-        this.endRequest();
+        this.close();
         if (placed?.key === this) {
             placed.undo();
             placed = null;

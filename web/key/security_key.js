@@ -307,9 +307,10 @@ export class SecurityKey extends EventTarget {
         return this.#choices.choose(which);
     }
 
-    /** Ends a request of the page that waits. */
-    endRequest() {
+    /** Ends a request of the page that waits, and lets go of the store. */
+    close() {
         this.#requests.end(failure("AbortError", "The key was taken out of the page."));
+        this.#store.close();
     }
 
     // What a virtual authenticator's commands do.

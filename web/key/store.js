@@ -5,7 +5,7 @@ import { setTimeout } from "./platform.js";
 const NAME = "hidlogKey";
 // How often, and how many times, a tab looks for what another has written.
 const LOOK_MS = 5;
-const LOOKS = 400;
+const LOOKS = 100;
 
 /** @typedef {Pick<Storage, "getItem" | "setItem">} KeptIn */
 /** @typedef {import("./state.js").State & { version: number }} Stored */
@@ -30,9 +30,14 @@ const passed = (milliseconds) => new Promise((done) => {
     setTimeout(done, milliseconds);
 });
 
-/** Waits for a lock of all tabs. @param {string} name @returns {Promise<() => void>} what releases it */
-const granted = (name) => new Promise((held) => {
-    navigator.locks.request(name, () => new Promise((release) => {
+/**
+ * Waits for a lock of all tabs.
+ * @param {string} name
+ * @param {LockMode} mode
+ * @returns {Promise<() => void>} what releases it
+ */
+const granted = (name, mode) => new Promise((held) => {
+    navigator.locks.request(name, { mode }, () => new Promise((release) => {
         held(() => release(undefined));
     }));
 });
@@ -59,7 +64,7 @@ export class Store {
         try {
             const stored = JSON.parse(text);
             this.#seen = text;
-            this.#version = Math.max(this.#version, stored.version);
+            this.#version = Math.max(this.#version, stored.version ?? 0);
             return stored;
         } catch (error) {
             throw new TypeError(`the store holds something else under "${NAME}"`, { cause: error });
@@ -80,7 +85,7 @@ export class Store {
         this.#version += 1;
         if (this.isShared) {
             const unmark = this.#unmark;
-            this.#unmark = await granted(`${NAME} ${this.#version}`);
+            this.#unmark = await granted(`${NAME} ${this.#version}`, "shared");
             unmark();
         }
     }
@@ -96,7 +101,7 @@ export class Store {
         if (!this.isShared) {
             return free;
         }
-        const release = await granted(NAME);
+        const release = await granted(NAME, "exclusive");
         await this.#catchUp();
         return () => {
             release();
@@ -111,6 +116,14 @@ export class Store {
         for (let looks = 0; this.#storedVersion() < newest && looks < LOOKS; looks += 1) {
             await passed(LOOK_MS);
         }
+        // A page may have cleared the store, so that it never comes.
+        this.#version = Math.max(this.#version, newest);
+    }
+
+    /** Lets go of what other tabs are told. */
+    close() {
+        this.#unmark();
+        this.#unmark = () => {};
     }
 
     #storedVersion() {
