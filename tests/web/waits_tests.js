@@ -157,39 +157,42 @@ const replacesStatics = async () => {
     expect(after.every((it, at) => it === functions[at]), "the functions are put back");
 };
 
-const BATCH = 40;
-const BATCHES = 25;
+const FIRST = 40;
+const ROUNDS = 25;
 
-/** The least time of a sign-in among batches, of which the browser's pauses spoil some. */
-const timeOf = async (key, options) => {
+/** What a sign-in takes, less what the machine did meanwhile in three of four. */
+const quartileOf = (times) => times.sort((one, other) => one - other)[times.length / 4];
+
+/** How to sign in with a new key. */
+const signerOf = async (key) => {
+    const made = await key.create({ publicKey: creationOptions() });
+    const publicKey = { challenge: new Uint8Array(32), allowCredentials: [{ type: "public-key", id: made.rawId }] };
+    return () => key.get({ publicKey });
+};
+
+const timeOf = async (signIn) => {
     const begun = performance.now();
-    for (let count = 0; count < BATCH; count += 1) {
-        await key.get(options);
-    }
-    return (performance.now() - begun) / BATCH;
+    await signIn();
+    return performance.now() - begun;
 };
 
 /** Two keys take turns, so that both see the same machine: one that signed in a thousand times, and a new one. */
 const isFlat = async () => {
-    const options = (made) => ({
-        publicKey: { challenge: new Uint8Array(32), allowCredentials: [{ type: "public-key", id: made.rawId }] },
-    });
-    const publicKey = creationOptions();
-    const used = new SecurityKey();
-    const usedOptions = options(await used.create({ publicKey }));
+    const signInLate = await signerOf(new SecurityKey());
     for (let count = 0; count < 1000; count += 1) {
-        await used.get(usedOptions);
+        await signInLate();
     }
     const [first, late] = [[], []];
-    for (let round = 0; round < BATCHES; round += 1) {
-        const fresh = new SecurityKey();
-        const freshOptions = options(await fresh.create({ publicKey }));
-        first.push(await timeOf(fresh, freshOptions));
-        late.push(await timeOf(used, usedOptions));
+    for (let round = 0; round < ROUNDS; round += 1) {
+        const signIn = await signerOf(new SecurityKey());
+        for (let count = 0; count < FIRST; count += 1) {
+            first.push(await timeOf(signIn));
+            late.push(await timeOf(signInLate));
+        }
     }
-    const [one, other] = [Math.min(...first), Math.min(...late)];
-    results.figures.push(`a sign-in takes ${one.toFixed(2)} ms among the first ${BATCH}, and ${other.toFixed(2)} ms`
-        + ` after the 1,000th (the least of ${BATCHES})`);
+    const [one, other] = [quartileOf(first), quartileOf(late)];
+    results.figures.push(`a sign-in takes ${one.toFixed(2)} ms among the first ${FIRST}, and ${other.toFixed(2)} ms`
+        + " after the 1,000th (lower quartiles)");
     expect(other <= 1.2 * one, `the 1,000th sign-in takes ${(other / one).toFixed(2)} of the first`);
 };
 
