@@ -10,7 +10,7 @@
     // No more memory than that is asked of the browser.
     const MOST = 128 * 1024 * 1024;
 
-    const fromBase64 = (text) => Uint8Array.from(atob(text), (c) => c.charCodeAt(0));
+    const { fromBase64 } = globalThis.hidlogBytes;
 
     const aligned = (place) => Math.ceil(place / 16) * 16;
 
@@ -107,5 +107,5 @@
     /** The core. It keeps nothing between two calls, so one serves all. */
     const load = () => (made ??= make());
 
-    globalThis.hidlog = { load, faultText, fromBase64 };
+    globalThis.hidlog = { load, faultText };
 })();

@@ -3,7 +3,8 @@
 "use strict";
 
 (() => {
-    const { fromHex, showMessage, nameMessage, COMMANDS, REQUESTS } = globalThis.hidlogDecode;
+    const { fromHex } = globalThis.hidlogBytes;
+    const { showMessage, nameMessage, COMMANDS, REQUESTS } = globalThis.hidlogDecode;
     const CBOR = 0x10;
     const CANCEL = 0x11;
     const KEEPALIVE = 0x3b;

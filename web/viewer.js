@@ -435,7 +435,7 @@
     };
 
     const openExample = () => {
-        openBytes("registration.log", globalThis.hidlog.fromBase64(globalThis.HIDLOG_EXAMPLE));
+        openBytes("registration.log", globalThis.hidlogBytes.fromBase64(globalThis.HIDLOG_EXAMPLE));
         choose(state.rows.findIndex((row) => row.says.includes("makeCredential")));
     };
 

@@ -46,13 +46,17 @@ export const post = async (path, given) => {
 export const run = async (tests) => {
     for (const [name, test] of Object.entries(tests)) {
         let error = "";
+        const begun = performance.now();
         try {
             await test();
         } catch (thrown) {
             error = `${thrown.name}: ${thrown.message}`;
         }
-        results.tests.push({ name, error });
+        results.tests.push({ name, error, seconds: (performance.now() - begun) / 1000 });
     }
     document.body.textContent = JSON.stringify(results.tests, null, 1);
-    await post("/done", results);
+    const { next } = await post("/done", results);
+    if (next) {
+        location.href = next;
+    }
 };

@@ -1,7 +1,8 @@
-// web/security_key.js against python-fido2's server: what a service tests, with the key in the place of
+// The key against python-fido2's server: what a service tests, with the key in the place of
 // navigator.credentials.
-import { install, makeKey } from "../../web/security_key.js";
-import { expect, post, rejection, results, run, wait } from "./harness.js";
+import { install, SecurityKey } from "../../web/dist/security_key.mjs";
+import { expect, post, rejection, results, until } from "./harness.js";
+import { creationOptions, P256 } from "./options.js";
 
 const fromText = (text) => {
     const plain = atob(text.replaceAll("-", "+").replaceAll("_", "/"));
@@ -67,7 +68,7 @@ const registersAndSignsIn = async () => {
     expect(made instanceof PublicKeyCredential, "no PublicKeyCredential");
     expect(made.response.getTransports()[0] === "usb", "its transport");
     const spki = made.response.getPublicKey();
-    const key = await crypto.subtle.importKey("spki", spki, { name: "ECDSA", namedCurve: "P-256" }, true, ["verify"]);
+    const key = await crypto.subtle.importKey("spki", spki, P256, true, ["verify"]);
     expect(key.type === "public", "its public key");
     const first = await signIn({ user: "ann" });
     const second = await signIn({ user: "ann" });
@@ -83,7 +84,7 @@ const choosesAmongAccounts = async (key) => {
     await register({ user: "ann", resident: true });
     await register({ user: "bob", resident: true });
     expect((await signIn()).user === "bob", "the newest account comes first");
-    key.choose = (accounts) => accounts.findIndex((it) => new TextDecoder().decode(it.userHandle) === "ann");
+    key.account = (accounts) => accounts.find((it) => it.userHandle === btoa("ann") && it.userName === "ann");
     expect((await signIn()).user === "ann", "the account that is chosen");
 };
 
@@ -119,22 +120,23 @@ const canBeAborted = async (key) => {
 };
 
 const servesOneAtATime = async (key) => {
-    key.delay = 150;
+    key.presence = "none";
     const first = register({ user: "ann" });
-    await wait(50);
+    await until(() => key.log().includes("# need presence"), "the first request");
     const options = { challenge: new Uint8Array(32), rpId: "localhost" };
-    await isRefused(navigator.credentials.get({ publicKey: options }), "NotAllowedError");
+    await isRefused(navigator.credentials.get({ publicKey: options }), "OperationError");
+    key.presence = "granted";
     await first;
 };
 
 const asksByAClick = async (key) => {
     key.presence = "click";
     const registering = register({ user: "ann" });
-    await wait(50);
+    await until(() => document.querySelector("dialog button"), "a dialog");
     document.querySelector("dialog button").click();
     await registering;
     const signing = isRefused(signIn({ user: "ann" }), "NotAllowedError");
-    await wait(50);
+    await until(() => document.querySelector("dialog button"), "a dialog");
     document.querySelectorAll("dialog button")[1].click();
     await signing;
     expect(!document.querySelector("dialog"), "the dialog is gone");
@@ -148,14 +150,11 @@ const refusesWhatItCannot = async () => {
     await isRefused(register({ user: "ann" }, { publicKey: other }), "NotAllowedError");
     const none = { pubKeyCredParams: [{ type: "password", alg: -7 }] };
     await isRefused(register({ user: "ann" }, { publicKey: none }), "NotSupportedError");
-    const unnamed = { user: { id: new Uint8Array(0), name: "", displayName: "" } };
-    const error = await rejection(register({ user: "ann" }, { publicKey: unnamed }));
-    expect(error instanceof TypeError, "a user without an id");
     await isRefused(signIn({ user: "ann" }), "NotAllowedError");
 };
 
-const ROUNDS = 200;
-const BATCHES = 5;
+const ROUNDS = 50;
+const BATCHES = 3;
 
 /** The browser's processor time for each of many rounds, in milliseconds. */
 const processorTime = async (round) => {
@@ -169,9 +168,8 @@ const processorTime = async (round) => {
 
 /** The calls of WebCrypto that a registration and a sign-in make. */
 const callWebCrypto = async () => {
-    const curve = { name: "ECDSA", namedCurve: "P-256" };
     const [clientData, signed] = [new Uint8Array(120), new Uint8Array(196)];
-    const { publicKey, privateKey } = await crypto.subtle.generateKey(curve, false, ["sign"]);
+    const { publicKey, privateKey } = await crypto.subtle.generateKey(P256, false, ["sign"]);
     await crypto.subtle.exportKey("raw", publicKey);
     for (let count = 0; count < 2; count += 1) {
         await crypto.subtle.digest("SHA-256", clientData);
@@ -181,13 +179,10 @@ const callWebCrypto = async () => {
 
 /** A registration and a sign-in with a new key. */
 const registerAndSignIn = async () => {
-    const options = (more) => ({ publicKey: { challenge: new Uint8Array(32), rpId: "localhost", ...more } });
-    const key = await makeKey({ clock: steady() });
-    const made = await key.create(options({
-        rp: { id: "localhost", name: "A service" }, user: { id: Uint8Array.of(1), name: "ann", displayName: "Ann" },
-        pubKeyCredParams: [{ type: "public-key", alg: -7 }],
-    }));
-    await key.get(options({ allowCredentials: [{ type: "public-key", id: made.rawId }] }));
+    const key = new SecurityKey({ clock: steady() });
+    const made = await key.create({ publicKey: creationOptions() });
+    const allowCredentials = [{ type: "public-key", id: made.rawId }];
+    await key.get({ publicKey: { challenge: new Uint8Array(32), allowCredentials } });
 };
 
 /** The first batch, for which the browser compiles what is used, and the least of the later ones. */
@@ -205,12 +200,12 @@ const isFast = async () => {
     const all = await batchTimes(registerAndSignIn);
     const crypto = await batchTimes(callWebCrypto);
     const own = (all.least - crypto.least).toFixed(2);
-    results.figures.push(`a registration and a sign-in: ${all.least.toFixed(2)} ms of processor time, WebCrypto's calls`
-        + ` alone ${crypto.least.toFixed(2)} ms, so ${own} ms beside them (the least of ${BATCHES} times ${ROUNDS};`
-        + ` the first ${ROUNDS} took ${all.first.toFixed(2)} ms)`);
+    results.figures.push(`a registration and a sign-in: ${all.least.toFixed(2)} ms of processor time, WebCrypto's`
+        + ` calls alone ${crypto.least.toFixed(2)} ms, so ${own} ms beside them (the least of ${BATCHES} times`
+        + ` ${ROUNDS}; the first ${ROUNDS} took ${all.first.toFixed(2)} ms)`);
 };
 
-run({
+export const keyTests = {
     "a registration and two sign-ins": withKey("registration_and_sign_in.log", registersAndSignsIn),
     "a discoverable credential": withKey("discoverable.log", findsItsAccount),
     "two accounts": withKey("two_accounts.log", choosesAmongAccounts),
@@ -222,4 +217,4 @@ run({
     "presence by a click": withKey("click.log", asksByAClick),
     "what the key can't do": withKey("refused.log", refusesWhatItCannot),
     "how long it takes": isFast,
-});
+};

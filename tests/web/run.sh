@@ -14,19 +14,41 @@ failed=0
 ran=0
 
 run_pages() {
-    local browser=$1 page
+    local browser=$1
     shift
     echo "== $("$1" --version 2>/dev/null)"
     ran=1
-    for page in viewer.html key.html; do
-        mkdir -p "$room/$browser"
-        "$with_fido2" "$here/serve.py" "$room/$browser" "$page" "$@" || failed=1
-    done
+    mkdir -p "$room/$browser"
+    "$with_fido2" "$here/serve.py" "$room/$browser" viewer.html,key.html "$@" || failed=1
     if [ "$browser" = chromium ]; then
         open_from_file
-        "$with_fido2" "$here/virtual_authenticator.py" || true
+        "$with_fido2" "$here/virtual_authenticator.py" || [ $? = 3 ] || failed=1
+        "$with_fido2" "$here/two_tabs.py" || [ $? = 3 ] || failed=1
+        run_examples
     fi
     check_logs "$room/$browser"
+}
+
+# The examples, with Debian's Selenium, and with node.
+run_examples() {
+    local example
+    if /usr/bin/python3 -c 'import selenium' 2>/dev/null && command -v chromedriver >/dev/null; then
+        for example in "$top"/examples/web/*.py; do
+            "$example" || failed=1
+        done
+    else
+        echo "tests/web: selenium is missing (apt-get install python3-selenium chromium-driver)" >&2
+    fi
+    if command -v node >/dev/null; then
+        if node --test "$top/examples/web/" "$here" >"$room/said"; then
+            echo "ok  the key in node, and the example: $(grep '^# pass' "$room/said")"
+        else
+            cat "$room/said"
+            failed=1
+        fi
+    else
+        echo "tests/web: node is missing" >&2
+    fi
 }
 
 # The page is opened as a file, with no server.
@@ -43,10 +65,12 @@ open_from_file() {
 
 # The recordings are logs that replay exactly.
 check_logs() {
-    local log
+    local log snapshot
     for log in "$1"/*.log; do
         [ -e "$log" ] || continue
-        if "$program" check <"$log" >"$room/said" 2>&1; then
+        snapshot=()
+        [ ! -e "$log.snapshot" ] || snapshot=(--load "$log.snapshot")
+        if "$program" check "${snapshot[@]}" <"$log" >"$room/said" 2>&1; then
             echo "ok  hidlog check ${log##*/}: $(cat "$room/said")"
         else
             echo "FAILED  hidlog check ${log##*/}: $(cat "$room/said")"
@@ -56,6 +80,11 @@ check_logs() {
 }
 
 "$top/web/build.sh" --check || failed=1
+if command -v tsc >/dev/null; then
+    tsc -p "$top/web/tsconfig.json" && tsc -p "$here/tsconfig.json" && echo "ok  types" || failed=1
+else
+    echo "tests/web: tsc is missing, types are not checked (apt-get install node-typescript)" >&2
+fi
 wanted=${1:-all}
 if [ "$wanted" != firefox ]; then
     if command -v chromium >/dev/null; then

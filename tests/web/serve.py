@@ -1,11 +1,12 @@
 #!/usr/bin/env python3
-"""Runs a page of tests in a browser: serve.py FOLDER PAGE BROWSER WORD..
+"""Runs pages of tests in a browser, one after the other: serve.py FOLDER PAGE[,PAGE..] BROWSER WORD..
 
-Serves the repository's files on 127.0.0.1 alone, with the relying party under /rp/, starts the browser with the page's
-address after the words, and waits for what the page posts to /done. Logs that the page recorded are written to FOLDER.
-It ends with 0 where all tests of the page passed.
+Serves the repository's files on 127.0.0.1 alone, with the relying party under /rp/, starts the browser with the first
+page's address after the words, and waits for what each page posts to /done. Logs that the pages recorded are written
+to FOLDER. It ends with 0 where all tests passed.
 """
 
+import contextlib
 import json
 import os
 import signal
@@ -13,7 +14,9 @@ import subprocess
 import sys
 import tempfile
 import threading
+from base64 import b64decode
 from http.server import SimpleHTTPRequestHandler, ThreadingHTTPServer
+from urllib.parse import parse_qs, urlsplit
 
 from relying_party import RelyingParty
 
@@ -51,32 +54,43 @@ class Handler(SimpleHTTPRequestHandler):
         # Pages that are isolated get a clock of five microseconds.
         self.send_header("Cross-Origin-Opener-Policy", "same-origin")
         self.send_header("Cross-Origin-Embedder-Policy", "require-corp")
+        self.send_header("Cross-Origin-Resource-Policy", "cross-origin")
         self.send_header("Cache-Control", "no-store")
+        # A page names its own policy in its address.
+        for policy in parse_qs(urlsplit(self.path).query).get("csp", []):
+            self.send_header("Content-Security-Policy", policy)
         super().end_headers()
 
     def log_message(self, *_):
         """Says nothing of each request."""
 
-    def do_POST(self):
+    def answer(self, path, given):
         """Answers a call of the page."""
-        given = json.loads(self.rfile.read(int(self.headers["Content-Length"])))
-        status, answer = 200, {}
-        if self.path == "/done":
-            self.server.results = given
+        if path == "/done":
+            self.server.results.append(given)
+            if self.server.pages:
+                return {"next": self.server.pages.pop(0)}
             self.server.is_done.set()
-        elif self.path == "/processor":
-            answer = {"seconds": processor_seconds(self.server.browser)}
-        else:
-            try:
-                answer = getattr(self.server.relying_party, self.path.removeprefix("/rp/"))(**given)
-            except Exception as error:
-                status, answer = 400, {"error": f"{type(error).__name__}: {error}"}
+            return {}
+        if path == "/processor":
+            return {"seconds": processor_seconds(self.server.browser)}
+        return getattr(self.server.relying_party, path.removeprefix("/rp/"))(**given)
+
+    def do_POST(self):
+        """Answers a call of the page, and an error with its text."""
+        given = json.loads(self.rfile.read(int(self.headers["Content-Length"])))
+        try:
+            status, answer = 200, self.answer(self.path, given)
+        except Exception as error:
+            status, answer = 400, {"error": f"{type(error).__name__}: {error}"}
         body = json.dumps(answer).encode()
         self.send_response(status)
         self.send_header("Content-Type", "application/json")
         self.send_header("Content-Length", str(len(body)))
         self.end_headers()
-        self.wfile.write(body)
+        # The browser may be closed by now.
+        with contextlib.suppress(ConnectionError):
+            self.wfile.write(body)
 
 
 def run_browser(words, url, server):
@@ -93,28 +107,32 @@ def run_browser(words, url, server):
 
 
 def report(results, folder):
-    """Prints what came of each test, and keeps the logs. Returns whether all passed."""
-    if results is None:
-        print(f"the page posted nothing within {SECONDS} seconds")
-        return False
+    """Prints what came of each test of a page, and keeps the logs. Returns whether all passed."""
     for name, text in results["logs"].items():
-        with open(os.path.join(folder, name), "w", encoding="utf-8") as file:
-            file.write(text)
+        data = b64decode(text) if name.endswith(".snapshot") else text.encode()
+        with open(os.path.join(folder, name), "wb") as file:
+            file.write(data)
     for test in results["tests"]:
-        print(f"{'ok' if not test['error'] else 'FAILED'}  {test['name']}{test['error'] and ': ' + test['error']}")
+        took = f" ({test['seconds']:.1f} s)" if test["seconds"] >= 1 else ""
+        print(f"{'FAILED' if test['error'] else 'ok'}  {test['name']}{took}{test['error'] and ': ' + test['error']}")
     for line in results["figures"]:
         print(f"    {line}")
     return bool(results["tests"]) and not any(test["error"] for test in results["tests"])
 
 
 def main():
-    folder, page, *words = sys.argv[1:]
+    folder, listed, *words = sys.argv[1:]
+    first, *rest = listed.split(",")
     server = ThreadingHTTPServer(("127.0.0.1", 0), Handler)
     origin = f"http://localhost:{server.server_address[1]}"
-    server.relying_party, server.results, server.is_done = RelyingParty(origin), None, threading.Event()
+    server.relying_party, server.results, server.is_done = RelyingParty(origin), [], threading.Event()
+    server.pages = [f"{origin}/tests/web/{page}" for page in rest]
     threading.Thread(target=server.serve_forever, daemon=True).start()
-    run_browser(words, f"{origin}/tests/web/{page}", server)
-    return 0 if report(server.results, folder) else 1
+    run_browser(words, f"{origin}/tests/web/{first}", server)
+    passed = [report(it, folder) for it in server.results]
+    if not server.is_done.is_set():
+        print(f"FAILED  a page posted nothing within {SECONDS} seconds")
+    return 0 if server.is_done.is_set() and all(passed) else 1
 
 
 if __name__ == "__main__":

@@ -135,7 +135,7 @@ const scrollsSmoothly = async () => {
     for (const mode of ["table-tab", "drawing-tab"]) {
         at(mode).click();
         const scroller = at("scroller");
-        const steps = 120;
+        const steps = 40;
         const from = performance.now();
         for (let step = 0; step < steps; step += 1) {
             scroller.scrollTop = (step * scroller.scrollHeight) / steps;

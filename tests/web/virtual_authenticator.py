@@ -1,92 +1,75 @@
 #!/usr/bin/env python3
-"""Times a registration and a sign-in of Chromium's own virtual authenticator, by chromedriver."""
+"""Compares the key with Chromium's own virtual authenticator: what a page sees of the same calls, and their time.
 
-import json
-import shutil
-import socket
-import subprocess
-import sys
-import threading
-import time
-import urllib.request
-from http.server import SimpleHTTPRequestHandler, ThreadingHTTPServer
-
-ROUNDS = 60
-SCRIPT = """
-const [rounds, done] = arguments;
-const options = (more) => ({ publicKey: { challenge: new Uint8Array(32), rpId: "localhost", ...more } });
-(async () => {
-    const all = [];
-    for (let round = 0; round < rounds; round += 1) {
-        const begun = performance.now();
-        const made = await navigator.credentials.create(options({
-            rp: { id: "localhost", name: "A service" },
-            user: { id: Uint8Array.of(round), name: "ann", displayName: "Ann" },
-            pubKeyCredParams: [{ type: "public-key", alg: -7 }],
-        }));
-        await navigator.credentials.get(options({ allowCredentials: [{ type: "public-key", id: made.rawId }] }));
-        all.push(performance.now() - begun);
-    }
-    return all.sort((a, b) => a - b)[rounds / 2];
-})().then(done, (error) => done(String(error)));
+    virtual_authenticator.py            prints what compare.html found, whose virtual authenticator verifies users
+    virtual_authenticator.py --write    writes chromium_outcomes.json too: how each call ends, for other browsers
 """
 
+import os
+import sys
+import threading
+from http.server import ThreadingHTTPServer
 
-class Page(SimpleHTTPRequestHandler):
-    """An empty page."""
+from driver import Driver, is_there
+from serve import Handler
 
-    def do_GET(self):
-        self.send_response(200)
-        self.send_header("Content-Type", "text/html")
-        self.end_headers()
-
-    def log_message(self, *_):
-        """Says nothing of each request."""
-
-
-def free_port():
-    with socket.socket() as it:
-        it.bind(("127.0.0.1", 0))
-        return it.getsockname()[1]
-
-
-def call(driver, path, given):
-    kind = {"Content-Type": "application/json"}
-    request = urllib.request.Request(f"{driver}{path}", json.dumps(given).encode(), kind)
-    with urllib.request.urlopen(request, timeout=100) as answer:
-        return json.load(answer)["value"]
+SECONDS = 90
+OUTCOMES = os.path.join(os.path.dirname(os.path.abspath(__file__)), "chromium_outcomes.json")
+AUTHENTICATOR = {
+    "protocol": "ctap2",
+    "transport": "usb",
+    "hasResidentKey": True,
+    "hasUserVerification": True,
+    "isUserVerified": True,
+    "automaticPresenceSimulation": True,
+}
 
 
-def measure(driver, url):
-    """The median of a registration and a sign-in, in milliseconds."""
-    options = {"args": ["--headless=new", "--no-sandbox"]}
-    started = call(driver, "/session", {"capabilities": {"alwaysMatch": {"goog:chromeOptions": options}}})
-    session = f"/session/{started['sessionId']}"
-    call(driver, f"{session}/timeouts", {"script": 90000})
-    call(driver, f"{session}/url", {"url": url})
-    key = {"protocol": "ctap2", "transport": "usb", "hasResidentKey": True, "isUserConsenting": True}
-    call(driver, f"{session}/webauthn/authenticator", key)
-    found = call(driver, f"{session}/execute/async", {"script": SCRIPT, "args": [ROUNDS]})
-    urllib.request.urlopen(urllib.request.Request(f"{driver}{session}", method="DELETE"), timeout=20)
-    return found
+class Comparing(Handler):
+    """The files, and commands to the virtual authenticator."""
+
+    def answer(self, path, given):
+        """Answers a call of the page."""
+        if path == "/devtools":
+            parameters = {"authenticatorId": self.server.authenticator, **given["parameters"]}
+            return self.server.driver.devtools(given["command"], **parameters)
+        return super().answer(path, given)
+
+
+def compare(driver, server):
+    """Opens the page, and returns what it posts."""
+    server.driver = driver
+    driver.devtools("WebAuthn.enable")
+    made = driver.devtools("WebAuthn.addVirtualAuthenticator", options=AUTHENTICATOR)
+    server.authenticator = made["authenticatorId"]
+    driver.open(f"http://localhost:{server.server_address[1]}/tests/web/compare.html")
+    return server.results[0] if server.is_done.wait(SECONDS) else None
 
 
 def main():
-    if not shutil.which("chromedriver"):
+    if not is_there():
         print("tests/web: chromedriver is missing (apt-get install chromium-driver)", file=sys.stderr)
         return 3
-    server = ThreadingHTTPServer(("127.0.0.1", 0), Page)
+    server = ThreadingHTTPServer(("127.0.0.1", 0), Comparing)
+    server.results, server.pages, server.is_done = [], [], threading.Event()
     threading.Thread(target=server.serve_forever, daemon=True).start()
-    port = free_port()
-    driver = subprocess.Popen(["chromedriver", f"--port={port}"], stdout=subprocess.DEVNULL, stderr=subprocess.DEVNULL)
-    try:
-        time.sleep(1)
-        found = measure(f"http://127.0.0.1:{port}", f"http://localhost:{server.server_address[1]}/")
-    finally:
-        driver.terminate()
-        driver.wait()
-    print(f"    Chromium's virtual authenticator: {found:.2f} ms for a registration and a sign-in, by the clock")
-    return 0
+    with Driver() as driver:
+        results = compare(driver, server)
+    if results is None:
+        print(f"FAILED  the comparison posted nothing within {SECONDS} seconds")
+        return 1
+    outcomes = results["logs"].get("chromium_outcomes.json", "")
+    if "--write" in sys.argv:
+        with open(OUTCOMES, "w", encoding="utf-8") as file:
+            file.write(outcomes)
+    with open(OUTCOMES, encoding="utf-8") as file:
+        if file.read() != outcomes:
+            print(f"    {os.path.basename(OUTCOMES)} is of another Chromium: virtual_authenticator.py --write")
+    for line in results["figures"]:
+        print(f"    {line}")
+    for test in results["tests"]:
+        print(f"{'FAILED' if test['error'] else 'ok'}  {test['name']}{test['error'] and ': ' + test['error']}")
+    return 1 if any(test["error"] for test in results["tests"]) else 0
 
 
 if __name__ == "__main__":

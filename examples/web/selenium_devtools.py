@@ -1,0 +1,90 @@
+#!/usr/bin/python3
+"""A suite for Chromium's own virtual authenticator, and the same suite on the key: what changes is one class.
+
+    examples/web/selenium_devtools.py           Debian: apt-get install python3-selenium chromium chromium-driver
+
+The commands are those of DevTools' domain WebAuthn. The key serves them in the page by hidlogKey.send, under the same
+names, so such a suite runs in browsers too that have no DevTools. User verification is the one option to leave out.
+"""
+
+import threading
+
+from http.server import ThreadingHTTPServer
+
+from selenium_sign_in import Service, click, start_browser
+
+OPTIONS = {"protocol": "ctap2", "transport": "usb", "hasResidentKey": True, "automaticPresenceSimulation": True}
+
+
+class BrowsersOwn:
+    """Chromium's virtual authenticator."""
+
+    def __init__(self, driver):
+        self.driver = driver
+        driver.execute_script("hidlogKey.current().uninstall()")
+
+    def send(self, command, **parameters):
+        """Calls a command of DevTools."""
+        return self.driver.execute_cdp_cmd(command, parameters)
+
+
+class TheKey:
+    """The key in the page."""
+
+    SCRIPT = "const [command, parameters, done] = arguments; hidlogKey.send(command, parameters).then(done)"
+
+    def __init__(self, driver):
+        self.driver = driver
+
+    def send(self, command, **parameters):
+        """Calls the same command of the key."""
+        return self.driver.execute_async_script(self.SCRIPT, command, parameters)
+
+
+def run_suite(driver, session):
+    """Registers, changes the counter, and removes the credential."""
+    session.send("WebAuthn.enable")
+    key = session.send("WebAuthn.addVirtualAuthenticator", options=OPTIONS)["authenticatorId"]
+    driver.execute_script(
+        """window.registering = navigator.credentials.create({ publicKey: {
+        challenge, rp: { name: "A service" }, user: { id: new Uint8Array([1]), name: "ann", displayName: "Ann" },
+        pubKeyCredParams: [{ type: "public-key", alg: -7 }] } })"""
+    )
+    driver.execute_async_script("registering.then(arguments[0])")
+    (credential,) = session.send("WebAuthn.getCredentials", authenticatorId=key)["credentials"]
+    assert credential["rpId"] == "localhost" and not credential["isResidentCredential"], credential
+    session.send(
+        "WebAuthn.addCredential",
+        authenticatorId=key,
+        credential={
+            **{name: credential[name] for name in ("rpId", "privateKey")},
+            "credentialId": "/" * 42 + "8=",
+            "userHandle": "AQ==",
+            "signCount": 7,
+            "isResidentCredential": False,
+        },
+    )
+    found = session.send("WebAuthn.getCredential", authenticatorId=key, credentialId="/" * 42 + "8=")["credential"]
+    assert found["signCount"] == 7 and found["privateKey"] == credential["privateKey"], found
+    session.send("WebAuthn.clearCredentials", authenticatorId=key)
+    assert session.send("WebAuthn.getCredentials", authenticatorId=key)["credentials"] == []
+    session.send("WebAuthn.setAutomaticPresenceSimulation", authenticatorId=key, enabled=True)
+    click(driver, "sign-in", "NotAllowedError")
+    session.send("WebAuthn.removeVirtualAuthenticator", authenticatorId=key)
+
+
+def main():
+    server = ThreadingHTTPServer(("127.0.0.1", 0), Service)
+    threading.Thread(target=server.serve_forever, daemon=True).start()
+    driver = start_browser()
+    try:
+        for kind in (BrowsersOwn, TheKey):
+            driver.get(f"http://localhost:{server.server_address[1]}/")
+            run_suite(driver, kind(driver))
+            print(f"ok  {kind.__name__}")
+    finally:
+        driver.quit()
+
+
+if __name__ == "__main__":
+    main()

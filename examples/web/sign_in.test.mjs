@@ -1,0 +1,45 @@
+// Tests a sign-in function with node alone: node --test examples/web/sign_in.test.mjs (node 20).
+//
+// Vitest and Jest run the same lines with their own `test`. Where an environment such as jsdom hides node's
+// WebCrypto, give install the option crypto: (await import("node:crypto")).webcrypto.
+import assert from "node:assert/strict";
+import { after, before, test } from "node:test";
+import { install } from "../../web/dist/security_key.mjs";
+
+/** The function under test: what a page does with the options of its server. */
+const signIn = async (json) => {
+    const publicKey = PublicKeyCredential.parseRequestOptionsFromJSON(json);
+    try {
+        return (await navigator.credentials.get({ publicKey })).toJSON();
+    } catch (error) {
+        return { error: error.name };
+    }
+};
+
+const asked = { challenge: "AAECAwQFBgcICQoLDA0ODw", rpId: "example.com" };
+let key = null;
+
+before(() => {
+    key = install({ origin: "https://login.example.com" });
+});
+
+after(() => key.uninstall());
+
+test("a user without a credential", async () => {
+    assert.deepEqual(await signIn(asked), { error: "NotAllowedError" });
+});
+
+test("a user with a credential", async () => {
+    const { credentialId } = await key.addCredential({
+        rpId: "example.com", userName: "ann", userHandle: "YW5u", isResidentCredential: true,
+    });
+    const { id, response } = await signIn(asked);
+    assert.equal(id, credentialId);
+    assert.equal(response.userHandle, "YW5u");
+    assert.equal((await key.getCredential(id)).signCount, 1);
+});
+
+test("a user who denies", async () => {
+    key.presence = "denied";
+    assert.deepEqual(await signIn(asked), { error: "NotAllowedError" });
+});

@@ -1,0 +1,30 @@
+// A page in a frame, which a test drives: a key with the options of the address, and what came of a first
+// registration.
+"use strict";
+
+const words = new URLSearchParams(location.search);
+const stores = { session: () => sessionStorage, local: () => localStorage };
+const store = stores[words.get("store")]?.();
+globalThis.key = hidlogKey.install(store ? { store } : {});
+// What the page's own first script sees.
+globalThis.atFirst = { isKey: hidlogKey.current() === key };
+
+const publicKey = (name = "ann") => ({
+    challenge: new Uint8Array(32), rp: { name: "A service" },
+    user: { id: new TextEncoder().encode(name), name, displayName: name },
+    pubKeyCredParams: [{ type: "public-key", alg: -7 }], authenticatorSelection: { residentKey: "required" },
+});
+
+globalThis.register = (name) => navigator.credentials.create({ publicKey: publicKey(name) });
+
+globalThis.signIn = async () => {
+    const used = await navigator.credentials.get({ publicKey: { challenge: new Uint8Array(32) } });
+    return new DataView(used.response.authenticatorData).getUint32(33);
+};
+
+if (parent !== window && words.has("tell")) {
+    register().then(
+        (made) => ({ clientData: JSON.parse(new TextDecoder().decode(made.response.clientDataJSON)) }),
+        (error) => ({ error: error.name, text: error.message }),
+    ).then((outcome) => parent.postMessage(outcome, "*"));
+}

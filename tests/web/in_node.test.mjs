@@ -1,0 +1,78 @@
+// The key in node: alone, in jsdom as Jest's environment has it, through a bundler, and where something is missing.
+import assert from "node:assert/strict";
+import { execFileSync } from "node:child_process";
+import { existsSync, mkdtempSync, readFileSync, rmSync, writeFileSync } from "node:fs";
+import { createRequire } from "node:module";
+import { tmpdir } from "node:os";
+import { join } from "node:path";
+import { test } from "node:test";
+import { fileURLToPath } from "node:url";
+import vm from "node:vm";
+import { webcrypto } from "node:crypto";
+import { install } from "../../web/dist/security_key.mjs";
+
+const SCRIPT = fileURLToPath(new URL("../../web/dist/security_key.js", import.meta.url));
+const JSDOM = "/usr/share/nodejs/jsdom";
+const REGISTER = `navigator.credentials.create({ publicKey: {
+    challenge: new Uint8Array(32), rp: { name: "A" }, user: { id: Uint8Array.of(1), name: "ann", displayName: "Ann" },
+    pubKeyCredParams: [{ type: "public-key", alg: -7 }] } })`;
+
+test("what node lacks is there with the key, and gone without it", async () => {
+    const before = Object.getOwnPropertyNames(globalThis);
+    const key = install({ origin: "https://example.com" });
+    assert.equal(String(navigator.credentials), "[object CredentialsContainer]");
+    assert.throws(() => new PublicKeyCredential(), TypeError);
+    await assert.rejects(navigator.credentials.create({}), { name: "NotSupportedError" });
+    key.uninstall();
+    assert.deepEqual(Object.getOwnPropertyNames(globalThis), before);
+});
+
+test("a page without an origin is told to name one", async () => {
+    const key = install();
+    await assert.rejects(navigator.credentials.get({ publicKey: { challenge: new Uint8Array(1) } }), /option origin/);
+    key.uninstall();
+});
+
+test("what is missing is said by the first call, in one line", async () => {
+    for (const [missing, said] of [["WebAssembly", /WebAssembly/], ["crypto", /crypto\.subtle/]]) {
+        const world = vm.createContext({
+            URL, DOMException, EventTarget, Event, CustomEvent, AbortController, AbortSignal, TextEncoder, TextDecoder,
+            atob, btoa, performance, setTimeout, clearTimeout, setInterval, clearInterval, crypto: webcrypto,
+        });
+        vm.runInContext(`delete globalThis.${missing}; ${readFileSync(SCRIPT, "utf8")}`, world);
+        vm.runInContext('hidlogKey.install({ origin: "https://example.com" })', world);
+        const error = await vm.runInContext(`${REGISTER}.catch((it) => it.message)`, world);
+        assert.match(error, said);
+        assert.match(error, /^[^\n]*node 20[^\n]*$/);
+    }
+});
+
+test("in jsdom, as Jest has it", { skip: !existsSync(JSDOM) && "node-jsdom is missing" }, async () => {
+    process.env.NODE_PATH = "/usr/share/nodejs";
+    createRequire(import.meta.url)("node:module").Module._initPaths();
+    const { JSDOM: Page } = createRequire(import.meta.url)(JSDOM);
+    const { window } = new Page("", { url: "https://example.com/", runScripts: "outside-only" });
+    window.eval(readFileSync(SCRIPT, "utf8"));
+    window.webcrypto = webcrypto;
+    window.eval("hidlogKey.install({ crypto: webcrypto })");
+    const made = await window.eval(REGISTER);
+    assert.equal(JSON.parse(new TextDecoder().decode(made.response.clientDataJSON)).origin, "https://example.com");
+    assert.equal(made.toJSON().response.publicKeyAlgorithm, -7);
+});
+
+const hasEsbuild = existsSync("/usr/bin/esbuild");
+
+test("through a bundler", { skip: !hasEsbuild && "esbuild is missing" }, () => {
+    const room = mkdtempSync(join(tmpdir(), "hidlog-"));
+    try {
+        const module = SCRIPT.replace(/js$/, "mjs");
+        writeFileSync(join(room, "entry.mjs"), `import { install } from ${JSON.stringify(module)};
+            const key = install({ origin: "https://example.com" });
+            ${REGISTER}.then(({ id }) => console.log(id.length, key.state().credentials.length));`);
+        const words = ["--bundle", "--format=esm", `--outfile=${join(room, "out.mjs")}`, "--log-level=warning"];
+        execFileSync("esbuild", [join(room, "entry.mjs"), ...words, "--minify"]);
+        assert.equal(execFileSync("node", [join(room, "out.mjs")], { encoding: "utf8" }), "43 1\n");
+    } finally {
+        rmSync(room, { recursive: true });
+    }
+});

@@ -1,0 +1,189 @@
+// CTAP2 over CTAPHID to the proved core: requests in, answers out, and the caller that gives the key what it needs.
+import { toHex } from "./bytes.js";
+import { CANCEL, CBOR, Collector, INIT } from "./packets.js";
+import { checkEnded, clearInterval, pause, setInterval, unlessEnded } from "./platform.js";
+import { Session } from "./session.js";
+import { statusName } from "./statuses.js";
+
+// The first channel that the key gives out: no other host speaks to it.
+const CHANNEL = 1;
+const BROADCAST = 0xffffffff;
+const KEEPALIVE_MS = 100;
+const NOTHING = new Uint8Array(0);
+// With no other host, the nonce of an INIT needn't be random.
+const NONCE = Uint8Array.of(0, 1, 2, 3, 4, 5, 6, 7);
+
+/**
+ * @typedef {object} Turn a request of the page while it is served
+ * @property {AbortSignal} signal ends it early
+ * @property {() => Promise<string>} ask asks the user
+ * @property {(id: Uint8Array) => void} made is told the id of a new key pair
+ * @property {() => Promise<void>} enter is called before the credentials change, and may begin another session
+ */
+
+/** An answer of the authenticator other than success. */
+export class CtapError extends Error {
+    /** @param {number} status */
+    constructor(status) {
+        super(`the authenticator answered ${statusName(status)}`);
+        this.name = "CtapError";
+        this.status = status;
+    }
+}
+
+export class Authenticator {
+    /** @type {{ snapshot: Uint8Array, log: string }[]} */
+    #ended = [];
+    #isOpen = false;
+    #collector = new Collector(CHANNEL);
+
+    /**
+     * @param {import("./private_keys.js").PrivateKeys} privateKeys
+     * @param {import("./faults.js").Faults} faults
+     * @param {(passed?: number) => number} clock
+     * @param {Uint8Array} snapshot the credentials to begin with
+     */
+    constructor(privateKeys, faults, clock, snapshot) {
+        this.privateKeys = privateKeys;
+        this.faults = faults;
+        this.clock = clock;
+        this.session = new Session(snapshot, clock);
+    }
+
+    /** Begins a session with other credentials. @param {Uint8Array} snapshot */
+    begin(snapshot) {
+        this.#cancel();
+        if (this.#isOpen) {
+            this.#ended.push({ snapshot: this.session.recording.snapshot, log: this.session.log() });
+        }
+        this.session = new Session(snapshot, this.clock);
+        this.#isOpen = false;
+    }
+
+    /** All sessions, the last of them so far: the snapshot that each began with, and its log. */
+    recordings() {
+        return [...this.#ended, { snapshot: this.session.recording.snapshot, log: this.session.log() }];
+    }
+
+    /** Sends a request, after an INIT where the session has no channel yet. @param {Uint8Array} bytes */
+    #send(bytes) {
+        if (!this.#isOpen) {
+            this.session.send(BROADCAST, INIT, NONCE);
+            this.#isOpen = true;
+        }
+        return this.#collector.add(this.session.send(CHANNEL, CBOR, bytes));
+    }
+
+    /** Ends the work that waits, so that the key serves the next request. */
+    #cancel() {
+        if (this.session.need.kind !== "nothing") {
+            this.#collector.add(this.session.send(CHANNEL, CANCEL, NOTHING));
+        }
+    }
+
+    /**
+     * Sends a request, and gives the answer's bytes after its status. Whatever ends it early, the key is free then.
+     * @param {Uint8Array} bytes @param {Turn} turn
+     */
+    async request(bytes, turn) {
+        let isOver = false;
+        const end = () => {
+            if (!isOver) {
+                this.#cancel();
+            }
+            isOver = true;
+        };
+        checkEnded(turn.signal);
+        turn.signal.addEventListener("abort", end);
+        try {
+            const answer = this.faults.answerInstead(await this.#answer(bytes, turn), this.session.recording);
+            if (answer[0] !== 0) {
+                throw new CtapError(answer[0]);
+            }
+            return answer.subarray(1);
+        } catch (error) {
+            end();
+            throw error;
+        } finally {
+            turn.signal.removeEventListener("abort", end);
+        }
+    }
+
+    /** @param {Uint8Array} bytes @param {Turn} turn */
+    async #answer(bytes, turn) {
+        let message = this.#send(bytes);
+        if (!message && this.session.need.kind === "presence") {
+            message = await this.#served(bytes, turn);
+        }
+        if (!message && this.faults.delay) {
+            this.session.recording.note(`fault: ${this.faults.delay} ms pass before the answer`);
+            await this.#passing(pause(this.faults.delay, turn.signal), turn.signal);
+            checkEnded(turn.signal);
+        }
+        while (!message) {
+            checkEnded(turn.signal);
+            message = this.#collector.add(await this.#worked(turn));
+        }
+        if (message.command !== CBOR) {
+            throw new Error(`the authenticator answered with message ${message.command} ${toHex(message.bytes)}`);
+        }
+        return message.bytes;
+    }
+
+    /** Asks the user, and hands in what they do. @param {Uint8Array} bytes @param {Turn} turn */
+    async #served(bytes, turn) {
+        const { session } = this;
+        const word = await this.#passing(turn.ask(), turn.signal);
+        if (word === "granted") {
+            await this.#passing(turn.enter(), turn.signal);
+        }
+        checkEnded(turn.signal);
+        // Where other credentials came meanwhile, the request is sent again to the session that has them.
+        const answer = session === this.session ? null : this.#send(bytes);
+        return answer ?? this.#collector.add(this.session.presence(word));
+    }
+
+    /**
+     * Gives the key what it needs beside the user. After each wait the request may be over, and another one served.
+     * @param {Turn} turn
+     */
+    async #worked({ signal, made }) {
+        const { need } = this.session;
+        if (need.kind === "key") {
+            const pair = await unlessEnded(this.privateKeys.make(), signal);
+            checkEnded(signal);
+            made(pair.id);
+            return this.session.newKey(pair);
+        }
+        if (need.kind === "signature") {
+            const signature = await unlessEnded(this.#sign(need), signal);
+            checkEnded(signal);
+            return this.session.signature(signature);
+        }
+        throw new Error(`the authenticator did not answer, and needs ${need.kind}`);
+    }
+
+    /** @param {import("./held.js").Need} need */
+    async #sign(need) {
+        const held = this.privateKeys.get(need.id);
+        if (!held) {
+            return null;
+        }
+        const altered = await this.faults.signedInstead(need);
+        if (this.faults.wrongSignature) {
+            this.session.recording.note("fault: the signature is by another private key");
+            return this.privateKeys.signWrongly(altered);
+        }
+        return this.privateKeys.sign(held, altered);
+    }
+
+    /** Waits, and lets time pass meanwhile, so that the key says that it works. */
+    async #passing(awaited, signal) {
+        const ticking = setInterval(() => this.session.pass(KEEPALIVE_MS), KEEPALIVE_MS);
+        try {
+            return await unlessEnded(awaited, signal);
+        } finally {
+            clearInterval(ticking);
+        }
+    }
+}

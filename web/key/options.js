@@ -1,0 +1,99 @@
+// The arguments of navigator.credentials.create and get: the dictionaries of WebAuthn Level 3 and of Credential
+// Management, as Chromium converts them.
+import {
+    abortSignal, boolean, buffer, dictionary, enumeration, long, optional, record, required, sequence, text,
+    unsignedLong,
+} from "./webidl.js";
+
+const MEDIATION = ["silent", "optional", "conditional", "required"];
+const ENTITY = "PublicKeyCredentialEntity";
+
+/** The dictionary of extensions. */
+const extensionsOf = (bytes, suffix) => {
+    const prfValues = dictionary("AuthenticationExtensionsPRFValues", {
+        first: required(bytes), second: optional(bytes),
+    });
+    const prf = dictionary("AuthenticationExtensionsPRFInputs", {
+        eval: optional(prfValues), evalByCredential: optional(record(prfValues)),
+    });
+    const largeBlob = dictionary("AuthenticationExtensionsLargeBlobInputs", {
+        read: optional(boolean), support: optional(text), write: optional(bytes),
+    });
+    return dictionary(`AuthenticationExtensionsClientInputs${suffix}`, {
+        appid: optional(text), appidExclude: optional(text), credBlob: optional(bytes), credProps: optional(boolean),
+        credentialProtectionPolicy: optional(text), enforceCredentialProtectionPolicy: optional(boolean, false),
+        getCredBlob: optional(boolean), hmacCreateSecret: optional(boolean), largeBlob: optional(largeBlob),
+        minPinLength: optional(boolean), prf: optional(prf), uvm: optional(boolean),
+    });
+};
+
+/** The dictionaries of calls, whose buffers are converted by this: bytes, or base64url for JSON. */
+const dictionariesOf = (bytes, suffix) => {
+    const descriptor = dictionary(`PublicKeyCredentialDescriptor${suffix}`, {
+        id: required(bytes), transports: optional(sequence(text)), type: required(text),
+    });
+    const extensions = extensionsOf(bytes, suffix);
+    const rp = dictionary("PublicKeyCredentialRpEntity", { name: required(text, ENTITY), id: optional(text) });
+    const user = dictionary(`PublicKeyCredentialUserEntity${suffix}`, {
+        name: required(text, ENTITY), displayName: required(text), id: required(bytes),
+    });
+    const parameter = dictionary("PublicKeyCredentialParameters", { alg: required(long), type: required(text) });
+    const selection = dictionary("AuthenticatorSelectionCriteria", {
+        authenticatorAttachment: optional(text), requireResidentKey: optional(boolean), residentKey: optional(text),
+        userVerification: optional(text),
+    });
+    const creation = {
+        attestation: optional(text), authenticatorSelection: optional(selection), challenge: required(bytes),
+        excludeCredentials: optional(sequence(descriptor)), extensions: optional(extensions),
+        hints: optional(sequence(text)), pubKeyCredParams: required(sequence(parameter)), rp: required(rp),
+        timeout: optional(unsignedLong), user: required(user),
+    };
+    const request = {
+        allowCredentials: optional(sequence(descriptor)), challenge: required(bytes), extensions: optional(extensions),
+        hints: optional(sequence(text)), rpId: optional(text), timeout: optional(unsignedLong),
+        userVerification: optional(text),
+    };
+    return {
+        creation: dictionary(`PublicKeyCredentialCreationOptions${suffix}`, creation),
+        request: dictionary(`PublicKeyCredentialRequestOptions${suffix}`, request),
+    };
+};
+
+const { creation: creationOptions, request: requestOptions } = dictionariesOf(buffer, "");
+const { creation: creationJson, request: requestJson } = dictionariesOf(text, "JSON");
+const shared = {
+    mediation: optional(enumeration("CredentialMediationRequirement", MEDIATION), "optional"),
+    signal: optional(abortSignal),
+};
+const credentialCreation = dictionary("CredentialCreationOptions", {
+    publicKey: optional(creationOptions), ...shared,
+});
+const credentialRequest = dictionary("CredentialRequestOptions", { publicKey: optional(requestOptions), ...shared });
+
+const executing = (name, type) => `Failed to execute '${name}' on '${type}': `;
+
+/** @param {unknown} options of navigator.credentials.create */
+export const readCreation = (options) => credentialCreation(options, executing("create", "CredentialsContainer"));
+
+/** @param {unknown} options of navigator.credentials.get */
+export const readRequest = (options) => credentialRequest(options, executing("get", "CredentialsContainer"));
+
+/** @param {unknown[]} given the arguments @param {string} where the front of an error's text */
+const firstOf = (given, where) => {
+    if (!given.length) {
+        throw new TypeError(`${where}1 argument required, but only 0 present.`);
+    }
+    return given[0];
+};
+
+/** @param {unknown[]} given the arguments of PublicKeyCredential.parseCreationOptionsFromJSON */
+export const readCreationJson = (given) => {
+    const where = executing("parseCreationOptionsFromJSON", "PublicKeyCredential");
+    return { where, options: creationJson(firstOf(given, where), where) };
+};
+
+/** @param {unknown[]} given the arguments of PublicKeyCredential.parseRequestOptionsFromJSON */
+export const readRequestJson = (given) => {
+    const where = executing("parseRequestOptionsFromJSON", "PublicKeyCredential");
+    return { where, options: requestJson(firstOf(given, where), where) };
+};

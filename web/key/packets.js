@@ -1,0 +1,69 @@
+// Packets of CTAPHID, and the messages that they carry (CTAP 2.1, "USB HID").
+import { joined } from "./bytes.js";
+
+export const INIT = 0x06;
+export const CBOR = 0x10;
+export const CANCEL = 0x11;
+const KEEPALIVE = 0x3b;
+export const PACKET = 64;
+
+/** @typedef {{ command: number, bytes: Uint8Array }} Message */
+
+/** The packets that carry a message. @param {number} channel @param {number} command @param {Uint8Array} bytes */
+export const packetsOf = (channel, command, bytes) => {
+    const packets = [];
+    let from = 0;
+    do {
+        const packet = new Uint8Array(PACKET);
+        const view = new DataView(packet.buffer);
+        view.setUint32(0, channel);
+        view.setUint8(4, packets.length ? packets.length - 1 : 0x80 | command);
+        if (!packets.length) {
+            view.setUint16(5, bytes.length);
+        }
+        const head = packets.length ? 5 : 7;
+        packet.set(bytes.subarray(from, from + PACKET - head), head);
+        from += PACKET - head;
+        packets.push(packet);
+    } while (from < bytes.length);
+    return packets;
+};
+
+/** Collects the key's answer on a channel from its packets, whose KEEPALIVEs are left out. */
+export class Collector {
+    /** @param {number} channel */
+    constructor(channel) {
+        this.channel = channel;
+        this.open = null;
+    }
+
+    /** Adds packets, and gives the message that is whole with them, or null. @param {Uint8Array[]} packets */
+    add(packets) {
+        let whole = null;
+        for (const packet of packets) {
+            const view = new DataView(packet.buffer);
+            if (view.getUint32(0) !== this.channel) {
+                continue;
+            }
+            if (packet[4] >= 0x80) {
+                const [command, length] = [packet[4] - 0x80, view.getUint16(5)];
+                this.open = { command, length, parts: [packet.subarray(7)], size: PACKET - 7 };
+            } else if (this.open) {
+                this.open.parts.push(packet.subarray(5));
+                this.open.size += PACKET - 5;
+            }
+            whole = this.#whole() ?? whole;
+        }
+        return whole;
+    }
+
+    /** @returns {Message | null} */
+    #whole() {
+        if (!this.open || this.open.size < this.open.length) {
+            return null;
+        }
+        const { command, length, parts } = this.open;
+        this.open = null;
+        return command === KEEPALIVE ? null : { command, bytes: joined(...parts).subarray(0, length) };
+    }
+}

@@ -1,0 +1,93 @@
+// Conversions of arguments as WebIDL has them, with the texts of Chromium's errors. A converter takes a value and the
+// front of an error's text.
+import { copyOf, isBuffer, tagOf } from "./bytes.js";
+
+/** @typedef {(value: any, where: string) => any} Converter */
+/** @typedef {{ convert: Converter, isRequired?: boolean, from?: string, fallback?: any }} Member */
+
+/** A member that has to be there. `from` names the dictionary that has it, where that is a base. */
+export const required = (convert, from = undefined) => ({ convert, from, isRequired: true });
+
+/** A member that may be missing, and then is the fallback, where there is one. */
+export const optional = (convert, ...fallback) => (fallback.length ? { convert, fallback: fallback[0] } : { convert });
+
+const isObject = (value) => (typeof value === "object" && value !== null) || typeof value === "function";
+
+/** @type {Converter} */
+export const text = (value) => `${value}`;
+
+/** @type {Converter} */
+export const boolean = (value) => Boolean(value);
+
+/** @type {Converter} */
+export const long = (value) => +value | 0;
+
+/** @type {Converter} */
+export const unsignedLong = (value) => +value >>> 0;
+
+/** A copy of a buffer's bytes. @type {Converter} */
+export const buffer = (value, where) => {
+    if (!isBuffer(value)) {
+        throw new TypeError(`${where}The provided value is not of type '(ArrayBuffer or ArrayBufferView)'.`);
+    }
+    return copyOf(value);
+};
+
+/** @type {Converter} */
+export const abortSignal = (value, where) => {
+    if (tagOf(value) !== "AbortSignal") {
+        throw new TypeError(`${where}Failed to convert value to 'AbortSignal'.`);
+    }
+    return value;
+};
+
+/** @param {string} type @param {string[]} words @returns {Converter} */
+export const enumeration = (type, words) => (value, where) => {
+    const word = `${value}`;
+    if (!words.includes(word)) {
+        throw new TypeError(`${where}The provided value '${word}' is not a valid enum value of type ${type}.`);
+    }
+    return word;
+};
+
+/** @param {Converter} convert @returns {Converter} */
+export const sequence = (convert) => (value, where) => {
+    if (!isObject(value)) {
+        throw new TypeError(`${where}The provided value cannot be converted to a sequence.`);
+    }
+    if (typeof value[Symbol.iterator] !== "function") {
+        throw new TypeError(`${where}The object must have a callable @@iterator property.`);
+    }
+    return Array.from(value, (item) => convert(item, where));
+};
+
+/** @param {Converter} convert of the values @returns {Converter} */
+export const record = (convert) => (value, where) => {
+    if (!isObject(value)) {
+        throw new TypeError(`${where}Only objects can be converted to record<K,V> types`);
+    }
+    return Object.fromEntries(Object.entries(value).map(([name, inner]) => [name, convert(inner, where)]));
+};
+
+/** @param {string} type @param {Record<string, Member>} members in the order of conversion @returns {Converter} */
+export const dictionary = (type, members) => {
+    const isNullable = !Object.values(members).some((it) => it.isRequired);
+    return (value, where) => {
+        if (!isObject(value) && !(isNullable && (value === null || value === undefined))) {
+            throw new TypeError(`${where}The provided value is not of type '${type}'.`);
+        }
+        const made = {};
+        for (const [name, { convert, isRequired, from = type, ...rest }] of Object.entries(members)) {
+            const given = value?.[name];
+            const inner = `${where}Failed to read the '${name}' property from '${from}': `;
+            if (given !== undefined) {
+                made[name] = convert(given, inner);
+            } else if (isRequired) {
+                throw new TypeError(`${inner}Required member is undefined.`);
+            } else if ("fallback" in rest) {
+                made[name] = rest.fallback;
+            }
+        }
+        return made;
+    };
+};
