@@ -6,6 +6,7 @@
 #
 #     HIDLOG_KERNEL=FOLDER    an unpacked linux-image; by default the one that is installed, else one that
 #                             apt-get download fetches (70 MB)
+#     HIDLOG_OFFLINE=1        fetches nothing
 # shellcheck disable=SC1091,SC2154 # top, name and library are set by common.sh
 set -euo pipefail
 source "$(dirname "${BASH_SOURCE[0]}")/common.sh"
@@ -34,6 +35,7 @@ find_kernel() {
     if [ -n "${HIDLOG_KERNEL-}" ]; then
         has_kernel "$HIDLOG_KERNEL" || nothing "HIDLOG_KERNEL has no kernel with uhid"
     elif ! has_kernel ""; then
+        [ -z "${HIDLOG_OFFLINE-}" ] || nothing "no kernel with uhid is installed (apt-get install linux-image-amd64)"
         package=$(apt-cache depends linux-image-amd64 2>/dev/null | sed -n 's/^ *Depends: //p' | head -1)
         (cd "$room" && apt-get download "${package:-linux-image-amd64}" && dpkg-deb -x "$package"_*.deb kernel) \
             >"$room/said" 2>&1 || true
