@@ -12,19 +12,20 @@ from __future__ import annotations
 import os
 import sys
 from collections import deque
-from typing import Any, Callable, Deque, Dict, List, Optional
+from typing import Any, Callable, Deque, List, Optional
 
 HERE = os.path.dirname(os.path.abspath(__file__))
 sys.path.insert(0, os.path.join(HERE, "others"))
 
 import report  # noqa: E402
 from devices import Device  # noqa: E402
+from known import compare  # noqa: E402
 from offers import Offers  # noqa: E402
 from player import Outcome  # noqa: E402
 from python_key import Key  # noqa: E402
 from run import all_sessions, play_one, words_of  # noqa: E402
 
-KNOWN = os.path.join(HERE, "others", "python_key.failed")
+KNOWN = "others/python_key.failed"
 
 
 class OtherDevice(Device):
@@ -70,19 +71,6 @@ class OtherDevice(Device):
         return self.packets.popleft() if self.packets else None
 
 
-def known() -> Dict[str, str]:
-    """Returns the cases that are known to fail, each with the reason why that is right."""
-    found: Dict[str, str] = {}
-    reason = ""
-    with open(KNOWN, encoding="utf-8") as file:
-        for line in file.read().splitlines():
-            if line.startswith("# "):
-                reason = line[2:]
-            elif line:
-                found[line] = reason
-    return found
-
-
 def main(words: List[str]) -> int:
     """Plays all cases and compares what failed."""
     device = OtherDevice()
@@ -94,12 +82,7 @@ def main(words: List[str]) -> int:
     if words == ["--report"]:
         report.write("text", outcomes)
         return 0
-    failed = {outcome.session.name for outcome in outcomes if outcome.status == "not ok"}
-    expected = set(known())
-    for name in sorted(failed ^ expected):
-        print(f"{'fails' if name in failed else 'passes'}, which {KNOWN} doesn't say: {name}")
-    print(f"{report.totals(outcomes)}; {len(expected)} known to fail")
-    return 1 if failed != expected else 0
+    return 0 if compare(KNOWN, outcomes) else 1
 
 
 if __name__ == "__main__":

@@ -22,7 +22,7 @@ def details(outcome: Outcome) -> List[str]:
     lines = [f"rule: {head['rule']}", f"says: {head['shows']}", f"expected: {outcome.wanted}", f"came: {outcome.came}"]
     if outcome.session.lenient:
         lines.append(f"kind: {outcome.session.lenient}")
-    return lines + [f"at: line {outcome.line} of conformance/sessions/{outcome.session.name}.log"]
+    return lines + [f"at: line {outcome.line} of " * bool(outcome.line) + outcome.session.file]
 
 
 def text(outcomes: List[Outcome]) -> None:

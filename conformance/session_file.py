@@ -36,6 +36,7 @@ class Session:
     needs: List[str]
     uses: List[str]
     steps: List[Step]
+    file: str = ""
 
     @property
     def section(self) -> str:
@@ -54,7 +55,7 @@ class SessionReader:
     """Reads the lines of a session."""
 
     def __init__(self, name: str) -> None:
-        self.session = Session(name, {}, [], [], [])
+        self.session = Session(name, {}, [], [], [], f"conformance/sessions/{name}.log")
         self.host = Collector(of_host=True)
         self.open = False
 
