@@ -184,6 +184,12 @@ class HidrawDevice(RealTimeDevice):
         super().__init__(say_touch)
         self.file = os.open(path, os.O_RDWR)
 
+    def start(self) -> None:
+        """Begins a session: what came for other hosts, or too late, is passed over."""
+        super().start()
+        while self.read(0) is not None:
+            pass
+
     def write(self, packet: bytes) -> None:
         """Writes a packet behind the report's number, which is 0."""
         os.write(self.file, b"\0" + packet)

@@ -50,6 +50,7 @@ def play_one(device: Device, session: Session, options: argparse.Namespace, offe
     """Plays a session, or skips it with its reason."""
     reason = offers.lacking(session, device, options.touch, options.reset)
     if not reason and "reset" in session.needs and not device.fresh:
+        print(f"resetting the device for {session.name}", file=sys.stderr)
         reason = prepare(device)
     if reason:
         return Outcome(session, "skip", reason)
