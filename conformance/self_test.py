@@ -7,9 +7,11 @@ device: report descriptors and the kernel's own driver have no part in it.
 
 from __future__ import annotations
 
+import glob
 import io
 import os
 import pty
+import re
 import select
 import subprocess
 import sys
@@ -99,6 +101,21 @@ def reports() -> None:
     print(f"reports: JUnit and TAP, {len(cases)} cases with their rules")
 
 
+def page() -> None:
+    """Looks for each case that docs/CONFORMANCE.md names, of the corpus or of the clients."""
+    with open(os.path.join(HERE, "..", "docs", "CONFORMANCE.md"), encoding="utf-8") as file:
+        lines = [line for line in file.read().splitlines() if line.startswith("|")]
+    count = 0
+    for line in lines:
+        before, _, of_clients = line.partition("client: ")
+        for text, pattern in ((before, "sessions/{}.log"), (of_clients, "clients/{}.session")):
+            for name in re.findall(r"`([a-z]+/[a-z0-9_*]+)`", text):
+                assert glob.glob(os.path.join(HERE, pattern.format(name))), f"the page names {name}"
+                count += 1
+    assert count > 100, "the page's names"
+    print(f"docs/CONFORMANCE.md names cases {count} times, and each is there")
+
+
 def help_text() -> None:
     """Reads what run.py says of its words."""
     shown = subprocess.run([sys.executable, os.path.join(HERE, "run.py"), "--help"], capture_output=True, check=True)
@@ -111,4 +128,5 @@ if __name__ == "__main__":
     pipe()
     reports()
     help_text()
+    page()
     print("passed")
