@@ -24,6 +24,8 @@ class Device:
     virtual = False
     # Whether each session begins with an authenticator that has no credentials.
     fresh = False
+    # Whether it makes keys and signatures itself, so that it answers before the session's k and s lines.
+    makes_keys = True
     # What a session may need of this kind of device.
     offers: Tuple[str, ...] = ("touch", "two channels")
 
@@ -59,6 +61,7 @@ class LiveDevice(Device):
 
     virtual = True
     fresh = True
+    makes_keys = False
     offers = ("touch", "reset", "denial", "refusal", "exact time", "two channels", "capacity 64")
 
     def __init__(self, program: str = PROGRAM) -> None:
@@ -181,6 +184,12 @@ class HidrawDevice(RealTimeDevice):
         super().__init__(say_touch)
         self.file = os.open(path, os.O_RDWR)
 
+    def start(self) -> None:
+        """Begins a session: what came for other hosts, or too late, is passed over."""
+        super().start()
+        while self.read(0) is not None:
+            pass
+
     def write(self, packet: bytes) -> None:
         """Writes a packet behind the report's number, which is 0."""
         os.write(self.file, b"\0" + packet)
@@ -236,9 +245,11 @@ class PipeDevice(RealTimeDevice):
         end = time.monotonic() + seconds
         while b"\n" not in self.rest:
             ready, _, _ = select.select([self.process.stdout], [], [], max(0.0, end - time.monotonic()))
-            piece = os.read(self.process.stdout.fileno(), 4096) if ready else b""
-            if not piece:
+            if not ready:
                 return None
+            piece = os.read(self.process.stdout.fileno(), 4096)
+            if not piece:
+                raise OSError("the command ended")
             self.rest += piece
         line, _, self.rest = self.rest.partition(b"\n")
         return bytes.fromhex(line.decode())

@@ -22,7 +22,7 @@ def details(outcome: Outcome) -> List[str]:
     lines = [f"rule: {head['rule']}", f"says: {head['shows']}", f"expected: {outcome.wanted}", f"came: {outcome.came}"]
     if outcome.session.lenient:
         lines.append(f"kind: {outcome.session.lenient}")
-    return lines + [f"at: line {outcome.line} of conformance/sessions/{outcome.session.name}.log"]
+    return lines + [f"at: line {outcome.line} of " * bool(outcome.line) + outcome.session.file]
 
 
 def text(outcomes: List[Outcome]) -> None:
@@ -45,6 +45,8 @@ def tap(outcomes: List[Outcome]) -> None:
         print(f"{'ok' if skip else outcome.status} {number} - {outcome.session.name}{skip}")
         if outcome.status == "not ok":
             print("\n".join(f"# {line}" for line in details(outcome)))
+        else:
+            print(f"# rule: {outcome.session.head['rule']}\n# says: {outcome.session.head['shows']}")
     print(f"# {totals(outcomes)}")
 
 
@@ -57,6 +59,10 @@ def junit(outcomes: List[Outcome]) -> None:
     for outcome in outcomes:
         chapter, _, name = outcome.session.name.partition("/")
         print(f"  <testcase classname={quoteattr(chapter)} name={quoteattr(name)}>")
+        print("    <properties>")
+        for word, said in (("rule", "rule"), ("says", "shows")):
+            print(f'      <property name="{word}" value={quoteattr(outcome.session.head[said])}/>')
+        print("    </properties>")
         if outcome.status == "skip":
             print(f"    <skipped message={quoteattr(outcome.reason)}/>")
         if outcome.status == "not ok":

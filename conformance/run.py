@@ -4,6 +4,7 @@
     conformance/run.py                                    the sessions against release/hidlog
     conformance/run.py --device "COMMAND .." --touch      against a command that speaks packets as lines
     conformance/run.py --device /dev/hidraw3 --touch      against a device of Linux
+    conformance/run.py --client "COMMAND .."              plays the device to a client
 
 docs/CONFORMANCE.md has the rest. The last line is `N passed, N failed, N skipped`; status 1 where a case failed.
 """
@@ -17,9 +18,10 @@ from typing import List, Tuple
 
 import keys
 import report
+from client_runner import client_sessions, keep_logs, play_clients
 from devices import Device, HidrawDevice, LiveDevice, PipeDevice
 from offers import Offers, prepare
-from player import Outcome, Player
+from player import GOES_ON, Outcome, Player
 from session_file import Session, read_session
 
 HERE = os.path.dirname(os.path.abspath(__file__))
@@ -48,11 +50,13 @@ def play_one(device: Device, session: Session, options: argparse.Namespace, offe
     """Plays a session, or skips it with its reason."""
     reason = offers.lacking(session, device, options.touch, options.reset)
     if not reason and "reset" in session.needs and not device.fresh:
+        print(f"resetting the device for {session.name}", file=sys.stderr)
         reason = prepare(device)
     if reason:
         return Outcome(session, "skip", reason)
     outcome = Player(device, session, options.strict).play()
-    if outcome.status == "not ok" and session.lenient and not options.strict:
+    counts = options.strict or outcome.wanted == GOES_ON
+    if outcome.status == "not ok" and session.lenient and not counts:
         return Outcome(session, "skip", f"differs ({session.lenient}): {outcome.came} for {outcome.wanted}")
     return outcome
 
@@ -67,16 +71,35 @@ def words_of(arguments: List[str]) -> argparse.Namespace:
     parser.add_argument("--strict", action="store_true", help="count this project's choices and what is only a should")
     parser.add_argument("--only", default="", metavar="WORD", help="cases whose name or rule has the word")
     parser.add_argument("--report", choices=("text", "tap", "junit"), default="text")
+    parser.add_argument("--client", default="", metavar="COMMAND", help="plays the device to a client's command")
+    parser.add_argument("--slow", action="store_true", help="to a client: a minute of KEEPALIVEs takes a minute")
+    parser.add_argument("--logs", default="", metavar="FOLDER", help="to a client: keeps the logs of what failed")
     parser.add_argument("sessions", nargs="*", metavar="SESSION", help="files; without them the whole corpus")
     options = parser.parse_args(arguments)
     options.touch = options.touch or bool(options.touch_line)
-    options.strict = options.strict or not options.device
+    options.strict = options.strict or not (options.device or options.client)
     return options
+
+
+def play_to_client(options: argparse.Namespace) -> int:
+    """Plays the device's side to a client's command and writes the report."""
+    paths = options.sessions or client_sessions(options.only)
+    try:
+        played = play_clients(options.client, paths, options.slow, options.strict)
+    except (OSError, ValueError) as fault:
+        print(f"run.py: {fault}", file=sys.stderr)
+        return 2
+    if options.logs:
+        keep_logs(options.logs, played)
+    report.write(options.report, [outcome for outcome, _ in played])
+    return 1 if any(outcome.status == "not ok" for outcome, _ in played) else 0
 
 
 def main(arguments: List[str]) -> int:
     """Plays the cases and writes the report."""
     options = words_of(arguments)
+    if options.client:
+        return play_to_client(options)
     try:
         sessions = all_sessions(options.only, tuple(options.sessions))
         if not sessions:

@@ -5,7 +5,7 @@ from __future__ import annotations
 from dataclasses import dataclass, field
 from typing import Dict, List, Tuple
 
-from hid_packets import Collector
+from hid_packets import CBOR, Collector
 
 LISTS = ("needs", "uses")
 TEXTS = ("rule", "shows", "why", "profile", "level")
@@ -36,6 +36,7 @@ class Session:
     needs: List[str]
     uses: List[str]
     steps: List[Step]
+    file: str = ""
 
     @property
     def section(self) -> str:
@@ -54,7 +55,7 @@ class SessionReader:
     """Reads the lines of a session."""
 
     def __init__(self, name: str) -> None:
-        self.session = Session(name, {}, [], [], [])
+        self.session = Session(name, {}, [], [], [], f"conformance/sessions/{name}.log")
         self.host = Collector(of_host=True)
         self.open = False
 
@@ -92,6 +93,11 @@ class SessionReader:
             raise BadSession(f"{self.session.name}: line {line} is no line of a session")
 
 
+def sends_reset(step: Step) -> bool:
+    """Says whether an input may be an authenticatorReset, whole or not."""
+    return any(packet[4] == 0x80 | CBOR and packet[7] == 0x07 for _, packet in step.packets)
+
+
 def read_session(path: str, name: str) -> Session:
     """Reads a session's file."""
     reader = SessionReader(name)
@@ -101,6 +107,9 @@ def read_session(path: str, name: str) -> Session:
                 reader.comment(text[2:], line)
             elif text and text[0] not in "#=<":
                 reader.input(text, line)
+    if any(sends_reset(step) for step in reader.session.steps) and "reset" not in reader.session.needs:
+        # Whatever a file says of itself: no reset without --reset.
+        reader.session.needs.append("reset")
     if "rule" not in reader.session.head or not any(step.expects for step in reader.session.steps):
         raise BadSession(f"{name} has no rule, or expects nothing")
     return reader.session

@@ -1,0 +1,267 @@
+#!/usr/bin/env python3
+"""An authenticator that isn't this project's core: small, in Python, on the CBOR of python-fido2.
+
+It was written for the corpus from what CTAP 2.1 says, before a session was played against it. What it got wrong stays
+as it was: python_key.failed has the list. It reads a packet a line, 128 hexadecimal digits, and writes such lines; the
+line `touch` stands for the user's touch.
+"""
+
+from __future__ import annotations
+
+import hashlib
+import os
+import select
+import struct
+import sys
+import time
+from typing import Any, Dict, List, Optional
+
+from cryptography.hazmat.primitives import hashes
+from cryptography.hazmat.primitives.asymmetric import ec
+from fido2 import cbor
+from python_hid import Hid, Work
+
+AAGUID = bytes.fromhex("70797468 6f6e2d6b 65792d66 6f722d63".replace(" ", ""))
+INVALID_COMMAND, INVALID_PARAMETER, UNEXPECTED_TYPE, INVALID_CBOR, MISSING = 0x01, 0x02, 0x11, 0x12, 0x14
+EXCLUDED, ALGORITHM, FULL, UNSUPPORTED, INVALID_OPTION = 0x19, 0x26, 0x28, 0x2B, 0x2C
+NO_CREDENTIALS, NOT_ALLOWED, PIN_NOT_SET = 0x2E, 0x30, 0x35
+ROOM = 100
+
+
+class Refused(Exception):
+    """Ends a request with a status."""
+
+    def __init__(self, status: int) -> None:
+        super().__init__(status)
+        self.status = status
+
+
+class Credential:
+    """A credential of the authenticator."""
+
+    def __init__(self, rp: str, user: Dict[str, Any], discoverable: bool) -> None:
+        self.id = os.urandom(32)
+        self.rp = rp
+        self.user = user
+        self.discoverable = discoverable
+        self.private = ec.generate_private_key(ec.SECP256R1())
+        self.counter = 0
+
+    def cose(self) -> bytes:
+        """Returns the public key."""
+        public = self.private.public_key().public_numbers()
+        x, y = public.x.to_bytes(32, "big"), public.y.to_bytes(32, "big")
+        written: bytes = cbor.encode({1: 2, 3: -7, -1: 1, -2: x, -3: y})
+        return written
+
+    def sign(self, data: bytes) -> bytes:
+        """Returns a signature."""
+        return self.private.sign(data, ec.ECDSA(hashes.SHA256()))
+
+
+def member(item: Dict[Any, Any], key: Any, kind: type, required: bool = True) -> Any:
+    """Returns a member of a type; None where it may be missing and is."""
+    if key not in item:
+        if required:
+            raise Refused(MISSING)
+        return None
+    if not isinstance(item[key], kind) or (kind is int and isinstance(item[key], bool)):
+        raise Refused(UNEXPECTED_TYPE)
+    return item[key]
+
+
+def ids_of(item: Dict[Any, Any], key: int) -> Optional[List[bytes]]:
+    """Returns the ids of a list of descriptors; those of another type than public-key are passed over."""
+    found = member(item, key, list, False)
+    if found is None:
+        return None
+    ids = []
+    for entry in found:
+        if not isinstance(entry, dict):
+            raise Refused(UNEXPECTED_TYPE)
+        identity, kind = member(entry, "id", bytes), member(entry, "type", str)
+        if kind == "public-key":
+            ids.append(identity)
+    return ids
+
+
+def options_of(item: Dict[Any, Any], key: int) -> Dict[str, bool]:
+    """Returns the options, where no option asks for user verification, which isn't served."""
+    found = member(item, key, dict, False) or {}
+    options = {name: member(found, name, bool) for name in ("rk", "up", "uv") if name in found}
+    if options.get("uv"):
+        raise Refused(INVALID_OPTION)
+    return options
+
+
+class Key:
+    """Serves requests; the transport asks for touches."""
+
+    def __init__(self) -> None:
+        self.credentials: List[Credential] = []
+        self.hid = Hid(self.serve)
+        self.pending: List[Credential] = []
+        self.pending_hash = b""
+        self.pending_channel = 0
+        self.pending_until = 0
+
+    def serve(self, at: int, channel: int, data: bytes) -> Work:
+        """Serves a request."""
+        try:
+            if data[0] == 8:
+                return (yield from self.next(at, channel))
+            self.pending = []
+            if data[0] == 4:
+                return self.info()
+            if data[0] == 7:
+                return (yield from self.reset(at))
+            if data[0] == 11:
+                yield
+                return b"\0"
+            if data[0] not in (1, 2):
+                raise Refused(INVALID_COMMAND)
+            item = self.parameters(data[1:])
+            return (yield from self.make(item) if data[0] == 1 else self.get(at, channel, item))
+        except Refused as refused:
+            return bytes([refused.status])
+
+    def parameters(self, data: bytes) -> Dict[Any, Any]:
+        """Reads the parameters, a map."""
+        try:
+            item = cbor.decode(data)
+        except Exception:
+            # python-fido2's reader ends with whatever Python raises.
+            raise Refused(INVALID_CBOR) from None
+        if not isinstance(item, dict):
+            raise Refused(UNEXPECTED_TYPE)
+        return item
+
+    def no_pin(self, item: Dict[Any, Any], param: int) -> Work:
+        """Refuses a PIN: none is served."""
+        given = member(item, param, bytes, False)
+        if given == b"":
+            yield
+            raise Refused(PIN_NOT_SET)
+        if given is not None:
+            member(item, param + 1, int)
+            raise Refused(INVALID_PARAMETER)
+        return b""
+
+    def make(self, item: Dict[Any, Any]) -> Work:
+        """Serves authenticatorMakeCredential."""
+        client_hash, rp = member(item, 1, bytes), member(item, 2, dict)
+        user, kinds = member(item, 3, dict), member(item, 4, list)
+        rp_id = member(rp, "id", str)
+        member(user, "id", bytes)
+        excluded = ids_of(item, 5) or []
+        options = options_of(item, 7)
+        yield from self.no_pin(item, 8)
+        if not [1 for kind in kinds if member(kind, "type", str) == "public-key" and member(kind, "alg", int) == -7]:
+            raise Refused(ALGORITHM)
+        if options.get("up") is False:
+            raise Refused(INVALID_OPTION)
+        if 10 in item:
+            raise Refused(INVALID_PARAMETER)
+        if [one for one in self.credentials if one.rp == rp_id and one.id in excluded]:
+            yield
+            raise Refused(EXCLUDED)
+        yield
+        return self.made(rp_id, user, options.get("rk", False), client_hash)
+
+    def made(self, rp_id: str, user: Dict[str, Any], discoverable: bool, client_hash: bytes) -> bytes:
+        """Returns the answer with a new credential."""
+        new = Credential(rp_id, user, discoverable)
+        if discoverable:
+            same = [one for one in self.credentials if one.rp == rp_id and one.user["id"] == user["id"]]
+            self.credentials = [one for one in self.credentials if one not in same or not one.discoverable]
+        if len(self.credentials) >= ROOM:
+            raise Refused(FULL)
+        self.credentials.append(new)
+        attested = AAGUID + struct.pack(">H", len(new.id)) + new.id + new.cose()
+        auth = hashlib.sha256(rp_id.encode()).digest() + b"\x41" + struct.pack(">I", new.counter) + attested
+        statement = {"alg": -7, "sig": new.sign(auth + client_hash)}
+        return b"\0" + bytes(cbor.encode({1: "packed", 2: auth, 3: statement}))
+
+    def get(self, at: int, channel: int, item: Dict[Any, Any]) -> Work:
+        """Serves authenticatorGetAssertion."""
+        rp_id, client_hash = member(item, 1, str), member(item, 2, bytes)
+        allowed, options = ids_of(item, 3), options_of(item, 5)
+        yield from self.no_pin(item, 6)
+        if "rk" in options:
+            raise Refused(UNSUPPORTED)
+        found = [one for one in reversed(self.credentials) if one.rp == rp_id]
+        if allowed:
+            found = [one for one in found if one.id in allowed][:1]
+        else:
+            found = [one for one in found if one.discoverable]
+        if not found:
+            raise Refused(NO_CREDENTIALS)
+        present = options.get("up", True)
+        if present:
+            yield
+        self.pending, self.pending_hash = found[1:], client_hash
+        self.pending_channel, self.pending_until = channel, at + 60000
+        more = {5: len(found)} if len(found) > 1 else {}
+        return self.asserted(found[0], client_hash, present, not allowed, more)
+
+    def asserted(self, one: Credential, client_hash: bytes, present: bool, name: bool, more: Dict[int, int]) -> bytes:
+        """Returns an assertion."""
+        one.counter += 1
+        auth = hashlib.sha256(one.rp.encode()).digest() + bytes([present]) + struct.pack(">I", one.counter)
+        answer: Dict[int, Any] = {1: {"id": one.id, "type": "public-key"}, 2: auth, 3: one.sign(auth + client_hash)}
+        if name:
+            answer[4] = {"id": one.user["id"]}
+        answer.update(more)
+        return b"\0" + bytes(cbor.encode(answer))
+
+    def next(self, at: int, channel: int) -> Work:
+        """Serves authenticatorGetNextAssertion."""
+        if not self.pending or channel != self.pending_channel or at > self.pending_until:
+            raise Refused(NOT_ALLOWED)
+        self.pending_until = at + 30000
+        yield from ()
+        return self.asserted(self.pending.pop(0), self.pending_hash, True, True, {})
+
+    def info(self) -> bytes:
+        """Serves authenticatorGetInfo."""
+        answer = {1: ["FIDO_2_0", "FIDO_2_1"], 3: AAGUID, 4: {"rk": True, "up": True}, 5: 2048}
+        answer[10] = [{"alg": -7, "type": "public-key"}]
+        return b"\0" + bytes(cbor.encode(answer))
+
+    def reset(self, at: int) -> Work:
+        """Serves authenticatorReset: in the first ten seconds alone."""
+        if at > 10000:
+            raise Refused(NOT_ALLOWED)
+        yield
+        self.credentials = []
+        return b"\0"
+
+
+def take(key: Key, line: bytes, at: int) -> None:
+    """Takes a line of the input."""
+    if line == b"touch":
+        key.hid.touch(at)
+    else:
+        key.hid.packet(at, bytes.fromhex(line.decode()))
+
+
+def main() -> int:
+    """Serves until the input ends."""
+    key, start, rest = Key(), time.monotonic(), b""
+    while True:
+        ready, _, _ = select.select([sys.stdin], [], [], 0.05)
+        at = int((time.monotonic() - start) * 1000)
+        piece = os.read(sys.stdin.fileno(), 4096) if ready else b""
+        if ready and not piece:
+            return 0
+        *lines, rest = (rest + piece).split(b"\n")
+        for line in lines:
+            take(key, line, at)
+        key.hid.tick(at)
+        for packet in key.hid.out:
+            print(packet.hex(), flush=True)
+        key.hid.out.clear()
+
+
+if __name__ == "__main__":
+    sys.exit(main())
