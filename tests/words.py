@@ -26,7 +26,6 @@ WORDS = {
 }
 # What is left in a page, or in a crate's comments (the folder of its code). These numbers only get smaller.
 LEFT = {
-    "docs/CONFORMANCE.md": 5,
     "docs/DECISIONS.md": 46,
     "docs/DEFINITIONS.md": 22,
     "docs/READING.md": 21,
