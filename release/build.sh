@@ -27,7 +27,11 @@ words=(--crate-name hidlog_c src/lib.rt --extern "std=$kit/rlibs/std.rlib" -L "d
     --crate-type staticlib)
 read -ra libraries < <(sed -n 's/^hidlog_c staticlib://p' crates.txt)
 for name in "${libraries[@]}"; do
-    words+=(--extern "$name=$top/crates/$name/out/rlib/$name.rlib")
+    if [ -d "crates/$name" ]; then
+        words+=(--extern "$name=$top/crates/$name/out/rlib/$name.rlib")
+    else
+        words+=(--extern "$name=$kit/rlibs/$name.rlib")
+    fi
 done
 for folder in $(release/sources.sh | sed -n 's|^crates/\([^/]*\)/src$|\1|p'); do
     if [ -d "crates/$folder/out/rlib" ]; then

@@ -88,9 +88,12 @@ enum hidlog_key_fault {
     HIDLOG_KEY_MADE = -2,           /* hidlog_key_make of a key that is made */
     HIDLOG_KEY_PACKETS_WAIT = -3,   /* take the packets that wait first */
     HIDLOG_KEY_NO_PACKET = -4,      /* hidlog_key_next: none waits */
-    HIDLOG_KEY_BAD_ARGUMENT = -5,   /* a presence, a length or a place that there isn't */
+    HIDLOG_KEY_BAD_ARGUMENT = -5,   /* a presence, a length, a place or a credential that there isn't */
+    HIDLOG_KEY_TOO_SMALL = -6,      /* hidlog_key_save: the buffer has under HIDLOG_SNAPSHOT_LONGEST bytes */
+    HIDLOG_KEY_WORK_WAITS = -7,     /* a change of credentials while hidlog_key_need isn't HIDLOG_NEED_NOTHING */
+    HIDLOG_KEY_CLASHES = -8,        /* hidlog_key_add: another one is discoverable, with the same RP and user handle */
     HIDLOG_KEY_NOT_SNAPSHOT = -17,  /* hidlog_key_make: the bytes are no snapshot of versions 1 and 2 */
-    HIDLOG_KEY_TOO_MANY_ROWS = -18, /* hidlog_key_make: over 64 rows */
+    HIDLOG_KEY_TOO_MANY_ROWS = -18, /* hidlog_key_make: over 64 rows; hidlog_key_add: 64 others are held */
     HIDLOG_KEY_ROW_BROKEN = -19     /* hidlog_key_make: a row doesn't hold what a row holds */
 };
 
@@ -149,6 +152,26 @@ struct hidlog_credential {
 int32_t hidlog_key_credentials(struct hidlog_key *key);
 /* Writes the one at this place, from 0. Returns 0, or HIDLOG_KEY_BAD_ARGUMENT where there is none. */
 int32_t hidlog_key_credential(struct hidlog_key *key, size_t place, struct hidlog_credential *credential);
+
+/* Changes of the credentials, while no packet and no work waits (else HIDLOG_KEY_PACKETS_WAIT or _WORK_WAITS). Each is a
+ * start at `at` with other credentials, as if the key was unplugged: its channels, an open message, what is pending and
+ * its meters are gone, so a client begins with INIT again. They return 0.
+ *
+ * hidlog_key_add puts a credential after the others, in the place of one with the same id: so it changes one, too. Bytes
+ * after user_len and name_len don't count. HIDLOG_KEY_BAD_ARGUMENT: a length over 64, a name that isn't UTF-8, or a
+ * `discoverable` over 1. */
+int32_t hidlog_key_add(struct hidlog_key *key, uint64_t at, const struct hidlog_credential *credential);
+/* Takes out the one with this id, or returns HIDLOG_KEY_BAD_ARGUMENT where there is none. */
+int32_t hidlog_key_remove(struct hidlog_key *key, uint64_t at, const uint8_t id[32]);
+/* Takes out all. */
+int32_t hidlog_key_clear(struct hidlog_key *key, uint64_t at);
+
+/* No snapshot is longer: 13 bytes, and 283 for each of 64 credentials. */
+enum { HIDLOG_SNAPSHOT_LONGEST = 18125 };
+/* Writes a snapshot of the credentials to the front of `out`, which has `room` bytes, at least HIDLOG_SNAPSHOT_LONGEST:
+ * what hidlog_key_make takes, at any time. Private keys are the caller's to keep. Returns how many bytes it has. */
+int32_t hidlog_key_save(struct hidlog_key *key, uint8_t *out, size_t room);
+
 /* How many assertions wait for authenticatorGetNextAssertion, 0 to 64. */
 int32_t hidlog_key_pending(struct hidlog_key *key);
 
