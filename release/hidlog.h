@@ -75,8 +75,8 @@ void hidlog_quiet(const uint8_t *log, size_t log_len, const uint8_t *snapshot, s
  * A call returns a number of its own (>= 0) or a fault (< 0), and a call that returns a fault leaves the key as it
  * was. No pointer may be null. Moments are milliseconds; one that is earlier than the latest counts as the latest.
  *
- * hidlog_key_make takes 165 kB of the stack, hidlog_key_lines 40 kB, each other call on a key under 20 kB (x86-64); a
- * function on a whole log takes 185 kB. */
+ * hidlog_key_make takes 165 kB of the stack, hidlog_key_add 105 kB, _remove 85 kB, _clear 45 kB, _lines 40 kB, each
+ * other call on a key under 20 kB (x86-64); a function on a whole log takes 185 kB. */
 
 struct hidlog_key {
     void *memory;      /* hidlog_key_size() bytes, aligned to 16 */
