@@ -151,7 +151,7 @@ static bool give_signature(const struct hidlog_need *need) {
     return len == 0 ? play_word('s', "no") : play_bytes('s', signature, len);
 }
 
-// Gives the key what it needs, or lets time pass. The user touches it after a while.
+// Hands the key what it needs, or lets time pass. The user touches it after a while.
 static bool serve(const struct hidlog_need *need) {
     switch (need->kind) {
     case HIDLOG_NEED_KEY:

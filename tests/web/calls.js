@@ -1,5 +1,5 @@
 // The calls that are made of Chromium's virtual authenticator and of the key: each registers or signs in with one
-// option or one wrong argument, and gives what a page would see of it.
+// option or one wrong argument, and returns what a page would see of it.
 
 const HANGS = 400;
 const bytes = (...list) => Uint8Array.of(...list);

@@ -1,6 +1,6 @@
 // Frames of a test, each a page with a key of its own.
 
-/** Loads a page in a frame, and gives its window. */
+/** Loads a page in a frame, and returns its window. */
 export const framed = async (address, allow = "") => {
     const frame = document.createElement("iframe");
     frame.allow = allow;

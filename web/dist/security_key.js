@@ -129,7 +129,7 @@ return { checkName, checkKind, checkMembers };
 })();
 
 parts["errors.js"] = (() => {
-// The errors of a page's calls, with the texts that Chromium gives them.
+// The errors of a page's calls, with Chromium's texts.
 
 /** @param {string} name @param {string} text @returns {DOMException} */
 const failure = (name, text) => new DOMException(text, name);
@@ -552,7 +552,7 @@ class Collector {
         this.open = null;
     }
 
-    /** Adds packets, and gives the message that is whole with them, or null. @param {Uint8Array[]} packets */
+    /** Adds packets, and returns the message that is whole with them, or null. @param {Uint8Array[]} packets */
     add(packets) {
         let whole = null;
         for (const packet of packets) {
@@ -2430,7 +2430,7 @@ const { Recording } = parts["recording.js"];
 class Session {
     /**
      * @param {Uint8Array} snapshot the credentials to begin with
-     * @param {(passed?: number) => number} clock gives the moment of the next input
+     * @param {(passed?: number) => number} clock returns the moment of the next input
      */
     constructor(snapshot, clock) {
         this.held = new HeldKey(snapshot);
@@ -2439,7 +2439,7 @@ class Session {
         this.need = this.held.need();
     }
 
-    /** @param {(at: number) => [string, Uint8Array[]]} enter gives the input's line and what the core sends for it */
+    /** @param {(at: number) => [string, Uint8Array[]]} enter returns the input's line and what the core sends for it */
     #play(enter, passed = 1) {
         const [line, packets] = enter(this.clock(passed));
         this.need = this.held.need();
@@ -2504,7 +2504,7 @@ return { STATUSES, statusName };
 })();
 
 parts["authenticator.js"] = (() => {
-// CTAP2 over CTAPHID to the proved core: requests in, answers out, and the caller that gives the key what it needs.
+// CTAP2 over CTAPHID to the proved core: requests in, answers out, and the caller that hands the key what it needs.
 const { toHex } = parts["bytes.js"];
 const { CANCEL, CBOR, Collector, INIT } = parts["packets.js"];
 const { checkEnded, clearInterval, pause, setInterval, unlessEnded } = parts["platform.js"];
@@ -2588,7 +2588,7 @@ class Authenticator {
     }
 
     /**
-     * Sends a request, and gives the answer's bytes after its status. Whatever ends it early, the key is free then.
+     * Sends a request, and returns the answer's bytes after its status. Whatever ends it early, the key is free then.
      * @param {Uint8Array} bytes @param {Turn} turn
      */
     async request(bytes, turn) {
@@ -2650,7 +2650,7 @@ class Authenticator {
     }
 
     /**
-     * Gives the key what it needs beside the user. After each wait the request may be over, and another one served.
+     * Hands the key what it needs beside the user. After each wait the request may be over, and another one served.
      * @param {Turn} turn
      */
     async #worked({ signal, made }) {
@@ -3041,7 +3041,7 @@ class Choices {
     /** @type {(value?: unknown) => void} */
     #wake = () => {};
 
-    /** Picks for the sign-in that waits, or for the next one. Gives the account once it is signed in. */
+    /** Picks for the sign-in that waits, or for the next one. Returns the account once it is signed in. */
     choose(which) {
         checkWhich("what is chosen", which);
         return new Promise((done, fail) => {
@@ -4071,7 +4071,7 @@ class SecurityKey extends EventTarget {
         }
     }
 
-    /** Waits for the store, and takes up what it has. Gives what writes to it and lets others have it. */
+    /** Waits for the store, and takes up what it has. Returns what writes to it and lets others have it. */
     async #hold() {
         const free = await this.#store.hold();
         const release = async () => {
@@ -4246,7 +4246,7 @@ class SecurityKey extends EventTarget {
         }
     }
 
-    /** Adds a credential, and gives it as it is held. @param {any} credential */
+    /** Adds a credential, and returns it as it is held. @param {any} credential */
     async addCredential(credential) {
         const row = await this.#credentials.added(credential);
         await this.#change((rows) => Credentials.with(rows, row));
@@ -4332,7 +4332,7 @@ const CAPABILITIES = {
     "extension:largeBlob": false, "extension:minPinLength": false, "extension:prf": false,
 };
 
-/** Gives the buffer of a text in base64url, by the name of its member. @param {string} where */
+/** Returns the buffer of a text in base64url, by the name of its member. @param {string} where */
 const decoding = (where) => (name, text) => {
     const bytes = fromBase64url(text);
     if (!bytes) {
@@ -4418,7 +4418,7 @@ const TYPES = ["CredentialsContainer", "PublicKeyCredential", "AuthenticatorAtte
 /** The key in place, and how to put back what it replaced. */
 let placed = null;
 
-/** Sets a property, and gives what sets it back. */
+/** Sets a property, and returns what sets it back. */
 const replaced = (object, name, value) => {
     const before = Object.getOwnPropertyDescriptor(object, name);
     const enumerable = before?.enumerable ?? false;

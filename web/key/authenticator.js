@@ -1,4 +1,4 @@
-// CTAP2 over CTAPHID to the proved core: requests in, answers out, and the caller that gives the key what it needs.
+// CTAP2 over CTAPHID to the proved core: requests in, answers out, and the caller that hands the key what it needs.
 import { toHex } from "./bytes.js";
 import { CANCEL, CBOR, Collector, INIT } from "./packets.js";
 import { checkEnded, clearInterval, pause, setInterval, unlessEnded } from "./platform.js";
@@ -82,7 +82,7 @@ export class Authenticator {
     }
 
     /**
-     * Sends a request, and gives the answer's bytes after its status. Whatever ends it early, the key is free then.
+     * Sends a request, and returns the answer's bytes after its status. Whatever ends it early, the key is free then.
      * @param {Uint8Array} bytes @param {Turn} turn
      */
     async request(bytes, turn) {
@@ -144,7 +144,7 @@ export class Authenticator {
     }
 
     /**
-     * Gives the key what it needs beside the user. After each wait the request may be over, and another one served.
+     * Hands the key what it needs beside the user. After each wait the request may be over, and another one served.
      * @param {Turn} turn
      */
     async #worked({ signal, made }) {

@@ -30,7 +30,7 @@ export class Choices {
     /** @type {(value?: unknown) => void} */
     #wake = () => {};
 
-    /** Picks for the sign-in that waits, or for the next one. Gives the account once it is signed in. */
+    /** Picks for the sign-in that waits, or for the next one. Returns the account once it is signed in. */
     choose(which) {
         checkWhich("what is chosen", which);
         return new Promise((done, fail) => {

@@ -1,4 +1,4 @@
-// The errors of a page's calls, with the texts that Chromium gives them.
+// The errors of a page's calls, with Chromium's texts.
 
 /** @param {string} name @param {string} text @returns {DOMException} */
 export const failure = (name, text) => new DOMException(text, name);

@@ -37,7 +37,7 @@ export class Collector {
         this.open = null;
     }
 
-    /** Adds packets, and gives the message that is whole with them, or null. @param {Uint8Array[]} packets */
+    /** Adds packets, and returns the message that is whole with them, or null. @param {Uint8Array[]} packets */
     add(packets) {
         let whole = null;
         for (const packet of packets) {

@@ -12,7 +12,7 @@ const TYPES = ["CredentialsContainer", "PublicKeyCredential", "AuthenticatorAtte
 /** The key in place, and how to put back what it replaced. */
 let placed = null;
 
-/** Sets a property, and gives what sets it back. */
+/** Sets a property, and returns what sets it back. */
 const replaced = (object, name, value) => {
     const before = Object.getOwnPropertyDescriptor(object, name);
     const enumerable = before?.enumerable ?? false;

@@ -155,7 +155,7 @@ export class SecurityKey extends EventTarget {
         }
     }
 
-    /** Waits for the store, and takes up what it has. Gives what writes to it and lets others have it. */
+    /** Waits for the store, and takes up what it has. Returns what writes to it and lets others have it. */
     async #hold() {
         const free = await this.#store.hold();
         const release = async () => {
@@ -330,7 +330,7 @@ export class SecurityKey extends EventTarget {
         }
     }
 
-    /** Adds a credential, and gives it as it is held. @param {any} credential */
+    /** Adds a credential, and returns it as it is held. @param {any} credential */
     async addCredential(credential) {
         const row = await this.#credentials.added(credential);
         await this.#change((rows) => Credentials.with(rows, row));

@@ -9,7 +9,7 @@ import { Recording } from "./recording.js";
 export class Session {
     /**
      * @param {Uint8Array} snapshot the credentials to begin with
-     * @param {(passed?: number) => number} clock gives the moment of the next input
+     * @param {(passed?: number) => number} clock returns the moment of the next input
      */
     constructor(snapshot, clock) {
         this.held = new HeldKey(snapshot);
@@ -18,7 +18,7 @@ export class Session {
         this.need = this.held.need();
     }
 
-    /** @param {(at: number) => [string, Uint8Array[]]} enter gives the input's line and what the core sends for it */
+    /** @param {(at: number) => [string, Uint8Array[]]} enter returns the input's line and what the core sends for it */
     #play(enter, passed = 1) {
         const [line, packets] = enter(this.clock(passed));
         this.need = this.held.need();

@@ -12,7 +12,7 @@ const CAPABILITIES = {
     "extension:largeBlob": false, "extension:minPinLength": false, "extension:prf": false,
 };
 
-/** Gives the buffer of a text in base64url, by the name of its member. @param {string} where */
+/** Returns the buffer of a text in base64url, by the name of its member. @param {string} where */
 const decoding = (where) => (name, text) => {
     const bytes = fromBase64url(text);
     if (!bytes) {
