@@ -1,5 +1,5 @@
 //! Tests of `ctap_message`, `cred_table`, `fido_authdata` and `authn_core` by their public calls.
-//! They stand apart, as in Cargo's folder `tests/`, since a check of a crate's tests proves the whole crate once more.
+//! They are apart, as in Cargo's folder `tests/`, since a check of a crate's tests proves the whole crate once more.
 #![tactic(auto)]
 
 #[cfg(test)]

@@ -82,10 +82,10 @@ fn some_commands_take_no_parameters(rt: HostRuntime) {
 }
 
 /// What a makeCredential asks: the RP's id, the user's id and name, whether it is to be discoverable. A getAssertion
-/// has no user; of it the last one tells whether presence is asked for.
+/// has no user; of it the last one says whether presence is asked for.
 type Asked<'a> = (&'a str, &'a [u8], &'a str, bool);
 
-/// What a walk over the list of a request tells: whether it has an entry, the steps before the first, the ids, and the
+/// What a walk over the list of a request says: whether it has an entry, the steps before the first, the ids, and the
 /// steps at the end.
 type Listed<'a> = (bool, u64, &'a [&'a [u8]], u64);
 
@@ -114,7 +114,7 @@ fn asked<'a>(message: &'a [u8]) -> Option<(Asked<'a>, Descriptors<'a>)> {
     }
 }
 
-/// Asserts what a request asks, and what a walk over its list tells.
+/// Asserts what a request asks, and what a walk over its list says.
 fn assert_asked(rt: &impl Abort, message: &[u8], expected: Asked<'_>, walk: Listed<'_>) {
     let (found, mut list) = asked(message).expect(rt, "a request with a list");
     let (given, before, ids, after) = walk;
@@ -129,7 +129,7 @@ fn assert_asked(rt: &impl Abort, message: &[u8], expected: Asked<'_>, walk: List
     assert!(rt; told == ((given, before), true, given, after));
 }
 
-/// Asserts what requests ask, and what a walk over the list of each tells.
+/// Asserts what requests ask, and what a walk over the list of each says.
 fn assert_requests(rt: &impl Abort, requests: &[(&[&[u8]], Asked<'_>, Listed<'_>)]) {
     for (parts, expected, walk) in requests.iter() {
         assert_asked(rt, joined(rt, parts).as_slice(), *expected, *walk);

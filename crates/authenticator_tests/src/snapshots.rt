@@ -12,7 +12,7 @@ use std::alloc::Global;
 use std::process::Abort;
 use std::test::Fail;
 
-/// The RP and the id of a row of `example.com`, less the last byte of the id.
+/// The RP and the id of a row of `example.com`, without the last byte of the id.
 const RP_AND_ID: &[u8] = b"\x01\x58\x20\
     \xa3\x79\xa6\xf6\xee\xaf\xb9\xa5\x5e\x37\x8c\x11\x80\x34\xe2\x75\
     \x1e\x68\x2f\xab\x9f\x2d\x30\xab\x13\xd2\x12\x55\x86\xce\x19\x47\
@@ -29,7 +29,7 @@ const COORDINATES: &[u8] = b"\x03\x58\x20\
     \xcc\xcc\xcc\xcc\xcc\xcc\xcc\xcc\xcc\xcc\xcc\xcc\xcc\xcc\xcc\xcc\
     \x05\x41";
 
-/// A text with a row of `example.com` and user 01: what stands before the row's members, and after its user handle.
+/// A text with a row of `example.com` and user 01: what is before the row's members, and after its user handle.
 fn one_row(rt: &impl Abort, heads: &[u8], rest: &[u8]) -> ArrayVec<u8, 400> {
     joined(rt, &[heads, RP_AND_ID, b"\xaa", COORDINATES, b"\x01", rest])
 }
@@ -94,7 +94,7 @@ const UNNAMED: &[u8] = b"\xa2\x01\x02\x02\x81\xa7";
 
 const NAMED: &[u8] = b"\xa2\x01\x02\x02\x81\xa8";
 
-/// Texts of a row: the heads, and what stands after the user handle. The last two have names of 64 and 65 bytes.
+/// Texts of a row: the heads, and what is after the user handle. The last two have names of 64 and 65 bytes.
 const ROWS: [(&[u8], &[u8], Loaded); 7] = [
     (OLD_NAMED, b"\x06\xf5\x07\x00\x08\x60", FIRST_BROKEN),
     (UNNAMED, b"\x06\xf5\x07\x00", FIRST_BROKEN),

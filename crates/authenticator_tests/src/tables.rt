@@ -30,7 +30,7 @@ fn made(id: [u8; 32], user: u8, discoverable: bool) -> Row {
         ..Row::default()
     };
     row.user.push(user);
-    row.name.push_str(NAMES[usize::from(user % 3)]);
+    row.name = Name::cut(NAMES[usize::from(user % 3)]);
     row
 }
 
@@ -211,7 +211,7 @@ fn look_alike<const N: usize>(
     }
 }
 
-/// A vector with room for any snapshot of 256 rows, asked for once more where it was refused.
+/// A vector with capacity for any snapshot of 256 rows, asked for once more where it was refused.
 fn ample(alloc: Global) -> Result<Vec<u8>, Fail> {
     if let Ok(out) = Vec::with_capacity(alloc, 128 * 1024) {
         return Ok(out);

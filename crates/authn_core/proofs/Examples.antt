@@ -6,7 +6,6 @@ use Rattle.ctap_message.specs.Requests.{read_of}
 use Rattle.authn_core.specs.declared.replies.Presence.TheVariants.{Granted, Denied, TimedOut}
 use Rattle.authn_core.specs.declared.task.Making.{Making}
 use Rattle.authn_core.specs.declared.task.Task.TheVariants.{Resets, Selects, AsksMake, WantsKey}
-use Rattle.authn_core.specs.Bare.{text_of}
 use Rattle.authn_core.specs.State.{Setup, State, Request, PresenceIs, KeyIs, SignatureIs, Cancel, Answered, Waits, Ignored}
 use Rattle.authn_core.specs.Turn.{turn}
 
@@ -14,7 +13,7 @@ abbrev setup : Setup
 setup = record { aaguid = replicate 16 0; began = 0; room = 2 }
 
 abbrev row : (id : ℕ) → (counter : ℕ) → Row
-row id counter = record { rp = replicate 32 7; id = replicate 32 id; x = []; y = []; user = record { items = id ∷ [] }; discoverable = true; counter = counter; name = text_of [] }
+row id counter = record { rp = replicate 32 7; id = replicate 32 id; x = []; y = []; user = record { items = id ∷ [] }; discoverable = true; counter = counter; name = [] }
 
 abbrev waiting : List (List ℕ) → Option Waiting
 waiting ids = Some (record { cid = 1; hash = replicate 32 34; presence = true; moment = 1000; ids = ids })

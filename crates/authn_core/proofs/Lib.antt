@@ -1,4 +1,4 @@
-pub mod BareRows
+pub mod Finding
 pub mod Readiness
 pub mod Turning
 pub mod Facts

@@ -1,11 +1,9 @@
 -- What came, what has to be signed and what is answered, by computation.
-use Rattle.std.proofs.Common.{◌≡◌, ℕ, List, [], ◌∷◌, ◌++◌, Bool, true, false, Option, Some, None, replicate, refl}
+use Rattle.std.proofs.Common.{◌≡◌, ℕ, List, [], ◌∷◌, ◌++◌, true, false, Some, None, replicate, refl}
 use Rattle.cred_table.specs.declared.row.Row.{Row}
-use Rattle.cred_table.specs.Waiting.{Waiting}
 use Rattle.ctap_message.specs.Asked.{Selection}
 use Rattle.ctap_message.specs.Answers.{assertion_answer}
 use Rattle.ctap_message.specs.Requests.{read_of}
-use Rattle.authn_core.specs.Bare.{text_of}
 use Rattle.authn_core.specs.Marks.{Step, Text}
 use Rattle.authn_core.specs.Rising.{all_rise}
 use Rattle.authn_core.specs.Signed.{heard}
@@ -36,7 +34,7 @@ abbrev setup : Setup
 setup = record { aaguid = replicate 16 0; began = 0; room = 2 }
 
 abbrev row : Row
-row = record { rp = replicate 32 7; id = replicate 32 0xaa; x = []; y = []; user = record { items = 1 ∷ [] }; discoverable = true; counter = 4; name = text_of [] }
+row = record { rp = replicate 32 7; id = replicate 32 0xaa; x = []; y = []; user = record { items = 1 ∷ [] }; discoverable = true; counter = 4; name = [] }
 
 abbrev pending : State
 pending = record { rows = row ∷ []; pending = Some (record { cid = 1; hash = replicate 32 34; presence = true; moment = 1000; ids = replicate 32 0xaa ∷ [] }); work = None }

@@ -1,5 +1,4 @@
 pub mod Statuses
-pub mod Bare
 pub mod Hash
 pub mod State
 pub mod Asking

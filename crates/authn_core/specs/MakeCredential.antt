@@ -12,7 +12,6 @@ use Rattle.authn_core.specs.declared.replies.Presence.TheVariants.{Granted}
 use Rattle.authn_core.specs.declared.replies.NewKey.{NewKey}
 use Rattle.authn_core.specs.declared.task.Making.{Making}
 use Rattle.authn_core.specs.declared.task.Task.TheVariants.{AsksMake, WantsKey}
-use Rattle.authn_core.specs.Bare.{text_of}
 use Rattle.authn_core.specs.Hash.{rp_hash}
 use Rattle.authn_core.specs.Statuses.{CREDENTIAL_EXCLUDED, OPERATION_DENIED, KEY_STORE_FULL, OTHER}
 use Rattle.authn_core.specs.State.{Turned, answers, refuses, waits, sealing}
@@ -36,7 +35,7 @@ making hash rp_id user_id user_name discoverable =
 abbrev pub make_begins : List Row → (cid : ℕ) → Making → (exclude : List (List ℕ)) → Turned
 make_begins rows cid m exclude = waits rows None cid (AsksMake m (names_one m.rp rows exclude))
 
--- there is room for the new row, or it replaces one
+-- there is capacity for the new row, or it replaces one
 abbrev pub fits : (room : ℕ) → Making → List Row → Bool
 fits room m rows = nat_lt (length rows) room || (m.discoverable && is_some (find (is_user m.rp m.user.items) rows))
 
@@ -65,7 +64,7 @@ new_row m key =
       user = m.user;
       discoverable = m.discoverable;
       counter = 0;
-      name = text_of m.name;
+      name = m.name;
     }
 
 -- Signed, the row is stored and the answer sent. Nothing is pending then: the request emptied it.

@@ -23,7 +23,7 @@ use Rattle.authn_core.specs.Views.{Needed, sign}
 
 -- ---- what came
 
--- The newest request that was understood, but for getNextAssertion, which goes on with the one before it (CTAP 2.1,
+-- The newest request that was understood, except for getNextAssertion, which goes on with the one before it (CTAP 2.1,
 -- section 6.3); whether the user's presence was granted since that request; and the keys that were handed in.
 pub record Heard : Type 0 where
   pub asked : Option Asked

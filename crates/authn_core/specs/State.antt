@@ -13,7 +13,7 @@ use Rattle.authn_core.specs.declared.task.Task.{Task}
 use Rattle.authn_core.specs.declared.task.Task.TheVariants.{Resets, Selects, AsksMake, WantsKey, SignsMake, AsksAssert, SignsAssert}
 use Rattle.authn_core.specs.declared.task.Job.{Job}
 
--- What stays: the AAGUID, the moment of the start in milliseconds, and how many rows there is room for.
+-- What stays: the AAGUID, the moment of the start in milliseconds, and how many rows there is capacity for.
 pub record Setup : Type 0 where
   pub aaguid : List ℕ
   pub began : ℕ

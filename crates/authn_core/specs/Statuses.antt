@@ -13,7 +13,7 @@ CREDENTIAL_EXCLUDED = 0x19
 abbrev pub OPERATION_DENIED : ℕ
 OPERATION_DENIED = 0x27
 
--- CTAP2_ERR_KEY_STORE_FULL: there is no room for a credential
+-- CTAP2_ERR_KEY_STORE_FULL: there is no capacity for a credential
 abbrev pub KEY_STORE_FULL : ℕ
 KEY_STORE_FULL = 0x28
 
@@ -29,6 +29,6 @@ USER_ACTION_TIMEOUT = 0x2f
 abbrev pub NOT_ALLOWED : ℕ
 NOT_ALLOWED = 0x30
 
--- CTAP1_ERR_OTHER: the caller gave no key or no signature
+-- CTAP1_ERR_OTHER: the caller refused a key or a signature
 abbrev pub OTHER : ℕ
 OTHER = 0x7f

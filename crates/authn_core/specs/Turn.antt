@@ -76,8 +76,8 @@ pub record CoreState : Type 0 where
   pub setup : Setup
   pub state : State
 
--- What an authenticator begins with: its AAGUID, the moment in milliseconds, how many rows there is room for, and the
--- rows in order of making.
+-- What an authenticator begins with: its AAGUID, the moment in milliseconds, how many rows there is capacity for, and
+-- the rows in order of making.
 pub record Start : Type 0 where
   pub aaguid : List ℕ
   pub moment : ℕ

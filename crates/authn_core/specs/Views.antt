@@ -53,7 +53,7 @@ after v t = record {
   last_steps = v.last_steps;
 }
 
--- A turn was taken: the state is what it makes, the answer what it gives, and all else stays.
+-- A turn was taken: the state is what it makes, the answer what it returns, and all else stays.
 abbrev pub Takes : (old new : Held) → Turn → Turned → Type 0
 Takes old new result t = (new ≡ after old t) × (answer_of result ≡ t.answer)
 

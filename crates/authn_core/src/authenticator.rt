@@ -3,15 +3,14 @@
 ghost use Rattle.std.specs.Prelude.{◌≡◌, ◌≤◌, ℕ, max, min, option_map, length};
 ghost use Rattle.cred_table.specs.Waiting.{pending_count};
 ghost use Rattle.ctap_message.specs.Requests.{steps_of, LARGEST};
-ghost use Rattle.authn_core.specs.Bare.{bare_rows};
 ghost use Rattle.authn_core.specs.State.{Request as Asks, PresenceIs, KeyIs, SignatureIs, Cancel, Drop as DropWork};
 ghost use Rattle.authn_core.specs.Turn.{first_state, core_after, core_answer, waiting};
 ghost use Rattle.authn_core.specs.Needs.{IsNeed};
 ghost use Rattle.authn_core.specs.Views.{answer_of, event_of, steps_after, needs, needed, is_presence, is_key, is_sign, work_of};
 
 use crate::event::Event;
-use crate::kept::Kept;
 use crate::replies::{NewKey, Presence, Signature};
+use crate::rows::known_capacity;
 use crate::steps::{need_of, status_of};
 use crate::task::Job;
 use crate::work::{KeepaliveStatus, Work};
@@ -19,7 +18,7 @@ use cred_table::{Pending, Table};
 use ctap_message::{Answer, Status, read_request};
 use std::marker::Model;
 
-/// What the turn for an event gives.
+/// What the turn of an event returns.
 #[derive(Clone, Debug, PartialEq, Eq, Drop)]
 pub enum Turn {
     /// The answer is due.
@@ -79,14 +78,14 @@ pub struct Config {
 }
 
 /// The authenticator over a table of at most `C` rows. The moment of an event, in milliseconds, is the greatest of the
-/// start and of all moments that were handed in so far. No call takes memory.
+/// start and of all moments that were handed in so far. No call allocates.
 #[derive(Drop)]
 pub struct Core<T: Table<C>, const C: usize> {
     pub(crate) config: Config,
     pub(crate) began: u64,
     pub(crate) latest: u64,
     pub(crate) last_steps: u64,
-    pub(crate) rows: Kept<T, C>,
+    pub(crate) table: T,
     pub(crate) pending: Pending<C>,
     pub(crate) work: Option<Job>,
 }
@@ -103,13 +102,13 @@ impl<T: Table<C>, const C: usize> Model for Core<T, C> {
     ghost view = { λ s. record {
       core = record {
         setup = record { aaguid = s.config.aaguid; began = s.began; room = C };
-        state = record { rows = s.rows; pending = s.pending; work = s.work };
+        state = record { rows = T.rows s.table; pending = s.pending; work = s.work };
       };
       latest = s.latest;
       last_steps = s.last_steps;
     } };
 
-    ghost invariant = { λ s. (s.began ≤ s.latest) × Ready C (record { rows = s.rows; pending = s.pending; work = s.work }) };
+    ghost invariant = { λ s. (s.began ≤ s.latest) × Ready C (record { rows = T.rows s.table; pending = s.pending; work = s.work }) };
 }
 
 impl<T: Table<C>, const C: usize> Core<T, C> {
@@ -119,7 +118,7 @@ impl<T: Table<C>, const C: usize> Core<T, C> {
           aaguid = config.aaguid;
           moment = start;
           room = C;
-          rows = bare_rows (T.rows table);
+          rows = T.rows table;
         }) }
         ensures latest { result.latest ≡ start }
         ensures steps { result.last_steps ≡ 0 }
@@ -129,7 +128,7 @@ impl<T: Table<C>, const C: usize> Core<T, C> {
             began: start,
             latest: start,
             last_steps: 0,
-            rows: Kept::new(table),
+            table,
             pending: Pending::new(),
             work: None,
         }
@@ -242,9 +241,9 @@ impl<T: Table<C>, const C: usize> Core<T, C> {
 
     /// The table.
     pub fn table(&self) -> &T
-        ensures { bare_rows (T.rows result.now) ≡ self.now.core.state.rows }
+        ensures { T.rows result.now ≡ self.now.core.state.rows }
     {
-        self.rows.table()
+        &self.table
     }
 
     /// The number of credentials, at most `C`.
@@ -252,7 +251,8 @@ impl<T: Table<C>, const C: usize> Core<T, C> {
         ensures value { result ≡ length self.now.core.state.rows }
         ensures few { (result ≤ C) × (C ≤ 256) }
     {
-        self.rows.len()
+        known_capacity(&self.table);
+        self.table.len()
     }
 
     /// The number of pending assertions.

@@ -16,9 +16,10 @@ pub fn turns_keep_ready()
     ensures { (u : Setup) (s : State) (now : ℕ) (e : AnyEvent) → Ready u.room s → Ready u.room (turn u s now e).state }
 {}
 
-/// The rows after any history are the start's and those that it made, in order, less what a granted reset or a
+/// The rows after any history are the start's and those that it made, in order, without what a granted reset or a
 /// replacing row took out since; each counter is that of the start, or 0 for a made row, and the raises of that row
-/// alone. They are lawful where the start's are: at most as many as there is room for. No more assertions are pending.
+/// alone. They are lawful where the start's are: at most as many as there is capacity for. No more assertions are
+/// pending.
 pub fn rows_follow_history()
     ensures rows { (start : CoreState) (h : List Step) → Orderly start h
         → (core_at start h).state.rows ≡ rows_of start.state.rows (marks start h) }
@@ -32,7 +33,8 @@ pub fn rows_follow_history()
 {}
 
 /// No two texts to sign of assertions by one row hold the same counter: they rise, each above all before it. A text
-/// that an input adds holds its row's counter. While an assertion's signature is waited for, the newest is to be signed.
+/// that an input adds holds its row's counter. While an assertion's signature is waited for, the newest is to be
+/// signed.
 pub fn texts_to_sign_differ()
     ensures differ { (start : CoreState) (h : List Step) → Ready start.setup.room start.state
         → Lawful start.setup.room start.state.rows

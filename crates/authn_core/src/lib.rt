@@ -1,5 +1,5 @@
 //! The authenticator of CTAP 2.1, section 6, as a machine that takes requests and replies, one turn each. Nothing here
-//! takes memory.
+//! allocates.
 //!
 //! An example, which the gate runs (`crates/authenticator_tests/src/core_page.rt`):
 //!
@@ -19,10 +19,10 @@ mod authenticator;
 mod commands;
 mod event;
 mod hashes;
-mod kept;
 pub mod laws;
 mod refusals;
 mod replies;
+mod rows;
 mod steps;
 mod task;
 mod turns;

@@ -11,7 +11,7 @@ pub(crate) const CREDENTIAL_EXCLUDED: Status = Status(0x19);
 /// CTAP2_ERR_OPERATION_DENIED: the user didn't consent.
 pub(crate) const OPERATION_DENIED: Status = Status(0x27);
 
-/// CTAP2_ERR_KEY_STORE_FULL: there is no room for a credential.
+/// CTAP2_ERR_KEY_STORE_FULL: there is no capacity for a credential.
 pub(crate) const KEY_STORE_FULL: Status = Status(0x28);
 
 /// CTAP2_ERR_NO_CREDENTIALS: no credential may sign.
@@ -23,5 +23,5 @@ pub(crate) const USER_ACTION_TIMEOUT: Status = Status(0x2f);
 /// CTAP2_ERR_NOT_ALLOWED: the command can't be served now.
 pub(crate) const NOT_ALLOWED: Status = Status(0x30);
 
-/// CTAP1_ERR_OTHER: the caller gave no key or no signature.
+/// CTAP1_ERR_OTHER: the caller refused a key or a signature.
 pub(crate) const OTHER: Status = Status(0x7f);

@@ -10,7 +10,6 @@ ghost use Rattle.authn_core.specs.Needs.{IsNeed};
 ghost use Rattle.authn_core.specs.Views.{answer_of, status_number, needs, needed, sign as needs_sign};
 
 use crate::authenticator::{Need, Turn};
-use crate::kept::Kept;
 use crate::task::{Asserting, Job, Task};
 use crate::work::KeepaliveStatus;
 use arrayvec::ArrayVec;
@@ -52,18 +51,18 @@ pub(crate) fn refuse(work: &mut Option<Job>, status: Status) -> Turn
 
 /// Lets an assertion go on: its row's counter is raised, and it waits for the signature.
 pub(crate) fn sign<T: Table<C>, const C: usize>(
-    rows: &mut Kept<T, C>,
+    table: &mut T,
     work: &mut Option<Job>,
     cid: u32,
     a: &Asserting,
 ) -> Turn
-    requires there { is_some (find (has_id a.now.id) rows.old) ≡ true }
-    requires below { counter_of a.now.id rows.old < 2 ^ 32 - 1 }
-    ensures rows { rows.new ≡ raised a.now.id rows.old }
-    ensures work { work.new ≡ Some (record { cid = cid; task = signing a.now (counter_of a.now.id rows.old + 1) }) }
-    ensures answer { answer_of result ≡ Waits (status (signing a.now (counter_of a.now.id rows.old + 1))) }
+    requires there { is_some (find (has_id a.now.id) (T.rows table.old)) ≡ true }
+    requires below { counter_of a.now.id (T.rows table.old) < 2 ^ 32 - 1 }
+    ensures rows { T.rows table.new ≡ raised a.now.id (T.rows table.old) }
+    ensures work { work.new ≡ Some (record { cid = cid; task = signing a.now (counter_of a.now.id (T.rows table.old) + 1) }) }
+    ensures answer { answer_of result ≡ Waits (status (signing a.now (counter_of a.now.id (T.rows table.old) + 1))) }
 {
-    let counter = rows.raise(&a.id);
+    let counter = table.raise(&a.id);
     let task = Task::SignsAssert(*a, counter, assertion_to_sign(a, counter));
     *work = Some(Job { cid, task });
     Turn::Waits(KeepaliveStatus::Processing)

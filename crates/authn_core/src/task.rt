@@ -1,43 +1,7 @@
 //! What work is at.
 
-ghost use Rattle.std.specs.Prelude.{◌≡◌};
-ghost use Rattle.cred_table.specs.Names.{cut};
-
-use arrayvec::{ArrayString, ArrayVec};
-use cred_table::cut_name;
-use std::marker::Model;
-
-/// A user's name as a row keeps it. A contract sees its bytes.
-#[derive(Drop)]
-pub(crate) struct Name {
-    text: ArrayString<64>,
-}
-
-impl Model for Name {
-    ghost use Rattle.std.specs.Prelude.{List, ℕ};
-
-    ghost Value = { List ℕ };
-
-    ghost view = { λ n. n.text.bytes };
-}
-
-impl Name {
-    /// The name that is kept of a whole one.
-    pub(crate) fn kept(whole: &str) -> Self
-        ensures { result ≡ cut whole.now }
-    {
-        let mut text = ArrayString::new();
-        text.push_str(cut_name(whole));
-        Name { text }
-    }
-
-    /// Its text.
-    pub(crate) fn into_text(self) -> ArrayString<64>
-        ensures { result.bytes ≡ self }
-    {
-        self.text
-    }
-}
+use arrayvec::ArrayVec;
+use cred_table::Name;
 
 /// A credential that is to be made.
 #[derive(Drop)]

@@ -154,8 +154,8 @@ enum Call {
     ReadWhole,
 }
 
-/// A call, with the item that it gives, the place and the kind of its fault, and the cursor's place and steps after it.
-/// Of a map or an array that is collected the item tells how many members or entries were handed on.
+/// A call, with the item that it returns, the place and the kind of its fault, and the cursor's place and steps after
+/// it. Of a map or an array that is collected the item says how many members or entries were handed on.
 type Told<'a> = (Call, Option<Item<'a>>, Option<(usize, Kind)>, (usize, u64));
 
 /// `{1: -1, 2: h'07', "a": [false, null]}`, item by item and as a whole.
@@ -197,7 +197,7 @@ const COLLECTED: [Told<'static>; 7] = [
     (Call::End, None, None, (11, 24)),
 ];
 
-/// After a fault the cursor stands after what counts as passed.
+/// After a fault the cursor is after what counts as passed.
 const TRUNCATED: [Told<'static>; 1] = [(Call::Skip(1), None, Some((1, Kind::Truncated)), (3, 4))];
 
 const RESERVED: [Told<'static>; 1] = [(Call::Skip(1), None, Some((1, Kind::Reserved)), (2, 2))];
@@ -236,7 +236,7 @@ struct Walk<'a> {
 }
 
 impl<'a> Walk<'a> {
-    /// A call that gives an item.
+    /// A call that returns an item.
     fn item(&mut self, rt: &impl Abort, call: Call) -> Result<Option<Item<'a>>, Fault> {
         match call {
             Call::Item(level) => Ok(Some(self.cursor.item(level_of(rt, level))?)),
@@ -266,7 +266,7 @@ impl<'a> Walk<'a> {
         }
     }
 
-    /// A call that gives nothing.
+    /// A call that returns nothing.
     fn passed(&mut self, rt: &impl Abort, call: Call) -> Result<Option<Item<'a>>, Fault> {
         match call {
             Call::Skip(level) => self.cursor.skip(level_of(rt, level))?,
@@ -288,7 +288,7 @@ fn level_of(rt: &impl Abort, level: u8) -> u8
     level
 }
 
-/// Makes calls on a cursor over a text, and asserts what each tells.
+/// Makes calls on a cursor over a text, and asserts what each says.
 fn assert_told(rt: &impl Abort, bytes: &[u8], calls: &[Told<'_>]) {
     let mut walk = Walk {
         cursor: Cursor::new(bytes),

@@ -41,7 +41,7 @@ number_part n = One (Int (pos n))
 
 -- what stands after each member
 abbrev pub beyond_counter : Bool → Row → List ℕ → List ℕ
-beyond_counter named row rest = name_text named row.name.bytes ++ rest
+beyond_counter named row rest = name_text named row.name ++ rest
 
 abbrev pub beyond_flag : Bool → Row → List ℕ → List ℕ
 beyond_flag named row rest = member_text 7 (number_part row.counter) ++ beyond_counter named row rest
@@ -130,17 +130,17 @@ abbrev beyond_name : Bool → Row → List ℕ → List ℕ
 beyond_name named row rest = rest
 
 name_then : {named : Bool} {start a b : Reading} {w : List ℕ} → RowStands named start a beyond_counter → Reads (IsName named) (name_text named) a b (Some w) → RowStands named start b beyond_name
-name_then {named} s r = next {W = List ℕ} (IsName named) (name_text named) (λ row. row.name.bytes) (beyond_name named) (λ row is. is.name) s r
+name_then {named} s r = next {W = List ℕ} (IsName named) (name_text named) (λ row. row.name) (beyond_name named) (λ row is. is.name) s r
 
 pub no_name : {named : Bool} {start a b : Reading} → RowStands named start a beyond_counter → Reads (IsName named) (name_text named) a b None → Reads (IsRow named) (row_text named) start b None
-no_name {named} s r = missed {W = List ℕ} (IsName named) (name_text named) (λ row. row.name.bytes) (beyond_name named) (λ row is. is.name) s r
+no_name {named} s r = missed {W = List ℕ} (IsName named) (name_text named) (λ row. row.name) (beyond_name named) (λ row is. is.name) s r
 
 -- all parts were read, and made into a row
 pub row_read : {named : Bool} {n : ℕ} {c0 c1 c2 c3 c4 c5 c6 c7 c8 c9 : Reading} (row : Row) → n ≡ members_of named →
     HeadRead n c0 c1 (Some tt) → ReadsMember IsHash bytes_part 1 c1 c2 (Some row.rp) → ReadsMember IsHash bytes_part 2 c2 c3 (Some row.id) →
     ReadsMember IsHash bytes_part 3 c3 c4 (Some row.x) → ReadsMember IsHash bytes_part 4 c4 c5 (Some row.y) →
     ReadsMember IsShort bytes_part 5 c5 c6 (Some row.user.items) → ReadsMember {W = Bool} (λ _. ⊤) flag_part 6 c6 c7 (Some row.discoverable) →
-    ReadsMember {W = ℕ} (λ n. n < 2 ^ 32) number_part 7 c7 c8 (Some row.counter) → Reads (IsName named) (name_text named) c8 c9 (Some row.name.bytes) →
+    ReadsMember {W = ℕ} (λ n. n < 2 ^ 32) number_part 7 c7 c8 (Some row.counter) → Reads (IsName named) (name_text named) c8 c9 (Some row.name) →
     Reads (IsRow named) (row_text named) c0 c9 (Some row)
 row_read {named} {n} {c0} {c1} {c2} {c3} {c4} {c5} {c6} {c7} {c8} {c9} row e h rp id x y user flag counter name =
     let stands = name_then (counter_then (flag_then (user_then (y_then (x_then (id_then (rp_then (head_then e h) rp) id) x) y) user) flag) counter) name in

@@ -8,7 +8,7 @@ rp : List ℕ
 rp = replicate 32 0xA3
 
 made : (id user counter : ℕ) → Bool → Row
-made id user counter discoverable = record { rp = replicate 32 0xA3; id = replicate 32 id; x = replicate 32 0; y = replicate 32 0; user = record { items = user ∷ [] }; discoverable = discoverable; counter = counter; name = record { bytes = []; spare = replicate 64 0 } }
+made id user counter discoverable = record { rp = replicate 32 0xA3; id = replicate 32 id; x = replicate 32 0; y = replicate 32 0; user = record { items = user ∷ [] }; discoverable = discoverable; counter = counter; name = [] }
 
 -- both rows are discoverable, or the second one isn't
 rows : Bool → List Row

@@ -14,7 +14,7 @@ abbrev pub SnapshotsAreOne : Type 0
 SnapshotsAreOne = (named other : Bool) (room space : ℕ) (rows others : List Row) (text : List ℕ)
     → IsSnapshot named room rows text → IsSnapshot other space others text → (named ≡ other) × SameRows rows others
 
--- what is refused is the snapshot of no rows for which there is room
+-- what is refused is the snapshot of no rows for which there is capacity
 abbrev pub RefusedIsNone : Type 0
 RefusedIsNone = (room : ℕ) (text : List ℕ) (fault : SnapshotFault) → Refuses room text fault
     → (named : Bool) (rows : List Row) → IsSnapshot named room rows text → ⊥

@@ -30,7 +30,7 @@ row_at slots k = (slot_at slots k).row
 abbrev pub rows_in : {C : ℕ} → Chains C → List Row
 rows_in chains = map (row_at chains.slots) (age chains)
 
--- Each slot but those that are away stands either in the free chain alone, or once in the age chain and once in the
+-- Each slot but those that are away is either in the free chain alone, or once in the age chain and once in the
 -- chain of its id; the older links are the newer links, turned round.
 pub record Linked {C : ℕ} (away : List ℕ) (chains : Chains C) : Type 0 where
   pub aged : is_chain (links Newer chains.slots) chains.oldest ≡ true

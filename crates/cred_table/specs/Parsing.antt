@@ -1,4 +1,4 @@
--- What reading a part of a snapshot does, wherever the part stands.
+-- What reading a part of a snapshot does, wherever the part is.
 use Rattle.std.specs.Prelude.{◌≡◌, ℕ, ◌^◌, ◌<◌, pos, Bool, true, false, if◌then◌else◌, nat_eq, nat_le, nat_lt, List, [], ◌∷◌, ◌++◌, length, Option, Some, None, IsSome, IsTrue, Result, Ok, Err}
 use Rattle.std.specs.List.{AllByRecursion}
 use Rattle.ctap_cbor.specs.Tree.{Int, Bytes, Text, Flag, no_trees}
@@ -18,13 +18,13 @@ abbrev pub Given : {V : Type 0} → Option V → (V → Type 0) → Type 0
 Given None P = Unit {0}
 Given (Some v) P = P v
 
--- Some kind of values has texts. What a reader gave was passed; where the text of any such value stands, it was read.
+-- Some kind of values has texts. What a reader returned was passed; where the text of any such value is, it was read.
 pub record Reads {V : Type 0} (Is : V → Type 0) (spell : V → List ℕ) (old new : Reading)
     (result : Option V) : Type 0 where
   pub took : Given result (λ v. Is v × (rest_of old ≡ spell v ++ rest_of new))
   pub found : (v : V) (rest : List ℕ) → Is v → rest_of old ≡ spell v ++ rest → IsSome result × (rest_of new ≡ rest)
 
--- The same of heads, with the bytes of strings: where one stands, it is what was read.
+-- The same of heads, with the bytes of strings: where one is, it is what was read.
 pub record ReadsPart (room : ℕ) (spell : Part → List ℕ) (old new : Reading) (result : Option Part) : Type 0 where
   pub took : Given result (λ i. Suits room AnItem i × (rest_of old ≡ spell i ++ rest_of new))
   pub found : (i : Part) (rest : List ℕ) → Suits room AnItem i → rest_of old ≡ spell i ++ rest
@@ -99,7 +99,7 @@ heads_text h = head 5 2 ++ (member_text 1 (One (Int (pos (version h.0)))) ++ mem
 abbrev pub rows_text : (named : Bool) → List Row → List ℕ
 rows_text named rows = texts (rows_then named rows no_trees)
 
--- where no row stands that may come after these
+-- where no row is that may come after these
 abbrev pub NoneFits : (named : Bool) → List Row → List ℕ → Type 0
 NoneFits named rows here = (row : Row) (rest : List ℕ) → IsRow named row → here ≡ row_text named row ++ rest
     → IsTrue (clashes row rows)

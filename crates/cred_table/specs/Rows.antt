@@ -35,7 +35,7 @@ no_two clash [] = true
 no_two clash (row ∷ rows) = not (list_any (clash row) rows) && no_two clash rows
 
 -- Lawful rows: their ids are distinct, at most one discoverable row has a given RP and user, and there are
--- no more of them than the table has room for.
+-- no more of them than the table has capacity for.
 pub record Lawful (room : ℕ) (rows : List Row) : Type 0 where
   pub distinct : no_two same_id rows ≡ true
   pub one_each : no_two replaces rows ≡ true
@@ -45,7 +45,7 @@ pub record Lawful (room : ℕ) (rows : List Row) : Type 0 where
 abbrev pub without : (id : List ℕ) → List Row → List Row
 without id rows = filter (λ row. not (has_id id row)) rows
 
--- The rows after the making of a new one: it stands last, and what it replaces is gone.
+-- The rows after the making of a new one: it is last, and what it replaces is gone.
 abbrev pub stored : (new : Row) → List Row → List Row
 stored new rows = filter (λ old. not (replaces new old)) rows ++ new ∷ []
 

@@ -18,7 +18,7 @@ blank_row = record {
   user = record { items = [] };
   discoverable = false;
   counter = 0;
-  name = record { bytes = []; spare = [] };
+  name = [];
 }
 
 abbrev pub blank : Slot
@@ -96,11 +96,11 @@ abbrev pub within : Option ℕ → List Slot → Bool
 within None slots = true
 within (Some p) slots = nat_lt p (length slots)
 
--- The chain that an id stands in, by the low five bits of its first byte.
+-- The chain that an id is in, by the low five bits of its first byte.
 abbrev pub bucket : List ℕ → ℕ
 bucket id = slice_index_or id 0 0 % 32
 
--- The slot that stands before one.
+-- The slot that is before one.
 abbrev pub before : ℕ → List ℕ → Option ℕ
 before k [] = None
 before k (i ∷ []) = None

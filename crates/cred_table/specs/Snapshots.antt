@@ -22,7 +22,7 @@ bytes s = Plain (Bytes s)
 
 -- its last member, in version 2 alone
 abbrev pub name_member : (named : Bool) → Row → Pairs
-name_member true row = pair (number 8) (Plain (Text row.name.bytes)) no_pairs
+name_member true row = pair (number 8) (Plain (Text row.name)) no_pairs
 name_member false row = no_pairs
 
 -- the map of a row, which has just these members
@@ -56,7 +56,7 @@ pub record IsRow (named : Bool) (row : Row) : Type 0 where
   pub y : IsHash row.y
   pub user : IsShort row.user.items
   pub counter : row.counter < 2 ^ 32
-  pub name : IsName named row.name.bytes
+  pub name : IsName named row.name
 
 -- ---- the whole
 
@@ -97,11 +97,11 @@ saved_len rows = length (text (snapshot true rows))
 abbrev pub Holds : (named : Bool) → Trees → List ℕ → Type 0
 Holds named entries text = IsCanonical (snapshot_of named entries) text
 
--- The row can't stand after these: it has the id of one, or is discoverable as one of its RP and user handle is.
+-- The row can't be after these: it has the id of one, or is discoverable as one of its RP and user handle is.
 abbrev pub clashes : Row → List Row → Bool
 clashes row rows = list_any (has_id row.id) rows || list_any (replaces row) rows
 
--- The entry at a place is broken, and those before it aren't: no row has its map and can stand after them.
+-- The entry at a place is broken, and those before it aren't: no row has its map and can be after them.
 pub record FirstBroken (named : Bool) (room : ℕ) (entries : Trees) (place : ℕ) : Type 0 where
   pub before : List Row
   pub entry : Tree
@@ -113,7 +113,7 @@ pub record FirstBroken (named : Bool) (room : ℕ) (entries : Trees) (place : �
   pub broken : (row : Row) → IsRow named row → entry ≡ row_tree named row → IsTrue (clashes row before)
 
 -- What a text is refused for, in the order in which it is asked: it is no snapshot at all; it has more entries than
--- there is room for; it has a broken entry.
+-- there is capacity for; it has a broken entry.
 abbrev pub Refuses : (room : ℕ) → List ℕ → SnapshotFault → Type 0
 Refuses room text NotSnapshot = (named : Bool) (entries : Trees) → Holds named entries text → ⊥
 Refuses room text TooMany = (named : Bool) × (entries : Trees) × Holds named entries text × (room < count entries)

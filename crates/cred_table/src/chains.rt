@@ -30,15 +30,15 @@ impl<const C: usize> Chains<C> {
         ensures linked { Linked [] result }
         ensures rows { rows_in result ≡ [] }
     {
-        let mut slots = array::from_fn(|_| Slot::default());
-        slot::chain_all(&mut slots);
-        Chains {
-            slots,
+        let mut chains = Chains {
+            slots: array::from_fn(|_| Slot::default()),
             heads: [None; 32],
             free: Some(0),
             oldest: None,
             newest: None,
-        }
+        };
+        slot::chain_all(&mut chains.slots);
+        chains
     }
 
     /// Frees all slots.
@@ -75,7 +75,7 @@ impl<const C: usize> Chains<C> {
         self.like(id).find(|item| item.1.row.id == *id).unwrap().0
     }
 
-    /// Adds one to the counter of the row in a slot, and gives it.
+    /// Adds one to the counter of the row in a slot, and returns it.
     pub(crate) fn raise(&mut self, number: u16) -> u32
         requires linked { Linked [] self.old }
         requires held { has number (age self.old) ≡ true }
@@ -87,7 +87,7 @@ impl<const C: usize> Chains<C> {
         slot::raise(&mut self.slots, number)
     }
 
-    /// The rows whose ids stand in the chain of an id.
+    /// The rows whose ids are in the chain of an id.
     pub(crate) fn like(&self, id: &[u8]) -> Walk<'_>
         requires { Linked [] self.now }
         ensures { result ≡ numbered self.now.slots (id_slots (bucket id.now) self.now) }

@@ -28,7 +28,7 @@ fn copy_row(row: &Row) -> Row
         user: copy_handle(&row.user),
         discoverable: row.discoverable,
         counter: row.counter,
-        name: row.name,
+        name: row.name.copy(),
     }
 }
 

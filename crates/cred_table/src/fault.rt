@@ -11,10 +11,10 @@ pub enum SnapshotFault {
     /// 1: the bytes aren't canonical CBOR, or not the map of a snapshot.
     #[error("not a snapshot")]
     NotSnapshot,
-    /// 2: there are more rows than the table has room for.
+    /// 2: there are more rows than the table has capacity for.
     #[error("too many rows")]
     TooMany,
-    /// 3: the row at this place, counted from 0, is the first that isn't one or can't stand after those before it.
+    /// 3: the row at this place, counted from 0, is the first that isn't one or can't be after those before it.
     #[error("row {0} is broken")]
     RowBroken(usize),
     /// 4: no memory to save into.

@@ -12,7 +12,7 @@ pub fn snapshots_are_one()
     none_begins_another();
 }
 
-/// What is refused is the snapshot of no rows for which there is room. So whatever is a snapshot is loaded.
+/// What is refused is the snapshot of no rows for which there is capacity. So whatever is a snapshot is loaded.
 pub fn refused_is_none()
     ensures { RefusedIsNone }
 {

@@ -13,8 +13,8 @@ use crate::table::Table;
 use ctap_cbor::laws::{no_item_begins_another, none_begins_another};
 use ctap_cbor::{Cursor, check};
 
-/// Returns whether a row clashes with one of a table: it has that one's id, or is discoverable as that one of its RP and
-/// user is.
+/// Returns whether a row clashes with one of a table: it has that one's id, or is discoverable as that one of its RP
+/// and user is.
 fn clashes<T: Table<C>, const C: usize>(table: &T, row: &Row) -> bool
     ensures { result ≡ clashes row.now (T.rows table.now) }
 {
@@ -27,8 +27,8 @@ fn clashes<T: Table<C>, const C: usize>(table: &T, row: &Row) -> bool
     table.same_user(&row.rp, &row.user).is_some()
 }
 
-/// Puts a row last, unless it clashes with one that is there: it has that one's id, or both are discoverable and have one
-/// RP and user handle. Returns whether it was put.
+/// Puts a row last, unless it clashes with one that is there: it has that one's id, or both are discoverable and have
+/// one RP and user handle. Returns whether it was put.
 pub fn put_new<T: Table<C>, const C: usize>(table: &mut T, row: Row) -> bool
     requires room { length (T.rows table.old) < C }
     ensures value { result ≡ not (clashes row (T.rows table.old)) }
@@ -42,7 +42,7 @@ pub fn put_new<T: Table<C>, const C: usize>(table: &mut T, row: Row) -> bool
     true
 }
 
-/// Reads an entry and puts it after the rows. Tells whether it was a row that may stand there.
+/// Reads an entry and puts it after the rows. Returns whether it was a row that may be there.
 fn read_entry<const C: usize>(cursor: &mut Cursor, named: bool, rows: &mut Listed<C>) -> bool
     requires room { length rows.old.list.items < C }
     ensures { ReadsEntry named cursor.old cursor.new rows.old.list.items rows.new.list.items result }
@@ -101,10 +101,11 @@ fn put_all<T: Table<C>, const C: usize>(rows: Listed<C>, table: &mut T)
     }
 }
 
-/// Loads a snapshot into a table, in place of its rows. It takes no memory.
+/// Loads a snapshot into a table, in place of its rows. It allocates nothing.
 ///
-/// A text that is no snapshot is refused, then one with more entries than the table has room for, and then one with an
-/// entry that is no row or clashes with a row before it. After a refusal the table has the rows that it had.
+/// A text that is no snapshot is refused, then one with more entries than the table has capacity for, and then one with
+/// an entry that is no row or clashes with a row before it. After a refusal the table has the rows that it had.
+#[inline(never)]
 pub fn load<T: Table<C>, const C: usize>(bytes: &[u8], table: &mut T) -> Result<(), SnapshotFault>
     ensures loads { Loads C bytes.now result (T.rows table.new) }
     ensures unchanged { OnErr result (T.rows table.new ≡ T.rows table.old) }

@@ -1,4 +1,4 @@
-//! Reading the parts of a snapshot, where they stand in its text.
+//! Reading the parts of a snapshot, where they are in its text.
 
 ghost use Rattle.std.specs.Prelude.{◌≡◌, ◌-◌, ◌≤◌, ◌<◌, ◌^◌, pos, option_map, ⊤};
 ghost use Rattle.ctap_cbor.specs.Tree.{Int, Bytes, Flag};
@@ -9,8 +9,9 @@ ghost use Rattle.cred_table.specs.Snapshots.{IsHash, IsShort, IsName, IsRow, ver
 ghost use Rattle.ctap_cbor.specs.Views.{part_of};
 ghost use Rattle.cred_table.specs.Parsing.{Reads, ReadsPart, ReadsMember, member_text, map_in, key_in, hash_in, short_in, flag_in, counter_in, name_in, count_in, named_in, name_text, heads_text, row_text, members_of};
 
+use crate::name::Name;
 use crate::row::Row;
-use arrayvec::{ArrayString, ArrayVec};
+use arrayvec::ArrayVec;
 use ctap_cbor::{Cursor, Item};
 
 /// Takes an item: a head, and the bytes of a string.
@@ -120,11 +121,11 @@ fn counter_of(item: Item) -> Option<u32>
 }
 
 /// A text of at most 64 bytes.
-fn name_of(item: Item) -> Option<ArrayString<64>>
-    ensures { option_map (λ s. s.bytes) result ≡ name_in (part_of item.entry) }
+fn name_of(item: Item) -> Option<Name>
+    ensures { result ≡ name_in (part_of item.entry) }
 {
     match item {
-        Item::Text(text) => ArrayString::from(text).ok(),
+        Item::Text(text) => Name::new(text),
         _ => None,
     }
 }
@@ -183,11 +184,11 @@ fn read_counter(cursor: &mut Cursor, key: u8) -> Option<u32>
 }
 
 /// Takes the name, where names are kept, and else the empty one.
-fn read_name(cursor: &mut Cursor, named: bool) -> Option<ArrayString<64>>
-    ensures { Reads (IsName named) (name_text named) cursor.old cursor.new (option_map (λ s. s.bytes) result) }
+fn read_name(cursor: &mut Cursor, named: bool) -> Option<Name>
+    ensures { Reads (IsName named) (name_text named) cursor.old cursor.new result }
 {
     if !named {
-        return Some(ArrayString::new());
+        return Some(Name::default());
     }
     let item = read_member(cursor, 4, 8)?;
     name_of(item)
@@ -201,7 +202,7 @@ fn read_version(cursor: &mut Cursor) -> Option<bool>
     named_of(item)
 }
 
-/// Takes the head of the entries, and gives their number.
+/// Takes the head of the entries, and returns their number.
 fn read_count(cursor: &mut Cursor) -> Option<u64>
     ensures { ReadsMember (λ n. n < 2 ^ 64) OpensArray 2 cursor.old cursor.new result }
 {

@@ -7,7 +7,7 @@ use arrayvec::ArrayVec;
 use std::marker::Model;
 
 /// The credentials, at most `C`, that a getAssertion named and getNextAssertion may still ask for (CTAP 2.1, section
-/// 6.3), with what goes with them. A contract sees `None`, or them all. No call takes memory.
+/// 6.3), with what goes with them. A contract sees `None`, or them all. No call allocates.
 #[derive(Drop)]
 pub struct Pending<const C: usize> {
     cid: u32,
@@ -53,7 +53,7 @@ impl<const C: usize> Pending<C> {
         self.ids.try_extend_from_slice(ids).unwrap();
     }
 
-    /// Takes the first id off, and gives it.
+    /// Takes the first id off, and returns it.
     pub fn next(&mut self) -> Option<[u8; 32]>
         ensures first { result ≡ first_of self.old }
         ensures rest { self.new ≡ rest_of self.old }

@@ -2,7 +2,8 @@
 
 ghost use Rattle.std.specs.Prelude.{◌≡◌};
 
-use arrayvec::{ArrayString, ArrayVec};
+use crate::name::Name;
+use arrayvec::ArrayVec;
 
 /// A row of a credential table: a public key credential source (WebAuthn Level 2, section 4) of an ES256 key, less
 /// its private key.
@@ -22,8 +23,8 @@ pub struct Row {
     pub discoverable: bool,
     /// The signature counter.
     pub counter: u32,
-    /// The user's name, or its longest beginning of at most 64 bytes; empty where none was given.
-    pub name: ArrayString<64>,
+    /// The user's name, or its longest beginning that fits; empty where none was given.
+    pub name: Name,
 }
 
 impl Row {

@@ -8,7 +8,7 @@ use crate::slot::{self, Walk};
 use std::marker::Model;
 use std::slice;
 
-/// The rows of a table in order of making, as [`Table::iter`](crate::Table::iter) gives them. A contract sees those
+/// The rows of a table in order of making, as [`Table::iter`](crate::Table::iter) yields them. A contract sees those
 /// that are left.
 #[derive(Debug, Drop)]
 pub struct Rows<'a> {

@@ -11,9 +11,10 @@ ghost use Rattle.cred_table.specs.Parsing.{row_text, heads_text};
 ghost use Rattle.cred_table.specs.Saving.{AppendsUpTo, Extends, SavesInto, longest};
 
 use crate::fault::SnapshotFault;
+use crate::name::Name;
 use crate::row::Row;
 use crate::table::Table;
-use arrayvec::{ArrayString, ArrayVec};
+use arrayvec::ArrayVec;
 use ctap_cbor::Sink;
 use ctap_cbor::laws::known_bytes;
 use std::alloc::AllocError;
@@ -60,8 +61,8 @@ fn known_short(bytes: &ArrayVec<u8, 64>)
     known_bytes(bytes.as_slice());
 }
 
-fn known_name(name: &ArrayString<64>)
-    ensures { IsName true name.now.bytes }
+fn known_name(name: &Name)
+    ensures { IsName true name.now }
 {
     let _text = name.as_str();
 }
@@ -129,10 +130,10 @@ fn put_row(sink: &mut Sink<'_>, row: &Row)
     sink.uint(7);
     put_counter(sink, row.counter);
     sink.uint(8);
-    put_name(sink, &row.name);
+    put_name(sink, row.name.as_str());
 }
 
-/// Writes a row's map to the front of a buffer, and gives its length.
+/// Writes a row's map to the front of a buffer, and returns its length.
 fn row_into(buffer: &mut [u8], row: &Row) -> usize
     requires { LONGEST_ROW ≤ length buffer.old }
     ensures within { result ≤ LONGEST_ROW }
@@ -156,7 +157,7 @@ fn put_heads(sink: &mut Sink<'_>, count: u64)
     sink.array(count);
 }
 
-/// Writes the heads to the front of a buffer, and gives their length.
+/// Writes the heads to the front of a buffer, and returns their length.
 fn heads_into(buffer: &mut [u8], count: u64) -> usize
     requires { LONGEST_HEADS ≤ length buffer.old }
     ensures within { result ≤ LONGEST_HEADS }
@@ -181,8 +182,8 @@ fn put_snapshot<T: Table<C>, const C: usize>(sink: &mut Sink<'_>, table: &T)
     }
 }
 
-/// Writes a snapshot of a table's rows to the front of a buffer that has space for the longest one, and returns how many
-/// bytes it has.
+/// Writes a snapshot of a table's rows to the front of a buffer that has space for the longest one, and returns how
+/// many bytes it has.
 fn snapshot_into<T: Table<C>, const C: usize>(buffer: &mut [u8], table: &T) -> usize
     requires { longest C ≤ length buffer.old }
     ensures front { take result buffer.new ≡ text (snapshot true (T.rows table.now)) }
@@ -251,8 +252,8 @@ fn write_rows<T: Table<C>, const C: usize>(
 
 /// Appends a snapshot of a table's rows, with the vector's own allocator.
 ///
-/// It is refused only where memory is, and never where the vector has room for the snapshot. The vector then holds what
-/// it held before.
+/// It is refused only where memory is, and never where the vector has capacity for the snapshot. The vector then holds
+/// what it held before.
 pub fn save<T: Table<C>, const C: usize>(table: &T, out: &mut Vec<u8>) -> Result<(), SnapshotFault>
     ensures saved { OnOk result (Saves C (T.rows table.now) out.old.items out.new.items) }
     ensures memory { IfErr result (λ fault. fault ≡ Memory) }

@@ -15,7 +15,7 @@ pub(crate) type Link = Option<u16>;
 pub(crate) struct Slot {
     /// The row, where the slot isn't free.
     pub(crate) row: Row,
-    /// The next slot of the chain that the slot stands in: that of its id, or the free chain.
+    /// The next slot of the chain that the slot is in: that of its id, or the free chain.
     pub(crate) next: Link,
     /// The slot of the row that was made next.
     pub(crate) newer: Link,
@@ -64,7 +64,7 @@ impl Slot {
 impl Slot {
     ghost use Rattle.cred_table.specs.Slots.{raised_slot};
 
-    /// Adds one to the counter of the row, and gives it.
+    /// Adds one to the counter of the row, and returns it.
     fn raise(&mut self) -> u32
         requires { self.old.row.counter < 2 ^ 32 - 1 }
         ensures raised { self.new ≡ raised_slot self.old }
@@ -78,7 +78,7 @@ impl Slot {
 impl Slot {
     ghost use Rattle.cred_table.specs.Slots.{is_to};
 
-    /// Whether its link leads to a slot, along the chain that it stands in.
+    /// Whether its link leads to a slot, along the chain that it is in.
     fn leads_to(&self, number: u16) -> bool
         ensures { result ≡ is_to number self.now.next }
     {
@@ -89,7 +89,7 @@ impl Slot {
     }
 }
 
-/// Makes a chain that begins at `start` lead to `next` after the slot `before`, or begin there, and gives where it
+/// Makes a chain that begins at `start` lead to `next` after the slot `before`, or begin there, and returns where it
 /// begins.
 pub(crate) fn lead(slots: &mut [Slot], along: Along, before: Link, next: Link, start: Link) -> Link
     requires { within before slots.old ≡ true }
@@ -105,7 +105,7 @@ pub(crate) fn lead(slots: &mut [Slot], along: Along, before: Link, next: Link, s
     }
 }
 
-/// Adds one to the counter of the row in a slot, and gives it.
+/// Adds one to the counter of the row in a slot, and returns it.
 pub(crate) fn raise(slots: &mut [Slot], number: u16) -> u32
     requires there { number < length slots.old }
     requires below { (slot_at slots.old number).row.counter < 2 ^ 32 - 1 }
@@ -139,7 +139,7 @@ pub(crate) fn row_of<'a>(found: Option<(u16, &'a Slot)>) -> Option<&'a Row>
     Some(&item.1.row)
 }
 
-/// The chain that an id stands in: the low five bits of its first byte.
+/// The chain that an id is in: the low five bits of its first byte.
 pub(crate) fn bucket(id: &[u8]) -> usize
     ensures value { result ≡ bucket id.now }
     ensures bound { result < 32 }

@@ -9,7 +9,7 @@ use crate::rows::Rows;
 use arrayvec::ArrayVec;
 
 /// A table of at most `C` credentials, `1 <= C <= 256`. A contract sees `rows`, the list of its rows in order of
-/// making; what isn't said to change stays, each row in its place. No call takes memory.
+/// making; what isn't said to change stays, each row in its place. No call allocates.
 ///
 /// The rows are lawful at all times (the laws at the end): their ids are distinct, and at most one discoverable row has
 /// a given RP and user handle. Whoever has a table knows that, whatever keeps the rows.
@@ -49,8 +49,8 @@ pub trait Table<const C: usize> {
     fn rows_of(&self, rp: &[u8; 32], out: &mut ArrayVec<[u8; 32], C>)
         ensures { out.new.items ≡ ids (listed rp.now (rows self.now)) };
 
-    /// Puts a row last. There is room, its id is new, and if it is discoverable, no discoverable row has its RP and
-    /// user (`len`, `find` and `same_user` tell).
+    /// Puts a row last. There is capacity, its id is new, and if it is discoverable, no discoverable row has its RP and
+    /// user (`len`, `find` and `same_user` say).
     fn put(&mut self, row: Row)
         requires room { length (rows self.old) < C }
         requires fresh { find (has_id row.id) (rows self.old) ≡ None }
@@ -59,7 +59,7 @@ pub trait Table<const C: usize> {
         ensures stored { rows self.new ≡ stored row (rows self.old) };
 
     /// Takes the row `old` out and puts the new one last, in a full table too. The new one's id is new, and `old` is
-    /// the id that `same_user` gives for its RP and user.
+    /// the id that `same_user` returns for its RP and user.
     fn replace(&mut self, old: &[u8; 32], new: Row)
         requires fresh { find (has_id new.id) (rows self.old) ≡ None }
         requires same_user { option_map (λ row. row.id) (find (is_user new.rp new.user.items) (rows self.old))
@@ -67,7 +67,7 @@ pub trait Table<const C: usize> {
         ensures appended { rows self.new ≡ without old.now (rows self.old) ++ new ∷ [] }
         ensures stored { IsTrue new.discoverable → rows self.new ≡ stored new (rows self.old) };
 
-    /// Adds one to the counter of the row with the id, and gives it. The row is there, its counter below 2^32-1.
+    /// Adds one to the counter of the row with the id, and returns it. The row is there, its counter below 2^32-1.
     fn raise(&mut self, id: &[u8; 32]) -> u32
         requires there { IsSome (find (has_id id.now) (rows self.old)) }
         requires below { counter_of id.now (rows self.old) < 2 ^ 32 - 1 }
@@ -81,6 +81,6 @@ pub trait Table<const C: usize> {
     /// Ids are distinct, at most one discoverable row has a given RP and user, and there are at most `C` rows.
     ghost lawful: { (table : Self) → Lawful C (rows table) };
 
-    /// A table has room for 1 to 256 rows.
+    /// A table has capacity for 1 to 256 rows.
     ghost capacity: { (table : Self) → (1 ≤ C) × (C ≤ 256) };
 }

@@ -1,5 +1,5 @@
 -- What is collected of a map's members, or of an array's entries, while a cursor passes them. `H m ps` says that m
--- tells of the pairs ps.
+-- says of the pairs ps.
 use Rattle.std.specs.Prelude.{◌≡◌, ℕ, Bool, Option, List}
 use Rattle.ctap_cbor.specs.Tree.{Scalar, Tree, Plain, Array, Map, Trees, no_trees, Pairs, no_pairs, is_map, is_array, push, push_pair}
 use Rattle.ctap_cbor.specs.Parts.{Part, One}

@@ -29,7 +29,7 @@ abbrev pub is_key : Due → Bool
 is_key AnItem = false
 is_key (AKey before) = true
 
--- whether a key's text stands above that of the key before it, in lexical order
+-- whether a key's text is above that of the key before it, in lexical order
 abbrev pub is_above : Due → List ℕ → Bool
 is_above AnItem key = true
 is_above (AKey None) key = true

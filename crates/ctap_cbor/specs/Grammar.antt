@@ -48,7 +48,7 @@ IsKey (Plain (Bytes s)) = Unit {0}
 IsKey (Plain (Text s)) = Unit {0}
 IsKey _ = ⊥
 
--- a key's text stands above that of the key before it, in lexical order
+-- a key's text is above that of the key before it, in lexical order
 abbrev pub IsAbove : Option (List ℕ) → List ℕ → Type 0
 IsAbove None key = Unit {0}
 IsAbove (Some before) key = slice_cmp nat_cmp before key ≡ Less

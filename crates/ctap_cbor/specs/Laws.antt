@@ -33,7 +33,7 @@ StepsAreBounded = (b : List ℕ) (o : Outcome) → IsOutcome b o → steps b o �
 abbrev pub WrittenIsReadAgain : Type 0
 WrittenIsReadAgain = (t : Tree) (b : List ℕ) → IsCanonical t b → (o : Outcome) → IsOutcome b o → o ≡ Whole t
 
--- where a tree's text stands at a cursor's place, no other tree is passed
+-- where a tree's text is at a cursor's place, no other tree is passed
 abbrev pub OneTreePasses : Type 0
 OneTreePasses = (room : ℕ) (t u : Tree) (rest : List ℕ) (old new : Reading) → IsLawful t → depth t ≤ room
     → rest_of old ≡ text t ++ rest → Passes room u old new → (u ≡ t) × (rest_of new ≡ rest)
@@ -68,7 +68,7 @@ pub record TellsNone (b : List ℕ) (s : ℕ) (new : Reading) : Type 0 where
   pub bytes_stay : new.bytes ≡ b
   pub steps_are : new.steps ≡ counted s (check_steps b)
 
--- Reading these bytes whole gives what they are, whatever was counted before, and takes the steps of checking them.
+-- Reading these bytes whole returns what they are, whatever was counted before, and takes the steps of checking them.
 pub record WholeReadings (b : List ℕ) : Type 0 where
   pub passed : (t : Tree) (s : ℕ) (middle new : Reading) → Passes 4 t (at_front b s) middle → Ends middle new
       → TellsTree b s t new
@@ -80,6 +80,6 @@ pub record WholeReadings (b : List ℕ) : Type 0 where
 abbrev pub CheckStepsAreBounded : Type 0
 CheckStepsAreBounded = (b : List ℕ) → check_steps b ≤ 2 * length b + 1
 
--- items that stand one after another are found there
+-- items that are one after another are found there
 abbrev pub ItemsAreFound : Type 0
 ItemsAreFound = (room : ℕ) (ts : Trees) → AreLawful ts → depth_all ts ≤ room → items_at room (count ts) (texts ts) ≡ ts

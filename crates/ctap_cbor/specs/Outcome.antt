@@ -38,7 +38,7 @@ IsOpen room (AtValue total done key) = (total < 2 ^ 64) × (count_pairs done < t
     × AreLawfulPairs done × (depth_pairs done ≤ room) × IsKey key × IsLawful key
     × IsAbove (last_key None done) (text key)
 
--- an array or a map stands inside one, and a key is no array or map
+-- an array or a map is inside one, and a key is no array or map
 abbrev pub CanHold : Open → List Open → Type 0
 CanHold (AtKey total done) (o ∷ os) = ⊥
 CanHold _ _ = Unit {0}
@@ -69,7 +69,7 @@ IsOutcome b (Whole t) = IsCanonical t b
 IsOutcome b (Longer t) = (whole rest : List ℕ) × IsCanonical t whole × (0 < length rest) × (b ≡ whole ++ rest)
 IsOutcome b (Stopped os kind) = (rest : List ℕ) × HaltsIn 4 AnItem os kind rest × (b ≡ fronts os ++ rest)
 
--- the lengths of all keys' texts in a tree, but for the first of each map
+-- the lengths of all keys' texts in a tree, except for the first of each map
 abbrev mutual
   pub later_keys : Tree → ℕ
   later_keys (Plain s) = 0

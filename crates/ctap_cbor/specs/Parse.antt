@@ -1,5 +1,5 @@
 -- Reading a whole item, with all that is inside, as a function: the tree, or where it stops. What the text is says
--- Outcome.antt; that this function gives it is a law.
+-- Outcome.antt; that this function returns it is a law.
 use Rattle.std.proofs.Common.{ℕ, zero, suc, List, [], ◌∷◌, Option, Some, None, Result, Ok, Err}
 use Rattle.ctap_cbor.specs.declared.fault.Kind.{Kind}
 use Rattle.ctap_cbor.specs.Tree.{Null, Tree, Plain, Array, Map, Trees, no_trees, tree, Pairs, no_pairs, pair}
@@ -77,13 +77,13 @@ unfoldable pub parse : ℕ → List ℕ → Parse
 parse zero bytes = then_inside (λ b. Done (Plain Null) b) zero bytes (read zero AnItem bytes)
 parse (suc room) bytes = then_inside (parse room) room bytes (read (suc room) AnItem bytes)
 
--- a text, by what reading its item gives
+-- a text, by what reading its item returns
 abbrev pub outcome_by : Parse → Outcome
 outcome_by (Done t []) = Whole t
 outcome_by (Done t (x ∷ rest)) = Longer t
 outcome_by (Halt os kind rest) = Stopped os kind
 
--- the items, so far as they stand there
+-- the items, so far as they are there
 abbrev pub ran_by : Run → Trees
 ran_by (Ran ts rest) = ts
 ran_by (Broke done os kind rest) = done

@@ -1,4 +1,4 @@
--- One item: its head, and the bytes of a string. Reading it gives its fault, or the item and what follows.
+-- One item: its head, and the bytes of a string. Reading it returns its fault, or the item and what follows.
 use Rattle.std.specs.Prelude.{ℕ, zero, suc, ◌<◌, ◌^◌, pos, negsuc, true, false, List, [], ◌∷◌, take, drop, Option, Some, None, Result, Ok, Err, if◌then◌else◌, nat_eq}
 use Rattle.ctap_cbor.specs.declared.fault.Kind.{Kind}
 use Rattle.ctap_cbor.specs.declared.fault.Kind.TheVariants.{Truncated}
@@ -46,7 +46,7 @@ abbrev pub Nests : ℕ → Due → Type 0
 Nests room AnItem = 0 < room
 Nests room (AKey before) = ⊥
 
--- the item may stand there
+-- the item may be there
 abbrev pub Suits : ℕ → Due → Part → Type 0
 Suits room AnItem (One s) = Fits s
 Suits room (AKey before) (One s) = Fits s × IsKey (Plain s) × IsAbove before (scalar_text s)

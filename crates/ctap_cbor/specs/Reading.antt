@@ -157,7 +157,7 @@ PassesSome room n old new = (ts : Trees) × PassesAll room n ts old new
 abbrev pub HaltsInPairs : ℕ → ℕ → Reading → Reading → ℕ → Kind → Type 0
 HaltsInPairs room n old new at kind = HaltsAtKey room n old new at kind ⊎ HaltsAtValue room n old new at kind
 
--- Nothing else can be passed or found there: a tree whose text stands at the place is the one that was passed, and
+-- Nothing else can be passed or found there: a tree whose text is at the place is the one that was passed, and
 -- where reading halts, it halts there.
 pub record Only (room : ℕ) (old new : Reading) (result : Result (Unit {0}) Fault) : Type 0 where
   pub passed : (t : Tree) (r : Reading) → Passes room t old r → (result ≡ Ok tt) × (new ≡ r)

@@ -36,7 +36,7 @@ or_else (Some kind) other = Some kind
 abbrev pub order_refusal : Option (List ℕ) → List ℕ → Option Kind
 order_refusal last key = if is_above (AKey last) key then None else Some KeyOrder
 
--- of a tree, where so many arrays and maps may stand in one another
+-- of a tree, where so many arrays and maps may be in one another
 abbrev mutual
   pub refusal : ℕ → Tree → Option Kind
   refusal room (Plain s) = range_refusal s

@@ -28,6 +28,6 @@ canonical_tree b = whole_tree (outcome_of b)
 abbrev pub check_steps : List ℕ → ℕ
 check_steps b = steps b (outcome_of b)
 
--- so many items that stand one after another, each of at most so many levels
+-- so many items that are one after another, each of at most so many levels
 unfoldable pub items_at : (room n : ℕ) → List ℕ → Trees
 items_at room n b = ran_by (items (parse room) n b)

@@ -22,13 +22,13 @@ part_of (Map n) = OpensMap n
 part_of (Logical b) = One (tree.Flag b)
 part_of Null = One tree.Null
 
--- Nothing else can be taken there: an item that stands at the place is the one that was taken.
+-- Nothing else can be taken there: an item that is at the place is the one that was taken.
 abbrev pub TakesOnly : ℕ → Reading → Reading → Result Item Fault → Type 0
 TakesOnly room old new result =
     (i : Part) (rest : List ℕ) → Suits room AnItem i → rest_of old ≡ item_text i ++ rest
     → IsOkAnd result (λ j. (part_of j ≡ i) × (rest_of new ≡ rest))
 
--- what a function found is what reading gives
+-- what a function found is what reading returns
 abbrev pub Finds : List ℕ → Result (Item × ℕ) (Kind × ℕ) → Result (Part × List ℕ) Kind → Type 0
 Finds bytes (Ok (i, len)) read = (read ≡ Ok (part_of i, drop len bytes)) × (len ≤ length bytes)
     × (len ≡ passed KeyOrder bytes)

@@ -26,7 +26,7 @@ scalar_len Null = 1
 abbrev pub room_of : Sink → ℕ
 room_of s = length s.buffer.now - s.len
 
--- so many bytes were written at the end, these, and the buffer keeps its length and what stands after them
+-- so many bytes were written at the end, these, and the buffer keeps its length and what is after them
 pub record Appends (old new : Sink) (bytes : List ℕ) (len : ℕ) : Type 0 where
   pub grows : contents new ≡ contents old ++ bytes
   pub len_is : length (contents new) ≡ length (contents old) + len

@@ -85,7 +85,7 @@ fn read_entries<'a, M: Entries<'a>>(
 
 /// Takes a whole item at this level, from 1 to 5, and hands the pairs of a map to `members`. Gives whether it is a map.
 ///
-/// The first fault that is met ends the reading; the cursor then stands as [`Cursor::skip`] leaves it.
+/// The first fault that is met ends the reading; the cursor then is as [`Cursor::skip`] leaves it.
 pub fn read_map<'a, M: Members<'a>>(
     members: &mut M,
     cursor: &mut Cursor<'a>,
@@ -112,7 +112,7 @@ pub fn read_map<'a, M: Members<'a>>(
 /// Takes a whole item at this level, from 1 to 5, and hands the entries of an array to `entries`. Gives whether it is
 /// an array.
 ///
-/// The first fault that is met ends the reading; the cursor then stands as [`Cursor::skip`] leaves it.
+/// The first fault that is met ends the reading; the cursor then is as [`Cursor::skip`] leaves it.
 pub fn read_array<'a, M: Entries<'a>>(
     entries: &mut M,
     cursor: &mut Cursor<'a>,

@@ -20,10 +20,10 @@ use std::marker::Model;
 /// In contracts a cursor is its message, the place of the next byte, and the steps so far. A step is a byte that
 /// was passed, a byte of a key that was compared with the key before it, or the finding of the message's end.
 ///
-/// Levels count from 1, at which a message's one item stands; what stands within an array or a map of level n is at
-/// level n + 1. At level 5 no array or map may stand.
+/// Levels count from 1, the level of a message's one item; what is within an array or a map of level n is at
+/// level n + 1. At level 5 no array or map may be.
 ///
-/// After a fault the cursor stands after the bytes that count as passed: all of them where the text is truncated,
+/// After a fault the cursor is after the bytes that count as passed: all of them where the text is truncated,
 /// the faulty first byte, the head that isn't the shortest, or the item whose text isn't UTF-8 or whose order is
 /// wrong.
 #[derive(Drop)]
@@ -67,7 +67,7 @@ impl<'a> Cursor<'a> {
         self.steps
     }
 
-    /// Takes one item: a head, and the bytes of a string. What an array or a map holds stands next.
+    /// Takes one item: a head, and the bytes of a string. What an array or a map holds is next.
     pub fn item(&mut self, level: u8) -> Result<Item<'a>, Fault>
         requires low { 1 ≤ level }
         requires high { level ≤ 5 }
@@ -94,7 +94,7 @@ impl<'a> Cursor<'a> {
     }
 
     /// Takes a key of a map, with its encoded bytes. `previous` has those of the key before it in the same map, and
-    /// is None for the first; a key has to stand above it in lexical order.
+    /// is None for the first; a key has to be above it in lexical order.
     pub fn key(&mut self, previous: Option<&'a [u8]>) -> Result<Key<'a>, Fault>
         ensures gives { MatchResult result
             (λ k. GivesKey (option_copied previous.entry) self.old self.new (part_of k.item) k.bytes.now)
@@ -140,7 +140,7 @@ impl<'a> Cursor<'a> {
         self.inside(item, level)
     }
 
-    /// Passes a whole item, with all that is inside, and gives its head.
+    /// Passes a whole item, with all that is inside, and returns its head.
     pub fn whole(&mut self, level: u8) -> Result<Item<'a>, Fault>
         requires low { 1 ≤ level }
         requires high { level ≤ 5 }
@@ -271,7 +271,7 @@ fn steps_to_compare(previous: Option<&[u8]>, len: usize) -> usize
     }
 }
 
-/// Whether the key stands above the one before it, in lexical order.
+/// Whether the key is above the one before it, in lexical order.
 fn is_key_above(previous: Option<&[u8]>, key: &[u8]) -> bool
     ensures { result ≡ is_above (AKey (option_copied previous.entry)) key.now }
 {

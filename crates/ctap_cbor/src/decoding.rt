@@ -42,8 +42,8 @@ impl<T: Drop> From<AllocFailed<T>> for Fault {
 
 /// The tree whose canonical encoding the bytes are.
 ///
-/// Bytes that aren't canonical have the fault that [`check`](crate::check) gives. Where memory is refused the fault is
-/// [`Kind::Memory`] at 0. What a head declares takes no memory before it is there.
+/// Bytes that aren't canonical have the fault that [`check`](crate::check) returns. Where memory is refused the fault
+/// is [`Kind::Memory`] at 0. What a head declares isn't allocated before it is there.
 pub fn decode_value(alloc: Global, bytes: &[u8]) -> Result<Value, Fault>
     ensures ok { IfOk result (λ v. IsCanonical (tree_of v) bytes.now) }
     ensures err { IfErr result (λ f. UnlessMemory f ((o : Outcome) × IsOutcome bytes.now o

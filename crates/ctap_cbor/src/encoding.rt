@@ -16,7 +16,7 @@ use crate::sink::{head_into, negative_argument};
 use crate::value::Value;
 use std::alloc::{AllocError, AllocFailed};
 
-/// Where a key's text stands in what is written.
+/// Where a key's text is in what is written.
 #[derive(Clone, Copy)]
 struct Span {
     start: usize,
@@ -181,7 +181,7 @@ fn write_key(key: &Value, out: &mut Vec<u8>) -> Result<(), Kind>
     }
 }
 
-/// Whether the key that was written from `start` on stands above the one before it.
+/// Whether the key that was written from `start` on is above the one before it.
 fn is_above_last(previous: Option<Span>, out: &[u8], start: usize) -> bool
     requires span { ForSome previous (λ s. (s.start ≤ s.end) × (s.end ≤ length out.now)) }
     requires start { start ≤ length out.now }

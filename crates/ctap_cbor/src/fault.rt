@@ -24,7 +24,7 @@ pub enum Kind {
     /// A map key that is no integer, byte string or text.
     #[error("not the type of a map key")]
     KeyType = 5,
-    /// A map key that doesn't stand above the key before it, a repeated one too.
+    /// A map key that isn't above the key before it, a repeated one too.
     #[error("map keys out of order")]
     KeyOrder = 6,
     /// A text that isn't UTF-8.
@@ -36,7 +36,7 @@ pub enum Kind {
     /// Bytes after the item.
     #[error("bytes after the item")]
     Trailing = 9,
-    /// No memory. Neither [`check`](crate::check) nor a [`Cursor`](crate::Cursor) gives it.
+    /// No memory. Neither [`check`](crate::check) nor a [`Cursor`](crate::Cursor) returns it.
     #[error("no memory")]
     Memory = 10,
 }

@@ -1,4 +1,4 @@
-//! What a cursor gives for an item.
+//! What a cursor returns for an item.
 
 /// A data item's head, with the bytes of a string, which are lent from the message. What an array or a map holds
 /// follows it in the message.

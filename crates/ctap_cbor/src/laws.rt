@@ -5,7 +5,7 @@ ghost use Rattle.ctap_cbor.specs.Head.{AreBytes};
 ghost use Rattle.ctap_cbor.specs.Laws.{EachTextIsOne, NoneBeginsAnother, NoItemBeginsAnother, StepsAreBounded, WrittenIsReadAgain, OneTreePasses, NothingHalts, EncodedIsDecoded, RefusedHasNoText, BytesTell, WholeReadings, CheckStepsAreBounded, ItemsAreFound};
 
 /// Each text is the encoding of one tree, or that and bytes after it, or has one first fault, with one way to
-/// stand there.
+/// be there.
 pub fn each_text_is_one()
     ensures { EachTextIsOne }
 {}
@@ -36,7 +36,7 @@ pub fn bytes_tell()
     ensures { BytesTell }
 {}
 
-/// Reading these bytes whole, by calls of a cursor, gives what they are and takes the steps of checking them.
+/// Reading these bytes whole, by calls of a cursor, returns what they are and takes the steps of checking them.
 pub fn whole_readings(bytes: &[u8])
     ensures { WholeReadings bytes.now }
 {}
@@ -46,17 +46,17 @@ pub fn check_steps_are_bounded()
     ensures { CheckStepsAreBounded }
 {}
 
-/// Items that stand one after another are found by `items_at`.
+/// Items that follow one another are found by `items_at`.
 pub fn items_are_found()
     ensures { ItemsAreFound }
 {}
 
-/// Where a tree's encoding stands at a cursor's place, that tree alone can be passed there.
+/// Where a tree's encoding is at a cursor's place, that tree alone can be passed there.
 pub fn one_tree_passes()
     ensures { OneTreePasses }
 {}
 
-/// Where a tree's encoding stands at a cursor's place, reading finds no fault there.
+/// Where a tree's encoding is at a cursor's place, reading finds no fault there.
 pub fn nothing_halts()
     ensures { NothingHalts }
 {}

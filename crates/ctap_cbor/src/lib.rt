@@ -20,7 +20,7 @@
 //! assert_eq!(rt; cursor.item(1)?, Item::Map(2));
 //! let first = cursor.key(None)?;
 //! cursor.skip(2)?;
-//! cursor.key(Some(first.bytes))?; // has to stand above the first
+//! cursor.key(Some(first.bytes))?; // has to be above the first
 //! cursor.skip(2)?;
 //! cursor.end()?;
 //!
@@ -36,7 +36,7 @@
 //! assert!(rt; copy.as_slice() == message);
 //! ```
 //!
-//! Only `decode_value` and `encode_value` take memory: the first as items come, the second as its vector grows. Nesting
+//! Only `decode_value` and `encode_value` allocate: the first as items come, the second as its vector grows. Nesting
 //! ends at four levels, and a count that a head declares costs nothing before its items are there.
 //!
 //! What is canonical is stated in `specs/Grammar.antt`, which fault is the first in `specs/Faults.antt` and

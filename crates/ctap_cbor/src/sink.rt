@@ -8,7 +8,7 @@ ghost use Rattle.ctap_cbor.specs.Grammar.{scalar_text, Fits};
 /// Writes CBOR into a lent buffer, from its front.
 ///
 /// A scalar is written whole; of an array or a map its head, and what it holds is written next by the caller: so
-/// many items, or so many keys each with its value, in rising order of the keys' encodings. Each call needs room for
+/// many items, or so many keys each with its value, in rising order of the keys' encodings. Each call needs space for
 /// what it writes.
 #[derive(Drop)]
 pub struct Sink<'a> {
@@ -178,7 +178,7 @@ pub(crate) fn negative_argument(value: i128) -> u64
     (-1 - value) as u64
 }
 
-/// Writes the shortest head of a major type with an argument into a buffer that holds any head, and gives its length.
+/// Writes the shortest head of a major type with an argument into a buffer that holds any head, and returns its length.
 pub(crate) fn head_into(major: u8, argument: u64, out: &mut [u8]) -> usize
     requires low { major < 8 }
     requires room { 9 ≤ length out.old }

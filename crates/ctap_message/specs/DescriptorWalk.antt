@@ -28,7 +28,7 @@ left_of w = items_at 3 w.count (rest_of w.cursor)
 abbrev pub IsWhole : DescriptorWalk → Trees → Type 0
 IsWhole w ts = (list_of w ≡ ts) × (left_of w ≡ ts)
 
--- the steps of a whole walk: those of checking the list's bytes, but for finding their end; none where there is no
+-- the steps of a whole walk: those of checking the list's bytes, except for finding their end; none where there is no
 -- entry
 abbrev pub list_steps : Trees → ℕ
 list_steps no_trees = 0
@@ -47,7 +47,7 @@ abbrev pub after_first : Trees → Trees
 after_first no_trees = no_trees
 after_first (tree t ts) = if is_some (named_id (descriptor_in (Some t))) then ts else after_first ts
 
--- what a call of `next` gives: the next id of an entry of type `public-key`, or nothing once no entry is left
+-- what a call of `next` returns: the next id of an entry of type `public-key`, or nothing once no entry is left
 pub record NextId (old : DescriptorWalk) (id : Option (Bor (List ℕ))) (new : DescriptorWalk) : Type 0 where
   pub first : YieldsFirstBy {A = Bor (List ℕ)} (λ x. x.now) (λ (w : DescriptorWalk). ids_of (left_of w)) old id new
   pub same : list_of new ≡ list_of old
@@ -70,13 +70,13 @@ pub record Walks (r s : Reading) (n : ℕ) (ts us : Trees) (more : ℕ) : Type 0
   pub cost : entry_steps ts ≡ more + entry_steps us
   pub steps : s.steps ≡ counted r.steps more
 
--- what looking for the next id gives
+-- what looking for the next id returns
 abbrev pub Gives : Reading → ℕ → Reading → ℕ → Option (List ℕ) → Type 0
 Gives r n s m id =
     (ts : Trees) → Left r n ts → (us : Trees) × (more : ℕ) × Walks r s m ts us more
     × (ids_of ts ≡ in_front id (ids_of us)) × (id ≡ None → us ≡ no_trees) × (us ≡ after_first ts)
 
--- the bytes of a list with entries, as they stand in a request
+-- the bytes of a list with entries, as they are in a request
 pub record IsList (l : List ℕ) (ts : Trees) : Type 0 where
   pub lawful : IsLawful (Array ts)
   pub flat : depth_all ts ≤ 3

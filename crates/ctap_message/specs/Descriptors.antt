@@ -39,7 +39,7 @@ abbrev pub ids_of : Trees → List (List ℕ)
 ids_of no_trees = []
 ids_of (tree t ts) = in_front (named_id (descriptor_in (Some t))) (ids_of ts)
 
--- What a list of descriptors tells: whether each has id and type, and its entries. One that isn't there has none.
+-- What a list of descriptors says: whether each has id and type, and its entries. One that isn't there has none.
 pub record DescriptorList : Type 0 where
   pub is_whole : Bool
   pub entries : Trees
@@ -100,7 +100,7 @@ is_es256 _ = false
 abbrev pub names_es256 : Parameter → Bool
 names_es256 p = is_es256 p.alg && is_public_key p.credential_type
 
--- What pubKeyCredParams tells: whether each entry has alg and type, and whether one names ES256 for public keys.
+-- What pubKeyCredParams says: whether each entry has alg and type, and whether one names ES256 for public keys.
 pub record Parameters : Type 0 where
   pub is_whole : Bool
   pub has_es256 : Bool

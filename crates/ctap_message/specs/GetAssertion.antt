@@ -1,4 +1,4 @@
--- authenticatorGetAssertion (CTAP 2.1, section 6.2): the types of its parameters, what they tell, the checks of a
+-- authenticatorGetAssertion (CTAP 2.1, section 6.2): the types of its parameters, what they say, the checks of a
 -- request in their order, and what it asks. The order, and that pinUvAuthParam is refused, are this project's choice.
 use Rattle.std.specs.Prelude.{ℕ, ◌==◌, Bool, false, not, ◌&&◌, List, [], ◌∷◌, length, Option, Some, None, is_some, Result}
 use Rattle.ctap_cbor.specs.Tree.{Tree, is_map}
@@ -22,7 +22,7 @@ assertion_types =
     ∷ (0x07, is_natural)  -- pinUvAuthProtocol
     ∷ []
 
--- ---- what the parameters tell
+-- ---- what the parameters say
 
 pub record AssertionParameters : Type 0 where
   pub rp_id : Option (List ℕ)

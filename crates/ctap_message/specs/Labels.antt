@@ -1,4 +1,4 @@
--- The names and numbers of members as the code tells them apart, and an item's head as a tree.
+-- The names and numbers of members as the code has them, and an item's head as a tree.
 use Rattle.std.specs.Prelude.{ℕ, pos, ◌==◌, nat_le, Bool, true, List, [], ◌∷◌, if◌then◌else◌, codes}
 use Rattle.std.specs.Str.{bytes_eq}
 use Rattle.ctap_cbor.specs.Tree.{Int, Text, Tree, Plain, Array, Map, no_trees, no_pairs}

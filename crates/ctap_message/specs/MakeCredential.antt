@@ -1,4 +1,4 @@
--- authenticatorMakeCredential (CTAP 2.1, section 6.1): the types of its parameters, what they tell, the checks of a
+-- authenticatorMakeCredential (CTAP 2.1, section 6.1): the types of its parameters, what they say, the checks of a
 -- request in their order, and what it asks. The order, and that pinUvAuthParam is refused, are this project's choice.
 use Rattle.std.specs.Prelude.{ℕ, ◌==◌, nat_le, Bool, false, not, ◌&&◌, List, [], ◌∷◌, length, Option, Some, None, is_some, unwrap_or, Result, codes}
 use Rattle.ctap_cbor.specs.Tree.{Tree, is_map}
@@ -30,7 +30,7 @@ make_types =
     ∷ (0x0a, is_natural)  -- enterpriseAttestation
     ∷ []
 
--- ---- what the parameters tell
+-- ---- what the parameters say
 
 pub record User : Type 0 where
   pub id : Option (List ℕ)

@@ -21,7 +21,7 @@ named_command byte =
     else (if byte == 0x0b then Some served.Selection else None)))))
 
 -- What takes no parameters (CTAP 2.1, sections 6.3, 6.4, 6.6 and 6.9) asks by its command byte alone. That bytes which
--- stand there are a wrong length is this project's choice.
+-- are there are a wrong length is this project's choice.
 abbrev pub alone : List ℕ → Asked → Result Asked ℕ
 alone parameters asked = if_all_hold (check (length parameters == 0) INVALID_LENGTH ∷ []) asked
 
@@ -39,7 +39,7 @@ served_request None parameters = Err INVALID_COMMAND
 served_request (Some c) parameters = request_of c parameters
 
 -- What a message asks (CTAP 2.1, section 8, "Message Encoding"): its first byte names the command, and the command's
--- parameters stand after it. A message without a command byte has a wrong length.
+-- parameters are after it. A message without a command byte has a wrong length.
 unfoldable pub read_of : List ℕ → Result Asked ℕ
 read_of [] = Err INVALID_LENGTH
 read_of (byte ∷ parameters) = served_request (named_command byte) parameters
@@ -50,7 +50,7 @@ abbrev pub reading_steps : List ℕ → ℕ
 reading_steps parameters = if is_some (canonical_tree parameters) then 2 * check_steps parameters
     else check_steps parameters
 
--- The steps of reading what stands after a command byte: none where nothing may stand there.
+-- The steps of reading what is after a command byte: none where nothing may be there.
 abbrev pub command_steps : Command → List ℕ → ℕ
 command_steps served.MakeCredential parameters = reading_steps parameters
 command_steps served.GetAssertion parameters = reading_steps parameters

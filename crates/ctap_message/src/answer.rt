@@ -10,7 +10,7 @@ use arrayvec::ArrayVec;
 /// An answer's message: a status byte, and at success a map after it.
 pub type Answer = ArrayVec<u8, 262>;
 
-/// How many bytes may stand after an answer's status.
+/// How many bytes may be after an answer's status.
 pub(crate) const LONGEST_MAP: usize = 261;
 
 /// The answer that is a status alone.

@@ -33,7 +33,7 @@ pub fn write_assertion(
     write_success(&map[..len])
 }
 
-/// Writes the map to the front of a buffer, and gives its length.
+/// Writes the map to the front of a buffer, and returns its length.
 fn assertion_into(
     buffer: &mut [u8],
     id: &[u8; 32],

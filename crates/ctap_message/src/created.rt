@@ -23,7 +23,7 @@ pub fn write_created(auth: &[u8], sig: &[u8]) -> Answer
     write_success(&map[..len])
 }
 
-/// Writes the map to the front of a buffer, and gives its length.
+/// Writes the map to the front of a buffer, and returns its length.
 fn created_into(buffer: &mut [u8], auth: &[u8], sig: &[u8]) -> usize
     requires room { LONGEST_MAP ≤ length buffer.old }
     requires auth { length auth.now ≡ 164 }

@@ -78,7 +78,7 @@ impl<'a> Descriptors<'a> {
         }
     }
 
-    /// A walk of a list with entries, which stands in a message.
+    /// A walk of a list with entries, which is in a message.
     pub(crate) fn over(list: &'a [u8]) -> Self
         requires { (ts : Trees) × IsList list.now ts }
         ensures { (ts : Trees) → IsList list.now ts → IsWhole result ts }
@@ -106,7 +106,7 @@ impl<'a> Descriptors<'a> {
         self.given
     }
 
-    /// The steps of the walk so far. At the end of the list they are those of checking its bytes, less the one that
+    /// The steps of the walk so far. At the end of the list they are those of checking its bytes, without the one that
     /// finds their end.
     pub fn steps(&self) -> u64
         ensures { result ≡ walked self.now }

@@ -29,7 +29,7 @@ pub fn write_info(aaguid: &[u8; 16]) -> Answer
     write_success(&map[..len])
 }
 
-/// Writes the map to the front of a buffer, and gives its length.
+/// Writes the map to the front of a buffer, and returns its length.
 fn info_into(buffer: &mut [u8], aaguid: &[u8; 16]) -> usize
     requires { 80 ≤ length buffer.old }
     ensures len { result ≡ 80 }

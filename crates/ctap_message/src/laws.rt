@@ -1,5 +1,5 @@
-//! What holds over the definitions alone. Each law is the contract of a function that does nothing, but for calling the
-//! laws that it rests on.
+//! What holds over the definitions alone. Each law is the contract of a function that does nothing, except for calling
+//! the laws that it rests on.
 
 ghost use Rattle.std.specs.Prelude.{◌≡◌, ℕ, ◌+◌, ◌-◌, ◌*◌, ◌≤◌, List, length, drop, min, Option};
 ghost use Rattle.ctap_cbor.specs.Tree.{Array, Trees, no_trees};
@@ -41,7 +41,7 @@ pub fn assertion_is_canonical()
 {}
 
 /// A walk over a list of n bytes takes at most 2 * n steps, and at the list's end exactly those of checking its bytes,
-/// less the one that finds their end.
+/// without the one that finds their end.
 pub fn walks_are_bounded()
     ensures bound { (ts : Trees) (l : List ℕ) → IsCanonical (Array ts) l → list_steps ts ≤ 2 * length l }
     ensures ended { (w : DescriptorWalk) → left_of w ≡ no_trees → walked w ≡ min (list_steps (list_of w)) LARGEST }

@@ -17,7 +17,7 @@
 //! assert!(rt; refused);
 //! ```
 //!
-//! - [`read_request`] gives what a message asks, or the status of the first check that it fails, and how many
+//! - [`read_request`] returns what a message asks, or the status of the first check that it fails, and how many
 //!   steps reading took.
 //! - [`Descriptors`] walks a request's list of credentials, in place.
 //! - [`write_status`], [`write_info`], [`write_created`] and [`write_assertion`] write answers: a status alone, or
@@ -25,7 +25,7 @@
 //! - [`laws`] has what holds of the definitions themselves.
 //!
 //! The commands authenticatorMakeCredential (0x01), GetAssertion (0x02), GetInfo (0x04), Reset (0x07),
-//! GetNextAssertion (0x08) and Selection (0x0b) are served. Nothing here takes memory.
+//! GetNextAssertion (0x08) and Selection (0x0b) are served. Nothing here allocates.
 //!
 //! What a message asks is stated in `specs/Requests.antt`, `specs/MakeCredential.antt` and
 //! `specs/GetAssertion.antt`, and what an answer holds in `specs/Answers.antt`.

@@ -1,4 +1,4 @@
--- What the fields of an `Assembler` stand for.
+-- What the fields of an `Assembler` mean.
 use Rattle.std.specs.Prelude.{◌≡◌, ℕ, ◌≤◌, List, [], take, length, Option, Some, None}
 use Rattle.hid_assemble.specs.Table.{Open, LAST_CHANNEL}
 use Rattle.hid_assemble.specs.Assembly.{Assembly, IsOpenMessage}

@@ -157,7 +157,7 @@ impl Assembler {
         }
     }
 
-    /// Drops an overdue message and gives its channel, on which ERROR 0x05 is due
+    /// Drops an overdue message and returns its channel, on which ERROR 0x05 is due
     /// (CTAP 2.1, section 11.2.5.2).
     pub fn pass(&mut self, at: u64) -> Option<u32>
         ensures dropped { result ≡ (if is_overdue self.old.current at then option_map (λ m. m.cid) self.old.current
@@ -175,7 +175,7 @@ impl Assembler {
 
     /// Serves a packet that came at `at` while work waits on the channel `working`, or none does: it
     /// says which row of the reply table applies, keeps the packet's data where that row says so, and
-    /// gives or drops what it says. `CancelWork` and `GreetAndDrop` come only where work waits on the
+    /// returns or drops what it says. `CancelWork` and `GreetAndDrop` come only where work waits on the
     /// packet's channel.
     #[tactic(auto, unfolding(crate::specs::Assembly::accepted, crate::specs::Verdicts::verdict))]
     pub fn accept(&mut self, at: u64, packet: &Packet, working: Option<u32>) -> Verdict

@@ -1,6 +1,6 @@
 //! The channels of CTAPHID and the reassembly of messages: the reply table, which says what becomes of
 //! each packet, and the time-out of a message that isn't finished (CTAP 2.1, sections 11.2.4 and 11.2.5).
-//! Nothing here takes memory.
+//! Nothing here allocates.
 //!
 //! An example, which the gate runs (`crates/transport_tests/src/assembler_page.rt`):
 //!

@@ -1,4 +1,4 @@
--- Packets of 64 bytes, and what stands in their data bytes after the message (CTAP 2.1, section 11.2.4, "Message and
+-- Packets of 64 bytes, and what is in their data bytes after the message (CTAP 2.1, section 11.2.4, "Message and
 -- packet structure").
 use Rattle.std.specs.Prelude.{◌≡◌, ℕ, ◌<◌, List, [], ◌∷◌, ◌++◌, length, replicate}
 use Rattle.std.specs.List.{AllByRecursion}

@@ -1,11 +1,11 @@
 //! CTAPHID packets of 64 bytes, the packets that carry a message, and a queue of packets to send
-//! (CTAP 2.1, section 11.2.4, "Message and packet structure"). Nothing here takes memory.
+//! (CTAP 2.1, section 11.2.4, "Message and packet structure"). Nothing here allocates.
 //!
 //! An example, which the gate runs (`crates/transport_tests/src/packet_page.rt`):
 //!
 //! ```text
 //! let mut outbox = Outbox::new();
-//! written_packets_are_the_fewest(); // so there is room
+//! written_packets_are_the_fewest(); // so there is space
 //! outbox.put_message(1, command::PING, b"hello");
 //! for packet in outbox {
 //!     match packet.view() {

@@ -17,7 +17,7 @@ use std::marker::Model;
 type Entries = ArrayVec<Entry, OUTBOX_CAPACITY>;
 
 /// The packets that wait to be sent, first in, first out, at most [`OUTBOX_CAPACITY`] of them. It keeps a message's
-/// bytes and makes its packets as they are taken. It takes no memory.
+/// bytes and makes its packets as they are taken. It allocates nothing.
 #[derive(Drop)]
 pub struct Outbox {
     entries: Entries,

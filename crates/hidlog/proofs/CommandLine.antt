@@ -16,7 +16,7 @@ use Rattle.clap.specs.declared.builder.command.Command.TheViews.{out-Command as 
 use Rattle.clap.specs.declared.parser.matches.ArgMatches.{ArgMatches}
 use Rattle.clap.specs.declared.parser.matches.Found.{Found}
 use Rattle.clap.specs.declared.error.kind.ErrorKind.TheVariants as kind
-use Rattle.hidlog.specs.CommandLine.{AddsCommand, ask_of, asked_by, grammar, answers_to}
+use Rattle.hidlog.specs.CommandLine.{AddsCommand, ask_of, asked_by, grammar, answers_to, replay, live, check, quiet, show}
 
 -- the rules of which clap's clauses speak
 is_simple_grammar : is_simple_and_free grammar ≡ true
@@ -222,3 +222,24 @@ path_is found id path is = is ∙ first_value-rows found id
 pub asks_of : (m : ArgMatches) (name word : Text) (rows : List Row) → subcommand_rows_of m ≡ Some (name, rows) → name ≡ word
     → option_and_then ask_of (subcommand_rows_of m) ≡ ask_of (word, rows)
 asks_of m name word rows is named = ap (option_and_then ask_of) (is ∙ ap (λ n. Some (n, rows)) named)
+
+-- What a command alone asks for, whatever the program's name is.
+pub plain_replay : (name : Text) → asked_by (name ∷ codes "replay" ∷ []) ≡ Some (replay None None)
+unfolding asked_by answers_to clap_on_literals
+plain_replay name = refl
+
+pub plain_live : (name : Text) → asked_by (name ∷ codes "live" ∷ []) ≡ Some (live None None)
+unfolding asked_by answers_to clap_on_literals
+plain_live name = refl
+
+pub plain_check : (name : Text) → asked_by (name ∷ codes "check" ∷ []) ≡ Some (check None)
+unfolding asked_by answers_to clap_on_literals
+plain_check name = refl
+
+pub plain_quiet : (name : Text) → asked_by (name ∷ codes "quiet" ∷ []) ≡ Some (quiet None)
+unfolding asked_by answers_to clap_on_literals
+plain_quiet name = refl
+
+pub plain_show : (name : Text) → asked_by (name ∷ codes "show" ∷ []) ≡ Some show
+unfolding asked_by answers_to clap_on_literals
+plain_show name = refl

@@ -13,11 +13,11 @@ use Rattle.session_log.specs.Session.{history, live_history}
 use Rattle.session_log.specs.World.{World}
 use Rattle.hidlog.specs.CommandLine.{Ask, answers_to, asked_by, replay, live, check, quiet, show}
 use Rattle.hidlog.specs.Program.{Explains, LacksMemory}
-use Rattle.hidlog.specs.Saved.{FailsToOpen, Opens, Saves}
+use Rattle.hidlog.specs.Saved.{FailsToOpen, FailsToSave, Opens, Saves}
 
 -- what is said of the files, of the log's source, of the target of the result and of that of the faults
 module _ {D I O F : Type 0} (holds : D → List ℕ → List ℕ → Type 0) (unreadable : D → List ℕ → Type 0)
-    (written unwritten : D → List ℕ → List ℕ → D → Type 0)
+    (written unwritten : D → List ℕ → List ℕ → D → Type 0) (unwritable : D → List ℕ → Type 0)
     (left : I → Option (List ℕ)) (unread : I → ℕ) (ended : I → Bool) (taken : O → Option (List ℕ)) (unput : O → ℕ)
     (said : F → Option (List ℕ)) (unsaid : F → ℕ) where
   -- The log is played on the program's start with the credentials of the snapshot at the path, as is said of that
@@ -37,6 +37,14 @@ module _ {D I O F : Type 0} (holds : D → List ℕ → List ℕ → Type 0) (un
       output
       × MatchResult played (λ _. Saves written unwritten path s said unsaid status files faults)
       (λ code. (status ≡ Err code) × (files.1 ≡ files.0))
+
+  -- The log was replayed live on the start. Where it is seen before that the file at the path can't be written to, the
+  -- status is 2, the log isn't read, and nothing is written.
+  abbrev pub Lives : Option (List ℕ) → Status → (D × D) → (I × I) → (O × O) → (F × F) → Start → Type 0
+  Lives path status files input output faults start =
+      ((status ≡ Err 2) × (files.1 ≡ files.0) × (input.1 ≡ input.0) × (output.1 ≡ output.0)
+      × FailsToSave unwritable files.0 path said unsaid faults)
+      ⊎ Replays live_history path status files input output faults start
 
   -- The log was compared with what is sent from the start on, or made quiet.
   abbrev pub Checks : Status → (D × D) → (I × I) → (O × O) → (F × F) → Start → Type 0
@@ -61,7 +69,7 @@ module _ {D I O F : Type 0} (holds : D → List ℕ → List ℕ → Type 0) (un
   Does (replay load save) status files input output faults =
       Begins load (Replays history save status files input output faults) status files input output faults
   Does (live load save) status files input output faults =
-      Begins load (Replays live_history save status files input output faults) status files input output faults
+      Begins load (Lives save status files input output faults) status files input output faults
   Does (check load) status files input output faults =
       Begins load (Checks status files input output faults) status files input output faults
   Does (quiet load) status files input output faults =

@@ -12,6 +12,12 @@ use Rattle.session_log.specs.Streams.{IsTaken, IsBroken}
 abbrev pub IsGiven : {F : Type 0} → (F → Option (List ℕ)) → (F → ℕ) → (F × F) → List ℕ → Type 0
 IsGiven taken failed target text = IsTaken taken failed target text ⊎ IsBroken taken failed target text
 
+-- a text was given to a target and then, where it was taken whole, perhaps one that says more
+abbrev pub IsTold : {F : Type 0} → (F → Option (List ℕ)) → (F → ℕ) → (F × F) → List ℕ → Type 0
+IsTold {F} taken failed target text = IsBroken taken failed target text
+    ⊎ ((told : F) × IsTaken taken failed (target.0, told) text
+    × ((target.1 ≡ told) ⊎ ((more : List ℕ) × IsGiven taken failed (told, target.1) more)))
+
 -- the text where memory is refused
 abbrev pub no_memory : List ℕ
 no_memory = codes "hidlog: no memory" ++ 10 ∷ []

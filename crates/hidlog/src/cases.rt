@@ -1,8 +1,8 @@
 //! Worked cases: each is a run of the program.
 //!
 //! A case is a block of lines. The first is the exit status and the words. Of each further line the first sign says
-//! where it stands: `-` in the log, `+` in what is written, `|` in both, `?` in what is told of faults. Two dots at its
-//! end stand for zeros, up to 128 digits in all. A line of a mere `!` says that the log's last line has no line feed.
+//! where it is: `-` in the log, `+` in what is written, `|` in both, `?` in what is said of faults. Two dots at its
+//! end mean zeros, up to 128 digits in all. A line of a mere `!` says that the log's last line has no line feed.
 use crate::files::Files;
 use crate::program::run;
 use session_log::{SliceIn, ToWrite};

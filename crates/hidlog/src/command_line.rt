@@ -1,5 +1,5 @@
 //! The command line of the program.
-ghost use Rattle.std.specs.Prelude.{◌≡◌, [], ◌∷◌, false, Some, codes, IfOk, IfErr, option_map, option_and_then};
+ghost use Rattle.std.specs.Prelude.{◌≡◌, [], ◌∷◌, false, Some, codes, IfOk, IfErr, IfSome, option_map, option_and_then};
 ghost use Rattle.clap.specs.Words.{HasKind, app_of, rule_of, shape_of, subcommand_rows_of};
 ghost use Rattle.clap.specs.declared.builder.command.Command.TheViews.{out-Command as fields_of};
 ghost use Rattle.hidlog.specs.CommandLine.{AddsCommand, command, grammar, path_option};
@@ -10,9 +10,9 @@ use clap::{Arg, ArgMatches, Command, Error};
 use std::alloc::{AllocError, Global};
 
 /// The version, which CHANGELOG.md describes.
-const VERSION: &str = "0.1.0";
+const VERSION: &str = "0.2.0";
 
-/// What the program is asked to do, with the paths of snapshots as they stand.
+/// What the program is asked to do, with the paths of snapshots as they are.
 #[derive(Clone, Copy, Debug, PartialEq, Eq)]
 pub enum Task<'a> {
     /// `hidlog replay [--load F] [--save F]`
@@ -53,7 +53,8 @@ fn save<'a>(alloc: Global) -> Arg<'a>
     ensures local { result.global ≡ false }
 {
     Arg::new(alloc, "save").long("save").value_name("F").help(
-        "Writes a snapshot of the credentials to F, unless the log has a fault",
+        "Writes a snapshot of the credentials to F at the end, unless the log has a fault; a kill within that write can \
+         lose the old one, so save to a new file and then mv it to F",
     )
 }
 
@@ -160,12 +161,46 @@ fn task_in<'a>(matches: &ArgMatches<'a>) -> Option<Task<'a>>
     }
 }
 
+/// Returns what a word after the program's name asks for, where it is a command.
+fn plain_task<'a>(program: &str, name: &str) -> Option<Task<'a>>
+    ensures { IfSome result (λ task. asked_by (program.now ∷ name.now ∷ []) ≡ Some (asks task)) }
+{
+    match name {
+        "replay" => Some(Task::Replay {
+            load: None,
+            save: None,
+        }),
+        "live" => Some(Task::Live {
+            load: None,
+            save: None,
+        }),
+        "check" => Some(Task::Check { load: None }),
+        "quiet" => Some(Task::Quiet { load: None }),
+        "show" => Some(Task::Show),
+        _ => None,
+    }
+}
+
+/// Returns what the words ask for where they are a command alone. Clap isn't asked: it takes a fifth of the
+/// instructions to the first line.
+fn alone<'a>(words: &[&str]) -> Option<Task<'a>>
+    ensures { IfSome result (λ task. asked_by (texts_of words.now) ≡ Some (asks task)) }
+{
+    match words {
+        [program, name] => plain_task(program, name),
+        _ => None,
+    }
+}
+
 /// What the words ask for, the first of them being the program's name; or clap's answer, which is help or
 /// says what is wrong with them.
 pub fn task_of<'a>(alloc: Global, words: &'a [&'a str]) -> Result<Task<'a>, Error>
     ensures task { IfOk result (λ task. asked_by (texts_of words.now) ≡ Some (asks task)) }
     ensures answer { IfErr result (λ error. HasKind (answers_to (texts_of words.now)) error) }
 {
+    if let Some(task) = alone(words) {
+        return Ok(task);
+    }
     let mut program = program(alloc)?;
     let matches = program.try_get_matches_from_mut(words)?;
     match task_in(&matches) {

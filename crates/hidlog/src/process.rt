@@ -1,10 +1,11 @@
-//! What the program's process gives it.
+//! What the program's process hands to it.
 ghost use Rattle.std.specs.Prelude.{◌≡◌, ◌<◌, ◌-◌, ◌^◌, ◌⊎◌, IfErr, OnOk, OnErr};
-ghost use Rattle.hidlog.specs.Program.{IsGiven, no_memory as no_memory_text, not_text};
+ghost use Rattle.hidlog.specs.Program.{IsGiven, IsTold, no_memory as no_memory_text, not_text};
 
 use session_log::{LogFault, Target, put_all, tell_fault};
-use std::alloc::AllocGlobal;
+use std::alloc::{AllocGlobal, Global};
 use std::env;
+use std::fmt::Display;
 use std::io::{self, ErrorKind};
 use std::rt::Env;
 
@@ -14,6 +15,26 @@ pub fn tell<E: Target>(faults: &mut E, text: &[u8])
     ensures { IsGiven E.taken E.failed (faults.old, faults.new) text.now }
 {
     let _ = put_all(faults, text);
+}
+
+/// Gives a text to the faults, and on the next line what it is about and why. Where memory is refused, that line is
+/// left out.
+pub fn tell_why<E: Target, W: Display>(
+    faults: &mut E,
+    alloc: Global,
+    text: &[u8],
+    about: &str,
+    why: &W,
+)
+    requires { E.failed faults.old < 2 ^ 64 - 1 }
+    ensures { IsTold E.taken E.failed (faults.old, faults.new) text.now }
+{
+    if put_all(faults, text).is_err() {
+        return;
+    }
+    if let Ok(more) = format!(in alloc; "  {about}: {why}\n") {
+        tell(faults, more.as_bytes());
+    }
 }
 
 /// Writes that memory was refused. The exit status, 2.
@@ -26,7 +47,7 @@ pub fn no_memory<E: Target>(faults: &mut E) -> u8
     2
 }
 
-/// Tells a fault of the log. The exit status, 1.
+/// Writes a fault of the log. The exit status, 1.
 pub fn log_fault<E: Target>(faults: &mut E, fault: &LogFault) -> u8
     requires { E.failed faults.old < 2 ^ 64 - 1 }
     ensures { result ≡ 1 }

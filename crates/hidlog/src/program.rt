@@ -10,7 +10,7 @@ ghost use Rattle.hidlog.specs.Commands.{Answers, Does};
 use crate::command_line::{Task, task_of};
 use crate::files::Files;
 use crate::process::{log_fault, no_memory, tell};
-use crate::snapshots::{save_rows, started};
+use crate::snapshots::{begin, look, save_rows};
 use clap::Error;
 use clap::error::ErrorKind;
 use session_log::{
@@ -18,6 +18,15 @@ use session_log::{
 };
 use session_show::show;
 use std::alloc::Global;
+
+/// What is said where a file is named as an argument.
+const FILES_COME_IN: &str = "\nhidlog reads the log on standard input: hidlog COMMAND < FILE\n";
+
+/// Returns whether clap's answer is about a word that is no option.
+fn names_a_file(text: &str) -> bool {
+    let word = "error: unexpected argument '";
+    text.starts_with(word) && !text.starts_with("error: unexpected argument '-")
+}
 
 /// Writes what clap answers: help to the output, what is wrong with the words to the faults. The status is
 /// 2 for all but help that was written.
@@ -32,11 +41,14 @@ fn explain<O: Target, E: Target>(
     ensures { Explains (kind_of error.now) O.taken O.failed E.taken E.failed result (output.old, output.new)
         (faults.old, faults.new) }
 {
-    let text = match error.to_string(alloc) {
+    let mut text = match error.to_string(alloc) {
         Ok(text) if error.kind() != ErrorKind::OutOfMemory => text,
         _ => return Err(no_memory(faults)),
     };
     if error.use_stderr() {
+        if names_a_file(text.as_str()) {
+            let _ = text.push_str(FILES_COME_IN);
+        }
         tell(faults, text.as_bytes());
         return Err(2);
     }
@@ -44,6 +56,7 @@ fn explain<O: Target, E: Target>(
 }
 
 /// Replays the log, and saves the credentials that the session has after it.
+#[inline(never)]
 fn replay_log<D, S, O, E>(
     files: &mut D,
     alloc: Global,
@@ -62,19 +75,21 @@ where
     requires writes { O.failed output.old < 2 ^ 64 - 1 }
     requires tells { E.failed faults.old < 2 ^ 64 - 1 }
     ensures status { IfErr result (λ code. (code ≡ 1) ⊎ (code ≡ 2)) }
-    ensures does { Does D.holds D.unreadable D.written D.unwritten S.left S.failed S.ended O.taken O.failed
+    ensures does { Does D.holds D.unreadable D.written D.unwritten D.unwritable S.left S.failed S.ended O.taken O.failed
         E.taken E.failed (replay (path_of load.entry) (path_of save.entry)) result
         (files.old, files.new) (input.old, input.new) (output.old, output.new) (faults.old, faults.new) }
 {
-    let mut session = started(files, load, faults)?;
-    replay_command(&mut session, input, output, faults)?;
+    let mut place = None;
+    let session = begin(&mut place, files, alloc, load, faults)?;
+    replay_command(session, input, output, faults)?;
     match save {
-        Some(path) => save_rows(files, alloc, path, &session, faults),
+        Some(path) => save_rows(files, alloc, path, session, faults),
         None => Ok(()),
     }
 }
 
 /// Replays the log and says what the key needs, and saves the credentials that the session has after it.
+#[inline(never)]
 fn live_log<D, S, O, E>(
     files: &mut D,
     alloc: Global,
@@ -93,21 +108,25 @@ where
     requires writes { O.failed output.old < 2 ^ 64 - 1 }
     requires tells { E.failed faults.old < 2 ^ 64 - 1 }
     ensures status { IfErr result (λ code. (code ≡ 1) ⊎ (code ≡ 2)) }
-    ensures does { Does D.holds D.unreadable D.written D.unwritten S.left S.failed S.ended O.taken O.failed
+    ensures does { Does D.holds D.unreadable D.written D.unwritten D.unwritable S.left S.failed S.ended O.taken O.failed
         E.taken E.failed (live (path_of load.entry) (path_of save.entry)) result
         (files.old, files.new) (input.old, input.new) (output.old, output.new) (faults.old, faults.new) }
 {
-    let mut session = started(files, load, faults)?;
-    live_command(&mut session, input, output, faults)?;
+    let mut place = None;
+    let session = begin(&mut place, files, alloc, load, faults)?;
+    look(files, alloc, save, faults)?;
+    live_command(session, input, output, faults)?;
     match save {
-        Some(path) => save_rows(files, alloc, path, &session, faults),
+        Some(path) => save_rows(files, alloc, path, session, faults),
         None => Ok(()),
     }
 }
 
 /// Compares the log with what the session sends.
+#[inline(never)]
 fn check_log<D, S, O, E>(
     files: &D,
+    alloc: Global,
     load: Option<&str>,
     input: &mut S,
     output: &mut O,
@@ -122,17 +141,20 @@ where
     requires writes { O.failed output.old < 2 ^ 64 - 1 }
     requires tells { E.failed faults.old < 2 ^ 64 - 1 }
     ensures status { IfErr result (λ code. (code ≡ 1) ⊎ (code ≡ 2)) }
-    ensures does { Does D.holds D.unreadable D.written D.unwritten S.left S.failed S.ended O.taken O.failed
+    ensures does { Does D.holds D.unreadable D.written D.unwritten D.unwritable S.left S.failed S.ended O.taken O.failed
         E.taken E.failed (check (path_of load.entry)) result
         (files.now, files.now) (input.old, input.new) (output.old, output.new) (faults.old, faults.new) }
 {
-    let mut session = started(files, load, faults)?;
-    check_command(&mut session, input, output, faults)
+    let mut place = None;
+    let session = begin(&mut place, files, alloc, load, faults)?;
+    check_command(session, input, output, faults)
 }
 
 /// Makes the log quiet.
+#[inline(never)]
 fn quiet_log<D, S, O, E>(
     files: &D,
+    alloc: Global,
     load: Option<&str>,
     input: &mut S,
     output: &mut O,
@@ -147,16 +169,18 @@ where
     requires writes { O.failed output.old < 2 ^ 64 - 1 }
     requires tells { E.failed faults.old < 2 ^ 64 - 1 }
     ensures status { IfErr result (λ code. (code ≡ 1) ⊎ (code ≡ 2)) }
-    ensures does { Does D.holds D.unreadable D.written D.unwritten S.left S.failed S.ended O.taken O.failed
+    ensures does { Does D.holds D.unreadable D.written D.unwritten D.unwritable S.left S.failed S.ended O.taken O.failed
         E.taken E.failed (quiet (path_of load.entry)) result
         (files.now, files.now) (input.old, input.new) (output.old, output.new) (faults.old, faults.new) }
 {
-    let mut session = started(files, load, faults)?;
-    quiet_command(&mut session, input, output, faults)
+    let mut place = None;
+    let session = begin(&mut place, files, alloc, load, faults)?;
+    quiet_command(session, input, output, faults)
 }
 
 /// Shows the log.
-fn show_log<S, O, E>(alloc: Global, input: &mut S, output: &mut O, faults: &mut E) -> Result<(), u8>
+#[inline(never)]
+fn show_log<S, O, E>(input: &mut S, output: &mut O, faults: &mut E) -> Result<(), u8>
 where
     S: Source,
     O: Target,
@@ -168,7 +192,7 @@ where
         × IsCounted S.left S.failed S.ended O.failed answer (input.old, input.new) (output.old, output.new) }
     ensures silent { OnOk result (faults.new ≡ faults.old) }
 {
-    match show(alloc, input, output) {
+    match show(input, output) {
         Ok(()) => Ok(()),
         Err(fault) => Err(log_fault(faults, &fault)),
     }
@@ -195,7 +219,7 @@ where
     requires tells { E.failed faults.old < 2 ^ 64 - 1 }
     ensures status { IfErr result (λ code. (code ≡ 1) ⊎ (code ≡ 2)) }
     // What the words ask for is done.
-    ensures answered { Answers D.holds D.unreadable D.written D.unwritten S.left S.failed S.ended O.taken O.failed
+    ensures answered { Answers D.holds D.unreadable D.written D.unwritten D.unwritable S.left S.failed S.ended O.taken O.failed
         E.taken E.failed (texts_of words.now) result
         (files.old, files.new) (input.old, input.new) (output.old, output.new) (faults.old, faults.new) }
 {
@@ -206,9 +230,9 @@ where
         Ok(Task::Live { load, save }) => {
             live_log(files, alloc, load, save, input, output, faults)
         }
-        Ok(Task::Check { load }) => check_log(files, load, input, output, faults),
-        Ok(Task::Quiet { load }) => quiet_log(files, load, input, output, faults),
-        Ok(Task::Show) => show_log(alloc, input, output, faults),
+        Ok(Task::Check { load }) => check_log(files, alloc, load, input, output, faults),
+        Ok(Task::Quiet { load }) => quiet_log(files, alloc, load, input, output, faults),
+        Ok(Task::Show) => show_log(input, output, faults),
         Err(error) => explain(alloc, &error, output, faults),
     }
 }

@@ -30,11 +30,21 @@ impl Files for Memory {
 
     ghost unwritten = { λ _ _ _ _. Unit {0} };
 
+    ghost unwritable = { λ _ path. path ≢ codes "new" };
+
     fn read(&self, path: &str) -> io::Result<Vec<u8>> {
         if path != "old" {
             return Err(io::Error::from(ErrorKind::NotFound));
         }
         Ok(self.old.as_slice().to_vec(self.alloc)?)
+    }
+
+    fn look(&self, path: &str) -> io::Result<()> {
+        if path == "new" {
+            Ok(())
+        } else {
+            Err(io::Error::from(ErrorKind::NotFound))
+        }
     }
 
     fn write(&mut self, path: &str, bytes: &[u8]) -> io::Result<()> {

@@ -1,18 +1,19 @@
 //! The session's start from a snapshot, and the snapshot of its end.
-ghost use Rattle.std.specs.Prelude.{◌≡◌, ◌<◌, ◌-◌, ◌^◌, [], List, Some, IfOk, IfErr, OnOk, OnErr};
+ghost use Rattle.std.specs.Prelude.{◌≡◌, ◌<◌, ◌-◌, ◌^◌, [], List, Some, Ok, IfOk, IfErr, IsSomeAnd, MatchResult, OnOk, OnErr};
 ghost use Rattle.cred_table.specs.declared.row.Row.{Row as AnyRow};
+ghost use Rattle.cred_table.specs.Snapshots.{Loads, Refuses};
 ghost use Rattle.token_session.specs.Meters.{StandsAfter};
 ghost use Rattle.hidlog.specs.CommandLine.{path_of};
-ghost use Rattle.hidlog.specs.Program.{refused};
+ghost use Rattle.hidlog.specs.Program.{IsTold, refused};
 ghost use Rattle.session_log.specs.Command.{start_with};
-ghost use Rattle.hidlog.specs.Saved.{FailsToOpen, Opens, Saves};
+ghost use Rattle.hidlog.specs.Saved.{FailsToOpen, FailsToSave, Opens, Saves};
 
 use crate::files::Files;
-use crate::process::{no_memory, tell};
+use crate::process::{no_memory, tell_why};
 use authn_core::Config;
 use cred_table::{SnapshotFault, Store, Table, load, save};
 use session_log::{CAPACITY, Target};
-use std::alloc::Global;
+use std::alloc::{AllocError, Global};
 use std::io::ErrorKind;
 use token_session::Session;
 
@@ -28,60 +29,183 @@ fn refusal(fault: SnapshotFault) -> &'static [u8]
     }
 }
 
-/// The rows of the snapshot at the path. Where it can't be read, or is refused, that is written, and an error holds
-/// the exit status, 2.
-fn loaded<D: Files, E: Target>(files: &D, path: &str, faults: &mut E) -> Result<Store<CAPACITY>, u8>
+/// Says why a snapshot of these bytes is refused, in words.
+fn reason(alloc: Global, fault: SnapshotFault, bytes: &[u8]) -> Result<String, AllocError> {
+    match (fault, bytes) {
+        (SnapshotFault::TooMany, _) => format!(in alloc; "it has more than {CAPACITY} credentials"),
+        (SnapshotFault::RowBroken(place), _) => {
+            let number = place.saturating_add(1);
+            format!(in alloc; "credential {number} is broken, or is there twice")
+        }
+        (_, []) => format!(in alloc; "it is empty"),
+        (_, [0xA2, 0x01, 0x01 | 0x02, ..]) => format!(in alloc;
+            "it begins as a snapshot, and is cut off or changed"
+        ),
+        (_, [0xA2, 0x01, version @ 0x03..=0x17, ..]) => format!(in alloc;
+            "it is of version {version}, and 1 and 2 are read"
+        ),
+        _ => format!(in alloc; "it is no snapshot"),
+    }
+}
+
+/// Writes that a snapshot is refused, and why.
+fn refuse<E: Target>(faults: &mut E, alloc: Global, path: &str, fault: SnapshotFault, bytes: &[u8])
     requires { E.failed faults.old < 2 ^ 64 - 1 }
-    ensures opens { IfOk result (λ rows. Opens D.holds files.now (Some path.now)
-        (⟦<Store<CAPACITY> as Table<CAPACITY>>⟧.rows rows)) }
+    ensures { IsTold E.taken E.failed (faults.old, faults.new) (refused fault) }
+{
+    let why = reason(alloc, fault, bytes).unwrap_or(String::new(alloc));
+    tell_why(faults, alloc, refusal(fault), path, &why);
+}
+
+/// Reads the file of a snapshot. Where it can't be read, that is written, and an error holds the exit status, 2.
+fn read_file<D: Files, E: Target>(
+    files: &D,
+    alloc: Global,
+    path: &str,
+    faults: &mut E,
+) -> Result<Vec<u8>, u8>
+    requires { E.failed faults.old < 2 ^ 64 - 1 }
+    ensures holds { IfOk result (λ bytes. D.holds files.now path.now bytes.items) }
     ensures silent { OnOk result (faults.new ≡ faults.old) }
     ensures status { IfErr result (λ code. code ≡ 2) }
     ensures told { OnErr result (FailsToOpen D.holds D.unreadable files.now (Some path.now) E.taken E.failed
         (faults.old, faults.new)) }
 {
-    let bytes = match files.read(path) {
-        Ok(bytes) => bytes,
-        Err(error) if error.kind() == ErrorKind::OutOfMemory => return Err(no_memory(faults)),
-        Err(_) => {
-            tell(faults, b"hidlog: cannot read snapshot\n");
-            return Err(2);
-        }
-    };
-    let mut rows = Store::new();
-    match load(&bytes, &mut rows) {
-        Ok(()) => Ok(rows),
-        Err(fault) => {
-            tell(faults, refusal(fault));
+    match files.read(path) {
+        Ok(bytes) => Ok(bytes),
+        Err(error) if error.kind() == ErrorKind::OutOfMemory => Err(no_memory(faults)),
+        Err(error) => {
+            tell_why(
+                faults,
+                alloc,
+                b"hidlog: cannot read snapshot\n",
+                path,
+                &error,
+            );
             Err(2)
         }
     }
 }
 
-/// The program's session at its start, with these credentials: its AAGUID is zero, and its moment 0.
+/// Returns the program's session at its start with these credentials: its AAGUID is zero, and its moment 0.
 fn session_with(rows: Store<CAPACITY>) -> Session<CAPACITY>
     ensures { StandsAfter result (start_with (⟦<Store<CAPACITY> as Table<CAPACITY>>⟧.rows rows)) [] }
 {
     Session::new(Config { aaguid: [0; 16] }, rows, 0)
 }
 
-/// The program's session at its start, with the credentials of the snapshot at the path, or with none. An error
-/// is one of [`loaded`].
-pub fn started<D: Files, E: Target>(
+// A session takes 29 kB. It is made where it stays, by a function of its own, since a value that is moved is copied and
+// its old place cleared, and what a function that is inlined keeps is on the stack as long as its caller.
+
+/// Puts the program's session at its start into its place, without credentials.
+#[inline(never)]
+fn put_bare(place: &mut Option<Session<CAPACITY>>)
+    ensures { IsSomeAnd place.new (λ session. StandsAfter session (start_with []) []) }
+{
+    *place = Some(Session::bare([0; 16], 0));
+}
+
+/// Puts the program's session at its start into its place, with the credentials of a snapshot.
+#[inline(never)]
+fn put_loaded(place: &mut Option<Session<CAPACITY>>, bytes: &[u8]) -> Result<(), SnapshotFault>
+    ensures { MatchResult result
+        (λ _. IsSomeAnd place.new (λ session. (rows : List AnyRow) × Loads 64 bytes.now (Ok tt) rows
+        × StandsAfter session (start_with rows) []))
+        (λ fault. Refuses 64 bytes.now fault) }
+{
+    let mut rows = Store::new();
+    match load(bytes, &mut rows) {
+        Ok(()) => {
+            *place = Some(session_with(rows));
+            Ok(())
+        }
+        Err(fault) => Err(fault),
+    }
+}
+
+/// Puts the program's session at its start into its place, with the credentials of the snapshot at the path. Where it
+/// can't be read, or is refused, that is written, and an error holds the exit status, 2.
+fn put_session<D: Files, E: Target>(
+    place: &mut Option<Session<CAPACITY>>,
     files: &D,
+    alloc: Global,
+    path: &str,
+    faults: &mut E,
+) -> Result<(), u8>
+    requires { E.failed faults.old < 2 ^ 64 - 1 }
+    ensures begins { OnOk result (IsSomeAnd place.new (λ session. (rows : List AnyRow)
+        × Opens D.holds files.now (Some path.now) rows × StandsAfter session (start_with rows) [])) }
+    ensures silent { OnOk result (faults.new ≡ faults.old) }
+    ensures status { IfErr result (λ code. code ≡ 2) }
+    ensures told { OnErr result (FailsToOpen D.holds D.unreadable files.now (Some path.now) E.taken E.failed
+        (faults.old, faults.new)) }
+{
+    let bytes = read_file(files, alloc, path, faults)?;
+    match put_loaded(place, &bytes) {
+        Ok(()) => Ok(()),
+        Err(fault) => {
+            refuse(faults, alloc, path, fault, &bytes);
+            Err(2)
+        }
+    }
+}
+
+/// Returns the program's session at its start, in its place, with the credentials of the snapshot at the path, or with
+/// none. Where the snapshot can't be read, or is refused, that is written, and an error holds the exit status, 2.
+pub fn begin<'a, D: Files, E: Target>(
+    place: &'a mut Option<Session<CAPACITY>>,
+    files: &D,
+    alloc: Global,
     path: Option<&str>,
     faults: &mut E,
-) -> Result<Session<CAPACITY>, u8>
+) -> Result<&'a mut Session<CAPACITY>, u8>
     requires { E.failed faults.old < 2 ^ 64 - 1 }
     ensures begins { IfOk result (λ session. (rows : List AnyRow) × Opens D.holds files.now (path_of path.entry) rows
-        × StandsAfter session (start_with rows) []) }
+        × StandsAfter session.now (start_with rows) []) }
     ensures silent { OnOk result (faults.new ≡ faults.old) }
     ensures status { IfErr result (λ code. code ≡ 2) }
     ensures told { OnErr result (FailsToOpen D.holds D.unreadable files.now (path_of path.entry) E.taken E.failed
         (faults.old, faults.new)) }
 {
     match path {
-        Some(path) => Ok(session_with(loaded(files, path, faults)?)),
-        None => Ok(session_with(Store::new())),
+        Some(path) => put_session(place, files, alloc, path, faults)?,
+        None => put_bare(place),
+    }
+    match place {
+        Some(session) => Ok(session),
+        None => unreachable!(),
+    }
+}
+
+/// Looks whether a snapshot can be written to the path. Where it can't, that is written, and an error holds the exit
+/// status, 2.
+pub fn look<D: Files, E: Target>(
+    files: &D,
+    alloc: Global,
+    path: Option<&str>,
+    faults: &mut E,
+) -> Result<(), u8>
+    requires { E.failed faults.old < 2 ^ 64 - 1 }
+    ensures silent { OnOk result (faults.new ≡ faults.old) }
+    ensures status { IfErr result (λ code. code ≡ 2) }
+    ensures told { OnErr result (FailsToSave D.unwritable files.now (path_of path.entry) E.taken E.failed
+        (faults.old, faults.new)) }
+{
+    let Some(path) = path else {
+        return Ok(());
+    };
+    match files.look(path) {
+        Ok(()) => Ok(()),
+        Err(error) => {
+            tell_why(
+                faults,
+                alloc,
+                b"hidlog: cannot write snapshot\n",
+                path,
+                &error,
+            );
+            Err(2)
+        }
     }
 }
 
@@ -102,9 +226,17 @@ pub fn save_rows<D: Files, E: Target>(
     if save(session.table(), &mut bytes).is_err() {
         return Err(no_memory(faults));
     }
-    if files.write(path, bytes.as_slice()).is_err() {
-        tell(faults, b"hidlog: cannot write snapshot\n");
-        return Err(2);
+    match files.write(path, bytes.as_slice()) {
+        Ok(()) => Ok(()),
+        Err(error) => {
+            tell_why(
+                faults,
+                alloc,
+                b"hidlog: cannot write snapshot\n",
+                path,
+                &error,
+            );
+            Err(2)
+        }
     }
-    Ok(())
 }

@@ -27,7 +27,7 @@ const WORDS: &str = "\
 +  -V, --version  Print version
 
 0 hidlog --version
-+hidlog 0.1.0
++hidlog 0.2.0
 
 0 hidlog live --help
 +Replays the log line by line as it comes, and says what the key needs after each input
@@ -36,7 +36,8 @@ const WORDS: &str = "\
 +
 +Options:
 +      --load <F>  Starts with the credentials of the snapshot F, and not with none
-+      --save <F>  Writes a snapshot of the credentials to F, unless the log has a fault
++      --save <F>  Writes a snapshot of the credentials to F at the end, unless the log has a fault; a kill within that \
+    write can lose the old one, so save to a new file and then mv it to F
 +  -h, --help      Print help
 
 0 hidlog replay --help
@@ -46,7 +47,8 @@ const WORDS: &str = "\
 +
 +Options:
 +      --load <F>  Starts with the credentials of the snapshot F, and not with none
-+      --save <F>  Writes a snapshot of the credentials to F, unless the log has a fault
++      --save <F>  Writes a snapshot of the credentials to F at the end, unless the log has a fault; a kill within that \
+    write can lose the old one, so save to a new file and then mv it to F
 +  -h, --help      Print help
 
 2 hidlog --what
@@ -103,6 +105,7 @@ const LOGS: &str = "\
 -# idle
 -t 7
 -> 11 00000001910000..
++1 # idle
 +2 t 7
 +3 > 11 00000001 CANCEL 0
 
@@ -119,6 +122,7 @@ const LOGS: &str = "\
 -t 7
 -> 11 00000001910000..
 -t 012
++1 # idle
 +2 t 7
 +3 > 11 00000001 CANCEL 0
 ?hidlog: line 4: not a log line
@@ -144,33 +148,51 @@ const FILES: &str = "\
 2 hidlog replay --load no-such-folder/snapshot
 -t 05
 ?hidlog: cannot read snapshot
+?  no-such-folder/snapshot: No such file or directory (os error 2)
 
 2 hidlog live --load no-such-folder/snapshot
 -t 05
 ?hidlog: cannot read snapshot
+?  no-such-folder/snapshot: No such file or directory (os error 2)
 
 2 hidlog check --load no-such-folder/snapshot
 -t 05
 ?hidlog: cannot read snapshot
+?  no-such-folder/snapshot: No such file or directory (os error 2)
 
 2 hidlog quiet --load no-such-folder/snapshot
 -t 05
 ?hidlog: cannot read snapshot
+?  no-such-folder/snapshot: No such file or directory (os error 2)
 
 2 hidlog replay --load /
 ?hidlog: cannot read snapshot
+?  /: Is a directory (os error 21)
 
 2 hidlog replay --save no-such-folder/snapshot
 += held 0 rows 0 pending 0 requests 0 bytes 0 steps 0
 ?hidlog: cannot write snapshot
+?  no-such-folder/snapshot: No such file or directory (os error 2)
+
+2 hidlog live --save no-such-folder/snapshot
+-t 5
+?hidlog: cannot write snapshot
+?  no-such-folder/snapshot: No such file or directory (os error 2)
 
 2 hidlog replay --save /
 += held 0 rows 0 pending 0 requests 0 bytes 0 steps 0
 ?hidlog: cannot write snapshot
+?  /: Is a directory (os error 21)
+
+2 hidlog live --save /
+-t 5
+?hidlog: cannot write snapshot
+?  /: Is a directory (os error 21)
 
 2 hidlog replay --save /dev/full
 += held 0 rows 0 pending 0 requests 0 bytes 0 steps 0
-?hidlog: cannot write snapshot";
+?hidlog: cannot write snapshot
+?  /dev/full: No space left on device (os error 28)";
 
 #[test]
 fn runs_end_as_they_should(rt: HostRuntime) -> Result<(), AllocError> {

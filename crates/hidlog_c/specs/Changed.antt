@@ -2,7 +2,6 @@
 use Rattle.std.specs.Prelude.{◌≡◌, ◌≢◌, ◌⊎◌, ◌<◌, ◌≤◌, ℕ, ℤ, pos, true, List, [], ◌∷◌, ◌++◌, length, take, Option, Some, None, is_some}
 use Rattle.std.specs.List.{find}
 use Rattle.std.specs.Str.{IsUtf8}
-use Rattle.authn_core.specs.Bare.{bare_rows}
 use Rattle.authn_core.specs.Views.{needs, nothing}
 use Rattle.cred_table.specs.declared.row.Row.{Row}
 use Rattle.cred_table.specs.Rows.{has_id, without}
@@ -16,7 +15,7 @@ use Rattle.hidlog_c.specs.Switched.{IsStarted}
 
 -- These are the rows of the device's table.
 abbrev pub HasRows : DeviceState → List Row → Type 0
-HasRows d rows = bare_rows rows ≡ d.session.machine.core.state.rows
+HasRows d rows = rows ≡ d.session.machine.core.state.rows
 
 -- Neither a packet waits, nor work.
 abbrev pub IsIdle : DeviceState → Type 0
@@ -39,14 +38,14 @@ pub record Says (c : Credential) (row : Row) : Type 0 where
   pub y : row.y ≡ c.y
   pub user : row.user.items ≡ take c.user_len c.user
   pub user_len : c.user_len ≤ 64
-  pub name : row.name.bytes ≡ take c.name_len c.name
+  pub name : row.name ≡ take c.name_len c.name
   pub name_len : c.name_len ≤ 64
   pub discoverable : bit row.discoverable ≡ c.discoverable
   pub counter : row.counter ≡ c.counter
 
 -- A struct that says no credential.
 abbrev pub SaysNone : Credential → Type 0
-SaysNone c = (row : Row) → IsUtf8 row.name.bytes → Says c row → ⊥
+SaysNone c = (row : Row) → IsUtf8 row.name → Says c row → ⊥
 
 -- A credential is put after the others, in the place of one with the same id.
 abbrev pub with_row : Row → List Row → List Row
@@ -89,8 +88,8 @@ Clears None after at result = (after ≡ None) × (result ≡ NOT_MADE)
 Clears (Some d) after at result = (IsIdle d × StartsWith d after at [] × (result ≡ pos 0))
     ⊎ ((after ≡ Some d) × IsBusy d result)
 
--- The snapshot of the credentials is written to the buffer's front, so many bytes. A pair is the buffer before and after
--- the call.
+-- The snapshot of the credentials is written to the buffer's front, so many bytes. A pair is the buffer before and
+-- after the call.
 abbrev pub SavesLen : DeviceState → (List ℕ × List ℕ) → (len : ℕ) → Type 0
 SavesLen d out len = (rows : List Row) × HasRows d rows × SavesInto 64 rows out.0 out.1 (Some len)
 

@@ -14,8 +14,8 @@ use Rattle.session_log.specs.Command.{start_with}
 use Rattle.hidlog_c.specs.Begin.{Opens}
 use Rattle.hidlog_c.specs.Numbers.{outcome_of, refused}
 
--- The log was replayed from the start with these credentials: `bytes` of it were read, which is all but `rest`, and this
--- text was written. Where it ended at a fault, no more need be read to find it.
+-- The log was replayed from the start with these credentials: `bytes` of it were read, which is all but `rest`, and
+-- this text was written. Where it ended at a fault, no more need be read to find it.
 abbrev pub Replays : List Row → (bytes rest text : List ℕ) → Ending → Type 0
 Replays rows bytes rest text ending = (later : List Timed)
     × Makes (history (start_with rows)) [] later bytes text ending
@@ -39,7 +39,7 @@ Quiets rows bytes rest text ending = (later : List Timed)
     × Makes (quiet_history (start_with rows)) [] later bytes text ending
     × Finds (quiet_history (start_with rows)) [] bytes (rest ≡ []) ending
 
--- Of the log `bytes` were read, all of it where there is no fault, and no read failed. The text stands at the buffer's
+-- Of the log `bytes` were read, all of it where there is no fault, and no read failed. The text is at the buffer's
 -- front; where a write failed the buffer is full. P holds of the bytes, of what wasn't read, of the text and of how it
 -- ended.
 pub record IsWritten (log out : List ℕ) (written : ℕ) (answer : Result (Unit {0}) LogFault)

@@ -33,7 +33,7 @@ abbrev pub input_answer : Option DeviceState → Timed → ℤ
 input_answer None x = NOT_MADE
 input_answer (Some d) x = answer_of d d.waiting x
 
--- After each history that the session stands after, it stands after the longer one, and just what the history names for
+-- After each history that the session is after, it is after the longer one, and just what the history names for
 -- the input waits.
 abbrev pub FollowsHistory : DeviceState → Timed → Type 0
 FollowsHistory d x = (start : Start) (h : List Timed) → StandsAfter d.session start h

@@ -10,3 +10,4 @@ pub mod Owned
 pub mod Lending
 pub mod Changed
 pub mod Held
+pub mod Shown

@@ -34,9 +34,9 @@ credential_of row = record {
   x = row.x;
   y = row.y;
   user = with_zeros 64 row.user.items;
-  name = with_zeros 64 row.name.bytes;
+  name = with_zeros 64 row.name;
   user_len = length row.user.items;
-  name_len = length row.name.bytes;
+  name_len = length row.name;
   discoverable = bit row.discoverable;
   counter = row.counter;
 }

@@ -1,6 +1,5 @@
 -- A key that is switched on.
 use Rattle.std.specs.Prelude.{◌≡◌, ◌≢◌, ◌⊎◌, ℕ, ℤ, pos, List, [], Option, Some, None}
-use Rattle.authn_core.specs.Bare.{bare_rows}
 use Rattle.authn_core.specs.Turn.{Start}
 use Rattle.cred_table.specs.declared.fault.SnapshotFault.{SnapshotFault}
 use Rattle.cred_table.specs.declared.fault.SnapshotFault.TheVariants.{NotSnapshot, TooMany, RowBroken, Memory}
@@ -11,9 +10,9 @@ use Rattle.hidlog_c.specs.Begin.{Opens}
 use Rattle.hidlog_c.specs.declared.fault.TheConstants.{ALREADY_MADE, NOT_SNAPSHOT, TOO_MANY_ROWS, ROW_BROKEN, NO_MEMORY}
 use Rattle.hidlog_c.specs.Key.{DeviceState}
 
--- the start of a session with room for 64 credentials
+-- the start of a session with space for 64 credentials
 abbrev pub start_of : (aaguid : List ℕ) → (moment : ℕ) → List Row → Start
-start_of aaguid moment rows = record { aaguid = aaguid; moment = moment; room = 64; rows = bare_rows rows }
+start_of aaguid moment rows = record { aaguid = aaguid; moment = moment; room = 64; rows = rows }
 
 abbrev pub refusal : SnapshotFault → ℤ
 refusal NotSnapshot = NOT_SNAPSHOT

@@ -1,5 +1,5 @@
-//! A security key as functions of C (hidlog.h): a key that is held, with one input a call (`calls`), and the commands on
-//! session logs, from a log and a snapshot to a text and an outcome. Nothing is allocated. The same source makes the
+//! A security key as functions of C (hidlog.h): a key that is held, with one input a call (`calls`), and the commands
+//! on session logs, from a log and a snapshot to a text and an outcome. Nothing is allocated. The same source makes the
 //! WebAssembly module of the web page (release/build.sh).
 #![tactic(auto)]
 
@@ -16,12 +16,15 @@ mod memory;
 mod outcome;
 mod reports;
 mod rows;
+mod showing;
 mod started;
 
 ghost use Rattle.hidlog_c.specs.Commands.{Answers, Checks, Lives, Quiets, Replays};
+ghost use Rattle.hidlog_c.specs.Shown.{IsShown};
 
 use crate::commands::{Check, Live, Quiet, Replay, run};
 use crate::outcome::Outcome;
+use crate::showing::show_log;
 
 /// Replays the log on a session with the credentials of the snapshot, or with none where the snapshot is empty.
 /// What a replay writes goes to the front of `out`.
@@ -59,3 +62,11 @@ pub extern "C" fn hidlog_quiet(log: &[u8], snapshot: &[u8], out: &mut [u8], outc
 
 #[cfg(test)]
 mod tests;
+
+/// Shows the log to a person. What is shown goes to the front of `out`.
+#[unsafe(no_mangle)]
+pub extern "C" fn hidlog_show(log: &[u8], out: &mut [u8], outcome: &mut Outcome)
+    ensures { IsShown log.now out.new outcome.new }
+{
+    *outcome = show_log(log, out);
+}

@@ -115,7 +115,7 @@ pub fn credential_report(row: &Row) -> Credential
     ensures { result ≡ credential_of row.now }
 {
     let user = row.user.as_slice();
-    let name = row.name.as_bytes();
+    let name = row.name.as_str().as_bytes();
     Credential {
         rp: row.rp,
         id: row.id,

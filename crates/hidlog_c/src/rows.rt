@@ -3,8 +3,8 @@ ghost use Rattle.std.specs.Prelude.{◌≡◌, ◌≤◌, ◌<◌, length, take,
 ghost use Rattle.hidlog_c.specs.Changed.{Says, SaysNone};
 
 use crate::reports::Credential;
-use arrayvec::{ArrayString, ArrayVec};
-use cred_table::Row;
+use arrayvec::ArrayVec;
+use cred_table::{Name, Row};
 use std::str;
 
 /// Returns the first bytes of an array, where it has so many.
@@ -35,6 +35,6 @@ pub fn row_of(credential: &Credential) -> Option<Row>
         user: ArrayVec::try_from(user).ok()?,
         discoverable,
         counter: credential.counter,
-        name: ArrayString::from(str::from_utf8(name).ok()?).ok()?,
+        name: Name::new(str::from_utf8(name).ok()?)?,
     })
 }

@@ -1,8 +1,8 @@
 //! Worked cases, each a difference from a log to what a command writes for it.
 //!
-//! A case is a block of lines, and an empty line stands between two. The first is the command, with the text of the
-//! fault, if there is one, after a colon. Of each further line the first sign says where it stands: `-` in the log,
-//! `+` in what is written, `|` in both. Two dots at its end stand for zeros, up to 128 digits in all. A line of a
+//! A case is a block of lines, and an empty line is between two. The first is the command, with the text of the
+//! fault, if there is one, after a colon. Of each further line the first sign says where it is: `-` in the log,
+//! `+` in what is written, `|` in both. Two dots at its end mean zeros, up to 128 digits in all. A line of a
 //! mere `!` says that the log's last line has no line feed.
 ghost use Rattle.std.specs.Prelude.{◌<◌, ◌-◌, ◌^◌};
 
@@ -28,7 +28,7 @@ pub fn play<S: Source, T: Target>(
         "live" => live(reader, writer, &mut session).map(|_| ()),
         "check" => check(reader, writer, &mut session),
         "quiet" => quiet(reader, writer, &mut session),
-        _ => show(alloc, reader, writer),
+        _ => show(reader, writer),
     }
 }
 

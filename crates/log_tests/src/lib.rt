@@ -1,4 +1,4 @@
-//! Tests of `session_log` and `session_show` by their public calls. They stand apart, as in Cargo's folder
+//! Tests of `session_log` and `session_show` by their public calls. They are apart, as in Cargo's folder
 //! `tests/`, since a check of a crate's tests proves the whole crate once more.
 #![tactic(auto)]
 
@@ -8,6 +8,8 @@ mod cases;
 mod checking;
 #[cfg(test)]
 mod living;
+#[cfg(test)]
+mod naming;
 #[cfg(test)]
 mod page;
 #[cfg(test)]

@@ -44,7 +44,7 @@ live
 +# need nothing
 += held 57 rows 0 pending 0 requests 1 bytes 90 steps 200";
 
-/// Comments that tell what was needed before are dropped, and no others; and a faulty line.
+/// Comments that say what was needed before are dropped, and no others; and a faulty line.
 const COMMENTS: &str = "\
 live
 |#

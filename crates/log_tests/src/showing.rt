@@ -1,13 +1,9 @@
-//! What is shown of logs, worked out by hand: what no clause says; and refused memory.
-//!
-//! The test `shows_after_refused_memory` is for allocations that fail (`rt try --test --fail-alloc N`): whichever
-//! it is, the texts of the lines before were written, and the same call with memory succeeds.
+//! What is shown of logs, worked out by hand: what no clause says.
 use crate::cases::{assert_case, assert_cases, texts};
 use crate::streams::{Drip, assert_written};
 use arrayvec::ArrayVec;
-use ctap_cbor::{Fault, decode_value};
-use session_log::{FromRead, LogFault, SliceIn, SliceOut};
-use session_show::{Diagnostic, show};
+use session_log::{FromRead, LogFault, SliceOut};
+use session_show::{show, show_item};
 use std::alloc::{AllocError, Global};
 use std::io::Write;
 use std::process::Abort;
@@ -21,16 +17,22 @@ const INFO: &str = "\
     191db9098163757362
 -< 00000001000a81a263616c672664747970656a7075626c69632d6b6579..
 -= held 0 rows 0 pending 0 requests 1 bytes 0 steps 0
-+1 > 0 ffffffff INIT 8
-+2 < ffffffff INIT 17
++1 > 0 ffffffff INIT 8  nonce 0001020304050607
++2 < ffffffff INIT 17  nonce 0001020304050607 channel 00000001 version 2 device 1.0.0 capabilities 0c CBOR NMSG
 +3 > 0 00000001 CBOR 1
-+3   request 04
++3   request 04  authenticatorGetInfo
 +4 < 00000001 CBOR 81
 +5 < 00000001 +0
 +5   answer 00 {1: [\"FIDO_2_0\"], 3: h'00000000000000000000000000000000', 4: {\"rk\": true, \"up\": true, \"plat\
-    \": false}, 5: 7609, 9: [\"usb\"], 10: [{\"alg\": -7, \"type\": \"public-key\"}]}";
+    \": false}, 5: 7609, 9: [\"usb\"], 10: [{\"alg\": -7, \"type\": \"public-key\"}]}  CTAP2_OK
++5     1 versions: [\"FIDO_2_0\"]
++5     3 aaguid: h'00000000000000000000000000000000'
++5     4 options: {\"rk\": true, \"up\": true, \"plat\": false}
++5     5 maxMsgSize: 7609
++5     9 transports: [\"usb\"]
++5     10 algorithms: [{\"alg\": -7, \"type\": \"public-key\"}]";
 
-/// Replies and comments, and the data byte of ERROR and KEEPALIVE, which stands there whatever the length is.
+/// Replies and comments, and the data byte of ERROR and KEEPALIVE, which is there whatever the length is.
 const LINES: &str = "\
 show
 -t 7
@@ -45,8 +47,8 @@ show
 +3 k 9 no
 +4 s 10 yes
 +5 > 11 00000001 CANCEL 0
-+6 < 00000001 ERROR 1 06
-+7 < 00000001 KEEPALIVE 1 02
++6 < 00000001 ERROR 1 06  ERR_CHANNEL_BUSY
++7 < 00000001 KEEPALIVE 1 02  STATUS_UPNEEDED
 
 show
 -# a comment
@@ -58,6 +60,7 @@ show
 -k 5 Aa00000000000000000000000000000000000000000000000000000000000000 Aa00000000000000000000000000000000000000000\
     000000000000000000000 Aa00000000000000000000000000000000000000000000000000000000000000
 !
++1 # a comment
 +4 p 3 granted
 +5 p 18446744073709551615 timeout
 +6 s 0 no
@@ -70,7 +73,8 @@ show
 +2 > 1 00000001 +127";
 
 /// Messages of the two directions; one that another initialization packet breaks off; continuation packets of another
-/// channel, out of turn and after the whole message, which are passed over; and an empty message.
+/// channel, out of turn and after the whole message, which are passed over; and an empty message. An answer's members
+/// have the names of the command that its channel asked last.
 const MESSAGES: &str = "\
 show
 -< 0000000190005100a60181684649444f5f325f3003500000000000000000000000000000000004a362726bf5627570f564706c6174f405\
@@ -84,14 +88,25 @@ show
 -< 00000001000a81a263616c672664747970656a7075626c69632d6b6579..
 +1 < 00000001 CBOR 81
 +2 > 0 00000001 CBOR 91
-+3 < 00000001 KEEPALIVE 1 02
++3 < 00000001 KEEPALIVE 1 02  STATUS_UPNEEDED
 +4 < 00000001 CBOR 81
 +5 > 0 00000001 +0
 +5   request 01 {1: h'1111111111111111111111111111111111111111111111111111111111111111', 2: {\"id\": \"example.co\
-    m\"}, 3: {\"id\": h'01'}, 4: [{\"alg\": -7, \"type\": \"public-key\"}], 7: {\"rk\": true}}
+    m\"}, 3: {\"id\": h'01'}, 4: [{\"alg\": -7, \"type\": \"public-key\"}], 7: {\"rk\": true}}  authenticatorMakeCredential
++5     1 clientDataHash: h'1111111111111111111111111111111111111111111111111111111111111111'
++5     2 rp: {\"id\": \"example.com\"}
++5     3 user: {\"id\": h'01'}
++5     4 pubKeyCredParams: [{\"alg\": -7, \"type\": \"public-key\"}]
++5     7 options: {\"rk\": true}
 +6 < 00000001 +0
 +6   answer 00 {1: [\"FIDO_2_0\"], 3: h'00000000000000000000000000000000', 4: {\"rk\": true, \"up\": true, \"plat\
-    \": false}, 5: 7609, 9: [\"usb\"], 10: [{\"alg\": -7, \"type\": \"public-key\"}]}
+    \": false}, 5: 7609, 9: [\"usb\"], 10: [{\"alg\": -7, \"type\": \"public-key\"}]}  CTAP2_OK
++6     1 fmt: [\"FIDO_2_0\"]
++6     3 attStmt: h'00000000000000000000000000000000'
++6     4 epAtt: {\"rk\": true, \"up\": true, \"plat\": false}
++6     5 largeBlobKey: 7609
++6     9: [\"usb\"]
++6     10: [{\"alg\": -7, \"type\": \"public-key\"}]
 
 show
 -> 0 0000000190005b01a5015820111111111111111111111111111111111111111111111111111111111111111102a16269646b6578616d\
@@ -118,7 +133,12 @@ show
 +4 > 0 00000001 +1
 +5 > 0 00000001 +0
 +5   request 01 {1: h'1111111111111111111111111111111111111111111111111111111111111111', 2: {\"id\": \"example.co\
-    m\"}, 3: {\"id\": h'01'}, 4: [{\"alg\": -7, \"type\": \"public-key\"}], 7: {\"rk\": true}}
+    m\"}, 3: {\"id\": h'01'}, 4: [{\"alg\": -7, \"type\": \"public-key\"}], 7: {\"rk\": true}}  authenticatorMakeCredential
++5     1 clientDataHash: h'1111111111111111111111111111111111111111111111111111111111111111'
++5     2 rp: {\"id\": \"example.com\"}
++5     3 user: {\"id\": h'01'}
++5     4 pubKeyCredParams: [{\"alg\": -7, \"type\": \"public-key\"}]
++5     7 options: {\"rk\": true}
 +6 > 0 00000001 +0
 +7 > 0 00000001 +1
 
@@ -148,10 +168,11 @@ show: line 3: longer than 255 bytes
 -################################################################################################################\
     #############################################################################################################\
     ###################################
-+1 t 0";
++1 t 0
++2 #";
 
-/// Items, each with its diagnostic notation: those of RFC 8949, appendix A, and then the bounds of what is escaped,
-/// four levels, and keys of each type.
+/// Items, each with its diagnostic notation: those of RFC 8949, appendix A, and then the first bounds of what is
+/// escaped, four levels, and keys of each type.
 const ITEMS: &str = "\
 00 0
 1864 100
@@ -179,22 +200,22 @@ a201020304 {1: 2, 3: 4}
 a26161016162820203 {\"a\": 1, \"b\": [2, 3]}
 826161a161626163 [\"a\", {\"b\": \"c\"}]
 6400090a1f \"\\u0000\\u0009\\u000a\\u001f\"
-65207e7fc280 \" ~\\u007f\u{80}\"
+65207e7fc2a0 \" ~\\u007f\u{a0}\"
 8282a12081f680a0 [[{-1: [null]}, []], {}]
 a320f441abf5612ff6 {-1: false, h'ab': true, \"/\": null}";
 
-/// Requests of one packet. Faults are counted from the byte after the first one.
+/// Requests of one packet, 05 a command that has no name. Faults are counted from the byte after the first one.
 const REQUESTS: &str = "\
 2d 2d
-01 01
-0100 01 0
-010000 01 fault 9 at 1
-02a202000100 02 fault 6 at 3
-01a1f500 01 fault 5 at 1
-01818181818100 01 fault 4 at 4
-0162c3 01 fault 1 at 0
+01 01  authenticatorMakeCredential
+0500 05 0
+050000 05 fault 9 at 1
+02a202000100 02 fault 6 at 3  authenticatorGetAssertion
+05a1f500 05 fault 5 at 1
+05818181818100 05 fault 4 at 4
+0562c3 05 fault 1 at 0
 ff1805 ff fault 3 at 0
-01f90000 01 fault 8 at 0";
+05f90000 05 fault 8 at 0";
 
 #[test]
 fn logs_are_shown(rt: HostRuntime) -> Result<(), AllocError> {
@@ -206,7 +227,7 @@ fn logs_are_shown(rt: HostRuntime) -> Result<(), AllocError> {
     assert_cases(&rt, alloc, FAULTS)
 }
 
-/// The name of a command with what stands after it, for a message of 65535 bytes that begins with a0.
+/// The name of a command with what is after it, for a message of 65535 bytes that begins with a0.
 fn shown_command(number: u8) -> &'static str {
     match number {
         0x01 => "PING 65535",
@@ -258,8 +279,8 @@ fn items_in_diagnostic_notation(rt: HostRuntime) -> Result<(), AllocError> {
     let alloc = rt.alloc();
     for item in ITEMS.split('\n') {
         let (bytes, want) = item.split_once(' ').unwrap_or((item, ""));
-        let message = format!(in alloc; "01{bytes}")?;
-        let shown = format!(in alloc; "01 {want}")?;
+        let message = format!(in alloc; "05{bytes}")?;
+        let shown = format!(in alloc; "05 {want}")?;
         assert_request(&rt, alloc, message.as_str(), shown.as_str())?;
     }
     for request in REQUESTS.split('\n') {
@@ -269,19 +290,12 @@ fn items_in_diagnostic_notation(rt: HostRuntime) -> Result<(), AllocError> {
     Ok(())
 }
 
-/// An item's text, or the fault of its bytes.
-fn text_of(alloc: Global, bytes: &[u8]) -> Result<String, Fault> {
-    let value = decode_value(alloc, bytes)?;
-    let item = Diagnostic(&value);
-    let text = format!(in alloc; "{item}")?;
-    Ok(text)
-}
-
 #[test]
-fn an_item_as_text(rt: HostRuntime) -> Result<(), Fault> {
-    let text = text_of(rt.alloc(), b"\x82\x61a\xa1\x61b\x61c")?;
-    assert_eq!(rt; text.as_str(), "[\"a\", {\"b\": \"c\"}]");
-    Ok(())
+fn an_item_as_text(rt: HostRuntime) {
+    let mut room = [0; 32];
+    let mut target = SliceOut::new(&mut room);
+    let answer = show_item(&mut target, b"\x82\x61a\xa1\x61b\x61c");
+    assert!(rt; answer.is_ok() && target.written() == b"[\"a\", {\"b\": \"c\"}]".as_slice());
 }
 
 /// A CBOR message of this length in 129 packets, which is a byte string of zeros after its first byte, and its text
@@ -306,7 +320,7 @@ fn messages_of_at_most_7609_bytes(rt: HostRuntime) -> Result<(), AllocError> {
     let alloc = rt.alloc();
     let case = long_case(alloc, 7609)?;
     let zeros = "";
-    let whole = format!(in alloc; "{case}\n+129   answer 00 h'{zeros:0<15210}'")?;
+    let whole = format!(in alloc; "{case}\n+129   answer 00 h'{zeros:0<15210}'  CTAP2_OK")?;
     assert_case(&rt, alloc, whole.as_str())?;
     let case = long_case(alloc, 7610)?;
     assert_case(&rt, alloc, case.as_str())
@@ -335,52 +349,10 @@ fn streams_fail(rt: HostRuntime) -> Result<(), AllocError> {
             step: 1,
             fails: true,
         });
-        let answer = show(alloc, &mut source, &mut target);
+        let answer = show(&mut source, &mut target);
         let line = starts.iter().filter(|start| **start <= given).count() as u64;
         assert_eq!(rt; answer, Err(LogFault::Read(line)));
         assert_stops_before(&rt, text.as_bytes(), target.written(), line);
     }
     Ok(())
-}
-
-/// A log and its text, for a test in which nothing but `show` allocates.
-const SMALL_LOG: &str = "\
-t 0
-> 0 000000019000010400000000000000000000000000000000000000000000000000000000000000000000000000000000\
-    00000000000000000000000000000000
-< 0000000190005100a60181684649444f5f325f3003500000000000000000000000000000000004a362726bf5627570f564\
-    706c6174f405191db9098163757362
-< 00000001000a81a263616c672664747970656a7075626c69632d6b65790000000000000000000000000000000000000000\
-    000000000000000000000000000000
-t 1";
-
-const SMALL_TEXT: &str = "\
-1 t 0
-2 > 0 00000001 CBOR 1
-2   request 04
-3 < 00000001 CBOR 81
-4 < 00000001 +0
-4   answer 00 {1: [\"FIDO_2_0\"], 3: h'00000000000000000000000000000000', \
-    4: {\"rk\": true, \"up\": true, \"plat\": false}, 5: 7609, 9: [\"usb\"], \
-    10: [{\"alg\": -7, \"type\": \"public-key\"}]}
-5 t 1
-";
-
-#[test]
-fn shows_after_refused_memory(rt: HostRuntime) {
-    let (log, text) = (SMALL_LOG.as_bytes(), SMALL_TEXT.as_bytes());
-    let mut room = [0; 1024];
-    let mut target = SliceOut::new(&mut room);
-    let answer = show(rt.alloc(), &mut SliceIn::new(log), &mut target);
-    match answer {
-        Ok(()) => assert!(rt; target.written() == text),
-        Err(LogFault::Memory(line)) => {
-            assert_stops_before(&rt, text, target.written(), line);
-            let mut room = [0; 1024];
-            let mut again = SliceOut::new(&mut room);
-            let answer = show(rt.alloc(), &mut SliceIn::new(log), &mut again);
-            assert!(rt; answer == Ok(()) && again.written() == text);
-        }
-        Err(_) => assert!(rt; false),
-    }
 }

@@ -18,7 +18,7 @@ const REPLAYED: &str = "\
 +< 00000001810003616263..
 += held 0 rows 0 pending 0 requests 0 bytes 0 steps 0";
 
-/// A reader that gives at most `step` bytes a call, and may fail after its last one.
+/// A reader that yields at most `step` bytes a call, and may fail after its last one.
 #[derive(Drop)]
 pub struct Drip<'a> {
     pub rest: &'a [u8],
@@ -61,7 +61,7 @@ impl Write for Narrow {
     }
 }
 
-/// A reader that gives a piece a call, and notes how much a writer had taken by then.
+/// A reader that yields a piece a call, and notes how much a writer had taken by then.
 #[derive(Drop)]
 struct Watching<'a> {
     pieces: &'a [&'a str],

@@ -1,4 +1,4 @@
--- A log compared with what is sent: after each input line stand the packets that are sent for it.
+-- A log compared with what is sent: after each input line are the packets that are sent for it.
 use Rattle.std.specs.Prelude.{ℕ, ◌+◌, ◌==◌, List, [], ◌∷◌, Option, Some, None, if◌then◌else◌}
 use Rattle.std.specs.Cmp.Lexicographic.{pointwise}
 use Rattle.authn_core.specs.Turn.{Start}
@@ -44,7 +44,7 @@ missing_of (p ∷ due) fault = Some fault
 abbrev pub missing : {S : Type 0} → Compared S → Option LogFault
 missing c = missing_of c.due (difference c)
 
--- a packet that stands in the log is to be the next that is due
+-- a packet that is in the log is to be the next that is due
 abbrev pub differs_from : List (List ℕ) → List ℕ → LogFault → Option LogFault
 differs_from [] packet fault = Some fault
 differs_from (p ∷ due) packet fault = if pointwise ◌==◌ p packet then None else Some fault

@@ -1,6 +1,5 @@
 -- What the commands of the program answer.
 use Rattle.std.specs.Prelude.{◌≡◌, ℕ, Bool, List, [], Option, OnOk, Result, Ok, Err, replicate}
-use Rattle.authn_core.specs.Bare.{bare_rows}
 use Rattle.authn_core.specs.Turn.{Start}
 use Rattle.cred_table.specs.declared.row.Row.{Row}
 use Rattle.token_session.specs.declared.input.Meters.{Meters}
@@ -14,14 +13,14 @@ use Rattle.session_log.specs.Session.{history, live_history, quiet_history}
 use Rattle.session_log.specs.Streams.{Counts, IsAllRead, Moves}
 use Rattle.session_log.specs.World.{World}
 
--- the start of the program's session: an AAGUID of sixteen zero bytes, the moment 0, and room for 64 credentials, none
+-- the start of the program's session: an AAGUID of sixteen zero bytes, the moment 0, and space for 64 credentials, none
 -- of which is there
 abbrev pub program_start : Start
 program_start = record { aaguid = replicate 16 0; moment = 0; room = 64; rows = [] }
 
 -- the same, with these credentials
 abbrev pub start_with : List Row → Start
-start_with rows = record program_start { rows = bare_rows rows }
+start_with rows = record program_start { rows = rows }
 
 abbrev pub Status : Type 0
 Status = Result (Unit {0}) ℕ

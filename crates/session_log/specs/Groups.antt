@@ -1,4 +1,4 @@
--- The packets that stand in a log, and those that are sent for its inputs: first those before any input, and then for
+-- The packets that are in a log, and those that are sent for its inputs: first those before any input, and then for
 -- each input its own.
 use Rattle.std.specs.Prelude.{◌≡◌, ◌≢◌, ℕ, ◌+◌, List, [], ◌∷◌, ◌++◌, length, Option, Some, None}
 use Rattle.token_session.specs.declared.input.Timed.{Timed}
@@ -15,7 +15,7 @@ abbrev pub with_first : List ℕ → Groups → Groups
 with_first packet [] = (packet ∷ []) ∷ []
 with_first packet (group ∷ more) = (packet ∷ group) ∷ more
 
--- what stands in front of a log with these groups
+-- what is in front of a log with these groups
 abbrev pub grouped : Option Line → Groups → Groups
 grouped None groups = groups
 grouped (Some (Input timed)) groups = [] ∷ groups

@@ -5,7 +5,7 @@ use Rattle.std.specs.List.{slice_split}
 abbrev pub is_feed : ℕ → Bool
 is_feed b = b == 10
 
--- what stands between the line feeds; the last piece is after the last of them
+-- what is between the line feeds; the last piece is after the last of them
 abbrev pub pieces : List ℕ → List (List ℕ)
 pieces bytes = slice_split is_feed bytes
 
@@ -23,7 +23,7 @@ last_of (x ∷ y ∷ more) = last_of (y ∷ more)
 abbrev pub whole_lines : List ℕ → List (List ℕ)
 whole_lines bytes = all_but_last (pieces bytes)
 
--- what stands after the last line feed
+-- what is after the last line feed
 abbrev pub last_piece : List ℕ → List ℕ
 last_piece bytes = last_of (pieces bytes)
 

@@ -16,7 +16,7 @@ signed_line bytes = codes "# signed " ++ encode_lower bytes
 abbrev pub signature_line : List ℕ → List ℕ
 signature_line id = codes "# need signature " ++ encode_lower id
 
--- one line says what is needed; before that of a signature stand those of the bytes to sign, 96 bytes a line
+-- one line says what is needed; before that of a signature are those of the bytes to sign, 96 bytes a line
 abbrev pub need_lines : Needed → List (List ℕ)
 need_lines nothing = codes "# need nothing" ∷ []
 need_lines presence = codes "# need presence" ∷ []

@@ -116,7 +116,7 @@ Closes world taken failed s target (Refused fault) =
 Closes world taken failed s target (Unread n) = ⊥
 Closes world taken failed s target Unwritten = (world.lacks s ≡ None) × IsBroken taken failed target (world.ending s)
 
--- the faults that a line n has by itself, but for its length and number, or that the writing of its text has
+-- the faults that a line n has by itself, except for its length and number, or that the writing of its text has
 abbrev pub IsOfLine : ℕ → LogFault → Type 0
 IsOfLine n (BadLine m) = m ≡ n
 IsOfLine n (TooLong m) = ⊥

@@ -78,7 +78,7 @@ abbrev pub signature_said : List ℕ → Option AnyInput
 signature_said field = if is_word refusal_word field then Some (Signature None)
     else (signature_of field >>= (λ bytes. Some (Signature (Some bytes))))
 
--- an input but for a tick, by the letter at the line's front
+-- an input except for a tick, by the letter at the line's front
 abbrev pub input_by : ℕ → List ℕ → Option AnyInput
 input_by letter field =
     if letter == host_letter then packet_said field

@@ -4,12 +4,12 @@ use Rattle.std.specs.Io.KnownBytes.{Consumes, Appends, IsAtEnd}
 use Rattle.session_log.specs.declared.fault.LogFault.{LogFault}
 use Rattle.session_log.specs.declared.fault.LogFault.TheVariants.{Write}
 
--- whether a read that had room gave nothing
+-- whether a read that had space returned nothing
 abbrev pub gave_nothing : {E : Type 0} → Result ℕ E → ℕ → Bool
 gave_nothing (Ok n) room = (n == 0) && nat_lt 0 room
 gave_nothing (Err e) room = false
 
--- a source gave 0 into a buffer that had room, and holds nothing more
+-- a source returned 0 into a buffer that had space, and holds nothing more
 abbrev pub IsAllRead : {I : Type 0} → (I → Option (List ℕ)) → (I → Bool) → I → Type 0
 IsAllRead left ended source = (ended source ≡ true) × IsAtEnd (left source)
 

@@ -29,7 +29,7 @@ pub record World (S : Type 0) : Type 1 where
   pub counts : S → Meters
 
 -- Replayed, each input line and each comment comes again, after an input line the packets that are sent for it, and at
--- the end the meters. No line is faulty but for its text.
+-- the end the meters. No line is faulty except for its text.
 
 abbrev pub moves_input : {S : Type 0} → Course S → S → Line → S
 moves_input course s (Input timed) = course.turned s timed
@@ -79,7 +79,7 @@ quieting course noises = record {
   counts = course.counts;
 }
 
--- Replayed with what is needed: after the packets of an input line stand the lines of what is needed then. Those that
+-- Replayed with what is needed: after the packets of an input line are the lines of what is needed then. Those that
 -- an earlier run wrote are dropped.
 
 abbrev pub sends_needs : {S : Type 0} → Course S → (S → Needed) → S → Line → Type 0

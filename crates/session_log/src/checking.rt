@@ -169,15 +169,15 @@ impl<const C: usize> Player<C> for Checking {
 }
 
 /// Compares a log with what a session sends for its inputs (docs/LOG_FORMAT.md): after each input line have to
-/// stand the packets that are sent for it, all of them, in order, and no other ones; comments and the lines of what
-/// was counted may stand between them. Hexadecimal digits are compared as what they say. Nothing is written before
+/// be the packets that are sent for it, all of them, in order, and no other ones; comments and the lines of what
+/// was counted may be between them. Hexadecimal digits are compared as what they say. Nothing is written before
 /// the reader's end, and there how many inputs and packets were the same. It allocates nothing.
 ///
 /// Fails with [`LogFault::Differs`] at the first packet that differs, is missing or is one too many; a missing one is
 /// found when the next input line was read, or at the reader's end. [`LogFault::BadLine`], [`LogFault::TooLong`],
 /// [`LogFault::TooManyLines`] and [`LogFault::Read`] are as for [`crate::replay`]; of these and a difference the first
 /// that is found is answered. After [`LogFault::Write`], which comes at the reader's end alone, a beginning of the text
-/// was written. The session stands after the last input line that was stepped.
+/// was written. The session is after the last input line that was stepped.
 pub fn check<S: Source, T: Target, const C: usize>(
     reader: &mut S,
     writer: &mut T,

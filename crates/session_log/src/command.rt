@@ -44,8 +44,11 @@ fn status<A: Drop, E: Target>(faults: &mut E, answer: Result<A, LogFault>) -> Re
     }
 }
 
+// The commands aren't inlined, so that their 30 kB of the stack aren't taken while a snapshot is loaded.
+
 /// The command `replay`: replays the log on the session. An error holds the exit status, 1: the fault's text was given
 /// to `faults`, if that could be.
+#[inline(never)]
 pub fn replay_command<S: Source, O: Target, E: Target, const C: usize>(
     session: &mut Session<C>,
     input: &mut S,
@@ -55,7 +58,7 @@ pub fn replay_command<S: Source, O: Target, E: Target, const C: usize>(
     requires reads { S.failed input.old < 2 ^ 64 - 1 }
     requires writes { O.failed output.old < 2 ^ 64 - 1 }
     requires tells { E.failed faults.old < 2 ^ 64 - 1 }
-    // It is the log of each history that the session stands after that was written.
+    // It is the log of each history that the session is after that was written.
     ensures replayed { (start : Start) (h : List OneInput) → StandsAfter session.old start h
         → IsReplayed start h S.left S.failed S.ended O.taken O.failed result session.new
         (input.old, input.new) (output.old, output.new) }
@@ -66,8 +69,9 @@ pub fn replay_command<S: Source, O: Target, E: Target, const C: usize>(
     status(faults, answer)
 }
 
-/// The command `live`: replays the log on the session, and tells what the session needs. An error holds the exit
+/// The command `live`: replays the log on the session, and says what the session needs. An error holds the exit
 /// status, 1, as for [`replay_command`].
+#[inline(never)]
 pub fn live_command<S: Source, O: Target, E: Target, const C: usize>(
     session: &mut Session<C>,
     input: &mut S,
@@ -77,7 +81,7 @@ pub fn live_command<S: Source, O: Target, E: Target, const C: usize>(
     requires reads { S.failed input.old < 2 ^ 64 - 1 }
     requires writes { O.failed output.old < 2 ^ 64 - 1 }
     requires tells { E.failed faults.old < 2 ^ 64 - 1 }
-    // It is the log of each history that the session stands after, with what is needed, that was written.
+    // It is the log of each history that the session is after, with what is needed, that was written.
     ensures lived { (start : Start) (h : List OneInput) → StandsAfter session.old start h
         → IsLived start h S.left S.failed S.ended O.taken O.failed result session.new
         (input.old, input.new) (output.old, output.new) }
@@ -90,6 +94,7 @@ pub fn live_command<S: Source, O: Target, E: Target, const C: usize>(
 
 /// The command `check`: compares the log with what the session sends. An error holds the exit status, 1, as for
 /// [`replay_command`].
+#[inline(never)]
 pub fn check_command<S: Source, O: Target, E: Target, const C: usize>(
     session: &mut Session<C>,
     input: &mut S,
@@ -99,7 +104,7 @@ pub fn check_command<S: Source, O: Target, E: Target, const C: usize>(
     requires reads { S.failed input.old < 2 ^ 64 - 1 }
     requires writes { O.failed output.old < 2 ^ 64 - 1 }
     requires tells { E.failed faults.old < 2 ^ 64 - 1 }
-    // It was compared with what each history names that the session stands after.
+    // It was compared with what each history names that the session is after.
     ensures checked { (start : Start) (h : List OneInput) → StandsAfter session.old start h
         → IsChecked start h S.left S.failed S.ended O.taken O.failed result session.new
         (input.old, input.new) (output.old, output.new) }
@@ -112,6 +117,7 @@ pub fn check_command<S: Source, O: Target, E: Target, const C: usize>(
 
 /// The command `quiet`: makes the log quiet on the session. An error holds the exit status, 1, as for
 /// [`replay_command`].
+#[inline(never)]
 pub fn quiet_command<S: Source, O: Target, E: Target, const C: usize>(
     session: &mut Session<C>,
     input: &mut S,
@@ -121,7 +127,7 @@ pub fn quiet_command<S: Source, O: Target, E: Target, const C: usize>(
     requires reads { S.failed input.old < 2 ^ 64 - 1 }
     requires writes { O.failed output.old < 2 ^ 64 - 1 }
     requires tells { E.failed faults.old < 2 ^ 64 - 1 }
-    // It is quiet after each history that the session stands after.
+    // It is quiet after each history that the session is after.
     ensures quieted { (start : Start) (h : List OneInput) → StandsAfter session.old start h
         → IsQuieted start h S.left S.failed S.ended O.taken O.failed result session.new
         (input.old, input.new) (output.old, output.new) }

@@ -45,7 +45,7 @@ pub fn a_quiet_log_stays_as_it_is()
         ≡ (playing (quiet_history start) h bytes).text }
 {}
 
-/// Where nothing is wrong with a log that is compared, the packets that stand in it before any input and after each
+/// Where nothing is wrong with a log that is compared, the packets that are in it before any input and after each
 /// input are just those that the history says are sent for it. As many inputs and packets were counted as there are.
 pub fn a_checked_log_has_what_is_sent()
     ensures same { (start : Start) (h : List OneInput) (bytes : List ℕ)
@@ -62,7 +62,7 @@ pub fn a_checked_log_has_what_is_sent()
         → (playing (check_history start) (begun h) bytes).text ≡ [] }
 {}
 
-/// A difference names the first place where the packets that stand in a log aren't those that the history says are
+/// A difference names the first place where the packets that are in a log aren't those that the history says are
 /// sent.
 pub fn a_difference_is_the_first()
     ensures { (start : Start) (h : List OneInput) (bytes : List ℕ) (line packet : ℕ)
@@ -71,7 +71,7 @@ pub fn a_difference_is_the_first()
         ([] ∷ sent_groups (histories start) h (inputs (lines bytes))) (0 ∷ input_lines 1 (lines bytes)) line packet }
 {}
 
-/// Of the lines that tell what is needed just the last begins with `# need `. The bytes to sign are cut into pieces of
+/// Of the lines that say what is needed just the last begins with `# need `. The bytes to sign are cut into pieces of
 /// at most 96, which joined are those bytes.
 pub fn what_is_needed_is_said_once()
     ensures last { (n : Needed) → (before : List (List ℕ)) × (last : List ℕ) × (need_lines n ≡ before ++ last ∷ [])

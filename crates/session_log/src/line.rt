@@ -35,7 +35,7 @@ pub enum LineKind<'a> {
     Count,
 }
 
-/// The number below 2^64 that decimal digits write, however many zeros stand in front.
+/// The number below 2^64 that decimal digits write, however many zeros are in front.
 fn read_digits(digits: &[u8]) -> Option<u64>
     ensures { SomeIff result (AllDigits 10 digits.now × (digits_value 10 digits.now ≤ 2 ^ 64 - 1))
         (digits_value 10 digits.now) }
@@ -48,14 +48,14 @@ fn read_digits(digits: &[u8]) -> Option<u64>
     Some(number)
 }
 
-/// Whether a zero stands before other digits.
+/// Whether a zero is before other digits.
 fn is_padded(digits: &[u8]) -> bool
     ensures { IsTrue result ↔ ((2 ≤ length digits.now) × (slice_index digits.now 0 ≡ 48)) }
 {
     digits.len() > 1 && digits[0] == b'0'
 }
 
-/// The number whose decimal text this is. It has one text: no zero stands in front of other digits.
+/// The number whose decimal text this is. It has one text: no zero is in front of other digits.
 fn read_moment(digits: &[u8]) -> Option<u64>
     ensures { result ≡ moment digits.now }
 {
@@ -76,7 +76,7 @@ fn read_bytes<const N: usize>(digits: &[u8]) -> Option<[u8; N]>
     }
 }
 
-/// Where the first space stands.
+/// Where the first space is.
 fn first_space(fields: &[u8]) -> Option<usize>
     ensures value { result ≡ position (λ b. b == space) fields.now }
     ensures within { IfSome result (λ end. end < length fields.now) }
@@ -121,7 +121,7 @@ fn read_new_key(fields: &[u8]) -> Option<NewKey>
     })
 }
 
-/// The new key pair, or that none is had.
+/// The new key pair, or that there is none.
 fn read_key(field: &[u8]) -> Option<Input>
     ensures { result ≡ key_said field.now }
 {
@@ -132,7 +132,7 @@ fn read_key(field: &[u8]) -> Option<Input>
     Some(Input::Key(Some(key)))
 }
 
-/// The signature of as many bytes as there is room for.
+/// The signature of as many bytes as there is space for.
 fn read_into(digits: &[u8], out: &mut [u8]) -> Option<Signature>
     requires { length out.old ≡ length digits.now / 2 }
     ensures { result ≡ signature_of digits.now }
@@ -155,7 +155,7 @@ fn read_signature_bytes(digits: &[u8]) -> Option<Signature>
     read_into(digits, &mut bytes[..len])
 }
 
-/// The signature, or that none is had.
+/// The signature, or that there is none.
 fn read_signature(field: &[u8]) -> Option<Input>
     ensures { result ≡ signature_said field.now }
 {
@@ -186,7 +186,7 @@ pub fn read_packet(field: &[u8]) -> Option<Packet>
     Some(Packet(read_bytes(field)?))
 }
 
-// The next one and `read_other` aren't inlined, so that a tick and a comment don't pay for the room of other lines.
+// The next one and `read_other` aren't inlined, so that a tick and a comment don't pay for the space of other lines.
 
 /// Whether the field of a `<` line says a packet.
 #[inline(never)]

@@ -12,7 +12,7 @@ use crate::window::Window;
 /// The most lines of a log.
 const MOST_LINES: u64 = 0xFFFF_FFFF;
 
-/// Whether something stands in the window as a line too many.
+/// Whether something is in the window as a line too many.
 fn is_too_many(window: &Window, number: u64) -> bool
     ensures value { MatchBool result
         ((2 ^ 32 ≤ number) × (0 < length window.now))
@@ -23,13 +23,13 @@ fn is_too_many(window: &Window, number: u64) -> bool
     number > MOST_LINES && held > 0
 }
 
-/// Reads until a whole line stands in front in the window, as line `number` of the reader, counted from 1. Answers
-/// the line's length without its line feed; or None at the reader's end, where what stands in the window is the
-/// last line, without a line feed, or nothing. No more is asked of the reader than the window has room for, and
-/// nothing while a whole line stands in it. It allocates nothing.
+/// Reads until a whole line is in front in the window, as line `number` of the reader, counted from 1. Answers
+/// the line's length without its line feed; or None at the reader's end, where what is in the window is the
+/// last line, without a line feed, or nothing. No more is asked of the reader than the window has space for, and
+/// nothing while a whole line is in it. It allocates nothing.
 ///
 /// Fails with [`LogFault::TooManyLines`] where line 2^32 begins, with [`LogFault::TooLong`] at the 256th byte of a
-/// line, and with [`LogFault::Read`] where the reader failed, which is not tried again. What was read stands in the
+/// line, and with [`LogFault::Read`] where the reader failed, which is not tried again. What was read is in the
 /// window.
 // Inlined, since most lines are held already, and then it costs less than its call.
 #[inline(always)]

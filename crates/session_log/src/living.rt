@@ -37,7 +37,7 @@ impl Living {
     }
 }
 
-/// Whether a comment tells what an earlier run needed.
+/// Whether a comment says what an earlier run needed.
 fn is_need_line(comment: &[u8]) -> bool
     ensures { result ≡ is_one comment.now }
 {
@@ -121,7 +121,7 @@ pub fn live_lines<S: Source, T: Target, const C: usize>(
     play_all(&mut player, reader, writer, session)
 }
 
-/// Replays a log on a session as [`crate::replay`] does, and tells after the packets of each input line what the
+/// Replays a log on a session as [`crate::replay`] does, and says after the packets of each input line what the
 /// session needs ([`Session::need`]; docs/LOG_FORMAT.md): comments of which just one, the last, begins with
 /// `# need `. Comments that begin with `# need ` or `# signed ` are dropped, so what was written is its own log, of
 /// this and of a replay. The text for a line is handed to the target whole, before more is asked of the source than the
@@ -141,9 +141,9 @@ pub fn live<S: Source, T: Target, const C: usize>(
         (λ bytes text. Logs live_machine session.old session.new bytes text result) }
     // At Ok it was all that the reader held.
     ensures end { OnOk result (IsAllRead S.left S.ended reader.new) }
-    // Played again on an equal session, what was written gives the same bytes.
+    // Played again on an equal session, what was written makes the same bytes.
     ensures again { OnOk result (RepeatsIn live_machine (T.taken writer.old) (T.taken writer.new) session.old) }
-    // Replayed on an equal session, it gives the same bytes too.
+    // Replayed on an equal session, it makes the same bytes too.
     ensures replays { OnOk result (Repeats (T.taken writer.old) (T.taken writer.new) session.old) }
     // At a line fault at most 256 bytes were read after the lines before the faulty one.
     ensures reach { ReadsTo live_machine session.old (S.left reader.old) (S.left reader.new)

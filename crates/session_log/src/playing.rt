@@ -54,7 +54,7 @@ pub trait Player<const C: usize> {
 }
 
 /// Plays all lines that a reader holds. They are read as they are needed: before a line is played, no more
-/// than that line and what the window has room for.
+/// than that line and what the window has space for.
 pub fn play_all<P: Player<C>, S: Source, T: Target, const C: usize>(
     player: &mut P,
     reader: &mut S,

@@ -75,7 +75,7 @@ impl<const C: usize> Player<C> for Replaying {
 ///
 /// After [`LogFault::BadLine`], [`LogFault::TooLong`] and [`LogFault::TooManyLines`] the texts of the lines
 /// before the faulty one were written, after [`LogFault::Read`] those of the whole lines that were read, and
-/// after [`LogFault::Write`] a beginning of the text. The session stands after the last input line that was
+/// after [`LogFault::Write`] a beginning of the text. The session is after the last input line that was
 /// stepped. No read or write that failed is tried again. It never fails otherwise.
 pub fn replay<S: Source, T: Target, const C: usize>(
     reader: &mut S,
@@ -91,7 +91,7 @@ pub fn replay<S: Source, T: Target, const C: usize>(
         (λ bytes text. Logs machine session.old session.new bytes text result) }
     // At Ok it was all that the reader held.
     ensures end { OnOk result (IsAllRead S.left S.ended reader.new) }
-    // Replayed again on an equal session, what was written gives the same bytes.
+    // Replayed again on an equal session, what was written makes the same bytes.
     ensures again { OnOk result (Repeats (T.taken writer.old) (T.taken writer.new) session.old) }
     // At a line fault at most 256 bytes were read after the lines before the faulty one.
     ensures reach { ReadsTo machine session.old (S.left reader.old) (S.left reader.new)

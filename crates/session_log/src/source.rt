@@ -11,13 +11,13 @@ pub trait Source {
     /// The bytes that it still holds, where they are known.
     ghost left: { Self → Option (List ℕ) };
 
-    /// Whether it gave nothing into a buffer that had room.
+    /// Whether it yielded nothing into a buffer that had space.
     ghost ended: { Self → Bool };
 
     /// How many calls failed.
     ghost failed: { Self → ℕ };
 
-    /// Gives the next bytes into the front of `out`, and how many these are: 0 into a buffer that has room
+    /// Writes the next bytes to the front of `out`, and how many these are: 0 into a buffer that has space
     /// only at its end. After a failure it holds what it held.
     fn get(&mut self, out: &mut [u8]) -> Result<usize, Failed>
         requires { failed self.old < 2 ^ 64 - 1 }
@@ -39,7 +39,7 @@ pub struct SliceIn<'a> {
 }
 
 impl<'a> SliceIn<'a> {
-    /// A source that gives these bytes.
+    /// A source that yields these bytes.
     pub fn new(bytes: &'a [u8]) -> Self
         ensures left { ⟦<SliceIn<'a> as Source>⟧.left result ≡ Some bytes.now }
         ensures open { ⟦<SliceIn<'a> as Source>⟧.ended result ≡ false }
@@ -66,7 +66,7 @@ impl Source for SliceIn<'_> {
             result out.new }
         ensures end { self.new.ended ≡ (self.old.ended || gave_nothing result (length out.new)) }
         ensures counted { 0 ≡ (if is_ok result then 0 else 0 + 1) }
-        // It gives as much as fits, and writes nothing after that.
+        // It yields as much as fits, and writes nothing after that.
         ensures most { result ≡ Ok (min (length self.old.rest.now) (length out.old)) }
         ensures rest { drop (length self.old.rest.now) out.new ≡ drop (length self.old.rest.now) out.old }
     {
@@ -91,7 +91,7 @@ pub struct FromRead<R> {
 }
 
 impl<R: Read> FromRead<R> {
-    /// A source that gives what the reader gives.
+    /// A source that yields what the reader yields.
     pub fn new(inner: R) -> Self
         ensures left { ⟦<FromRead<R> as Source>⟧.left result ≡ R.remaining inner }
         ensures open { ⟦<FromRead<R> as Source>⟧.ended result ≡ false }

@@ -124,7 +124,7 @@ pub struct ToWrite<W> {
 }
 
 impl<W: Write> ToWrite<W> {
-    /// A target that gives to the writer.
+    /// A target that hands on to the writer.
     pub fn new(inner: W) -> Self
         ensures taken { ⟦<ToWrite<W> as Target>⟧.taken result ≡ W.contents inner }
         ensures none { ⟦<ToWrite<W> as Target>⟧.failed result ≡ 0 }

@@ -25,7 +25,7 @@ pub struct Collector {
     ghost fits: { ForSome unfinished (λ o. (length bytes.items ≤ o.len) × (o.len ≤ 7609)) },
 }
 
-/// Appends bytes for which there is room.
+/// Appends bytes for which there is space.
 fn append(bytes: &mut ArrayVec<u8, LONGEST>, part: &[u8])
     requires { length bytes.old.items + length part.now ≤ 7609 }
     ensures { bytes.new.items ≡ bytes.old.items ++ part.now }
@@ -41,7 +41,7 @@ impl Collector {
         }
     }
 
-    /// Adds a packet, and gives the message whose last packet it is, if that is a CBOR message that isn't empty.
+    /// Adds a packet, and returns the message whose last packet it is, if that is a CBOR message that isn't empty.
     ///
     /// An initialization packet begins anew. The continuation packet that comes next on the message's channel
     /// is kept, and every other one is passed over. A message of more than 7609 bytes isn't collected.
@@ -82,7 +82,7 @@ impl Collector {
         self.keep(Unfinished { next, ..unfinished }, part)
     }
 
-    /// Keeps what a packet carries of a message, and gives the message if it is whole.
+    /// Keeps what a packet carries of a message, and returns the message if it is whole.
     fn keep(&mut self, unfinished: Unfinished, part: &[u8]) -> Option<&[u8]>
         requires room { length self.old.bytes.items ≤ unfinished.len }
         requires fits { unfinished.len ≤ 7609 }

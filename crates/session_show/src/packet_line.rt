@@ -1,54 +1,123 @@
 //! A packet as one line shows it.
 
+use crate::pen::Pen;
+use crate::words::{error_name, keepalive_name, write_name};
 use hid_packet::command::{CANCEL, CBOR, ERROR, INIT, KEEPALIVE, LOCK, MSG, PING, WINK};
 use hid_packet::{Packet, View};
-use std::fmt;
-use std::fmt::Formatter;
 
-/// The name of a command; `0x` and two digits where it has none.
-#[derive(Clone, Copy)]
-struct Name(u8);
-
-impl fmt::Display for Name {
-    fn fmt<W: fmt::Write>(&self, f: &mut Formatter<W>) -> fmt::Result {
-        let name = match self.0 {
-            PING => "PING",
-            MSG => "MSG",
-            LOCK => "LOCK",
-            INIT => "INIT",
-            WINK => "WINK",
-            CBOR => "CBOR",
-            CANCEL => "CANCEL",
-            KEEPALIVE => "KEEPALIVE",
-            ERROR => "ERROR",
-            number => return write!(f, "0x{number:02x}"),
-        };
-        write!(f, "{name}")
+/// Returns the name of a command, where it has one.
+fn name_of(command: u8) -> Option<&'static str> {
+    match command {
+        PING => Some("PING"),
+        MSG => Some("MSG"),
+        LOCK => Some("LOCK"),
+        INIT => Some("INIT"),
+        WINK => Some("WINK"),
+        CBOR => Some("CBOR"),
+        CANCEL => Some("CANCEL"),
+        KEEPALIVE => Some("KEEPALIVE"),
+        ERROR => Some("ERROR"),
+        _ => None,
     }
 }
 
-/// A packet's channel, and then its command and the length of its message, or its sequence number. Of ERROR and
-/// KEEPALIVE the first data byte follows, which is the code or the status.
-#[derive(Clone, Copy)]
-pub struct PacketText<'a>(pub &'a Packet);
+/// Writes the name of a command; `0x` and two digits where it has none.
+fn write_command(pen: &mut Pen, command: u8) {
+    match name_of(command) {
+        Some(name) => pen.text(name),
+        None => {
+            pen.text("0x");
+            pen.hex(&[command]);
+        }
+    }
+}
 
-impl fmt::Display for PacketText<'_> {
-    fn fmt<W: fmt::Write>(&self, f: &mut Formatter<W>) -> fmt::Result {
-        match self.0.view() {
-            View::Start {
-                cid,
-                cmd,
-                len,
-                part,
-            } => {
-                let name = Name(cmd);
-                write!(f, "{cid:08x} {name} {len}")?;
-                match (cmd, part) {
-                    (ERROR | KEEPALIVE, [code, ..]) => write!(f, " {code:02x}"),
-                    _ => Ok(()),
-                }
-            }
-            View::More { cid, seq, .. } => write!(f, "{cid:08x} +{seq}"),
+/// Writes an initialization packet's command and the length of its message. Of ERROR and KEEPALIVE the first data
+/// byte follows, which is the code or the status. Then comes what the data says, in words.
+fn write_start(pen: &mut Pen, command: u8, len: u16, part: &[u8]) {
+    write_command(pen, command);
+    pen.text(" ");
+    pen.decimal(u64::from(len));
+    match (command, part) {
+        (ERROR, [code, ..]) => write_code(pen, *code, error_name(*code)),
+        (KEEPALIVE, [status, ..]) => write_code(pen, *status, keepalive_name(*status)),
+        (INIT, _) => write_init(pen, len, part),
+        _ => {}
+    }
+}
+
+/// Writes a code and its name.
+fn write_code(pen: &mut Pen, code: u8, name: Option<&str>) {
+    pen.text(" ");
+    pen.hex(&[code]);
+    write_name(pen, name);
+}
+
+/// Writes the data of an INIT: a host sends a nonce of 8 bytes, and gets it back in an answer of 17 bytes.
+fn write_init(pen: &mut Pen, len: u16, part: &[u8]) {
+    if len != 8 && len != 17 {
+        return;
+    }
+    if let Some(nonce) = part.get(..8) {
+        pen.text("  nonce ");
+        pen.hex(nonce);
+    }
+    if len == 17 {
+        write_channel(pen, part);
+    }
+}
+
+/// Writes what an answer to INIT says: the channel, the versions of the protocol and of the device, the capabilities.
+fn write_channel(pen: &mut Pen, part: &[u8]) {
+    if let Some(channel) = part.get(8..12) {
+        pen.text(" channel ");
+        pen.hex(channel);
+    }
+    if let Some([version, major, minor, build, capabilities]) = part.get(12..17) {
+        pen.text(" version ");
+        pen.decimal(u64::from(*version));
+        pen.text(" device ");
+        pen.decimal(u64::from(*major));
+        pen.text(".");
+        pen.decimal(u64::from(*minor));
+        pen.text(".");
+        pen.decimal(u64::from(*build));
+        write_capabilities(pen, *capabilities);
+    }
+}
+
+/// Writes the capabilities of a device (CTAP 2.1, section 11.2.9.1.3).
+fn write_capabilities(pen: &mut Pen, capabilities: u8) {
+    pen.text(" capabilities ");
+    pen.hex(&[capabilities]);
+    if capabilities & 1 != 0 {
+        pen.text(" WINK");
+    }
+    if capabilities & 4 != 0 {
+        pen.text(" CBOR");
+    }
+    if capabilities & 8 != 0 {
+        pen.text(" NMSG");
+    }
+}
+
+/// Writes a packet's channel, and then its command and the length of its message, or its sequence number.
+pub fn write_packet(pen: &mut Pen, packet: &Packet) {
+    match packet.view() {
+        View::Start {
+            cid,
+            cmd,
+            len,
+            part,
+        } => {
+            pen.hex(&cid.to_be_bytes());
+            pen.text(" ");
+            write_start(pen, cmd, len, part);
+        }
+        View::More { cid, seq, .. } => {
+            pen.hex(&cid.to_be_bytes());
+            pen.text(" +");
+            pen.decimal(u64::from(seq));
         }
     }
 }

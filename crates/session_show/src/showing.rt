@@ -1,67 +1,92 @@
 //! A log as a person reads it.
-ghost use Rattle.std.specs.Prelude.{◌≡◌, ◌<◌, ◌-◌, ◌^◌, length, false, OnOk};
+ghost use Rattle.std.specs.Prelude.{◌<◌, ◌-◌, ◌^◌, OnOk, IfErr};
 ghost use Rattle.session_log.specs.Ending.{ending_of, read_fails, write_fails};
+ghost use Rattle.session_log.specs.Replay.{IsOfLine, ReadsTo};
 ghost use Rattle.session_log.specs.Streams.{Counts, IsAllRead};
+ghost use Rattle.session_show.specs.Shown.{Shows, ShowsLine, reading};
+ghost use Rattle.session_show.specs.Written.{Grows};
 
+use crate::pen::Pen;
+use crate::putting::put_written;
 use crate::transcript::Transcript;
-use session_log::{LogFault, Source, Target, Window, next_line, put_all, read_line};
-use std::alloc::Global;
+use session_log::{LogFault, Source, Target, Window, next_line, read_line};
 
-/// Writes what is shown for one line.
-fn show_line<T: Target>(
-    alloc: Global,
-    line: &[u8],
-    number: u64,
-    writer: &mut T,
-    transcript: &mut Transcript,
-) -> Result<(), LogFault>
-    requires { T.failed writer.old < 2 ^ 64 - 1 }
-    ensures writes { Counts T.failed (writer.old, writer.new) (write_fails (ending_of result)) }
-    ensures unread { read_fails (ending_of result) ≡ false }
-{
-    let Some(said) = read_line(line) else {
-        return Err(LogFault::BadLine(number));
-    };
-    if transcript.add(alloc, number, said).is_err() {
-        return Err(LogFault::Memory(number));
-    }
-    put_all(writer, transcript.text().as_bytes()).map_err(|_| LogFault::Write)
+/// What is kept from line to line.
+#[derive(Drop)]
+struct Showing {
+    transcript: Transcript,
+    pen: Pen,
 }
 
-/// Shows a log to a person (docs/LOG_FORMAT.md, "Shown to a person"): writes a line for each packet, tick and
-/// reply, and after the last packet of a CBOR message a line with its item in diagnostic notation. Comments and
-/// counts are left out. The text for a line is handed to the target whole, before more is asked of the source.
+impl Showing {
+    fn new() -> Self {
+        Showing {
+            transcript: Transcript::new(),
+            pen: Pen::new(),
+        }
+    }
+
+    /// Writes what is shown for a line.
+    fn show_line<T: Target>(
+        &mut self,
+        line: &[u8],
+        number: u64,
+        writer: &mut T,
+    ) -> Result<(), LogFault>
+        requires { T.failed writer.old < 2 ^ 64 - 1 }
+        ensures shown { ShowsLine number line.now (T.failed writer.old, T.failed writer.new) (ending_of result) }
+        ensures own { IfErr result (IsOfLine number) }
+        ensures grown { Grows (T.taken writer.old) (T.taken writer.new) }
+    {
+        let Some(said) = read_line(line) else {
+            return Err(LogFault::BadLine(number));
+        };
+        let entry = self.transcript.take(number, line, said);
+        match put_written(writer, &mut self.pen, &entry) {
+            Ok(()) => Ok(()),
+            Err(_) => Err(LogFault::Write),
+        }
+    }
+}
+
+/// Shows a log to a person (docs/LOG_FORMAT.md, "Shown to a person"): writes a line for each packet, tick, reply and
+/// comment, and after the last packet of a CBOR message a line with its item in diagnostic notation. Counts are left
+/// out. The text for a line is handed to the target before more is asked of the source.
 ///
-/// It allocates, from `alloc`, for the text of one line and for the item of one message, so that what it takes
-/// doesn't grow with the log.
+/// It allocates nothing, and what it takes doesn't grow with the log.
 ///
-/// After [`LogFault::BadLine`], [`LogFault::TooLong`], [`LogFault::TooManyLines`] and [`LogFault::Memory`] the texts
-/// of the lines before the faulty one were written, after [`LogFault::Read`] those of the whole lines that were
-/// read, and after [`LogFault::Write`] a beginning of the text. No read or write that failed is tried again.
-pub fn show<S: Source, T: Target>(
-    alloc: Global,
-    reader: &mut S,
-    writer: &mut T,
-) -> Result<(), LogFault>
+/// After [`LogFault::BadLine`], [`LogFault::TooLong`] and [`LogFault::TooManyLines`] the texts of the lines before the
+/// faulty one were written, after [`LogFault::Read`] those of the whole lines that were read, and after
+/// [`LogFault::Write`] a beginning of the text. No read or write that failed is tried again.
+pub fn show<S: Source, T: Target>(reader: &mut S, writer: &mut T) -> Result<(), LogFault>
     requires read { S.failed reader.old < 2 ^ 64 - 1 }
     requires write { T.failed writer.old < 2 ^ 64 - 1 }
+    // At Ok every line is a log line, and all of them were shown. A line fault is that of the first faulty line, and
+    // the lines before it were shown. A read that failed names its line, and the lines before it were shown. At a write
+    // that failed the text of a line broke off.
+    ensures shown { Shows (S.left reader.old) (S.left reader.new) (ending_of result) }
+    // At a line fault at most 256 bytes were read after the lines before the faulty one.
+    ensures reach { ReadsTo reading tt (S.left reader.old) (S.left reader.new)
+        (IsAllRead S.left S.ended reader.new) (ending_of result) }
+    // What the target had taken stays, and a text came after it.
+    ensures grown { Grows (T.taken writer.old) (T.taken writer.new) }
     // At Ok it was all that the reader held.
     ensures end { OnOk result (IsAllRead S.left S.ended reader.new) }
     // A failure was counted exactly at Read, and exactly at Write.
     ensures reads { Counts S.failed (reader.old, reader.new) (read_fails (ending_of result)) }
     ensures writes { Counts T.failed (writer.old, writer.new) (write_fails (ending_of result)) }
 {
-    let mut transcript = Transcript::new(alloc);
+    let mut showing = Showing::new();
     let mut window = Window::new();
     let mut number = 1;
     'lines: while let Some(end) = next_line(&mut window, reader, number)? {
         let line = window.as_slice().split_at(end).0;
-        show_line(alloc, line, number, writer, &mut transcript)?;
+        showing.show_line(line, number, writer)?;
         window.drop_front(end + 1);
         number += 1;
     }
-    if window.len() == 0 {
+    if window.is_empty() {
         return Ok(());
     }
-    show_line(alloc, window.as_slice(), number, writer, &mut transcript)
+    showing.show_line(window.as_slice(), number, writer)
 }

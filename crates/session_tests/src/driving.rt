@@ -2,8 +2,11 @@
 
 use crate::transport::{INIT, PING_100, error, held, pad, pong_100, step, two_channels};
 use arrayvec::ArrayVec;
-use authn_core::Presence;
-use token_session::{BothFault, DriveFault, Input, Sent, Session, Timed, drive, drive_both};
+use authn_core::{Config, Presence};
+use cred_table::Store;
+use token_session::{
+    BothFault, DriveFault, Input, Sent, Session, Timed, drive, drive_both, drive_new,
+};
 
 fn came(bytes: &[u8]) -> Input {
     Input::Packet(pad(bytes))
@@ -40,6 +43,18 @@ fn drives_that_stop(rt: HostRuntime) {
     let full = drive(&mut session, &[init(), ping()], &mut sent);
     assert!(rt; (full, sent.len()) == (Err(DriveFault::Full { done: 1 }), 1));
     assert!(rt; full.map_err(|fault| fault.number()) == Err(1));
+}
+
+/// A new key answers INIT, and counts a list that held other packets anew.
+#[test]
+fn drives_a_new_key(rt: HostRuntime) {
+    let mut sent = ArrayVec::<Sent, 132>::new();
+    for _ in 0..2 {
+        let config = Config { aaguid: [0; 16] };
+        let meters = drive_new::<4, 132>(config, Store::new(), 0, &[init(), ping()], &mut sent);
+        assert!(rt; meters == Ok(held(0)));
+        assert!(rt; sent.iter().map(|sent| sent.input).eq([0, 1]));
+    }
 }
 
 /// Moments with packets on channels 1 and 2, and whether each is noise while a message is open on channel 1. 500 ms

@@ -1,4 +1,4 @@
-//! Tests of `token_session` by its public calls. They stand apart, as in Cargo's folder
+//! Tests of `token_session` by its public calls. They are apart, as in Cargo's folder
 //! `tests/`, since a check of a crate's tests proves the whole crate once more.
 #![tactic(auto)]
 

@@ -4,6 +4,7 @@ use Rattle.std.proofs.lemmas.List.{take_more}
 use Rattle.std.proofs.Math.Seq.{take-length}
 use Rattle.authn_core.specs.Turn.{Start}
 use Rattle.token_session.specs.declared.input.Timed.{Timed}
+use Rattle.token_session.specs.Carried.{ArriveWhole, IsWhole}
 use Rattle.token_session.specs.Drive.{driven, driven_sends}
 use Rattle.token_session.specs.Law.{numbered, onto, sent_from, sent_now}
 use Rattle.token_session.specs.declared.input.Meters.{Meters}
@@ -38,6 +39,14 @@ sends_more xs i s v ps old now next x d h is a b f e =
     a ∙ ap (λ q. q ++ numbered i ps) e ∙ append_assoc old (driven_sends 0 s (take i xs)) (numbered i ps)
     ∙ ap (λ q. old ++ (driven_sends 0 s (take i xs) ++ numbered i q)) (b ∙ ap (sent_by v) is ∙ ap (λ u. sent_by u (get_or xs i d)) f)
     ∙ ap (λ q. old ++ q) (sym more)
+
+whole_append : (xs : List Timed) (x : Timed) → ArriveWhole xs → IsWhole x.input → ArriveWhole (xs ++ x ∷ [])
+whole_append [] x w is = (is, tt)
+whole_append (y ∷ xs) x w is = (w.0, whole_append xs x w.1 is)
+
+pub whole_more : (xs : List Timed) (i : ℕ) (x d : Timed) → i < length xs → x ≡ get_or xs i d → ArriveWhole (take i xs) → IsWhole x.input → ArriveWhole (take (i + 1) xs)
+whole_more xs i x d h is w one =
+    subst ArriveWhole (sym (take_more xs i d h)) (whole_append (take i xs) (get_or xs i d) w (subst (λ (y : Timed). IsWhole y.input) is one))
 
 pub room_here : (now all : List (ℕ × List ℕ)) (places : ℕ) → now ≡ all → length now + 130 ≤ places → length all + 130 ≤ places
 room_here now all places e h = let n = ap (length {A = ℕ × List ℕ}) e in omega (arith, n)

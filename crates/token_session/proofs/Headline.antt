@@ -1,17 +1,20 @@
 -- The promises of every history, together.
-use Rattle.std.proofs.Common.{◌≡◌, ℕ, ◌+◌, ◌-◌, ◌*◌, ◌≤◌, List, [], ◌∷◌, ◌++◌, length, Option, Some, None, refl, ◌∙◌, ap}
+use Rattle.std.proofs.Common.{◌≡◌, ℕ, ◌+◌, ◌-◌, ◌*◌, ◌≤◌, List, [], ◌∷◌, ◌++◌, length, map, reverse, Option, Some, None, refl, sym, ◌∙◌, ap, subst, append-nil, append_assoc}
+use Rattle.std.proofs.lemmas.List.{map-append, reverse-append}
 use Rattle.std.specs.List.{AllByRecursion}
 use Rattle.ctap_message.specs.Requests.{steps_of}
 use Rattle.authn_core.specs.Turn.{Start}
+use Rattle.token_session.specs.declared.input.Sent.{Sent}
 use Rattle.token_session.specs.declared.input.Timed.{Timed}
 use Rattle.token_session.specs.Carried.{ArriveWhole}
+use Rattle.token_session.specs.Drive.{as_pair, packet_of}
 use Rattle.token_session.specs.Effects.{request_in}
 use Rattle.token_session.specs.Inputs.{Judged}
 use Rattle.token_session.specs.History.{judged, sent}
-use Rattle.token_session.specs.Law.{event_at, sent_now}
+use Rattle.token_session.specs.Law.{event_at, numbered, onto, sent_from, sent_now, turns_send}
 use Rattle.token_session.specs.Machine.{machine}
 use Rattle.token_session.specs.Meters.{as_list, requests}
-use Rattle.token_session.specs.Headline.{turns_send, AllCarried}
+use Rattle.token_session.specs.Headline.{AllCarried, IsAnswered}
 use Rattle.token_session.proofs.Carrying.{finished_is_carried}
 use Rattle.token_session.proofs.Follows.{machine_follows}
 use Rattle.token_session.proofs.Runs.{step_sends}
@@ -37,3 +40,53 @@ pub all_few : (each : (m : List ℕ) → steps_of m ≤ 4 * (length m - 1) + 2) 
 unfolding requests
 all_few each start [] = tt
 all_few each start (e ∷ past) = one_few each (request_in (event_at start e past)) (requests start past) (all_few each start past)
+
+-- ---- the packets of a list of inputs, without their numbers
+
+packets_numbered : (n : ℕ) (ps : List (List ℕ)) → map (λ (p : ℕ × List ℕ). p.1) (numbered n ps) ≡ ps
+packets_numbered n [] = refl
+packets_numbered n (p ∷ ps) = ap (λ qs. p ∷ qs) (packets_numbered n ps)
+
+sent_along : (xs : List Timed) (n : ℕ) (start : Start) (h : List Timed) →
+    sent start (judged start h) ++ map (λ (p : ℕ × List ℕ). p.1) (sent_from n start h xs) ≡ sent start (judged start (onto xs h))
+unfolding sent judged sent_now
+sent_along [] n start h = append-nil _
+sent_along (x ∷ xs) n start h =
+    ap (λ qs. sent start (judged start h) ++ qs) (map-append (λ (p : ℕ × List ℕ). p.1) (numbered n (sent_now start h x)) (sent_from (n + 1) start (x ∷ h) xs)
+    ∙ ap (λ qs. qs ++ map (λ (p : ℕ × List ℕ). p.1) (sent_from (n + 1) start (x ∷ h) xs)) (packets_numbered n (sent_now start h x)))
+    ∙ sym (append_assoc (sent start (judged start h)) (sent_now start h x) (map (λ (p : ℕ × List ℕ). p.1) (sent_from (n + 1) start (x ∷ h) xs)))
+    ∙ sent_along xs (n + 1) start (x ∷ h)
+
+onto_reverse : (xs h : List Timed) → onto xs h ≡ reverse xs ++ h
+onto_reverse [] h = refl
+onto_reverse (x ∷ xs) h =
+    onto_reverse xs (x ∷ h) ∙ sym (append_assoc (reverse xs) (x ∷ []) h) ∙ ap (λ (ys : List Timed). ys ++ h) (sym (reverse-append (x ∷ []) xs))
+
+-- the packets of a start's inputs are those of the history, which has the newest first
+pub sent_reverse : (xs : List Timed) (start : Start) → map (λ (p : ℕ × List ℕ). p.1) (sent_from 0 start [] xs) ≡ sent start (judged start (reverse xs))
+unfolding sent judged
+sent_reverse xs start = sent_along xs 0 start [] ∙ ap (λ h. sent start (judged start h)) (onto_reverse xs [] ∙ append-nil (reverse xs))
+
+whole_onto : (xs h : List Timed) → ArriveWhole xs → ArriveWhole h → ArriveWhole (onto xs h)
+whole_onto [] h ws w = w
+whole_onto (x ∷ xs) h ws w = whole_onto xs (x ∷ h) ws.1 (ws.0, w)
+
+pub whole_reverse : (xs : List Timed) → ArriveWhole xs → ArriveWhole (reverse xs)
+whole_reverse xs w = subst ArriveWhole (onto_reverse xs [] ∙ append-nil (reverse xs)) (whole_onto xs [] w tt)
+
+packets_pairs : (sent : List Sent) → map packet_of sent ≡ map (λ (p : ℕ × List ℕ). p.1) (map as_pair sent)
+packets_pairs [] = refl
+packets_pairs (s ∷ sent) = ap (λ ps. packet_of s ∷ ps) (packets_pairs sent)
+
+pub only_new : (old : List Sent) (new more : List (ℕ × List ℕ)) → new ≡ map as_pair old ++ more → old ≡ [] → new ≡ more
+only_new old new more is none = is ∙ ap (λ (sent : List Sent). map as_pair sent ++ more) none
+
+-- A list of sent packets that are those of a start's inputs answers the history of these inputs.
+pub run_answered : (start : Start) (xs : List Timed) (out : List Sent) → ArriveWhole xs → map as_pair out ≡ sent_from 0 start [] xs
+    → (ArriveWhole (reverse xs) → IsAnswered start (reverse xs) (turns_send start (reverse xs)))
+    → IsAnswered start (reverse xs) (map packet_of out)
+run_answered start xs out w is answers =
+    subst (IsAnswered start (reverse xs)) (
+    turns_send_sent start (reverse xs)
+    ∙ sym (packets_pairs out ∙ ap (map (λ (p : ℕ × List ℕ). p.1)) is ∙ sent_reverse xs start)
+    ) (answers (whole_reverse xs w))

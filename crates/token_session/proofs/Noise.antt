@@ -1,7 +1,6 @@
 -- Noise leaves all as a tick leaves it: of one turn, of a session's step, and of histories.
 use Rattle.std.proofs.Common.{◌≡◌, ℕ, ◌+◌, ◌≤◌, inl, inr, Bool, true, false, not, cond, List, [], ◌∷◌, ◌++◌, append-nil, length, max, Option, Some, None, option_map, refl, sym, ◌∙◌, ap, subst, suc, arith}
 use Rattle.hid_packet.specs.Packet.{Fields, fields}
-use Rattle.hid_packet.specs.declared.packet.Packet.{Packet as AnyPacket}
 use Rattle.hid_assemble.specs.declared.table.Row.TheVariants.{CancelsNothing, NoSuchChannel, BusyElsewhere, BusyHere}
 use Rattle.hid_assemble.specs.declared.table.Continuation.TheVariants.{Stray}
 use Rattle.hid_assemble.specs.Table.{Open, Ruling, Begins, Continues, ruling_of, is_noise}

@@ -3,7 +3,6 @@
 use Rattle.std.proofs.Common.{arith, inl, inr}
 use Rattle.std.specs.Prelude.{◌≡◌, ℕ, ◌+◌, ◌-◌, List, [], ◌∷◌, ◌++◌, length, refl, replicate, reverse, true, zero, suc, Option, Some, None}
 use Rattle.cred_table.specs.declared.row.Row.{Row}
-use Rattle.authn_core.specs.Bare.{text_of}
 use Rattle.authn_core.specs.State.{Waits}
 use Rattle.authn_core.specs.Turn.{Start}
 use Rattle.authn_core.specs.Turn as core_turn
@@ -239,7 +238,7 @@ none_left = refl
 
 -- An assertion is pending for channel 1, by a credential with the counter 4.
 credential : Row
-credential = record { rp = replicate 32 7; id = replicate 32 0xaa; x = []; y = []; user = record { items = 1 ∷ [] }; discoverable = true; counter = 4; name = text_of [] }
+credential = record { rp = replicate 32 7; id = replicate 32 0xaa; x = []; y = []; user = record { items = 1 ∷ [] }; discoverable = true; counter = 4; name = [] }
 
 pending : State
 pending = record { now = 0; given = 2; current = None; core = record { setup = record { aaguid = replicate 16 0; began = 0; room = 64 }; state = record { rows = credential ∷ []; pending = Some (record { cid = 1; hash = replicate 32 34; presence = true; moment = 0; ids = replicate 32 0xaa ∷ [] }); work = None } }; keepalive_at = 0 }

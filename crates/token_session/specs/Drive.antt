@@ -14,6 +14,10 @@ use Rattle.hid_packet.specs.declared.limit.TheConstants.{OUTBOX_CAPACITY}
 abbrev pub as_pair : Sent → ℕ × List ℕ
 as_pair s = (s.input, (s.packet).0)
 
+-- the same packet alone
+abbrev pub packet_of : Sent → List ℕ
+packet_of s = (s.packet).0
+
 -- the session after the inputs of a list, and what they send
 abbrev pub driven : SessionState → List Timed → SessionState
 driven s [] = s

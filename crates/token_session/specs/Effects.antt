@@ -14,7 +14,7 @@ use Rattle.token_session.specs.Events.{reply_in}
 use Rattle.token_session.specs.declared.input.Input.{Input}
 use Rattle.token_session.specs.declared.input.Input.TheVariants.{Packet}
 
--- the packets of a verdict on a packet that finished these bytes, but for those of an event
+-- the packets of a verdict on a packet that finished these bytes, except for those of an event
 abbrev pub verdict_packets : Verdict → List ℕ → List (List ℕ)
 verdict_packets Ignored bytes = []
 verdict_packets Kept bytes = []

@@ -1,8 +1,9 @@
--- What is promised of every start and every list of inputs.
-use Rattle.std.specs.Prelude.{◌≡◌, ℕ, ◌+◌, ◌-◌, ◌*◌, ◌≤◌, List, [], ◌∷◌, ◌++◌, length, Some}
+-- What is promised of every start and every list of inputs (`drive_new`, in src/driving.rt).
+use Rattle.std.specs.Prelude.{◌≡◌, ℕ, ◌+◌, ◌-◌, ◌*◌, ◌≤◌, List, [], ◌∷◌, length, Some}
 use Rattle.std.specs.List.{AllByRecursion}
 use Rattle.hid_packet.specs.Carries.{CarriesMessage}
 use Rattle.hid_assemble.specs.Assembly.{Message}
+use Rattle.cred_table.specs.declared.row.Row.{Row}
 use Rattle.cred_table.specs.Waiting.{pending_count}
 use Rattle.ctap_message.specs.Requests.{steps_of}
 use Rattle.authn_core.specs.Turn.{Start}
@@ -11,14 +12,12 @@ use Rattle.token_session.specs.Carried.{carriers_at}
 use Rattle.token_session.specs.Inputs.{Judged}
 use Rattle.token_session.specs.Messages.{finished_at}
 use Rattle.token_session.specs.History.{judged, sent, held, core}
-use Rattle.token_session.specs.Machine.{machine, turn}
 use Rattle.token_session.specs.Meters.{requests}
 use Rattle.hid_packet.specs.declared.limit.TheConstants.{LONGEST_MESSAGE}
 
--- The packets that the composed turn sends for the inputs of a history, in order.
-unfoldable pub turns_send : Start → List Timed → List (List ℕ)
-turns_send start [] = []
-turns_send start (x ∷ past) = turns_send start past ++ (turn (machine start past) x).packets
+-- the start of a session
+abbrev pub start_of : (aaguid : List ℕ) → (moment capacity : ℕ) → List Row → Start
+start_of aaguid moment capacity rows = record { aaguid = aaguid; moment = moment; room = capacity; rows = rows }
 
 -- Each message that an input finished was carried by its channel's packets.
 abbrev pub WasCarried : Judged → List Judged → Type 0
@@ -29,11 +28,12 @@ abbrev pub AllCarried : List Judged → Type 0
 AllCarried [] = Unit {0}
 AllCarried (e ∷ past) = WasCarried e past × AllCarried past
 
--- After a history, newest first: the packets sent are exactly those that its definition names; each finished message is
--- the bytes that its packets carried; the unfinished message holds at most 7609 bytes; at most as many rows stand and
--- assertions are pending as there is room for; reading each request of n bytes took at most 4n + 2 steps.
-pub record IsAnswered (start : Start) (h : List Timed) : Type 0 where
-  pub sent : turns_send start h ≡ sent start (judged start h)
+-- After a history, newest first, in which these packets were sent: they are exactly those that its definition names;
+-- each finished message is the bytes that its packets carried; the unfinished message holds at most 7609 bytes; there
+-- are at most as many rows and pending assertions as the capacity; reading each request of n bytes took at most 4n + 2
+-- steps.
+pub record IsAnswered (start : Start) (h : List Timed) (packets : List (List ℕ)) : Type 0 where
+  pub sent : packets ≡ sent start (judged start h)
   pub carried : AllCarried (judged start h)
   pub held : held start (judged start h) ≤ LONGEST_MESSAGE
   pub rows : length (core start (judged start h)).state.rows ≤ start.room

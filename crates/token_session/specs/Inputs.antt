@@ -39,7 +39,7 @@ asks_channel p = is_command INIT p && (message_length p == 8) && (channel p == B
 unfoldable pub given : List Judged → ℕ
 given h = min (count_by (λ e. is_packet asks_channel e.input) h) LAST_CHANNEL
 
--- A channel's own packets: those on it, but for CANCEL.
+-- A channel's own packets: those on it, except for CANCEL.
 abbrev pub is_own_packet : ℕ → List ℕ → Bool
 is_own_packet cid p = (cid == channel p) && not (is_command CANCEL p)
 

@@ -6,7 +6,7 @@ use Rattle.hid_packet.specs.Packet.{is_command}
 use Rattle.authn_core.specs.State.{Event}
 use Rattle.authn_core.specs.Turn.{Start}
 use Rattle.token_session.specs.declared.input.Timed.{Timed}
-use Rattle.token_session.specs.Machine.{State, turn}
+use Rattle.token_session.specs.Machine.{State, machine, turn}
 use Rattle.token_session.specs.Inputs.{Judged, end, given}
 use Rattle.token_session.specs.Messages.{begun_by, is_open, Begun, open_at, as_open}
 use Rattle.token_session.specs.History.{event_to, judge, judged, sent_at, core, last_keepalive}
@@ -56,6 +56,11 @@ run_state s (x ∷ xs) = run_state (turn s x).state xs
 abbrev pub run_sent : ℕ → State → List Timed → List (ℕ × List ℕ)
 run_sent n s [] = []
 run_sent n s (x ∷ xs) = numbered n (turn s x).packets ++ run_sent (n + 1) (turn s x).state xs
+
+-- the packets that the composed turn sends for the inputs of a history, in order
+unfoldable pub turns_send : Start → List Timed → List (List ℕ)
+turns_send start [] = []
+turns_send start (x ∷ past) = turns_send start past ++ (turn (machine start past) x).packets
 
 -- all initialization packets of a history whose messages are open at t, the newest first
 unfoldable pub all_open : List Judged → List Judged → ℕ → List Begun

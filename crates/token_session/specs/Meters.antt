@@ -99,6 +99,6 @@ sent_by s x = (turn s.machine x).packets
 unfoldable pub session_of : Start → List Judged → SessionState
 session_of start h = record { machine = named start h; meters = meters_of start h }
 
--- The session stands after a history.
+-- The session is after a history.
 abbrev pub StandsAfter : SessionState → Start → List Timed → Type 0
 StandsAfter s start h = s ≡ session_of start (judged start h)

@@ -39,7 +39,7 @@ is_noise_after start e past = is_noise_among (given past) (option_map as_open (o
 abbrev pub tick_at : ℕ → Timed
 tick_at at = record { at = at; input = Tick }
 
--- In the place of x, which came after h, stands x, or a tick at its moment where x is noise.
+-- In the place of x, which came after h, is x, or a tick at its moment where x is noise.
 abbrev pub IsQuiet : Start → List Timed → (x y : Timed) → Type 0
 IsQuiet start h x y = (y ≡ x) ⊎ ((y ≡ tick_at x.at) ×
     (is_noise_after start (judge start x (judged start h)) (judged start h) ≡ true))
@@ -51,20 +51,20 @@ Quiet start [] (y ∷ g) = ⊥
 Quiet start (x ∷ h) [] = ⊥
 Quiet start (x ∷ h) (y ∷ g) = Quiet start h g × IsQuiet start h x y
 
--- another input that a tick stands for
+-- another input that a tick replaces
 abbrev pub is_replaced : (i j : Input) → Bool
 is_replaced Tick j = false
 is_replaced i Tick = true
 is_replaced i j = false
 
--- what x sends after h, but only the packets of time where a tick stands for it
+-- what x sends after h, but only the packets of time where a tick replaces it
 abbrev pub quiet_packets : Start → List Judged → Judged → Input → List (List ℕ)
 quiet_packets start past e j = if is_replaced e.input j then time_packets start past e.at else sent_at start e past
 
 unfoldable pub quiet_now : Start → List Timed → (x y : Timed) → List (List ℕ)
 quiet_now start h x y = quiet_packets start (judged start h) (judge start x (judged start h)) y.input
 
--- what a history sends, less the packets of service where the second has a tick for an input
+-- what a history sends, without the packets of service where the second has a tick for an input
 unfoldable pub quiet_sent : Start → (h g : List Timed) → List (List ℕ)
 quiet_sent start [] g = []
 quiet_sent start (x ∷ h) [] = []

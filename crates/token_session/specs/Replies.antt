@@ -24,7 +24,7 @@ error cid code = written cid ERROR (code ∷ [])
 abbrev pub keepalive : ℕ → ℕ → List (List ℕ)
 keepalive cid status = written cid KEEPALIVE (status ∷ [])
 
--- The packets of a row, but for those of a finished message and of work.
+-- The packets of a row, except for those of a finished message and of work.
 unfoldable pub row_packets : ℕ → Fields → Ruling → List (List ℕ)
 row_packets given f (Begins NoSuchChannel) = error (channel_of f) 0x0b
 row_packets given f (Begins InitLength) = error (channel_of f) 0x03

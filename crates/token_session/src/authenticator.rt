@@ -1,5 +1,4 @@
 ghost use Rattle.std.specs.Prelude.{◌≡◌, ◌+◌, ◌≤◌, ◌++◌, [], Some, IfSome, length, max, min, option_map, if◌then◌else◌};
-ghost use Rattle.authn_core.specs.Bare.{bare_rows};
 ghost use Rattle.ctap_message.specs.Requests.{steps_of, LARGEST};
 ghost use Rattle.authn_core.specs.Turn.{core_after, core_answer, first_state, waiting, working};
 ghost use Rattle.authn_core.specs.Views.{status_number, work_of};
@@ -122,7 +121,7 @@ impl<const C: usize> Authenticator<C> {
           aaguid = config.aaguid;
           moment = start;
           room = C;
-          rows = bare_rows (⟦<Store<C> as Table<C>>⟧.rows rows.entry);
+          rows = ⟦<Store<C> as Table<C>>⟧.rows rows.entry;
         }) }
         ensures latest { result.core.latest ≡ start }
         ensures keepalive { result.keepalive_at ≡ 0 }
@@ -184,7 +183,7 @@ impl<const C: usize> Authenticator<C> {
         reading_of(event, steps)
     }
 
-    /// Sends what a turn gives to `asker`, and nothing where there is none; `work` waited before the turn.
+    /// Sends what a turn returns to `asker`, and nothing where there is none; `work` waited before the turn.
     #[tactic(auto, unfolding(crate::specs::Replies::answer_packets, crate::specs::Replies::answer_keeps_alive))]
     fn send(
         &mut self,

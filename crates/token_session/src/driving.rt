@@ -1,19 +1,24 @@
 //! Inputs driven through a session, and through two.
-ghost use Rattle.std.specs.Prelude.{◌≡◌, ℕ, ◌+◌, ◌<◌, ◌≤◌, ◌++◌, ◌⊎◌, List, ◌∷◌, [], length, map, take, IfErr, IfOk, MatchBool, Result, Ok, Err};
+ghost use Rattle.std.specs.Prelude.{◌≡◌, ℕ, ◌+◌, ◌<◌, ◌≤◌, ◌++◌, ◌⊎◌, List, ◌∷◌, [], length, map, reverse, take, IfErr, IfOk, MatchBool, Result, Ok, Err};
 ghost use Rattle.arrayvec.specs.ArrayVec.{array_vec_len};
 ghost use Rattle.authn_core.specs.Turn.{Start};
 ghost use Rattle.token_session.specs.declared.input.Timed.{Timed as OneInput};
-ghost use Rattle.token_session.specs.Drive.{as_pair, both_number, drive_number, done_in, driven, driven_sends, done_of, first_done, second_done, HadRoom};
+ghost use Rattle.token_session.specs.Carried.{ArriveWhole, IsWhole};
+ghost use Rattle.token_session.specs.Drive.{as_pair, packet_of, both_number, drive_number, done_in, driven, driven_sends, done_of, first_done, second_done, HadRoom};
 ghost use Rattle.token_session.specs.declared.driving.BothFault.TheVariants.{Full as BothFull};
+ghost use Rattle.token_session.specs.Headline.{IsAnswered, start_of};
 ghost use Rattle.token_session.specs.Law.{numbered, onto, sent_from};
 ghost use Rattle.token_session.specs.Meters.{StandsAfter};
 ghost use Rattle.token_session.specs.Noise.{Quiet, quiet_from};
 ghost use Rattle.hid_packet.specs.declared.limit.TheConstants.{OUTBOX_CAPACITY};
 
-use crate::input::{Meters, Sent, Timed};
+use crate::input::{Input, Meters, Sent, Timed};
+use crate::laws::every_history_is_answered;
 use crate::session::Session;
 use arrayvec::ArrayVec;
-use hid_packet::{OUTBOX_CAPACITY, Outbox};
+use authn_core::Config;
+use cred_table::{Store, Table};
+use hid_packet::{OUTBOX_CAPACITY, Outbox, Packet};
 use thiserror::Error;
 
 /// Why a drive stopped.
@@ -68,12 +73,28 @@ fn take_all<const N: usize>(outbox: &mut Outbox, number: u64, sent: &mut ArrayVe
     }
 }
 
-/// Whether there is room for all that one more input may send.
+/// Whether there is capacity for all that one more input may send.
 fn has_room<const N: usize>(sent: &ArrayVec<Sent, N>) -> bool
     ensures { MatchBool result (array_vec_len sent.now + OUTBOX_CAPACITY ≤ N)
         (N < array_vec_len sent.now + OUTBOX_CAPACITY) }
 {
     sent.remaining_capacity() >= OUTBOX_CAPACITY
+}
+
+/// A packet has 64 bytes. It does nothing.
+fn known_packet(packet: &Packet)
+    ensures { length packet.now.0 ≡ 64 }
+{
+    let _bytes = packet.0.as_slice();
+}
+
+/// The same of an input.
+fn known_input(input: &Input)
+    ensures { IsWhole input.now }
+{
+    if let Input::Packet(packet) = input {
+        known_packet(packet);
+    }
 }
 
 /// Steps a session through the inputs, and appends the packets that they send. It stops before the
@@ -83,12 +104,14 @@ pub fn drive<const C: usize, const N: usize>(
     inputs: &[Timed],
     sent: &mut ArrayVec<Sent, N>,
 ) -> Result<Meters, DriveFault>
-    // The session and the list stand exactly after the inputs done.
+    // The session and the list are exactly after the inputs done.
     ensures state { session.new ≡ driven session.old (take (done_of (length inputs.now) result) inputs.now) }
     ensures packets { map as_pair sent.new.items
         ≡ map as_pair sent.old.items ++ driven_sends 0 session.old
         (take (done_of (length inputs.now) result) inputs.now) }
     ensures meters { IfOk result (λ meters. meters ≡ session.new.meters) }
+    // Each packet has 64 bytes.
+    ensures whole { ArriveWhole (take (done_of (length inputs.now) result) inputs.now) }
     // It is full exactly where too few places are free.
     ensures full { IfErr result (λ e. (done_of 0 result < length inputs.now)
         × (N < array_vec_len sent.new + OUTBOX_CAPACITY)) }
@@ -105,10 +128,37 @@ pub fn drive<const C: usize, const N: usize>(
         if !has_room(sent) {
             return Err(DriveFault::Full { done: i });
         }
+        known_input(&timed.input);
         session.step(timed.at, timed.input, &mut outbox);
         take_all(&mut outbox, i as u64, sent);
     }
     Ok(session.meters())
+}
+
+/// Makes a session and steps it through the inputs, with the packets that they send in place of what `sent` held. It
+/// stops before the first input at which fewer than 130 places are free. This is the headline: for every start and
+/// every list of inputs, the packets sent are exactly those that the history's definition names.
+pub fn drive_new<const C: usize, const N: usize>(
+    config: Config,
+    rows: Store<C>,
+    start: u64,
+    inputs: &[Timed],
+    sent: &mut ArrayVec<Sent, N>,
+) -> Result<Meters, DriveFault>
+    ensures answered { IsAnswered (start_of config.aaguid start C (⟦<Store<C> as Table<C>>⟧.rows rows.entry))
+        (reverse (take (done_of (length inputs.now) result) inputs.now)) (map packet_of sent.new.items) }
+    // Each packet has the number of its input.
+    ensures numbers { map as_pair sent.new.items
+        ≡ sent_from 0 (start_of config.aaguid start C (⟦<Store<C> as Table<C>>⟧.rows rows.entry)) []
+        (take (done_of (length inputs.now) result) inputs.now) }
+    // It is full exactly where too few places are free.
+    ensures full { IfErr result (λ e. (done_of 0 result < length inputs.now)
+        × (N < array_vec_len sent.new + OUTBOX_CAPACITY)) }
+{
+    every_history_is_answered();
+    sent.clear();
+    let mut session = Session::new(config, rows, start);
+    drive(&mut session, inputs, sent)
 }
 
 /// The fault of a drive as that of the first of two.

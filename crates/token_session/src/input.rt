@@ -10,9 +10,9 @@ pub enum Input {
     Tick,
     /// The caller's reply to a test of user presence.
     Presence(Presence),
-    /// A new key pair for a credential, or that none is had.
+    /// A new key pair for a credential, or that there is none.
     Key(Option<NewKey>),
-    /// A signature, or that none is had.
+    /// A signature, or that there is none.
     Signature(Option<Signature>),
 }
 

@@ -1,5 +1,5 @@
 //! What holds over the definitions alone: the composed turn, which has one state and knows no history,
-//! gives over any history just what that history names. Each law is the contract of a function that
+//! sends over any history just what that history names. Each law is the contract of a function that
 //! does nothing.
 
 ghost use Rattle.std.specs.Prelude.{◌≡◌, ◌≤◌, ◌⊎◌, ◌+◌, ◌*◌, ℕ, List, [], ◌∷◌, length, max, true, Option, Some, None, option_to_list, if◌then◌else◌};
@@ -25,7 +25,7 @@ ghost use Rattle.token_session.specs.Messages.{finished_at, open_at};
 ghost use Rattle.token_session.specs.History.{judge, judged, held, core, sent, service_packets, last_keepalive};
 ghost use Rattle.token_session.specs.Machine.{State, machine, turn, time_passed};
 ghost use Rattle.token_session.specs.Events.{event_packets};
-ghost use Rattle.token_session.specs.Law.{all_open, keeps_alive, IsAfter, sent_now, onto, sent_from, run_state, run_sent};
+ghost use Rattle.token_session.specs.Law.{all_open, keeps_alive, IsAfter, sent_now, onto, sent_from, run_state, run_sent, turns_send};
 ghost use Rattle.token_session.specs.Credentials.{steps};
 ghost use Rattle.token_session.specs.Signing.{came, IsAnsweredBy};
 ghost use Rattle.token_session.specs.Headline.{IsAnswered};
@@ -46,7 +46,7 @@ pub fn machine_follows_history()
         → (turn (machine start h) x).packets ≡ sent_now start h x }
 {}
 
-/// A run from a state that stands after a history stands after the longer one, and sends what the
+/// A run from a state that is after a history is after the longer one, and sends what the
 /// longer history says.
 pub fn runs_follow_history()
     ensures state { (s : State) (start : Start) (h xs : List OneInput) → IsAfter s start h
@@ -145,7 +145,7 @@ pub fn noise_is_a_tick()
 
 /// Of two histories of one start, the second is the first with ticks in place of noise. Then all that a session holds
 /// after them is the same: its channels, its open message, its authenticator, the moments and the meters. The second
-/// sends just what the first sends, less the packets of service at the inputs that were replaced; and so do lists of
+/// sends just what the first sends, without the packets of service at the inputs that were replaced; and so do lists of
 /// inputs by which such histories go on.
 pub fn quiet_histories_are_alike()
     ensures session { (start : Start) (h g : List OneInput) → Quiet start h g
@@ -157,10 +157,10 @@ pub fn quiet_histories_are_alike()
         → sent_from n start g ys ≡ quiet_from n start h xs ys }
 {}
 
-/// The credentials after any history are the start's and those that it made, in order, less what a granted reset or a
-/// replacing credential took out since; each counter is that of the start, or 0 for a made one, and the raises of that
-/// credential alone. They stay lawful, and no two texts to sign of assertions by one credential hold the same counter:
-/// they rise in time. While an assertion's signature is waited for, the newest of them is to be signed.
+/// The credentials after any history are the start's and those that it made, in order, without what a granted reset or
+/// a replacing credential took out since; each counter is that of the start, or 0 for a made one, and the raises of
+/// that credential alone. They stay lawful, and no two texts to sign of assertions by one credential hold the same
+/// counter: they rise in time. While an assertion's signature is waited for, the newest of them is to be signed.
 pub fn credentials_follow_history()
     ensures rows { (start : Start) (h : List OneInput)
         → (core start (judged start h)).state.rows ≡ rows_of start.rows
@@ -196,13 +196,12 @@ pub fn what_is_signed_is_answered()
     signing_law();
 }
 
-/// The headline. For every start and every list of inputs, the packets sent are exactly those that the history's
-/// definition names, each finished message being the bytes that its packets carried; and after every input the
-/// unfinished message holds at most 7609 bytes, the table and the pending assertions at most as many rows as there is
-/// room for, and reading a request of n bytes took at most 4n + 2 steps. Its premises: the start's rows are lawful, and
-/// each packet has 64 bytes, as each packet and each table of this program do.
+/// The headline over the composed turn, for every start and every list of inputs. (`drive_new` states it of the calls.)
+/// Its premises: the start's rows are lawful, and each packet has 64 bytes, as each packet and each table of this
+/// program do.
 pub fn every_history_is_answered()
-    ensures { (start : Start) (h : List OneInput) → Lawful start.room start.rows → ArriveWhole h → IsAnswered start h }
+    ensures { (start : Start) (h : List OneInput) → Lawful start.room start.rows → ArriveWhole h
+        → IsAnswered start h (turns_send start h) }
 {
     rows_follow_history();
     steps_are_bounded();

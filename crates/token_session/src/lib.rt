@@ -1,4 +1,4 @@
-//! The transport and the authenticator together: a session takes inputs, one at a time, and gives the
+//! The transport and the authenticator together: a session takes inputs, one at a time, and returns the
 //! packets to send.
 //!
 //! An example, which the gate runs (`crates/session_tests/src/page.rt`):
@@ -27,6 +27,6 @@ mod service;
 mod session;
 
 pub use authenticator::KEEPALIVE_PERIOD;
-pub use driving::{BothFault, DriveFault, drive, drive_both};
+pub use driving::{BothFault, DriveFault, drive, drive_both, drive_new};
 pub use input::{Input, Meters, Sent, Timed};
 pub use session::Session;

@@ -60,7 +60,7 @@ pub(crate) fn admit(
     }
 }
 
-/// Sends what a verdict sends, but for the packets of its event. `message` is what the packet finished.
+/// Sends what a verdict sends, except for the packets of its event. `message` is what the packet finished.
 #[tactic(auto, using(hid_packet::proofs::Carrying::few_written))]
 pub(crate) fn put_verdict(outbox: &mut Outbox, verdict: Verdict, message: &[u8])
     requires room { length outbox.old ≤ 1 }

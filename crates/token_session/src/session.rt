@@ -1,6 +1,5 @@
 ghost use Rattle.std.specs.Prelude.{◌≡◌, ℕ, ◌≤◌, [], ◌∷◌, List, length, option_map};
 ghost use Rattle.hid_assemble.specs.Assembly.{held_bytes};
-ghost use Rattle.authn_core.specs.Bare.{bare_rows};
 ghost use Rattle.authn_core.specs.Needs.{IsNeed};
 ghost use Rattle.authn_core.specs.Views.{needs, needed};
 ghost use Rattle.cred_table.specs.Waiting.{pending_count};
@@ -25,7 +24,7 @@ use hid_packet::Outbox;
 use std::marker::Model;
 
 /// A session: what a FIDO2 key holds between power up and power down. `C` is how many credentials it
-/// has room for. It takes no memory.
+/// has capacity for. It allocates nothing.
 #[derive(Drop)]
 pub struct Session<const C: usize> {
     /// The greatest moment of its start and its inputs.
@@ -81,7 +80,7 @@ impl<const C: usize> Session<C> {
           aaguid = config.aaguid;
           moment = start;
           room = C;
-          rows = bare_rows (⟦<Store<C> as Table<C>>⟧.rows rows.entry);
+          rows = ⟦<Store<C> as Table<C>>⟧.rows rows.entry;
         }) [] }
     {
         let authenticator = Authenticator::new(config, rows, start);
@@ -102,7 +101,7 @@ impl<const C: usize> Session<C> {
     }
 
     /// A session without credentials that begins at the moment `start`, in milliseconds, for an authenticator with this
-    /// AAGUID. No channel is given out. It has room for 1 to 256 credentials.
+    /// AAGUID. No channel is given out. It has capacity for 1 to 256 credentials.
     pub fn bare(aaguid: [u8; 16], start: u64) -> Self
         requires some { 1 ≤ C }
         requires few { C ≤ 256 }
@@ -119,7 +118,7 @@ impl<const C: usize> Session<C> {
         ensures state { self.new ≡ stepped self.old (record { at = at; input = input }) }
         ensures packets { outbox.new ≡ sent_by self.old (record { at = at; input = input }) }
         ensures few { length outbox.new ≤ OUTBOX_CAPACITY }
-        // After any history that the session stands after, it stands after the longer one, and it
+        // After any history that the session is after, it is after the longer one, and it
         // sent just what that history names for the input.
         ensures after { (start : Start) (h : List OneInput) → StandsAfter self.old start h
             → StandsAfter self.new start (record { at = at; input = input } ∷ h) }
@@ -137,13 +136,13 @@ impl<const C: usize> Session<C> {
     }
 
     /// Whether this input at `at` would be noise: when time has passed to `at`, it would change nothing more. Noise is
-    /// a CANCEL for which no work waits; a packet on a channel that was never given out, but for an INIT on the
-    /// broadcast channel; a packet that begins a message, but for INIT and CANCEL, while another channel has an open
+    /// a CANCEL for which no work waits; a packet on a channel that was never given out, except for an INIT on the
+    /// broadcast channel; a packet that begins a message, except for INIT and CANCEL, while another channel has an open
     /// message or any has work; a continuation packet with no message open on its channel; and a reply of the caller
     /// that isn't needed. A tick isn't. The session stays as it is.
     pub fn noise(&self, at: u64, input: &Input) -> bool
         ensures state { result ≡ is_noise_at self.now.machine (record { at = at; input = input.now }) }
-        // It is noise after each history that the session stands after.
+        // It is noise after each history that the session is after.
         ensures history { (start : Start) (h : List OneInput) → StandsAfter self.now start h
             → result ≡ is_noise_after start (judge start (record { at = at; input = input.now }) (judged start h))
             (judged start h) }
@@ -187,9 +186,9 @@ impl<const C: usize> Session<C> {
         self.authenticator.core.pending()
     }
 
-    /// The credentials. A contract sees them less the unused room of their names.
+    /// The credentials.
     pub fn table(&self) -> &Store<C>
-        ensures { bare_rows (⟦<Store<C> as Table<C>>⟧.rows result.now) ≡ self.now.machine.core.state.rows }
+        ensures { ⟦<Store<C> as Table<C>>⟧.rows result.now ≡ self.now.machine.core.state.rows }
     {
         self.authenticator.core.table()
     }
@@ -203,7 +202,7 @@ impl<const C: usize> Session<C> {
         self.meters
     }
 
-    /// Lets time pass to `at`: a message may be given up, or a KEEPALIVE be sent.
+    /// Lets time pass to `at`: a message may be dropped, or a KEEPALIVE sent.
     fn pass_time(&mut self, at: u64, outbox: &mut Outbox)
         requires sent { outbox.old ≡ [] }
         requires later { self.old.machine.now ≤ at }

@@ -35,7 +35,7 @@ const TOO_LONG_OR_SHORT: Verdict = Verdict::Refuse {
     code: ErrorCode::InvalidLength,
 };
 
-/// Channel 2 is told that channel 1 is served.
+/// Channel 2 hears that channel 1 is served.
 const BUSY: Verdict = Verdict::Refuse {
     cid: 2,
     code: ErrorCode::ChannelBusy,
@@ -223,7 +223,7 @@ const LISTS: [(&str, (u32, u32), Option<u32>, &[Call<'static>]); 8] = [
     ("commands", (1, 1), None, &COMMANDS),
 ];
 
-/// Makes calls, and asserts what each gives.
+/// Makes calls, and asserts what each returns.
 fn play(
     rt: &impl Abort,
     assembler: &mut Assembler,

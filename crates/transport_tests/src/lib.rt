@@ -1,4 +1,4 @@
-//! Tests of `hid_packet` and `hid_assemble` by their public calls. They stand apart, as in Cargo's folder
+//! Tests of `hid_packet` and `hid_assemble` by their public calls. They are apart, as in Cargo's folder
 //! `tests/`, since a check of a crate's tests proves the whole crate once more.
 #![tactic(auto)]
 

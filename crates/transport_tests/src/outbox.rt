@@ -1,4 +1,4 @@
-//! An outbox gives the packets of what was put, also where its ring of bytes goes around its end.
+//! An outbox yields the packets of what was put, also where its ring of bytes goes around its end.
 
 use hid_packet::laws::written_packets_are_the_fewest;
 use hid_packet::{Fragments, Outbox, Packet};

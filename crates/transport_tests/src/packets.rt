@@ -26,7 +26,7 @@ const FIELDS: [(&[u8], (u32, Option<u16>, u8, usize), &[u8]); 3] = [
     (b"", (0, None, 0, 59), b"\x00"),
 ];
 
-/// What a packet's view tells: its fields, and the data bytes.
+/// What a packet's view says: its fields, and the data bytes.
 fn told(packet: &Packet) -> ((u32, Option<u16>, u8, usize), &[u8]) {
     match packet.view() {
         View::Start {

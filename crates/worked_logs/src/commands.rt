@@ -166,7 +166,7 @@ fn is_quieted<const C: usize>(alloc: Global, log: &[u8]) -> Option<bool>
     Some(again == quiet && counts(sent.as_slice()) == counts(log))
 }
 
-/// The log less the comments that tell what is needed, and how many of these say what it is.
+/// The log less the comments that say what is needed, and how many of these say what it is.
 fn without_needs(alloc: Global, log: &[u8]) -> Result<(Vec<u8>, u64), AllocError> {
     let (mut text, mut needs) = (Vec::new(alloc), 0u64);
     for line in log.split_inclusive(|byte| *byte == b'\n') {
@@ -192,7 +192,7 @@ fn is_lived<const C: usize>(alloc: Global, log: &[u8]) -> Option<bool>
     Some(again == told && sent == told && rest.as_slice() == log && needs == walked(log).inputs)
 }
 
-/// Whether the commands make of the log what they should, on a session that has room for `C` credentials.
+/// Whether the commands make of the log what they should, on a session that has capacity for `C` credentials.
 pub fn is_worked<const C: usize>(alloc: Global, log: &[u8]) -> bool
     requires some { 1 ≤ C }
     requires few { C ≤ 256 }

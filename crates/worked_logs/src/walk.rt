@@ -1,6 +1,6 @@
 //! The lines of a worked log, and which input each packet was sent for.
 
-/// Where a packet stands: the line of the input that it was sent for, and its number after that line. Both count from
+/// Where a packet is: the line of the input that it was sent for, and its number after that line. Both count from
 /// 1.
 #[derive(Clone, Copy, Default)]
 pub struct Place {
@@ -22,7 +22,7 @@ impl Place {
 #[derive(Clone, Copy, Default)]
 pub struct Walk {
     lines: u64,
-    /// Where the last packet stands; after an input's line its packet is 0.
+    /// Where the last packet is; after an input's line its packet is 0.
     pub place: Place,
     pub inputs: u64,
     pub packets: u64,

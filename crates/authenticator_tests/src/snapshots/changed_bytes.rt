@@ -12,12 +12,12 @@ const HEADS: [u8; 5] = [0xA2, 0x01, 0x02, 0x02, 0x82];
 /// The bytes of a row.
 const ROW: usize = 151;
 
-/// Where a row's id ends, counted from the row's first byte, and where its user handle stands.
+/// Where a row's id ends, counted from the row's first byte, and where its user handle is.
 const LAST_OF_ID: usize = 70;
 
 const USER: usize = 143;
 
-/// What may stand at places of a row: the first and the last place, counted from the
+/// What may be at places of a row: the first and the last place, counted from the
 /// row's first byte, the least and the greatest byte, and whether a row may have
 /// them. With any other byte the text is no snapshot. They were computed from the definition of a snapshot by a program
 /// outside of this repository.

@@ -13,9 +13,9 @@ ghost use Rattle.authn_core.specs.Ready.{AllThere};
 
 use crate::authenticator::{Core, Turn};
 use crate::hashes::{hash_of, rp_hash_of};
-use crate::kept::Kept;
 use crate::refusals;
 use crate::replies::{Presence, Signature};
+use crate::rows::{counter_of, known_capacity, user_of};
 use crate::steps::{end, refuse, sign};
 use crate::task::{Asserting, Job, Task};
 use crate::work::KeepaliveStatus;
@@ -29,16 +29,16 @@ const NEXT_LIMIT: u64 = 30_000;
 
 /// Returns the id of the row of the first id that names one of the RP.
 fn named_first<T: Table<C>, const C: usize>(
-    rows: &Kept<T, C>,
+    table: &T,
     rp: &[u8; 32],
     allow: Descriptors<'_>,
 ) -> Option<[u8; 32]>
-    ensures { result ≡ option_map (λ row. row.id) (get.find_named rp.now rows.now (ids_of (left_of allow.entry))) }
+    ensures { result ≡ option_map (λ row. row.id) (get.find_named rp.now (T.rows table.now) (ids_of (left_of allow.entry))) }
 {
     let mut allow = allow;
     'walk: while let Some(id) = allow.next() {
-        if let Some(found) = rows.named(rp, id) {
-            return Some(found);
+        if let Some(row) = table.named(rp, id) {
+            return Some(row.id);
         }
     }
     None
@@ -46,31 +46,32 @@ fn named_first<T: Table<C>, const C: usize>(
 
 /// Writes the ids of the applicable rows.
 fn put_applicable<T: Table<C>, const C: usize>(
-    rows: &Kept<T, C>,
+    table: &T,
     rp: &[u8; 32],
     allow: Descriptors<'_>,
     found: &mut ArrayVec<[u8; 32], C>,
 )
     requires fresh { list_of allow ≡ left_of allow }
     requires empty { found.old.items ≡ [] }
-    ensures { found.new.items ≡ ids (get.applicable rows.now rp.now (has_entries (left_of allow.entry))
+    ensures { found.new.items ≡ ids (get.applicable (T.rows table.now) rp.now (has_entries (left_of allow.entry))
         (ids_of (left_of allow.entry))) }
 {
     if allow.is_given() {
-        if let Some(id) = named_first(rows, rp, allow) {
-            rows.put_one(found, id);
+        if let Some(id) = named_first(table, rp, allow) {
+            known_capacity(table);
+            found.push(id);
         }
     } else {
-        rows.listed(rp, found);
+        table.rows_of(rp, found);
     }
 }
 
 /// Returns the number of applicable rows, where the answer has it.
-fn told_number<T: Table<C>, const C: usize>(rows: &Kept<T, C>, given: bool, n: usize) -> Option<u16>
+fn told_number<T: Table<C>, const C: usize>(table: &T, given: bool, n: usize) -> Option<u16>
     requires { n ≤ C }
     ensures { result ≡ get.told given n }
 {
-    rows.room();
+    known_capacity(table);
     if n > 1 && !given {
         Some(n as u16)
     } else {
@@ -107,7 +108,7 @@ impl<T: Table<C>, const C: usize> Core<T, C> {
         let hash = hash_of(hash);
         let given = allow.is_given();
         let mut found: ArrayVec<[u8; 32], C> = ArrayVec::new();
-        put_applicable(&self.rows, &rp, allow, &mut found);
+        put_applicable(&self.table, &rp, allow, &mut found);
         self.begin_by(cid, &hash, &rp, presence, given, found.as_slice())
     }
 
@@ -130,7 +131,7 @@ impl<T: Table<C>, const C: usize> Core<T, C> {
         let Some(first) = self.pending.next() else {
             return refuse(&mut self.work, refusals::NO_CREDENTIALS);
         };
-        if self.rows.counter(&first) >= u32::MAX {
+        if counter_of(&self.table, &first) >= u32::MAX {
             self.pending.clear();
             return refuse(&mut self.work, refusals::LIMIT_EXCEEDED);
         }
@@ -139,14 +140,14 @@ impl<T: Table<C>, const C: usize> Core<T, C> {
             rp: *rp,
             id: first,
             presence,
-            number: told_number(&self.rows, given, ids.len()),
+            number: told_number(&self.table, given, ids.len()),
         };
         if presence {
             let task = Task::AsksAssert(a);
             self.work = Some(Job { cid, task });
             Turn::Waits(KeepaliveStatus::PresenceNeeded)
         } else {
-            sign(&mut self.rows, &mut self.work, cid, &a)
+            sign(&mut self.table, &mut self.work, cid, &a)
         }
     }
 
@@ -158,7 +159,7 @@ impl<T: Table<C>, const C: usize> Core<T, C> {
             self.old.core.state.pending cid a reply) }
     {
         match reply {
-            Presence::Granted => sign(&mut self.rows, &mut self.work, cid, &a),
+            Presence::Granted => sign(&mut self.table, &mut self.work, cid, &a),
             _ => {
                 self.pending.clear();
                 refuse(&mut self.work, refusals::OPERATION_DENIED)
@@ -183,7 +184,7 @@ impl<T: Table<C>, const C: usize> Core<T, C> {
         self.pending.stamp(self.latest);
         end(&mut self.work);
         let data = AuthData::assertion(&a.rp, a.presence, counter);
-        let user = self.rows.user_of(&a.id);
+        let user = user_of(&self.table, &a.id);
         Turn::Answer(write_assertion(
             &a.id,
             data.bytes().as_slice(),
@@ -218,11 +219,12 @@ impl<T: Table<C>, const C: usize> Core<T, C> {
         ensures { Takes self.old self.new result (get.row_signs self.old.core.state.rows self.old.core.state.pending
             cid hash presence id (find (has_id id) self.old.core.state.rows)) }
     {
-        let Some(rp) = self.rows.rp_of(&id) else {
+        let Some(row) = self.table.find(&id) else {
             self.pending.clear();
             return refuse(&mut self.work, refusals::NOT_ALLOWED);
         };
-        if self.rows.counter(&id) >= u32::MAX {
+        let rp = row.rp;
+        if counter_of(&self.table, &id) >= u32::MAX {
             self.pending.clear();
             return refuse(&mut self.work, refusals::LIMIT_EXCEEDED);
         }
@@ -233,6 +235,6 @@ impl<T: Table<C>, const C: usize> Core<T, C> {
             presence,
             number: None,
         };
-        sign(&mut self.rows, &mut self.work, cid, &a)
+        sign(&mut self.table, &mut self.work, cid, &a)
     }
 }

@@ -12,14 +12,14 @@ ghost use Rattle.authn_core.specs.Views.{Takes};
 
 use crate::authenticator::{Core, Turn};
 use crate::hashes::{hash_of, rp_hash_of};
-use crate::kept::Kept;
 use crate::refusals;
 use crate::replies::{NewKey, Presence, Signature};
+use crate::rows::{fits, store};
 use crate::steps::{end, refuse};
-use crate::task::{Job, Making, Name, Task};
+use crate::task::{Job, Making, Task};
 use crate::work::KeepaliveStatus;
 use arrayvec::ArrayVec;
-use cred_table::Table;
+use cred_table::{Name, Table};
 use ctap_message::{Descriptors, write_created};
 use fido_authdata::{AuthData, to_sign};
 
@@ -39,7 +39,7 @@ pub(crate) fn making_of(
     user.try_extend_from_slice(user_id).unwrap();
     let hash = hash_of(hash);
     let rp = rp_hash_of(rp_id);
-    let name = Name::kept(user_name);
+    let name = Name::cut(user_name);
     Making {
         hash,
         rp,
@@ -51,15 +51,15 @@ pub(crate) fn making_of(
 
 /// Whether one of the ids names a row of the RP.
 fn names_one<T: Table<C>, const C: usize>(
-    rows: &Kept<T, C>,
+    table: &T,
     rp: &[u8; 32],
     exclude: Descriptors<'_>,
 ) -> bool
-    ensures { result ≡ make.names_one rp.now rows.now (ids_of (left_of exclude.entry)) }
+    ensures { result ≡ make.names_one rp.now (T.rows table.now) (ids_of (left_of exclude.entry)) }
 {
     let mut exclude = exclude;
     'walk: while let Some(id) = exclude.next() {
-        if rows.has_named(rp, id) {
+        if table.named(rp, id).is_some() {
             return true;
         }
     }
@@ -80,14 +80,14 @@ impl<T: Table<C>, const C: usize> Core<T, C> {
         ensures { Takes self.old self.new result (make.make_begins self.old.core.state.rows cid making
             (ids_of (left_of exclude.entry))) }
     {
-        let excluded = names_one(&self.rows, &making.rp, exclude);
+        let excluded = names_one(&self.table, &making.rp, exclude);
         self.pending.clear();
         let task = Task::AsksMake(making, excluded);
         self.work = Some(Job { cid, task });
         Turn::Waits(KeepaliveStatus::PresenceNeeded)
     }
 
-    /// Asks for a key where the user consents and there is room.
+    /// Asks for a key where the user consents and there is capacity.
     pub(crate) fn make_presence(
         &mut self,
         cid: u32,
@@ -104,7 +104,7 @@ impl<T: Table<C>, const C: usize> Core<T, C> {
         let Presence::Granted = reply else {
             return refuse(&mut self.work, refusals::OPERATION_DENIED);
         };
-        if !self.rows.has_room(&making) {
+        if !fits(&self.table, &making) {
             return refuse(&mut self.work, refusals::KEY_STORE_FULL);
         }
         let task = Task::WantsKey(making);
@@ -121,7 +121,7 @@ impl<T: Table<C>, const C: usize> Core<T, C> {
         let Some(key) = key else {
             return refuse(&mut self.work, refusals::OTHER);
         };
-        if self.rows.has(&key.id) {
+        if self.table.find(&key.id).is_some() {
             return refuse(&mut self.work, refusals::OTHER);
         }
         let signed = credential_to_sign(&self.config.aaguid, &making, key);
@@ -147,7 +147,7 @@ impl<T: Table<C>, const C: usize> Core<T, C> {
         };
         let aaguid = &self.config.aaguid;
         let data = AuthData::created(&making.rp, aaguid, &key.id, &key.x, &key.y);
-        self.rows.store(making, key);
+        store(&mut self.table, making, key);
         self.pending.clear();
         end(&mut self.work);
         Turn::Answer(write_created(data.bytes().as_slice(), signature.bytes()))

@@ -37,7 +37,7 @@ impl<T: Table<C>, const C: usize> Core<T, C> {
     {
         match reply {
             Presence::Granted => {
-                self.rows.clear();
+                self.table.clear();
                 self.pending.clear();
                 refuse(&mut self.work, Status::OK)
             }

@@ -10,11 +10,11 @@ returns-in_err-matches-clause-answer c =
     passed_up c.from_residual-in_err-matches.result c.in_err-matches.field-0.0 (HasKind (answers_to (texts_of c.args.words.now))) c.from_residual-in_err-matches.ensures.1
     (faults_are (app_of c.in_ok-program.program) (texts_of c.args.words.now) (λ kinds. HasKind kinds c.in_err-matches.field-0.0) c.in_ok-program.ensures c.in_err-matches.ensures.kinds)
 
-pub returns-in-Some-clause-task : goal.returns-in-Some-clause-task
-returns-in-Some-clause-task c =
+pub returns-in-Some-task_in-clause-task : goal.returns-in-Some-task_in-clause-task
+returns-in-Some-task_in-clause-task c =
     let none = faults_are (app_of c.in_ok-program.program) (texts_of c.args.words.now) (λ kinds. kinds ≡ []) c.in_ok-program.ensures c.in_ok-matches.ensures.kinds in
     asked_is (app_of c.in_ok-program.program) (texts_of c.args.words.now) c.in_ok-matches.matches c.in_ok-program.ensures c.in_ok-matches.ensures.ok.2 none
-    ∙ sym c.in-Some.ensures
+    ∙ sym c.in-Some-task_in.ensures
 
 pub returns-clause-answer : goal.returns-clause-answer
 returns-clause-answer c =

@@ -8,7 +8,7 @@ returns-in_err-live_command-clause-does g c =
     inr (
       begun.0,
       begun.1,
-      (
+      inr (
         Err c.in_err-live_command.field-0.0,
         c.live_command.new.session,
         c.in_err-live_command.ensures.lived (start_with begun.0) [] begun.2,
@@ -19,11 +19,11 @@ returns-in_err-live_command-clause-does g c =
 pub returns-in-Some-clause-does : goal.returns-in-Some-clause-does
 returns-in-Some-clause-does g c =
     let begun = c.in_ok-session.ensures.begins in
-    let silent : c.live_command.new.faults ≡ c.args.faults.now = c.in_ok-live_command.ensures.silent ∙ c.in_ok-session.ensures.silent in
+    let silent : c.live_command.new.faults ≡ c.args.faults.now = c.in_ok-live_command.ensures.silent ∙ (c.in_ok-look.ensures.silent ∙ c.in_ok-session.ensures.silent) in
     inr (
       begun.0,
       begun.1,
-      (
+      inr (
         Ok c.in_ok-live_command.field-0,
         c.live_command.new.session,
         c.in_ok-live_command.ensures.lived (start_with begun.0) [] begun.2,
@@ -37,10 +37,10 @@ returns-in-None-clause-does g c =
     inr (
       begun.0,
       begun.1,
-      (
+      inr (
         Ok c.in_ok-live_command.field-0,
         c.live_command.new.session,
         c.in_ok-live_command.ensures.lived (start_with begun.0) [] begun.2,
-        rw c.in-None.is (refl, refl, c.in_ok-live_command.ensures.silent ∙ c.in_ok-session.ensures.silent),
+        rw c.in-None.is (refl, refl, c.in_ok-live_command.ensures.silent ∙ (c.in_ok-look.ensures.silent ∙ c.in_ok-session.ensures.silent)),
       ),
     )

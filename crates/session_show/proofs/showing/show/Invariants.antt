@@ -1,13 +1,20 @@
-use Rattle.std.proofs.Common.{◌≡◌, ◌-◌, ◌^◌, ◌≤◌}
+use Rattle.std.proofs.Common.{◌≡◌, ◌-◌, ◌^◌, ◌≤◌, List, ℕ, ◌++◌}
+use Rattle.std.specs.Io.KnownBytes.{Consumes}
+use Rattle.session_log.proofs.Through.{Through}
+use Rattle.session_show.specs.Shown.{reading}
+use Rattle.session_show.specs.Written.{Grows}
 use Rattle.session_show.proofs.showing.show.Given as goal
 
--- no call failed so far
+-- whole lines were read and shown, and what was read after them stands in the window
 abbrev pub invariant-lines : goal.invariant-lines
 invariant-lines g l =
     record {
       reads : g.S.Source.failed l.reader ≡ g.S.Source.failed l.fn.reader;
       writes : g.T.Target.failed l.writer ≡ g.T.Target.failed l.fn.writer;
       counted : l.number ≤ 2 ^ 32;
+      grown : Grows (g.T.Target.taken l.fn.writer) (g.T.Target.taken l.writer);
+      done : (read : List ℕ) × (shown : List ℕ) × Consumes (g.S.Source.left l.fn.reader) (g.S.Source.left l.reader) (read ++ l.window)
+          × Through reading tt read shown tt l.number;
     }
 
 abbrev pub decreases-lines : goal.decreases-lines

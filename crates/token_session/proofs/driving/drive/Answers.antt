@@ -2,7 +2,7 @@ use Rattle.std.proofs.Common.{rules, ◌≡◌, ◌++◌, length, take, map, ◌
 use Rattle.std.proofs.lemmas.List.{length-map}
 use Rattle.arrayvec.specs.ArrayVec.{array_vec_len}
 use Rattle.token_session.specs.Drive.{as_pair}
-use Rattle.token_session.proofs.Drives.{driven_more, sends_more, room_here, driven_stands, driven_follows}
+use Rattle.token_session.proofs.Drives.{driven_more, whole_more, sends_more, room_here, driven_stands, driven_follows}
 use Rattle.token_session.proofs.driving.drive.Goals as goal
 
 pub returns-then-not-has_room : goal.returns-then-not-has_room
@@ -10,6 +10,7 @@ returns-then-not-has_room g c = record {
   state = c.loop-i.invariant.state;
   packets = c.loop-i.invariant.packets;
   meters = tt;
+  whole = c.loop-i.invariant.whole;
   full = (c.loop-i-test.true, omega (arith, c.if-not-has_room.ensures));
   room = c.loop-i.invariant.room;
   after = λ start h b. c.loop-i.invariant.state ∙ driven_stands (take c.loop-i.i c.args.inputs.now) _ start h b;
@@ -23,6 +24,7 @@ returns g c =
       state = rw (← e) c.loop-i.invariant.state;
       packets = rw (← e) c.loop-i.invariant.packets;
       meters = c.meters.ensures.value;
+      whole = rw (← e) c.loop-i.invariant.whole;
       full = tt;
       room = rw (← e) c.loop-i.invariant.room;
       after = λ start h b. rw (← e) (c.loop-i.invariant.state ∙ driven_stands (take c.loop-i.i c.args.inputs.now) _ start h b);
@@ -33,6 +35,7 @@ pub loop-i-preserved : goal.loop-i-preserved
 loop-i-preserved g c = record {
   state = driven_more c.args.inputs.now c.loop-i.i _ _ _ c.index-inputs-i.result _ c.loop-i-test.true c.index-inputs-i.is c.step.ensures.state c.loop-i.invariant.state;
   packets = sends_more c.args.inputs.now c.loop-i.i _ _ _ _ _ _ c.index-inputs-i.result _ c.loop-i-test.true c.index-inputs-i.is c.take_all.ensures.sent c.step.ensures.packets c.loop-i.invariant.state c.loop-i.invariant.packets;
+  whole = whole_more c.args.inputs.now c.loop-i.i c.index-inputs-i.result _ c.loop-i-test.true c.index-inputs-i.is c.loop-i.invariant.whole c.known_input.ensures;
   room = below_more _ _ c.loop-i.invariant.room (room_here (map as_pair c.loop-i.sent.items) _ g.row.N c.loop-i.invariant.packets (let n : length (map as_pair c.loop-i.sent.items) ≡ array_vec_len c.loop-i.sent = simp length-map in omega (arith, c.if-not-has_room.ensures)));
   empty = c.take_all.ensures.empty;
 }
@@ -41,6 +44,7 @@ pub loop-i-init : goal.loop-i-init
 loop-i-init g c = record {
   state = refl;
   packets = sym (append-nil _);
+  whole = tt;
   room = λ j less. absurd (omega arith);
   empty = c.new-outbox.ensures;
 }

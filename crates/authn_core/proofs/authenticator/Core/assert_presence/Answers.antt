@@ -9,4 +9,4 @@ pub invariant_of-self : goal.invariant_of-self
 invariant_of-self g c =
     let i = c.self.inside in
     let P : Held → Type 0 = λ v. is_some (find (has_id c.args.a.id) v.core.state.rows) ≡ true in
-    (c.self.invariant.0, signed_ready g.row.C i.rows i.pending c.args.cid c.args.a _ _ c.sign.ensures.rows c.sign.ensures.work c.self.invariant.1.pending (subst P (sym c.self.view_is) c.requires.there))
+    (c.self.invariant.0, signed_ready g.row.C (g.T.Table.rows i.table) i.pending c.args.cid c.args.a _ _ c.sign.ensures.rows c.sign.ensures.work c.self.invariant.1.pending (subst P (sym c.self.view_is) c.requires.there))

@@ -42,7 +42,7 @@ returns-in-Request g c =
     let x : Held = record {
       core = record {
         setup = record { aaguid = i.config.aaguid; began = i.began; room = g.row.C };
-        state = record { rows = i.rows; pending = i.pending; work = i.work };
+        state = record { rows = g.T.Table.rows i.table; pending = i.pending; work = i.work };
       };
       latest = i.latest;
       last_steps = n;

@@ -8,5 +8,5 @@ abbrev pub invariant-walk : goal.invariant-walk
 invariant-walk g l = record {
   next : (goal.iterator-walk g).can_next l.exclude;
   finite : (goal.iterator-walk g).is_finite l.exclude;
-  same : names_one l.rp l.rows (ids_of (left_of l.fn.exclude)) ≡ names_one l.rp l.rows (ids_of (left_of l.exclude));
+  same : names_one l.rp (g.T.Table.rows l.table) (ids_of (left_of l.fn.exclude)) ≡ names_one l.rp (g.T.Table.rows l.table) (ids_of (left_of l.exclude));
 }

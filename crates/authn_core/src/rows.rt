@@ -1,0 +1,127 @@
+//! What the commands ask of a table.
+
+ghost use Rattle.std.specs.Prelude.{◌≡◌, ◌<◌, ◌≤◌, ◌⊎◌, if◌then◌else◌, None, Some, true, false, length, option_map, is_some};
+ghost use Rattle.std.specs.List.{find};
+ghost use Rattle.std.specs.Option.{ForSome, option_copied};
+ghost use Rattle.cred_table.specs.Rows.{has_id, is_user, stored, counter_of};
+ghost use Rattle.authn_core.specs.MakeCredential.{fits, new_row};
+ghost use Rattle.authn_core.specs.GetAssertion.{user_in};
+
+use crate::replies::NewKey;
+use crate::task::Making;
+use cred_table::{Row, Table};
+
+/// Returns the counter of the row with the id, 0 where there is none.
+pub(crate) fn counter_of<T: Table<C>, const C: usize>(table: &T, id: &[u8; 32]) -> u32
+    ensures { result ≡ counter_of id.now (T.rows table.now) }
+{
+    match table.find(id) {
+        Some(row) => row.counter,
+        None => 0,
+    }
+}
+
+/// Returns the user handle of the row with the id, where it is discoverable.
+pub(crate) fn user_of<'a, T: Table<C>, const C: usize>(
+    table: &'a T,
+    id: &[u8; 32],
+) -> Option<&'a [u8]>
+    ensures value { option_copied result ≡ user_in (find (has_id id.now) (T.rows table.now)) }
+    ensures short { ForSome result (λ u. length u.now ≤ 64) }
+{
+    match table.find(id) {
+        Some(row) => handle_of(row),
+        None => None,
+    }
+}
+
+/// Returns the user handle of a discoverable row.
+fn handle_of(row: &Row) -> Option<&[u8]>
+    ensures value { option_copied result ≡ user_in (Some row.now) }
+    ensures short { ForSome result (λ u. length u.now ≤ 64) }
+{
+    if row.discoverable {
+        Some(row.user.as_slice())
+    } else {
+        None
+    }
+}
+
+/// Whether there is capacity for the new row, or it takes the place of one.
+pub(crate) fn fits<T: Table<C>, const C: usize>(table: &T, making: &Making) -> bool
+    ensures { result ≡ fits C making.now (T.rows table.now) }
+{
+    table.len() < C
+        || making.discoverable
+            && table
+                .same_user(&making.rp, making.user.as_slice())
+                .is_some()
+}
+
+/// Returns the row that is made.
+fn row_of(making: Making, key: NewKey) -> Row
+    ensures { result ≡ new_row making key }
+{
+    let Making {
+        hash: _,
+        rp,
+        user,
+        name,
+        discoverable,
+    } = making;
+    let NewKey { id, x, y } = key;
+    Row {
+        rp,
+        id,
+        x,
+        y,
+        user,
+        discoverable,
+        counter: 0,
+        name,
+    }
+}
+
+/// Stores the new row.
+pub(crate) fn store<T: Table<C>, const C: usize>(table: &mut T, making: Making, key: NewKey)
+    requires room { fits C making (T.rows table.old) ≡ true }
+    requires fresh { is_some (find (has_id key.id) (T.rows table.old)) ≡ false }
+    ensures { T.rows table.new ≡ stored (new_row making key) (T.rows table.old) }
+{
+    let row = row_of(making, key);
+    put(table, row);
+}
+
+/// Puts a row in, in place of the one that it replaces.
+fn put<T: Table<C>, const C: usize>(table: &mut T, row: Row)
+    requires room { (length (T.rows table.old) < C) ⊎ ((row.discoverable ≡ true)
+        × (is_some (find (is_user row.rp row.user.items) (T.rows table.old)) ≡ true)) }
+    requires fresh { is_some (find (has_id row.id) (T.rows table.old)) ≡ false }
+    ensures { T.rows table.new ≡ stored row (T.rows table.old) }
+{
+    match replaced(table, &row) {
+        Some(old) => table.replace(&old, row),
+        None => table.put(row),
+    }
+}
+
+/// Returns the id of the row that a new one takes the place of.
+fn replaced<T: Table<C>, const C: usize>(table: &T, row: &Row) -> Option<[u8; 32]>
+    ensures { result ≡ option_map (λ old. old.id) (if row.now.discoverable
+        then find (is_user row.now.rp row.now.user.items) (T.rows table.now) else None) }
+{
+    if row.discoverable {
+        table.same_user(&row.rp, row.user.as_slice())
+    } else {
+        None
+    }
+}
+
+/// A table has capacity for 1 to 256 rows, and at most as many rows.
+pub(crate) fn known_capacity<T: Table<C>, const C: usize>(table: &T)
+    ensures least { 1 ≤ C }
+    ensures most { C ≤ 256 }
+    ensures rows { length (T.rows table.now) ≤ C }
+{
+    let _ = table;
+}

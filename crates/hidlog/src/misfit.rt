@@ -1,0 +1,138 @@
+//! Why a line isn't a log line.
+use session_log::read_line;
+use std::alloc::{AllocError, Global};
+
+/// Returns how many bytes in front are hexadecimal digits, at most `most`.
+fn hex_len(field: &[u8], most: usize) -> usize {
+    field
+        .iter()
+        .take(most)
+        .take_while(|byte| matches!(**byte, b'0'..=b'9' | b'a'..=b'f' | b'A'..=b'F'))
+        .count()
+}
+
+/// Returns how many bytes in front two texts share.
+fn shared_len(field: &[u8], word: &[u8]) -> usize {
+    field
+        .iter()
+        .zip(word.iter())
+        .take_while(|(a, b)| **a == **b)
+        .count()
+}
+
+/// Returns how many bytes in front are the digits of a moment.
+fn moment_len(fields: &[u8]) -> usize {
+    let mut number = 0_u64;
+    for (place, byte) in fields.iter().enumerate() {
+        let Some(digit) = char::from(*byte).to_digit(10) else {
+            return place;
+        };
+        if place > 0 && number == 0 {
+            return place;
+        }
+        let longer = number.checked_mul(10);
+        match longer.and_then(|n| n.checked_add(u64::from(digit))) {
+            Some(longer) => number = longer,
+            None => return place,
+        }
+    }
+    fields.len()
+}
+
+/// Returns how many bytes in front fit a reply about presence.
+fn presence_len(field: &[u8]) -> usize {
+    let granted = shared_len(field, b"granted");
+    let denied = shared_len(field, b"denied");
+    granted.max(denied).max(shared_len(field, b"timeout"))
+}
+
+/// Returns how many bytes in front fit a new key: an id and two coordinates, or `no`.
+fn key_len(field: &[u8]) -> usize {
+    let id = hex_len(field, 64);
+    if id < 64 {
+        return id.max(shared_len(field, b"no"));
+    }
+    let mut len = id;
+    for _ in 0..2 {
+        let rest = field.split_at_checked(len).map_or(field, |parts| parts.1);
+        let digits = match rest {
+            [b' ', digits @ ..] => hex_len(digits, 64),
+            _ => return len,
+        };
+        len = len.saturating_add(digits).saturating_add(1);
+        if digits < 64 {
+            return len;
+        }
+    }
+    len
+}
+
+/// Returns how many bytes in front fit the field after the moment of a line with this letter.
+fn field_len(letter: u8, field: &[u8]) -> usize {
+    match letter {
+        b'>' => hex_len(field, 128),
+        b'p' => presence_len(field),
+        b'k' => key_len(field),
+        _ => hex_len(field, 144).max(shared_len(field, b"no")),
+    }
+}
+
+/// Returns how many bytes in front fit the fields of an input.
+fn fields_len(letter: u8, fields: &[u8]) -> usize {
+    let digits = moment_len(fields);
+    if letter == b't' || digits == 0 {
+        return digits;
+    }
+    match fields.split_at_checked(digits) {
+        Some((_, [b' ', field @ ..])) => {
+            digits
+                .saturating_add(field_len(letter, field))
+                .saturating_add(1)
+        }
+        _ => digits,
+    }
+}
+
+/// Returns how many bytes in front fit a log line. The one after them fits none.
+fn fitting_len(line: &[u8]) -> usize {
+    match line {
+        [b'<', b' ', packet @ ..] => hex_len(packet, 128).saturating_add(2),
+        [b'>' | b't' | b'p' | b'k' | b's', b' ', fields @ ..] => {
+            fields_len(line[0], fields).saturating_add(2)
+        }
+        [b'>' | b'<' | b't' | b'p' | b'k' | b's', ..] => 1,
+        _ => 0,
+    }
+}
+
+/// Returns why a line isn't a log line, as a line of text.
+fn reason(alloc: Global, line: &[u8]) -> Result<String, AllocError> {
+    let place = fitting_len(line);
+    let number = place.saturating_add(1);
+    match line.get(place) {
+        None => format!(in alloc; "  it ends after byte {place}, too early\n"),
+        Some(b'\r') => format!(in alloc;
+            "  byte {number} is a carriage return: lines end with a line feed alone (tr -d '\\r' drops the others)\n"
+        ),
+        Some(_) if place == 0 && line.starts_with(b"\xEF\xBB\xBF") => format!(in alloc;
+            "  byte 1 begins a byte order mark: a log has none\n"
+        ),
+        Some(byte) if matches!(*byte, b' '..=b'~') => {
+            let sign = char::from(*byte);
+            format!(in alloc; "  byte {number} is '{sign}', which fits no log line here\n")
+        }
+        Some(byte) => format!(in alloc;
+            "  byte {number} is 0x{byte:02x}, which fits no log line here\n"
+        ),
+    }
+}
+
+/// Returns why the first line that is none of a log isn't one, if there is such a line.
+pub fn first_reason(alloc: Global, lines: &[u8]) -> Option<String> {
+    for line in lines.split(|byte| *byte == b'\n') {
+        if line.len() < 256 && read_line(line).is_none() {
+            return reason(alloc, line).ok();
+        }
+    }
+    None
+}

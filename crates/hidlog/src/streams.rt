@@ -1,0 +1,190 @@
+//! The streams of the program's process, with what is known of them when they fail.
+ghost use Rattle.std.specs.Prelude.{◌≡◌, None};
+
+use arrayvec::ArrayVec;
+use session_log::{Failed, Source, Target};
+use std::io::{self, ErrorKind, Read, Write};
+
+/// A reader or a writer that is called again where a signal interrupts a call. It keeps the error at which it failed.
+#[derive(Drop)]
+pub struct Patient<S> {
+    inner: S,
+    failure: Option<io::Error>,
+}
+
+impl<S> Patient<S> {
+    /// Returns the stream, which hasn't failed.
+    pub fn new(inner: S) -> Self {
+        Patient {
+            inner,
+            failure: None,
+        }
+    }
+
+    /// Returns the error at which it failed last.
+    pub fn failure(&self) -> Option<&io::Error> {
+        self.failure.as_ref()
+    }
+
+    /// Keeps an error, and returns one of its kind.
+    fn keep(&mut self, error: io::Error) -> io::Error {
+        let kind = error.kind();
+        self.failure = Some(error);
+        io::Error::from(kind)
+    }
+}
+
+impl<R: Read> Read for Patient<R> {
+    fn read(&mut self, buf: &mut [u8]) -> io::Result<usize> {
+        for _ in 0..u64::MAX {
+            match self.inner.read(buf) {
+                Ok(n) => return Ok(n),
+                Err(error) if error.kind() == ErrorKind::Interrupted => {}
+                Err(error) => return Err(self.keep(error)),
+            }
+        }
+        Err(io::Error::from(ErrorKind::Interrupted))
+    }
+}
+
+impl<W: Write> Write for Patient<W> {
+    fn write(&mut self, buf: &[u8]) -> io::Result<usize> {
+        for _ in 0..u64::MAX {
+            match self.inner.write(buf) {
+                Ok(n) => return Ok(n),
+                Err(error) if error.kind() == ErrorKind::Interrupted => {}
+                Err(error) => return Err(self.keep(error)),
+            }
+        }
+        Err(io::Error::from(ErrorKind::Interrupted))
+    }
+
+    fn flush(&mut self) -> io::Result<()> {
+        self.inner.flush()
+    }
+}
+
+/// The most bytes that are remembered. A line that is refused begins in the last 256 that were read.
+const REMEMBERED: usize = 4096;
+
+/// How many of them stay where there are more.
+const KEPT: usize = 512;
+
+/// A source that remembers what it yielded last.
+#[derive(Drop)]
+pub struct Remembering<S> {
+    inner: S,
+    last: ArrayVec<u8, REMEMBERED>,
+    forgot: bool,
+}
+
+impl<S: Source> Remembering<S> {
+    /// Returns the source, which yielded nothing yet.
+    pub fn new(inner: S) -> Self
+        ensures { ⟦<Remembering<S> as Source>⟧.failed result ≡ S.failed inner }
+    {
+        Remembering {
+            inner,
+            last: ArrayVec::new(),
+            forgot: false,
+        }
+    }
+
+    /// Returns the lines that it yielded last, without the front of one that it remembers in part.
+    pub fn lines(&self) -> &[u8] {
+        let last = self.last.as_slice();
+        if !self.forgot {
+            return last;
+        }
+        match last.iter().position(|byte| *byte == b'\n') {
+            Some(end) => last.split_at(end).1,
+            None => &[],
+        }
+    }
+}
+
+/// Remembers a piece after what was given before it. Returns whether some of that was forgotten.
+fn remember(last: &mut ArrayVec<u8, REMEMBERED>, piece: &[u8]) -> bool {
+    let held = last.len();
+    let is_full = held > KEPT && piece.len() > REMEMBERED - held;
+    if is_full {
+        last.drain(..held - KEPT);
+    }
+    let _ = last.try_extend_from_slice(piece);
+    is_full
+}
+
+impl<S: Source> Source for Remembering<S> {
+    ghost left = { λ s. S.left s.inner };
+
+    ghost ended = { λ s. S.ended s.inner };
+
+    ghost failed = { λ s. S.failed s.inner };
+
+    fn get(&mut self, out: &mut [u8]) -> Result<usize, Failed> {
+        let n = self.inner.get(out)?;
+        let forgot = remember(&mut self.last, out.split_at(n).0);
+        self.forgot = self.forgot || forgot;
+        Ok(n)
+    }
+
+    fn failures(&self) -> u64 {
+        self.inner.failures()
+    }
+}
+
+/// The text of a write that failed. The program writes it once it knows why.
+pub const WRITING_FAILED: &[u8] = b"hidlog: writing failed\n";
+
+/// A target for the texts of faults. It holds that of a failed write back, and notes that of a line that is none.
+#[derive(Drop)]
+pub struct Faults<E> {
+    inner: E,
+    has_bad_line: bool,
+    held_back: bool,
+    holds_back: bool,
+}
+
+impl<E: Target> Faults<E> {
+    /// Returns the target, which took nothing yet.
+    pub fn new(inner: E) -> Self
+        ensures { ⟦<Faults<E> as Target>⟧.failed result ≡ E.failed inner }
+    {
+        Faults {
+            inner,
+            has_bad_line: false,
+            held_back: false,
+            holds_back: true,
+        }
+    }
+
+    /// Returns whether it took the text of a line that isn't a log line.
+    pub fn has_bad_line(&self) -> bool {
+        self.has_bad_line
+    }
+
+    /// Holds nothing back from now on. Returns whether it did.
+    pub fn pass_all(&mut self) -> bool {
+        self.holds_back = false;
+        self.held_back
+    }
+}
+
+impl<E: Target> Target for Faults<E> {
+    ghost taken = { λ _. None };
+
+    ghost failed = { λ s. E.failed s.inner };
+
+    fn put(&mut self, piece: &[u8]) -> Result<usize, Failed> {
+        if self.holds_back && piece == WRITING_FAILED {
+            self.held_back = true;
+            return Ok(piece.len());
+        }
+        self.has_bad_line = self.has_bad_line || piece.ends_with(b": not a log line\n");
+        self.inner.put(piece)
+    }
+
+    fn failures(&self) -> u64 {
+        self.inner.failures()
+    }
+}

@@ -1,0 +1,17 @@
+-- A text that is handed over part by part.
+use Rattle.std.proofs.Common.{◌≡◌, ℕ, ◌+◌, List, ◌++◌, Option, Result, Ok, Err, ap, ◌∙◌}
+use Rattle.std.specs.Io.KnownBytes.{Appends}
+use Rattle.std.proofs.KnownBytes.{Appends-trans}
+use Rattle.session_log.specs.Streams.{Puts}
+use Rattle.session_log.specs.declared.fault.Failed.{Failed}
+use Rattle.session_show.specs.Written.{Grows, Writes}
+
+-- after the parts so far a part was appended, or broke off
+pub puts_on : {F : Type 0} (taken : F → Option (List ℕ)) (failed : F → ℕ) (a b c : F) (part : List ℕ) (r : Result (Unit {0}) Failed) → ((text : List ℕ) × Appends (taken a) (taken b) text) → failed b ≡ failed a → Puts taken failed (b, c) part r → Writes taken failed (a, c) r
+puts_on taken failed a b c part (Ok x) before same h =
+    ((before.0 ++ part, Appends-trans (taken a) (taken b) (taken c) before.0 part before.1 h.0), h.1 ∙ same)
+puts_on taken failed a b c part (Err e) before same h =
+    ((before.0 ++ h.0.0, Appends-trans (taken a) (taken b) (taken c) before.0 h.0.0 before.1 h.0.4), h.1 ∙ ap (λ (n : ℕ). n + 1) same)
+
+pub grows_on : (a b c : Option (List ℕ)) → Grows a b → Grows b c → Grows a c
+grows_on a b c first then = (first.0 ++ then.0, Appends-trans a b c first.0 then.0 first.1 then.1)

@@ -1,0 +1,63 @@
+//! Texts of other people, written so that they can't move what is beside them.
+
+use crate::pen::Pen;
+
+/// Whether a character is seen as nothing, or moves others: a control character, one that turns the direction of
+/// writing, a line break, or one without width.
+fn is_hidden(c: char) -> bool {
+    matches!(
+        c,
+        '\0'..='\u{1f}'
+            | '\u{7f}'..='\u{9f}'
+            | '\u{ad}'
+            | '\u{61c}'
+            | '\u{200b}'..='\u{200f}'
+            | '\u{2028}'..='\u{202e}'
+            | '\u{2060}'..='\u{206f}'
+            | '\u{feff}'
+            | '\u{fff9}'..='\u{fffb}'
+            | '\u{e0000}'..='\u{e007f}'
+    )
+}
+
+/// Writes a character: one that is hidden as `\u` and four digits, or in braces where it has more.
+pub fn write_char(pen: &mut Pen, c: char) {
+    if !is_hidden(c) {
+        pen.text(c.encode_utf8(&mut [0; 4]));
+        return;
+    }
+    match (c as u32).to_be_bytes() {
+        [_, 0, high, low] => pen.escape(high, low),
+        [_, plane, high, low] => {
+            pen.text("\\u{");
+            pen.hex(&[plane, high, low]);
+            pen.text("}");
+        }
+    }
+}
+
+/// Writes a line. Where it isn't UTF-8, `\x` and two digits are for each byte that is no character of ASCII.
+pub fn write_line(pen: &mut Pen, line: &[u8]) {
+    match std::str::from_utf8(line) {
+        Ok(text) => {
+            for c in text.chars() {
+                write_char(pen, c);
+            }
+        }
+        Err(_) => {
+            for byte in line {
+                write_byte(pen, *byte);
+            }
+        }
+    }
+}
+
+/// Writes a byte of a line that isn't UTF-8.
+fn write_byte(pen: &mut Pen, byte: u8) {
+    if byte < 128 {
+        write_char(pen, char::from(byte));
+    } else {
+        pen.text("\\x");
+        pen.hex(&[byte]);
+    }
+}

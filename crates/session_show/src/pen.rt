@@ -1,0 +1,109 @@
+//! A part of a text.
+ghost use Rattle.std.specs.Prelude.{◌<◌};
+
+use arrayvec::ArrayVec;
+use itoa::Buffer;
+
+/// The most bytes of a part.
+pub const PART: usize = 8192;
+
+/// Keeps a part of the text that is written: what lies before the part is passed over, and what comes after it is
+/// dropped. So a text of any length is written in parts of a fixed size, by writing it once for each part.
+#[derive(Drop)]
+pub struct Pen {
+    /// How many bytes are still to pass over.
+    before: usize,
+    part: ArrayVec<u8, PART>,
+}
+
+/// Returns the digit of a number below 16.
+fn digit(number: u8) -> u8
+    requires { number < 16 }
+{
+    b"0123456789abcdef"[usize::from(number)]
+}
+
+/// Returns the two hexadecimal digits of a byte.
+fn digits(byte: u8) -> [u8; 2] {
+    [digit(byte / 16), digit(byte % 16)]
+}
+
+impl Pen {
+    /// Returns a pen for a text's first part.
+    pub fn new() -> Self {
+        Pen {
+            before: 0,
+            part: ArrayVec::new(),
+        }
+    }
+
+    /// Begins the part that comes after so many bytes.
+    pub fn begin(&mut self, before: usize) {
+        self.before = before;
+        self.part.clear();
+    }
+
+    /// The part of the text so far.
+    pub fn part(&self) -> &[u8] {
+        self.part.as_slice()
+    }
+
+    /// Whether the part is whole.
+    pub fn is_full(&self) -> bool {
+        self.part.is_full()
+    }
+
+    /// Writes bytes.
+    pub fn bytes(&mut self, bytes: &[u8]) {
+        if bytes.len() <= self.before {
+            self.before -= bytes.len();
+            return;
+        }
+        let passed = self.before.min(bytes.len());
+        self.before -= passed;
+        let rest = bytes.split_at(passed).1;
+        let room = PART - self.part.len();
+        let _ = self
+            .part
+            .try_extend_from_slice(rest.split_at(room.min(rest.len())).0);
+    }
+
+    /// Writes a text.
+    pub fn text(&mut self, text: &str) {
+        self.bytes(text.as_bytes());
+    }
+
+    /// Writes a number in decimal digits.
+    pub fn decimal(&mut self, number: u64) {
+        let mut buffer = Buffer::new();
+        self.text(buffer.format(number));
+    }
+
+    /// Writes an integer in decimal digits, with a sign below zero.
+    pub fn integer(&mut self, number: i128) {
+        // Most are small, and those are written in fewer steps.
+        if let Ok(small) = u64::try_from(number) {
+            self.decimal(small);
+            return;
+        }
+        let mut buffer = Buffer::new();
+        self.text(buffer.format(number));
+    }
+
+    /// Writes bytes in hexadecimal digits.
+    pub fn hex(&mut self, bytes: &[u8]) {
+        // Most of a long text is digits, which are passed over at once.
+        let passed = bytes.len().min(self.before / 2);
+        self.before -= 2 * passed;
+        for byte in bytes.split_at(passed).1 {
+            self.bytes(&digits(*byte));
+        }
+    }
+
+    /// Writes a character as `\u` and four digits.
+    pub fn escape(&mut self, high: u8, low: u8) {
+        let [first, second] = digits(high);
+        let [third, fourth] = digits(low);
+        self.bytes(&[b'\\', b'u', first, second, third, fourth]);
+    }
+}

@@ -1,0 +1,16 @@
+use Rattle.std.proofs.Common.{[], take, length}
+use Rattle.token_session.specs.Drive.{done_of}
+use Rattle.token_session.specs.History.{judged}
+use Rattle.token_session.proofs.Headline.{only_new, run_answered}
+use Rattle.token_session.proofs.driving.drive_new.Goals as goal
+
+pub returns : goal.returns
+unfolding judged
+returns g c =
+    let xs = take (done_of (length c.args.inputs.now) c.drive.result) c.args.inputs.now in
+    let numbers = only_new _ _ _ (c.drive.ensures.sent _ [] c.new-session.ensures) c.clear.ensures in
+    record {
+      answered = run_answered _ xs _ c.drive.ensures.whole numbers (c.every_history_is_answered.ensures _ _ c.args.rows.lawful);
+      numbers = numbers;
+      full = c.drive.ensures.full;
+    }
