@@ -207,7 +207,7 @@ def allow_several() -> List[Case]:
     cases.append(case.greet().register(1, rk=True).get(p3=[]).asserted(RISES))
     case = Case("lists/allow_unknown_discoverable", "get", "A list that names nothing isn't taken for none.", **EMPTY)
     cases.append(case.greet().register(1, rk=True).get(p3=[descriptor(9)]).expect("status 2e"))
-    case = Case("lists/allow_then_next", "get", "After a sign-in by a list there is nothing more.", **EMPTY)
+    case = Case("lists/allow_then_next", "next", "After a sign-in by a list there is nothing more.", **EMPTY)
     case.greet().register(1, rk=True, p3=user(1)).register(2, rk=True, p3=user(2)).get(
         p3=[descriptor(1), descriptor(2)]
     )

@@ -148,6 +148,11 @@ class Case:
         self.lines.append(f"t {self.at}")
         return self
 
+    def power_cycle(self) -> Case:
+        """Switches the authenticator off and on again; channels are counted anew."""
+        self.lines.append("# power cycle")
+        return self
+
     def presence(self, word: str = "granted") -> Case:
         """Lets the user answer."""
         self.at += 10

@@ -7,6 +7,7 @@ import select
 import shlex
 import subprocess
 import sys
+import tempfile
 import time
 from collections import deque
 from typing import Deque, List, Optional, Tuple
@@ -15,6 +16,8 @@ from keys import KeyMaker
 
 TOP = os.path.join(os.path.dirname(os.path.abspath(__file__)), "..")
 PROGRAM = os.path.join(TOP, "release", "hidlog")
+# Lines that no log has: switched off and on again; and so that the credentials are lost, as no device should.
+POWER_CYCLE, POWER_LOSS = "power cycle", "power loss"
 
 
 class Device:
@@ -28,6 +31,10 @@ class Device:
     makes_keys = True
     # What a session may need of this kind of device.
     offers: Tuple[str, ...] = ("touch", "two channels")
+    # Whether it is the same device in the next session, so that nothing may be left waiting.
+    lasting = False
+    # Whether the session that comes needs what is kept without power.
+    saves = False
 
     def start(self) -> None:
         """Begins a session."""
@@ -41,6 +48,10 @@ class Device:
 
     def tick(self, at: int) -> None:
         """Lets time pass."""
+
+    def power_cycle(self, at: int) -> None:
+        """Switches the device off and on again."""
+        raise NotImplementedError
 
     def presence(self, at: int, word: str) -> None:
         """Lets the user answer."""
@@ -62,22 +73,56 @@ class LiveDevice(Device):
     virtual = True
     fresh = True
     makes_keys = False
-    offers = ("touch", "reset", "denial", "refusal", "exact time", "two channels", "capacity 64")
+    offers: Tuple[str, ...] = (
+        "touch",
+        "reset",
+        "denial",
+        "refusal",
+        "exact time",
+        "two channels",
+        "capacity 64",
+        "power cycle",
+    )
 
     def __init__(self, program: str = PROGRAM) -> None:
         self.program = program
+        # Where the credentials are while the program doesn't run, and the moment at which it began.
+        self.room: Optional[tempfile.TemporaryDirectory[str]] = None
+        self.base = 0
         self.process: Optional[subprocess.Popen[str]] = None
         self.packets: Deque[bytes] = deque()
         self.keys = KeyMaker()
         self.need = "nothing"
         self.signed = b""
 
-    def start(self) -> None:
-        """Starts a new authenticator."""
-        pipe = subprocess.PIPE
-        self.process = subprocess.Popen([self.program, "live"], stdin=pipe, stdout=pipe, text=True, bufsize=-1)
+    def begin(self) -> None:
+        """Forgets the session before."""
         self.packets.clear()
         self.need = "nothing"
+        self.signed = b""
+        self.base = 0
+
+    def run(self, load: bool = False) -> None:
+        """Starts the program, with the credentials that it saved before or with none."""
+        words = [self.program, "live"]
+        if self.saves:
+            self.room = self.room or tempfile.TemporaryDirectory()
+            state = os.path.join(self.room.name, "state")
+            words += ["--save", state] + (["--load", state] if load else [])
+        pipe = subprocess.PIPE
+        self.process = subprocess.Popen(words, stdin=pipe, stdout=pipe, text=True, bufsize=-1)
+
+    def power_cycle(self, at: int) -> None:
+        """Ends the program, which saves its credentials, and starts it again; its clock begins anew."""
+        self.play(POWER_CYCLE)
+        self.packets.clear()
+        self.need = "nothing"
+        self.base = at
+
+    def start(self) -> None:
+        """Starts a new authenticator."""
+        self.begin()
+        self.run()
 
     def close(self) -> None:
         """Ends the authenticator."""
@@ -85,47 +130,65 @@ class LiveDevice(Device):
             self.process.communicate()
             self.process = None
 
-    def play(self, line: str) -> None:
-        """Writes an input line and takes what is answered."""
+    def exchange(self, line: str) -> List[str]:
+        """Writes an input line and returns the answer's lines, the last of which says what is needed."""
+        if line in (POWER_CYCLE, POWER_LOSS):
+            self.close()
+            self.run(load=line == POWER_CYCLE)
+            return []
         assert self.process is not None and self.process.stdin is not None and self.process.stdout is not None
         self.process.stdin.write(line + "\n")
         self.process.stdin.flush()
+        answers: List[str] = []
+        while not answers or not answers[-1].startswith("# need "):
+            answer = self.process.stdout.readline()
+            if not answer:
+                raise OSError("hidlog live ended")
+            answers.append(answer.rstrip("\n"))
+        return answers
+
+    def answers(self, line: str) -> List[str]:
+        """Returns the answer's lines after an input line."""
+        return self.exchange(line)
+
+    def play(self, line: str) -> None:
+        """Takes what is answered to an input line."""
         self.signed = b""
-        while True:
-            answer = self.process.stdout.readline().rstrip("\n")
+        for answer in self.answers(line):
             if answer.startswith("< "):
                 self.packets.append(bytes.fromhex(answer[2:]))
             elif answer.startswith("# signed "):
                 self.signed += bytes.fromhex(answer[9:])
             elif answer.startswith("# need "):
                 self.need = answer[7:]
-                return
-            elif not answer:
-                raise OSError("hidlog live ended")
+
+    def moment(self, at: int) -> int:
+        """Returns a moment of the session by the program's clock."""
+        return max(0, at - self.base)
 
     def send(self, at: int, packet: bytes) -> None:
         """Hands the authenticator a packet."""
-        self.play(f"> {at} {packet.hex()}")
+        self.play(f"> {self.moment(at)} {packet.hex()}")
 
     def tick(self, at: int) -> None:
         """Lets time pass."""
-        self.play(f"t {at}")
+        self.play(f"t {self.moment(at)}")
 
     def presence(self, at: int, word: str) -> None:
         """Lets the user answer."""
-        self.play(f"p {at} {word}")
+        self.play(f"p {self.moment(at)} {word}")
 
     def key(self, at: int, words: List[str]) -> None:
         """Hands in a new key under an id of its own, not the session's."""
         new = ["no"] if words == ["no"] else [part.hex() for part in self.keys.make()]
-        self.play(f"k {at} {' '.join(new)}")
+        self.play(f"k {self.moment(at)} {' '.join(new)}")
 
     def signature(self, at: int, words: List[str]) -> None:
         """Signs what the authenticator wants signed."""
         if words == ["no"] or not self.need.startswith("signature "):
-            self.play(f"s {at} {words[0]}")
+            self.play(f"s {self.moment(at)} {words[0]}")
         else:
-            self.play(f"s {at} {self.keys.sign(bytes.fromhex(self.need[10:]), self.signed).hex()}")
+            self.play(f"s {self.moment(at)} {self.keys.sign(bytes.fromhex(self.need[10:]), self.signed).hex()}")
 
     def read(self, seconds: float) -> Optional[bytes]:
         """Returns the next packet that is there."""
@@ -180,9 +243,33 @@ class RealTimeDevice(Device):
 class HidrawDevice(RealTimeDevice):
     """Plays a device of Linux, /dev/hidrawN."""
 
+    lasting = True
+
     def __init__(self, path: str, say_touch: bool) -> None:
         super().__init__(say_touch)
-        self.file = os.open(path, os.O_RDWR)
+        self.path = path
+        self.file = self.opened()
+        self.packets: Deque[bytes] = deque()
+        if say_touch:
+            self.offers += ("power cycle",)
+
+    def opened(self) -> int:
+        """Opens the device."""
+        return os.open(self.path, os.O_RDWR | os.O_NONBLOCK)
+
+    def power_cycle(self, at: int) -> None:
+        """Asks a person to unplug the device and to plug it in again; waits a minute for each."""
+        self.wait_until(at)
+        os.close(self.file)
+        print("unplug the key now", file=sys.stderr, flush=True)
+        end = time.monotonic() + 60
+        while os.path.exists(self.path) and time.monotonic() < end:
+            time.sleep(0.05)
+        print("plug the key in again now", file=sys.stderr, flush=True)
+        while not os.access(self.path, os.R_OK | os.W_OK) and time.monotonic() < end + 60:
+            time.sleep(0.05)
+        self.packets.clear()
+        self.file = self.opened()
 
     def start(self) -> None:
         """Begins a session: what came for other hosts, or too late, is passed over."""
@@ -192,19 +279,33 @@ class HidrawDevice(RealTimeDevice):
 
     def write(self, packet: bytes) -> None:
         """Writes a packet behind the report's number, which is 0."""
+        if not packet[4] & 0x80:
+            # The kernel keeps 32 packets for a device of uhid, and loses what comes faster than it takes them.
+            time.sleep(0.005)
         os.write(self.file, b"\0" + packet)
 
     def read(self, seconds: float) -> Optional[bytes]:
-        """Returns the next packet, or None where none comes in time."""
-        ready, _, _ = select.select([self.file], [], [], seconds)
-        return os.read(self.file, 64) if ready else None
+        """Returns the next packet, or None where none comes in time. All that are there are taken at once, since the
+        kernel keeps 64 of them."""
+        if not self.packets:
+            select.select([self.file], [], [], seconds)
+            try:
+                while len(self.packets) < 200:
+                    self.packets.append(os.read(self.file, 64))
+                    if not self.packets[-1]:
+                        raise OSError(f"{self.path} is no device: nothing can be read")
+            except BlockingIOError:
+                pass
+        return self.packets.popleft() if self.packets else None
 
 
 class PipeDevice(RealTimeDevice):
     """Plays a command that reads packets as lines of 128 hexadecimal digits and writes such lines."""
 
-    def __init__(self, command: str, say_touch: bool, touch_line: str = "") -> None:
+    def __init__(self, command: str, say_touch: bool, touch_line: str = "", keeps: bool = False) -> None:
         super().__init__(say_touch)
+        if keeps:
+            self.offers += ("power cycle",)
         self.touch_line = touch_line.encode()
         self.command = shlex.split(command)
         self.process: Optional[subprocess.Popen[bytes]] = None
@@ -229,6 +330,13 @@ class PipeDevice(RealTimeDevice):
                 self.process.kill()
             self.process = None
 
+    def power_cycle(self, at: int) -> None:
+        """Starts the command anew."""
+        self.wait_until(at)
+        self.close()
+        self.start()
+        self.latest = at
+
     def write(self, packet: bytes) -> None:
         """Writes a packet as a line."""
         self.write_line(packet.hex().encode())
@@ -236,8 +344,11 @@ class PipeDevice(RealTimeDevice):
     def write_line(self, line: bytes) -> None:
         """Writes a line to the command."""
         assert self.process is not None and self.process.stdin is not None
-        self.process.stdin.write(line + b"\n")
-        self.process.stdin.flush()
+        try:
+            self.process.stdin.write(line + b"\n")
+            self.process.stdin.flush()
+        except BrokenPipeError:
+            raise OSError("the command ended") from None
 
     def read(self, seconds: float) -> Optional[bytes]:
         """Returns the next packet, or None where none comes in time."""
@@ -252,4 +363,10 @@ class PipeDevice(RealTimeDevice):
                 raise OSError("the command ended")
             self.rest += piece
         line, _, self.rest = self.rest.partition(b"\n")
-        return bytes.fromhex(line.decode())
+        try:
+            packet = bytes.fromhex(line.decode())
+        except ValueError:
+            packet = b""
+        if len(packet) != 64:
+            raise OSError(f"the command wrote a line that isn't 128 hexadecimal digits: {line[:80]!r}")
+        return packet

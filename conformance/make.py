@@ -14,22 +14,38 @@ from typing import Dict, List, Tuple
 import cases_cbor
 import cases_checks
 import cases_flows
+import cases_fuzzed
 import cases_order
+import cases_power
+import cases_recorded
 import cases_time
 import cases_transport
+from client_runner import client_sessions, read_client_session
 from corpus import Case
+from sentence_table import sentence_table
 
 HERE = os.path.dirname(os.path.abspath(__file__))
 SESSIONS = os.path.join(HERE, "sessions")
 PAGE_NAME = "docs/CONFORMANCE.md"
 PAGE = os.path.join(HERE, "..", PAGE_NAME)
+MODULES = (
+    cases_transport,
+    cases_order,
+    cases_time,
+    cases_cbor,
+    cases_checks,
+    cases_flows,
+    cases_power,
+    cases_recorded,
+    cases_fuzzed,
+)
 FROM, TO = "<!-- written by conformance/make.py -->", "<!-- to here -->"
 
 
 def corpus() -> Dict[str, str]:
     """Returns each session's name with its text."""
     cases: List[Case] = []
-    for module in (cases_transport, cases_order, cases_time, cases_cbor, cases_checks, cases_flows):
+    for module in MODULES:
         cases += module.cases()
     found: Dict[str, str] = {}
     for case in cases:
@@ -63,17 +79,27 @@ def table(corpus_texts: Dict[str, str]) -> str:
     return FROM + "\n" + head + "".join(rows) + "\n"
 
 
+def rules_of(corpus_texts: Dict[str, str]) -> Dict[str, str]:
+    """Returns each session's name with its rule, those of clients too."""
+    rules = {name: text.partition("\n")[0].partition(", ")[2] for name, text in corpus_texts.items()}
+    for path in client_sessions():
+        session, _ = read_client_session(path)
+        rules["client:" + session.name] = session.head["rule"].partition(", ")[2]
+    return rules
+
+
 def place(row: Tuple[str, List[int]]) -> List[int]:
     """Returns a section's number as a list, to sort by."""
     return [int(part) for part in row[0].split(" ")[0].split(".")]
 
 
-def page_with(rows: str) -> Tuple[str, str]:
-    """Returns the page as it is, and with this table."""
+def page_with(blocks: List[str]) -> Tuple[str, str]:
+    """Returns the page as it is, and with these blocks between its marks."""
     with open(PAGE, encoding="utf-8") as file:
         text = file.read()
-    before, _, rest = text.partition(FROM)
-    return text, before + rows + TO + rest.partition(TO)[2]
+    before, *rest = text.split(FROM)
+    assert len(rest) == len(blocks), "the page's marks"
+    return text, before + "".join(block + TO + part.partition(TO)[2] for block, part in zip(blocks, rest))
 
 
 def main(words: List[str]) -> int:
@@ -83,7 +109,8 @@ def main(words: List[str]) -> int:
         return 2
     wanted, found = corpus(), there()
     differing = sorted(name for name in {*wanted, *found} if wanted.get(name) != found.get(name))
-    page, page_wanted = page_with(table(wanted))
+    choices = {name for name, text in wanted.items() if "\n# profile: " in text}
+    page, page_wanted = page_with([table(wanted), FROM + "\n" + sentence_table(rules_of(wanted), choices) + "\n"])
     if page != page_wanted:
         differing.append(PAGE_NAME)
     if words:

@@ -34,12 +34,15 @@ def greet(device: Device) -> bytes:
     device.start()
     answer = ask(device, hid.BROADCAST, hid.INIT, NONCE)
     if answer is None or answer.command != hid.INIT or len(answer.data) != 17:
-        raise OSError("the device doesn't answer INIT: " + (answer.shown() if answer else "nothing came"))
+        raise OSError(
+            "the device doesn't answer INIT: "
+            + (answer.shown() if answer else "nothing came; a command has to write each line at once")
+        )
     return answer.data
 
 
-def prepare(device: Device) -> str:
-    """Resets a device; returns why that wasn't possible, or nothing."""
+def reset(device: Device) -> Optional[hid.Message]:
+    """Sends authenticatorReset and returns its answer; the user is asked to touch."""
     channel = int.from_bytes(greet(device)[8:12], "big")
     answer = ask(device, channel, hid.CBOR, bytes([answers.RESET]))
     if answer is not None and answer.command == hid.KEEPALIVE:
@@ -48,6 +51,18 @@ def prepare(device: Device) -> str:
     while answer is not None and answer.command == hid.KEEPALIVE and time.monotonic() < end:
         packet = device.read(3)
         answer = hid.Collector().feed(packet) if packet else None
+    return answer
+
+
+def prepare(device: Device, again: bool) -> str:
+    """Resets a device, after a power cycle where it refuses at first; returns why that wasn't possible, or nothing.
+    Where it has to be in time for a reset again, it is switched off and on once more."""
+    answer = reset(device)
+    if answer is not None and answer.data == b"\x30" and "power cycle" in device.offers:
+        device.power_cycle(0)
+        answer = reset(device)
+    if again and device.lasting and "power cycle" in device.offers:
+        device.power_cycle(0)
     device.close()
     if answer is None or answer.data != b"\0":
         came = answer.data.hex() if answer else "nothing"
@@ -95,6 +110,7 @@ class Offers:
             "no uv": not options.get("uv", False),
             "no ep": "ep" not in options,
             "up": options.get("up", True),
+            "no algorithm -8": not any(entry.get("alg") == -8 for entry in entries),
             "algorithm -7": any(entry.get("alg") == -7 for entry in entries),
             "no msg": bool(self.capabilities & 0x08),
             "no wink": not self.capabilities & 0x01,

@@ -33,16 +33,24 @@ class OtherDevice(Device):
 
     virtual = True
     fresh = True
-    offers = ("touch", "reset", "exact time", "two channels", "capacity 64")
+    offers = ("touch", "reset", "exact time", "two channels", "capacity 64", "power cycle")
 
     def __init__(self) -> None:
         self.key_in_hand = Key()
         self.packets: Deque[bytes] = deque()
+        self.base = 0
 
     def start(self) -> None:
         """Starts a new authenticator."""
         self.key_in_hand = Key()
         self.packets.clear()
+        self.base = 0
+
+    def power_cycle(self, at: int) -> None:
+        """Starts the authenticator anew, with the credentials that it had."""
+        self.key_in_hand = Key(self.key_in_hand.credentials)
+        self.packets.clear()
+        self.base = at
 
     def do(self, call: Callable[..., None], *words: Any) -> None:
         """Lets the authenticator do something; an exception of Python is its end."""
@@ -55,16 +63,16 @@ class OtherDevice(Device):
 
     def send(self, at: int, packet: bytes) -> None:
         """Hands the authenticator a packet."""
-        self.do(self.key_in_hand.hid.packet, at, packet)
+        self.do(self.key_in_hand.hid.packet, at - self.base, packet)
 
     def tick(self, at: int) -> None:
         """Lets time pass."""
-        self.do(self.key_in_hand.hid.tick, at)
+        self.do(self.key_in_hand.hid.tick, at - self.base)
 
     def presence(self, at: int, word: str) -> None:
         """Lets the user touch."""
         if word == "granted":
-            self.do(self.key_in_hand.hid.touch, at)
+            self.do(self.key_in_hand.hid.touch, at - self.base)
 
     def read(self, seconds: float) -> Optional[bytes]:
         """Returns the next packet that is there."""

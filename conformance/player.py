@@ -9,6 +9,7 @@ from typing import Any, Dict, List, Optional, Tuple
 import answers
 import ctap_cbor
 import hid_packets as hid
+import rules
 from answers import Credential, Differs, hold
 from devices import Device
 from hid_packets import Message
@@ -30,6 +31,8 @@ class Outcome:
     wanted: str = ""
     came: str = ""
     line: int = 0
+    # The number of the section whose rule is broken, which may be another than the session's.
+    broken: str = ""
 
 
 class Player:
@@ -40,6 +43,8 @@ class Player:
         self.session = session
         self.strict = strict
         self.given: List[int] = []
+        # The channels from before a power cycle.
+        self.former: List[int] = []
         self.known: Dict[bytes, Credential] = {}
         self.name = b""
         self.sent: Dict[int, Message] = {}
@@ -51,13 +56,20 @@ class Player:
         self.host = hid.Collector(of_host=True)
         self.guest = hid.Collector()
         self.last: Optional[Message] = None
-        self.back: List[Message] = []
+        # The expectation that is judged, and what came for it.
+        self.expected = ""
+        self.came: Optional[Message] = None
+        # The last request of each channel, and of all.
+        self.requests: Dict[int, bytes] = {}
+        self.request = b""
+        self.cancelled = False
         self.patience = 3.0
 
     def play(self) -> Outcome:
         """Plays the session's steps; the first difference ends it."""
         step: Optional[Step] = None
         try:
+            self.device.saves = "power cycle" in self.session.needs
             self.device.start()
             steps = self.session.steps
             for step, after in zip(steps, steps[1:] + [None]):
@@ -68,22 +80,29 @@ class Player:
                 if self.device.virtual and not early:
                     self.judge_rest()
         except Differs as differs:
-            line = step.line if step else 0
-            return Outcome(self.session, "not ok", "", differs.wanted, differs.came, line)
+            return self.failed(differs.wanted, differs.came, step)
         except (KeyError, TypeError, ValueError, IndexError, AttributeError) as fault:
             # A map of another shape than any that was looked for.
-            line = step.line if step else 0
-            return Outcome(self.session, "not ok", "", "an answer of the standard's shape", repr(fault), line)
+            return self.failed("an answer of the standard's shape", repr(fault), step)
         except OSError as fault:
-            return Outcome(self.session, "not ok", "", GOES_ON, str(fault), step.line if step else 0)
+            return self.failed(GOES_ON, str(fault), step)
         finally:
             self.leave()
             self.device.close()
         return Outcome(self.session, "ok")
 
+    def failed(self, wanted: str, came: str, step: Optional[Step]) -> Outcome:
+        """Returns the outcome of a difference, with the rule that it breaks."""
+        own = self.session.section
+        partial = self.came is None and bool(self.guest.open)
+        request = self.requests.get(self.came.channel, self.request) if self.came else self.request
+        seen = rules.Seen(own, self.expected, self.came, partial, request, self.cancelled)
+        broken = own if wanted == GOES_ON else rules.broken(seen)
+        return Outcome(self.session, "not ok", "", wanted, came, step.line if step else 0, broken)
+
     def leave(self) -> None:
         """Ends what still waits in a device that goes on."""
-        if self.device.virtual:
+        if not self.device.lasting:
             return
         try:
             for channel in self.given:
@@ -99,6 +118,8 @@ class Player:
             return number
         if number <= len(self.given):
             return self.given[number - 1]
+        if not self.given and number <= len(self.former):
+            return self.former[number - 1]
         strange = STRANGE + number
         return strange if strange not in self.given else strange + 0x100
 
@@ -106,6 +127,8 @@ class Player:
         """Plays an input."""
         if step.kind == ">":
             self.send(step)
+        elif step.kind == "power":
+            self.switch_on_again(step.at)
         elif step.kind == "t":
             self.device.tick(step.at)
         elif step.kind == "p":
@@ -116,6 +139,16 @@ class Player:
             self.device.key(step.at, step.words)
         else:
             self.device.signature(step.at, step.words)
+
+    def switch_on_again(self, at: int) -> None:
+        """Lets the device lose its power; nothing of it waits any more."""
+        self.device.power_cycle(at)
+        self.former, self.given = self.given or self.former, []
+        self.host, self.guest = hid.Collector(of_host=True), hid.Collector()
+        self.sent.clear()
+        self.working.clear()
+        self.newest.clear()
+        self.requests.clear()
 
     def send(self, step: Step) -> None:
         """Sends packets, with the device's channels and credential ids in the places of the session's."""
@@ -135,7 +168,9 @@ class Player:
     def note(self, message: Message) -> None:
         """Keeps what the host asked."""
         self.sent[message.channel] = message
+        self.cancelled = message.command == hid.CANCEL
         if message.command == hid.CBOR:
+            self.request = self.requests[message.channel] = message.data
             self.working[message.channel] = self.working.get(message.channel, 0) + 1
             if message.data:
                 self.asked[message.channel, message.data[0]] = message.data
@@ -161,16 +196,14 @@ class Player:
 
     def message(self, seconds: float) -> Optional[Message]:
         """Returns the next message of the device."""
-        if self.back:
-            return self.back.pop(0)
         end = time.monotonic() + seconds
-        while True:
+        self.came = None
+        while self.came is None:
             packet = self.device.read(max(0.0, end - time.monotonic()))
             if packet is None:
                 return None
-            message = self.guest.feed(packet)
-            if message is not None:
-                return message
+            self.came = self.guest.feed(packet)
+        return self.came
 
     def answer(self, wanted: str) -> Message:
         """Returns the next message that is no lawful KEEPALIVE."""
@@ -199,6 +232,7 @@ class Player:
 
     def judge_rest(self) -> None:
         """Judges that nothing is left but KEEPALIVEs of waiting requests."""
+        self.expected = "rest"
         while True:
             message = self.message(0)
             if message is None:
@@ -208,6 +242,7 @@ class Player:
 
     def judge(self, expected: str) -> None:
         """Judges an expectation."""
+        self.expected = expected
         words = expected.split(" ")
         number = 1
         if "on" in words:

@@ -5,7 +5,10 @@ from __future__ import annotations
 from typing import Dict, List
 from xml.sax.saxutils import escape, quoteattr
 
+from corpus import SECTIONS
 from player import Outcome
+
+TITLES = {title.split(" ")[0]: "CTAP 2.1, " + title for title in SECTIONS.values()}
 
 
 def totals(outcomes: List[Outcome]) -> str:
@@ -19,10 +22,23 @@ def totals(outcomes: List[Outcome]) -> str:
 def details(outcome: Outcome) -> List[str]:
     """Returns what a person reads of a case that failed."""
     head = outcome.session.head
-    lines = [f"rule: {head['rule']}", f"says: {head['shows']}", f"expected: {outcome.wanted}", f"came: {outcome.came}"]
+    if outcome.broken in ("", outcome.session.section):
+        lines = [f"rule: {head['rule']}", f"says: {head['shows']}"]
+    else:
+        lines = [f"rule: {TITLES[outcome.broken]}", f"at a step of a case about: {head['rule']}"]
+    lines += [f"expected: {outcome.wanted}", f"came: {outcome.came}"]
     if outcome.session.lenient:
         lines.append(f"kind: {outcome.session.lenient}")
     return lines + [f"at: line {outcome.line} of " * bool(outcome.line) + outcome.session.file]
+
+
+def rules(outcomes: List[Outcome]) -> List[str]:
+    """Returns the rules that failed cases name, each with how many there are."""
+    counts: Dict[str, int] = {}
+    for outcome in outcomes:
+        if outcome.status == "not ok" and outcome.broken:
+            counts[outcome.broken] = counts.get(outcome.broken, 0) + 1
+    return [f"broken   {TITLES[rule]}: named by {count}" for rule, count in sorted(counts.items())]
 
 
 def text(outcomes: List[Outcome]) -> None:
@@ -34,6 +50,8 @@ def text(outcomes: List[Outcome]) -> None:
         if outcome.status == "not ok":
             print(f"failed   {outcome.session.name}")
             print("\n".join(f"         {line}" for line in details(outcome)))
+    for line in rules(outcomes):
+        print(line)
     print(totals(outcomes))
 
 

@@ -14,6 +14,7 @@ from __future__ import annotations
 import argparse
 import os
 import sys
+from concurrent.futures import ThreadPoolExecutor
 from typing import List, Tuple
 
 import keys
@@ -22,7 +23,7 @@ from client_runner import client_sessions, keep_logs, play_clients
 from devices import Device, HidrawDevice, LiveDevice, PipeDevice
 from offers import Offers, prepare
 from player import GOES_ON, Outcome, Player
-from session_file import Session, read_session
+from session_file import Session, read_session, sends_reset
 
 HERE = os.path.dirname(os.path.abspath(__file__))
 SESSIONS = os.path.join(HERE, "sessions")
@@ -39,11 +40,13 @@ def all_sessions(only: str = "", paths: Tuple[str, ...] = ()) -> List[Session]:
 
 def device_of(options: argparse.Namespace) -> Device:
     """Returns the device that the words name."""
-    if not options.device:
+    if options.device is None:
         return LiveDevice()
+    if not options.device.strip():
+        raise ValueError("--device names no command")
     if options.device.startswith("/dev/"):
         return HidrawDevice(options.device, options.touch)
-    return PipeDevice(options.device, options.touch, options.touch_line)
+    return PipeDevice(options.device, options.touch, options.touch_line, options.keeps)
 
 
 def play_one(device: Device, session: Session, options: argparse.Namespace, offers: Offers) -> Outcome:
@@ -51,7 +54,7 @@ def play_one(device: Device, session: Session, options: argparse.Namespace, offe
     reason = offers.lacking(session, device, options.touch, options.reset)
     if not reason and "reset" in session.needs and not device.fresh:
         print(f"resetting the device for {session.name}", file=sys.stderr)
-        reason = prepare(device)
+        reason = prepare(device, any(map(sends_reset, session.steps)))
     if reason:
         return Outcome(session, "skip", reason)
     outcome = Player(device, session, options.strict).play()
@@ -61,12 +64,29 @@ def play_one(device: Device, session: Session, options: argparse.Namespace, offe
     return outcome
 
 
+def play_all(device: Device, sessions: List[Session], options: argparse.Namespace, offers: Offers) -> List[Outcome]:
+    """Plays sessions one after another; to commands that share nothing and ask nobody several at a time."""
+
+    def play(session: Session, own: Device) -> Outcome:
+        if options.device and options.report == "text":
+            print(f"playing {session.name}", file=sys.stderr)
+        return play_one(own, session, options, offers)
+
+    asks = options.touch and not options.touch_line
+    if not isinstance(device, PipeDevice) or options.keeps or asks:
+        return [play(session, device) for session in sessions]
+    with ThreadPoolExecutor(options.jobs) as pool:
+        return list(pool.map(lambda session: play(session, device_of(options)), sessions))
+
+
 def words_of(arguments: List[str]) -> argparse.Namespace:
     """Reads the command's words."""
     parser = argparse.ArgumentParser(description="Plays the conformance corpus against an authenticator.")
-    parser.add_argument("--device", default="", help="a command, or /dev/hidrawN; without it release/hidlog live")
+    parser.add_argument("--device", help="a command, or /dev/hidrawN; without it release/hidlog live")
     parser.add_argument("--touch", action="store_true", help="a person is there to touch the device")
     parser.add_argument("--touch-line", default="", metavar="LINE", help="what a command reads in place of a touch")
+    parser.add_argument("--jobs", type=int, default=4, metavar="N", help="commands at a time; by default 4")
+    parser.add_argument("--keeps", action="store_true", help="a command keeps its credentials when it is started anew")
     parser.add_argument("--reset", action="store_true", help="the device may be reset: ALL ITS CREDENTIALS ARE LOST")
     parser.add_argument("--strict", action="store_true", help="count this project's choices and what is only a should")
     parser.add_argument("--only", default="", metavar="WORD", help="cases whose name or rule has the word")
@@ -77,7 +97,7 @@ def words_of(arguments: List[str]) -> argparse.Namespace:
     parser.add_argument("sessions", nargs="*", metavar="SESSION", help="files; without them the whole corpus")
     options = parser.parse_args(arguments)
     options.touch = options.touch or bool(options.touch_line)
-    options.strict = options.strict or not (options.device or options.client)
+    options.strict = options.strict or options.device is None and not options.client
     return options
 
 
@@ -113,11 +133,7 @@ def main(arguments: List[str]) -> int:
         print("skipped: signatures aren't checked, python3-cryptography is missing", file=sys.stderr)
     if options.reset and not device.fresh:
         print("this RESETS the device: its credentials are lost", file=sys.stderr)
-    outcomes = []
-    for session in sessions:
-        if options.device and options.report == "text":
-            print(f"playing {session.name}", file=sys.stderr)
-        outcomes.append(play_one(device, session, options, offers))
+    outcomes = play_all(device, sessions, options, offers)
     report.write(options.report, outcomes)
     return 1 if any(outcome.status == "not ok" for outcome in outcomes) else 0
 

@@ -15,6 +15,7 @@ import re
 import select
 import subprocess
 import sys
+import tempfile
 import threading
 import time
 import tty
@@ -89,6 +90,17 @@ def pipe() -> None:
     assert " 0 failed" in text, text
 
 
+def power() -> None:
+    """Plays a power cycle by a pipe: the command is started anew, and has what it kept."""
+    with tempfile.TemporaryDirectory() as room:
+        command = f"{sys.executable} {os.path.join(HERE, 'others', 'kept_key.py')} {room}/state"
+        words = ["--device", command, "--touch-line", "touch", "--only", "power/c"]
+        text = said([*words, "--keeps"])
+        print(f"by a pipe, power/c*: {text.splitlines()[-1]}")
+        assert text.endswith("4 passed, 0 failed, 0 skipped\n"), text
+        assert said(words).endswith("0 passed, 0 failed, 4 skipped\n"), "a power cycle without --keeps"
+
+
 def reports() -> None:
     """Reads the reports for machines."""
     found = xml.fromstring(said(["--only", "ping/", "--report", "junit"]))
@@ -116,6 +128,24 @@ def page() -> None:
     print(f"docs/CONFORMANCE.md names cases {count} times, and each is there")
 
 
+def mistakes() -> None:
+    """Names devices that are none; each is said at once."""
+    wrong = {
+        "./nothing": "No such file",
+        "yes": "isn't 128 hexadecimal digits: b'y'",
+        "false": "the command ended",
+        "sleep 9": "nothing came; a command has to write each line at once",
+        "": "names no command",
+        "/dev/null": "is no device",
+    }
+    for device, wanted in wrong.items():
+        heard = io.StringIO()
+        with redirect_stdout(io.StringIO()), redirect_stderr(heard):
+            status = run.main(["--device", device, "--only", "ping/bytes_0000"])
+        assert status == 2 and wanted in heard.getvalue(), (device, heard.getvalue())
+    print(f"{len(wrong)} devices that are none are named so")
+
+
 def help_text() -> None:
     """Reads what run.py says of its words."""
     shown = subprocess.run([sys.executable, os.path.join(HERE, "run.py"), "--help"], capture_output=True, check=True)
@@ -126,7 +156,9 @@ def help_text() -> None:
 if __name__ == "__main__":
     hidraw()
     pipe()
+    power()
     reports()
+    mistakes()
     help_text()
     page()
     print("passed")

@@ -8,7 +8,8 @@ from typing import Dict, List, Tuple
 from hid_packets import CBOR, Collector
 
 LISTS = ("needs", "uses")
-TEXTS = ("rule", "shows", "why", "profile", "level")
+POWER_CYCLE = "power cycle"
+TEXTS = ("rule", "shows", "why", "profile", "level", "client", "found")
 
 
 class BadSession(Exception):
@@ -62,7 +63,11 @@ class SessionReader:
     def comment(self, text: str, line: int) -> None:
         """Takes a comment."""
         word, _, rest = text.partition(" ")
-        if word == "expect":
+        if text == POWER_CYCLE:
+            self.session.steps.append(Step("power", self.session.steps[-1].at, [], line))
+            self.host = Collector(of_host=True)
+            self.open = False
+        elif word == "expect":
             if not self.session.steps:
                 raise BadSession(f"{self.session.name}: line {line}: nothing was sent yet")
             self.session.steps[-1].expects.append(rest)

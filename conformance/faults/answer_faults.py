@@ -7,6 +7,7 @@ from typing import Any, Callable, Dict, List, Optional
 import ctap_cbor
 import hid_packets as hid
 from ctap_cbor import encode
+from devices import POWER_LOSS
 from faulty import Fault, Faulty, Hook, RequestHook, Sent, answered, is_assertion, is_made, parts_of, with_data
 from hid_packets import Message
 
@@ -85,6 +86,13 @@ def counter_repeated(device: Faulty, item: Dict[Any, Any]) -> None:
     item[2] = item[2][:33] + b"\0\0\0\1"
 
 
+def counter_lost(device: Faulty, item: Dict[Any, Any]) -> None:
+    """Counts anew after a power cycle."""
+    if device.cycles:
+        device.last["count"] = device.last.get("count", 0) + 1
+        item[2] = item[2][:33] + device.last["count"].to_bytes(4, "big")
+
+
 def counter_falls(device: Faulty, item: Dict[Any, Any]) -> None:
     """Lets the counter fall."""
     item[2] = item[2][:33] + (1000 - int.from_bytes(item[2][33:37], "big")).to_bytes(4, "big")
@@ -114,13 +122,12 @@ def status_lost(device: Faulty, message: Message) -> Optional[Sent]:
     return with_data(message, message.data[1:]) if answered(message) else None
 
 
-def status(old: int, new: int) -> Hook:
-    """Returns what answers another status."""
+def status(old: int, new: int, command: int) -> Hook:
+    """Returns what answers another status to a command."""
 
     def hook(device: Faulty, message: Message) -> Optional[Sent]:
-        return (
-            with_data(message, bytes([new])) if message.command == hid.CBOR and message.data == bytes([old]) else None
-        )
+        changed = message.command == hid.CBOR and message.data == bytes([old]) and device.command == command
+        return with_data(message, bytes([new])) if changed else None
 
     return hook
 
@@ -208,14 +215,58 @@ def next_again(device: Faulty, message: Message) -> Optional[Sent]:
     return None
 
 
-def stopped(device: Faulty, at: int) -> int:
-    """Lets no time pass."""
-    return 0
+def pending_kept(device: Faulty, message: Message) -> Optional[Sent]:
+    """Answers an assertion from before a power cycle."""
+    if is_assertion(answered(message)) and not device.cycles:
+        device.kept = message.data
+    if message.command == hid.CBOR and message.data == b"\x30" and device.cycles and device.kept:
+        return with_data(message, device.kept)
+    return None
 
 
-def denied_too(word: str) -> str:
-    """Takes a denial for consent."""
-    return "granted"
+def stopped_before(device: Faulty, at: int) -> int:
+    """Lets no time pass before the first sign-in."""
+    return at if GET in device.asked else 0
+
+
+def stopped_after(device: Faulty, at: int) -> int:
+    """Lets no time pass after the first sign-in."""
+    if GET not in device.asked:
+        device.last["at"] = at
+    stands: int = device.last["at"]
+    return stands
+
+
+def denied_too(device: Faulty, word: str) -> str:
+    """Takes a denial of a registration for consent."""
+    return "granted" if device.command == MAKE else word
+
+
+def number_again(device: Faulty, item: Dict[Any, Any]) -> None:
+    """Puts the number into later assertions too."""
+    if device.command == NEXT:
+        item[5] = 3
+
+
+def number_of_one(device: Faulty, item: Dict[Any, Any]) -> None:
+    """Says that one credential is one."""
+    if device.command == GET:
+        item.setdefault(5, 1)
+
+
+def option_lost(command: int, option: str, key: int) -> RequestHook:
+    """Returns what takes an option out of a request."""
+
+    def hook(device: Faulty, request: bytes) -> Optional[bytes]:
+        asked = parts_of(request)
+        options = asked.get(key)
+        if request[0] != command or not isinstance(options, dict) or option not in options:
+            return request
+        del options[option]
+        left: bytes = request[:1] + encode(asked)
+        return left
+
+    return hook
 
 
 M, G, N = "6.1.2", "6.2.2", "6.3"
@@ -235,42 +286,52 @@ ANSWERS: List[Fault] = [
     ),
     Fault("key_unsorted", M, "The COSE key's members aren't in order.", made(key_unsorted)),
     Fault("statement_missing", M, "The attestation statement is missing.", made(without(2), False)),
-    Fault("status_lost", M, "The status byte is lost.", status_lost),
+    Fault("status_lost", "11.2.9.1.2", "The status byte is lost.", status_lost),
     Fault("exclude_ignored", M, "The exclude list is ignored.", request=stripped(MAKE, 5), by="lists/exclude_one"),
     Fault("exclude_early", M, "An excluded host hears so before the touch.", request=answered_by(names_excluded, 0x19)),
-    Fault(
-        "options_ignored", M, "Options that can't be served are ignored.", request=stripped(MAKE, 7), by="make/alone_uv"
-    ),
+    Fault("uv_ignored", M, "The option uv, which can't be served, is ignored.", request=option_lost(MAKE, "uv", 7)),
     Fault("checks_swapped", M, "Options are checked before algorithms.", request=answered_by(uv_and_algorithm, 0x2C)),
     Fault("denial_ignored", M, "A denial counts as consent.", reply=denied_too),
-    Fault("missing_wrong_status", M, "A missing parameter has another status.", status(0x14, 0x12)),
+    Fault("missing_wrong_status", M, "A missing parameter has another status.", status(0x14, 0x12, MAKE)),
     Fault("sign_in_unsorted", G, "The map of an assertion isn't sorted.", unsorted(is_assertion)),
     Fault("sign_in_without_up", G, "Flag UP isn't set after a touch.", asserted(data_changed(32, lambda b: b & ~UP))),
     Fault("up_without_touch", G, "Flag UP is set without a touch.", asserted(data_changed(32, lambda b: b | UP))),
     Fault("counter_repeated", G, "The counter stays.", asserted(counter_repeated)),
     Fault("counter_falls", G, "The counter falls.", asserted(counter_falls)),
+    Fault("counter_lost", G, "The counter begins anew when the power was off.", asserted(counter_lost)),
+    Fault("credentials_lost", G, "Credentials are lost when the power is off.", power=POWER_LOSS, implies=(M,)),
+    Fault(
+        "nothing_forgotten",
+        "11.2.5.1",
+        "Channels, messages and requests are still there after a power cycle, and the clock goes on.",
+        power="",
+        implies=("11.2.9.1.6", "11.2.9.1.7", "6.6"),
+    ),
+    Fault("pending_kept", N, "Assertions are pending after a power cycle.", pending_kept),
     Fault("sign_in_wrong_rp", G, "The RP's hash is another one.", asserted(data_changed(31, lambda b: b ^ 1))),
     Fault("wrong_signature", G, "The counter isn't signed.", asserted(data_changed(33, lambda b: 1), False)),
     Fault("wrong_id", G, "The id is another one.", asserted(member(1, {"id": b"x" * 32, "type": "public-key"}), False)),
     Fault("user_missing", G, "The user of a discoverable credential is missing.", asserted(without(4))),
     Fault("user_named", G, "A user who wasn't verified is named.", asserted(user_named)),
-    Fault("number_missing", N, "The number of credentials is missing.", asserted(without(5))),
-    Fault("number_always", N, "Each assertion has a number.", asserted(member(5, 3))),
+    Fault("number_missing", G, "The number of credentials is missing.", asserted(without(5))),
+    Fault("number_again", N, "Later assertions have a number too.", asserted(number_again)),
+    Fault("number_of_one", G, "One credential has a number.", asserted(number_of_one)),
     Fault(
         "allow_ignored",
         G,
         "The allow list is ignored.",
         request=stripped(GET, 3),
         by="lists/allow_unknown_discoverable",
+        implies=(N,),
     ),
     Fault(
         "up_ignored", G, "The option up is ignored in a sign-in.", request=stripped(GET, 5), by="get/without_presence"
     ),
-    Fault("not_stored", G, "A discoverable credential isn't found.", request=stripped(MAKE, 7)),
-    Fault("nothing_found", G, "No credential has another status.", status(0x2E, 0x27)),
+    Fault("not_stored", G, "No credential is discoverable.", request=option_lost(MAKE, "rk", 7), implies=(M,)),
+    Fault("nothing_found", G, "No credential has another status.", status(0x2E, 0x27, GET)),
     Fault("next_for_ever", N, "The last assertion comes again and again.", next_again),
-    Fault("next_at_any_time", N, "Pending assertions wait for ever.", clock=stopped),
-    Fault("reset_at_any_time", "6.6", "A reset is taken at any time.", clock=stopped),
+    Fault("next_at_any_time", N, "Pending assertions wait for ever.", clock=stopped_after),
+    Fault("reset_at_any_time", "6.6", "A reset is taken at any time.", clock=stopped_before),
     Fault("reset_keeps", "6.6", "A reset forgets nothing.", request=replaced(RESET, SELECTION), by="reset/forgets"),
     Fault("reset_at_once", "6.6", "A reset asks nobody.", request=answered_by(lambda r: r == bytes([RESET]), 0)),
     Fault(
@@ -279,7 +340,7 @@ ANSWERS: List[Fault] = [
         "A selection asks nobody.",
         request=answered_by(lambda r: r == bytes([SELECTION]), 0),
     ),
-    Fault("selection_timeout", "6.9", "A selection that times out has another status.", status(0x2F, 0x27)),
+    Fault("selection_timeout", "6.9", "A selection that times out has another status.", status(0x2F, 0x27, SELECTION)),
     Fault("info_without_versions", "6.4", "The versions are missing.", info(without(1))),
     Fault("info_short_aaguid", "6.4", "The AAGUID has 15 bytes.", info(member(3, bytes(15)))),
     Fault("info_options", "6.4", "An option is a number.", info(member(4, {"rk": 1}))),

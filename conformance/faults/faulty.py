@@ -6,8 +6,9 @@ from typing import Any, Callable, Dict, List, NamedTuple, Optional, Tuple
 
 import ctap_cbor
 import hid_packets as hid
-from devices import LiveDevice
+from devices import POWER_CYCLE
 from hid_packets import Message
+from remembering import Remembering
 
 Sent = List[Message]
 Hook = Callable[["Faulty", Message], Optional[Sent]]
@@ -30,19 +31,26 @@ class Fault(NamedTuple):
     # Changes packets as they are cut.
     cut: Optional[Callable[[List[bytes]], List[bytes]]] = None
     # Changes the user's reply.
-    reply: Optional[Callable[[str], str]] = None
+    reply: Optional[Callable[["Faulty", str], str]] = None
     # Changes the moment of an input.
     clock: Optional[Callable[["Faulty", int], int]] = None
+    # What happens in place of a power cycle, as a line to the program.
+    power: str = POWER_CYCLE
     # The case that has to name it, where not any case of the section will do.
     by: str = ""
+    # The other sections whose rules it breaks too.
+    implies: Tuple[str, ...] = ()
 
 
-class Faulty(LiveDevice):
+class Faulty(Remembering):
     """Plays hidlog live with a fault."""
 
     def __init__(self, fault: Fault) -> None:
         super().__init__()
         self.fault = fault
+        # How often the power was off, and what a fault keeps over it.
+        self.cycles = 0
+        self.kept = b""
         self.restart()
 
     def restart(self) -> None:
@@ -50,16 +58,32 @@ class Faulty(LiveDevice):
         self.host = hid.Collector(of_host=True)
         self.guest = hid.Collector()
         self.held: List[Tuple[int, bytes]] = []
+        # The last request of each command, and the command of the last one.
         self.asked: Dict[int, bytes] = {}
+        self.command = 0
+        # Whether the packet that came last belongs to no message.
+        self.stray = False
         self.last: Dict[str, Any] = {}
 
     def start(self) -> None:
         """Starts a new authenticator."""
         super().start()
         self.restart()
+        self.cycles = 0
+        self.kept = b""
+
+    def power_cycle(self, at: int) -> None:
+        """Switches off and on again, or does what the fault does in its place."""
+        self.cycles += 1
+        if not self.fault.power:
+            super().tick(at)
+            return
+        self.restart()
+        super().power_cycle(at)
 
     def play(self, line: str) -> None:
         """Hands the line on, and makes the fault in what comes."""
+        line = self.fault.power if line == POWER_CYCLE else line
         super().play(line)
         packets = list(self.packets)
         fresh = packets[self.last.get("kept", 0) :] if self.last.get("kept", 0) <= len(packets) else packets
@@ -93,8 +117,10 @@ class Faulty(LiveDevice):
         """Hands a packet on, changed by the fault; of a request to be changed only once it is whole."""
         at = self.fault.clock(self, at) if self.fault.clock else at
         message = self.host.feed(packet)
+        self.stray = message is not None and bool(message.problem)
         if message is not None and message.command == hid.CBOR and not message.problem:
             self.asked[message.data[0] if message.data else 0] = message.data
+            self.command = message.data[0] if message.data else 0
         if self.fault.packet is not None:
             changed = self.fault.packet(self, at, packet)
             if changed is not None:
@@ -107,25 +133,24 @@ class Faulty(LiveDevice):
     def hold(self, at: int, packet: bytes, message: Optional[Message]) -> None:
         """Keeps the packets of a CBOR message until it is whole, and then hands on what the fault makes of it."""
         assert self.fault.request is not None
+        begins = packet[4] == 0x80 | hid.CBOR
+        if message is None and (begins or self.held):
+            self.held.append((at, packet))
+            return
+        packets, self.held = self.held + [(at, packet)], []
         if message is not None and message.command == hid.CBOR and not message.problem and message.data:
             self.last["channel"] = message.channel
             changed = self.fault.request(self, message.data)
-            packets = self.held + [(at, packet)]
-            self.held = []
             if changed is None:
                 return
             if changed != message.data:
                 packets = [(at, piece) for piece in hid.packets_of(message.channel, hid.CBOR, changed)]
-            for moment, piece in packets:
-                super().send(moment, piece)
-        elif packet[4] == 0x80 | hid.CBOR or (not packet[4] & 0x80 and self.held):
-            self.held.append((at, packet))
-        else:
-            super().send(at, packet)
+        for moment, piece in packets:
+            super().send(moment, piece)
 
     def presence(self, at: int, word: str) -> None:
         """Lets the user answer, changed by the fault."""
-        super().presence(at, self.fault.reply(word) if self.fault.reply else word)
+        super().presence(at, self.fault.reply(self, word) if self.fault.reply else word)
 
     def resigned(self, auth: bytes, client_hash: bytes, credential: bytes) -> bytes:
         """Signs changed authenticator data."""

@@ -107,34 +107,36 @@ def cancel_of_all(device: Faulty, at: int, packet: bytes) -> Optional[bytes]:
 
 def sequence_taken(device: Faulty, at: int, packet: bytes) -> Optional[bytes]:
     """Takes continuation packets under any number."""
+    channel = "due on " + packet[:4].hex()
+    due = device.last.get(channel, 0)
     if packet[4] & 0x80:
-        device.last["due"] = 0
+        device.last[channel] = 0
         return packet
-    device.last["due"] = device.last.get("due", 0) + 1
-    return packet[:4] + bytes([device.last["due"] - 1]) + packet[5:]
+    device.last[channel] = due + 1
+    return packet[:4] + bytes([due]) + packet[5:]
 
 
 def stray_answered(device: Faulty, at: int, packet: bytes) -> Optional[bytes]:
     """Answers a continuation packet where no message is open."""
-    if not packet[4] & 0x80 and not device.last.get("open", False):
+    if device.stray and not packet[4] & 0x80:
         device.emit(int.from_bytes(packet[:4], "big"), hid.ERROR, b"\4")
         return None
-    if packet[4] & 0x80:
-        device.last["open"] = int.from_bytes(packet[5:7], "big") > 57
     return packet
 
 
 def any_channel(device: Faulty, at: int, packet: bytes) -> Optional[bytes]:
     """Takes a continuation packet of any channel for the open message."""
+    channel = int.from_bytes(packet[:4], "big")
     if packet[4] & 0x80:
-        device.last["front"] = packet[:4]
+        if set(device.host.open) == {channel}:
+            device.last["front"] = packet[:4]
         return packet
     return bytes(device.last.get("front", packet[:4])) + packet[4:]
 
 
 def init_keeps(device: Faulty, at: int, packet: bytes) -> Optional[bytes]:
     """Answers INIT on a channel and keeps its message and work."""
-    if packet[4:7] == bytes([0x80 | hid.INIT, 0, 8]) and packet[:4] != b"\xff" * 4:
+    if packet[4:7] == bytes([0x80 | hid.INIT, 0, 8]) and packet[:4] in (b"\0\0\0\1", b"\0\0\0\2"):
         device.emit(int.from_bytes(packet[:4], "big"), hid.INIT, packet[7:15] + packet[:4] + bytes([2, 1, 0, 0, 12]))
         return None
     return packet
@@ -143,7 +145,8 @@ def init_keeps(device: Faulty, at: int, packet: bytes) -> Optional[bytes]:
 def any_channel_served(device: Faulty, at: int, packet: bytes) -> Optional[bytes]:
     """Serves a channel that was never given out as the first one."""
     number = int.from_bytes(packet[:4], "big")
-    return b"\0\0\0\1" + packet[4:] if number > 0x1000 and number != hid.BROADCAST else packet
+    strange = number > 0x1000 and number != hid.BROADCAST and packet[4] != 0x80 | hid.CANCEL
+    return b"\0\0\0\1" + packet[4:] if strange else packet
 
 
 def ping_cut(device: Faulty, message: Message) -> Optional[Sent]:
@@ -177,7 +180,9 @@ def last_lost(packets: List[bytes]) -> List[bytes]:
 
 def not_zero(packets: List[bytes]) -> List[bytes]:
     """Leaves old bytes behind a message."""
-    return [packet[:-2] + b"\xde\xad" if packet.endswith(b"\0\0") else packet for packet in packets]
+    # How many bytes of the last packet are behind the message.
+    behind = 57 + 59 * (len(packets) - 1) - int.from_bytes(packets[0][5:7], "big")
+    return packets[:-1] + [packets[-1][: 64 - behind] + b"\xde" * behind]
 
 
 INIT, CANCEL, KEEP, SEQUENCE = "11.2.9.1.3", "11.2.9.1.5", "11.2.9.1.7", "11.2.5.4"
@@ -195,7 +200,14 @@ WIRE: List[Fault] = [
     Fault("init_keeps_message", ABORT, "INIT leaves message and work as they are.", None, init_keeps),
     Fault("sequence_taken", SEQUENCE, "Continuation packets count under any number.", None, sequence_taken),
     Fault("stray_answered", SEQUENCE, "A stray continuation packet is answered.", None, stray_answered),
-    Fault("any_channels_packet", SEQUENCE, "Another host's continuation packet is taken.", None, any_channel),
+    Fault(
+        "any_channels_packet",
+        SEQUENCE,
+        "Another host's continuation packet is taken.",
+        None,
+        any_channel,
+        implies=(BUSY,),
+    ),
     Fault("sequence_not_named", SEQUENCE, "A wrong number isn't answered.", dropped(hid.ERROR, 4)),
     Fault("busy_silent", BUSY, "A second host isn't sent away.", dropped(hid.ERROR, 6)),
     Fault("busy_wrong_code", BUSY, "A second host gets another code.", renamed(hid.ERROR, 6, 0x7F)),

@@ -97,8 +97,8 @@ def options_of(item: Dict[Any, Any], key: int) -> Dict[str, bool]:
 class Key:
     """Serves requests; the transport asks for touches."""
 
-    def __init__(self) -> None:
-        self.credentials: List[Credential] = []
+    def __init__(self, credentials: Optional[List[Credential]] = None) -> None:
+        self.credentials: List[Credential] = credentials or []
         self.hid = Hid(self.serve)
         self.pending: List[Credential] = []
         self.pending_hash = b""
@@ -245,15 +245,15 @@ def take(key: Key, line: bytes, at: int) -> None:
         key.hid.packet(at, bytes.fromhex(line.decode()))
 
 
-def main() -> int:
+def serve(key: Key) -> None:
     """Serves until the input ends."""
-    key, start, rest = Key(), time.monotonic(), b""
+    start, rest = time.monotonic(), b""
     while True:
         ready, _, _ = select.select([sys.stdin], [], [], 0.05)
         at = int((time.monotonic() - start) * 1000)
         piece = os.read(sys.stdin.fileno(), 4096) if ready else b""
         if ready and not piece:
-            return 0
+            return
         *lines, rest = (rest + piece).split(b"\n")
         for line in lines:
             take(key, line, at)
@@ -264,4 +264,4 @@ def main() -> int:
 
 
 if __name__ == "__main__":
-    sys.exit(main())
+    serve(Key())

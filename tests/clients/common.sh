@@ -27,7 +27,8 @@ need_header() {
 
 # Needs a library that holds a key (hidlog_key_make).
 need_held_key() {
-    nm "$library/libhidlog.a" 2>/dev/null | grep -q ' T hidlog_key_make$' ||
+    # Not `grep -q`: it ends early, and nm's SIGPIPE would fail the pipe.
+    nm "$library/libhidlog.a" 2>/dev/null | grep ' T hidlog_key_make$' >/dev/null ||
         nothing "the library in ${HIDLOG_LIBRARY:-release/} is missing or holds no key (hidlog_key_make)"
 }
 

@@ -1,6 +1,5 @@
 #!/usr/bin/env bash
-# Makes a key, sends INIT and prints the answer from Go, Rust and C++. A language that isn't there is skipped by name;
-# ends with 3 where none is.
+# Makes a key, sends INIT and prints the answer from C, Go, Rust and C++. A language that isn't there is skipped by name.
 # shellcheck disable=SC1091,SC2154 # top, name and library are set by common.sh
 set -euo pipefail
 source "$(dirname "${BASH_SOURCE[0]}")/common.sh"
@@ -36,9 +35,10 @@ if has Rust rustc rustc; then
     rustc --edition 2021 -D warnings -C "link-arg=$library/libhidlog.a" -o rust_init "$top/examples/c/init.rs"
     tried Rust "$(rustc --version | cut -d' ' -f2)" ./rust_init
 fi
+gcc -std=c11 -O2 -Wall -Wextra -Wpedantic -Werror -I "$library" -o c_init "$top/examples/c/init.c" "$library/libhidlog.a"
+tried C "gcc $(gcc -dumpfullversion)" ./c_init
 if has C++ g++ g++; then
     g++ -std=c++17 -O2 -Wall -Wextra -Wpedantic -Werror -I "$library" -o cpp_init "$top/examples/c/init.cpp" \
         "$library/libhidlog.a"
     tried C++ "g++ $(g++ -dumpfullversion)" ./cpp_init
 fi
-[ "$ran" -gt 0 ] || nothing "no language is there"

@@ -2,76 +2,17 @@
 # The key as a device of the Linux kernel: builds the bridge of examples/uhid and runs it in a virtual machine (software
 # emulation, a Debian kernel, an initramfs made here), where libfido2's tools, ssh-keygen and pam-u2f register and sign
 # in; the cases are in uhid_vm.sh. So also on a machine that has /dev/uhid: nothing is plugged in there. Takes a minute,
-# at most five. Ends with 3 where something is missing.
-#
-#     HIDLOG_KERNEL=FOLDER    an unpacked linux-image; by default the one that is installed, else one that
-#                             apt-get download fetches (70 MB)
-#     HIDLOG_OFFLINE=1        fetches nothing
-# shellcheck disable=SC1091,SC2154 # top, name and library are set by common.sh
+# at most five. Ends with 3 where something is missing. The machine and its variables are in machine.sh.
+# shellcheck disable=SC1091,SC2154 # top, name, library, root and image are set by common.sh and machine.sh
 set -euo pipefail
 source "$(dirname "${BASH_SOURCE[0]}")/common.sh"
-PATH=$PATH:/usr/sbin:/sbin
-need gcc "gcc libc6-dev" nm binutils qemu-system-x86_64 qemu-system-x86 busybox busybox-static cpio cpio xz xz-utils \
-    dpkg-deb dpkg fido2-token fido2-tools ssh-keygen openssh-client
+source "$(dirname "${BASH_SOURCE[0]}")/machine.sh"
+need fido2-token fido2-tools ssh-keygen openssh-client
 [ -x /usr/lib/openssh/ssh-sk-helper ] || nothing "ssh-sk-helper is missing (apt-get install openssh-client)"
-busybox 2>&1 | grep -q insmod || nothing "busybox has no insmod (apt-get install busybox-static)"
-ldd "$(command -v busybox)" >/dev/null 2>&1 && nothing "busybox isn't static (apt-get install busybox-static)"
-need_header openssl/evp.h libssl-dev
-need_header linux/uhid.h linux-libc-dev
-need_held_key
-room=$(mktemp -d)
-trap 'rm -rf "$room"' EXIT
-root=$room/root
 
-# Finds vmlinuz and uhid.ko in a folder: has_kernel FOLDER
-has_kernel() {
-    image=$(find "$1/boot" -name 'vmlinuz-*' 2>/dev/null | sort -V | tail -1)
-    modules=$1/lib/modules/${image##*/vmlinuz-}/kernel/drivers/hid
-    [ -n "$image" ] && [ -r "$image" ] && compgen -G "$modules/uhid.ko*" >/dev/null
-}
-
-find_kernel() {
-    local package
-    if [ -n "${HIDLOG_KERNEL-}" ]; then
-        has_kernel "$HIDLOG_KERNEL" || nothing "HIDLOG_KERNEL has no kernel with uhid"
-    elif ! has_kernel ""; then
-        [ -z "${HIDLOG_OFFLINE-}" ] || nothing "no kernel with uhid is installed (apt-get install linux-image-amd64)"
-        package=$(apt-cache depends linux-image-amd64 2>/dev/null | sed -n 's/^ *Depends: //p' | head -1)
-        (cd "$room" && apt-get download "${package:-linux-image-amd64}" && dpkg-deb -x "$package"_*.deb kernel) \
-            >"$room/said" 2>&1 || true
-        has_kernel "$room/kernel" || nothing "a kernel is missing (apt-get install linux-image-amd64)"
-    fi
-}
-
-# Puts programs and libraries into the machine, with the libraries that they need, under the names that they have here.
-bring() {
-    local file needed
-    for file in "$@"; do
-        while read -r needed; do
-            install -D -m 755 "$needed" "$root/$needed"
-        done < <(echo "$file" && { ldd "$file" 2>/dev/null || true; } | grep -o '/[^ ]*')
-    done
-}
-
-find_kernel
-parts=("$top/examples/uhid/uhid.c" "$top/examples/ssh/state.c" "$top"/examples/c/{held_key,software_keys,snapshot}.c)
-mkdir -p "$root"/{bin,dev,etc/pam.d,modules,proc,root,sys,tmp}
-# With address and undefined-behaviour checks, which end it by a status of their own.
-compile -g -fsanitize=address,undefined -fno-sanitize-recover=all -I "$top/examples/ssh" -o "$root/bin/uhid" \
-    "${parts[@]}" "$library/libhidlog.a" -lcrypto
-cp "$(command -v busybox)" "$root/bin/busybox"
-ln -s busybox "$root/bin/sh"
-cp "$library/hidlog" "$root/bin/hidlog"
-install -m 755 "$top/tests/clients/uhid_vm.sh" "$root/init"
-for module in hid uhid hid-generic; do
-    file=$(compgen -G "$modules/$module.ko*")
-    case $file in *.xz) xz -dc "$file" ;; *) cat "$file" ;; esac >"$root/modules/$module.ko"
-done
+build uhid_vm.sh
 bring "$(command -v fido2-token)" "$(command -v fido2-cred)" "$(command -v fido2-assert)" "$(command -v ssh-keygen)" \
-    /usr/lib/openssh/ssh-sk-helper /usr/bin/setpriv "$root/bin/uhid" "$root/bin/hidlog"
-rm -rf "${root:?}/$room"
-echo root:x:0:0:root:/root:/bin/sh >"$root/etc/passwd"
-chmod 1777 "$root/tmp"
+    /usr/lib/openssh/ssh-sk-helper /usr/bin/setpriv
 pam=$(dpkg -L libpam-u2f 2>/dev/null | grep '/pam_u2f\.so$' || true)
 if [ -n "$pam" ] && command -v pamtester >/dev/null && command -v pamu2fcfg >/dev/null; then
     bring "$(command -v pamtester)" "$(command -v pamu2fcfg)" "$pam"
@@ -79,16 +20,5 @@ if [ -n "$pam" ] && command -v pamtester >/dev/null && command -v pamu2fcfg >/de
 else
     echo "$name: pam-u2f was not run (apt-get install libpam-u2f pamtester pamu2fcfg)"
 fi
-(cd "$root" && find . | cpio -o -H newc --quiet -R 0:0 | gzip -1) >"$room/initramfs"
 echo "$name: ${image##*/}, libfido2 $(version libfido2-1), OpenSSH $(version openssh-client)${versions-}"
-
-# TCG, since KVM isn't everywhere. The machine switches itself off; a kernel that stops ends it too.
-machine=(-accel tcg -cpu max -m 512 -nic none -display none -monitor none -serial stdio -no-reboot)
-timeout 290 qemu-system-x86_64 "${machine[@]}" -kernel "$image" -initrd "$room/initramfs" \
-    -append "console=ttyS0 quiet panic=-1" </dev/null >"$room/console" 2>&1 ||
-    { tail -40 "$room/console" && fail "the machine didn't end by itself"; }
-tr -d '\r' <"$room/console" | sed -n "s,^@@ ,$name: ,p"
-if grep -q '^@@ FAILED' "$room/console" || ! grep -q '^@@ end' "$room/console"; then
-    tr -d '\r' <"$room/console" | tail -80
-    fail "a case failed, or the machine ended early"
-fi
+boot 290

@@ -1,0 +1,127 @@
+#!/usr/bin/env python3
+"""Lets the fuzzer of tests/fuzz find wrong authenticators, and cuts each finding down.
+
+    conformance/fuzzed/find.py FOLDER [--count N] [WORD ..]    writes FOLDER/FAULT.log for the faults of these words
+
+A finding is a hostile log to which a wrong authenticator sends other packets than the same one without its fault. It is
+cut down by examples/shrink.py for as long as the first difference is of the same kind. What is in conformance/fuzzed
+was found by it, and read against the standard before it became a case.
+"""
+
+from __future__ import annotations
+
+import argparse
+import os
+import sys
+from typing import Any, List, Optional, Tuple
+
+HERE = os.path.dirname(os.path.abspath(__file__))
+TOP = os.path.join(HERE, "..", "..")
+for place in ("conformance", "conformance/faults", "tests/fuzz", "examples"):
+    sys.path.insert(0, os.path.join(TOP, place))
+
+import shrink  # noqa: E402
+from faults import FAULTS  # noqa: E402
+from faulty import Fault, Faulty  # noqa: E402
+from hostile import hostile_log  # noqa: E402
+from judge import is_line  # noqa: E402
+
+PLAIN = Fault("none", "", "", lambda device, message: None)
+WHOLE = Fault("none", "", "", request=lambda device, request: request)
+Sent = Tuple[int, bytes]
+
+
+def inputs_of(log: bytes) -> List[bytes]:
+    """Returns a log's input lines."""
+    return [line for line in log.split(b"\n") if line[:1] in (b">", b"t", b"p", b"k", b"s") and is_line(line)]
+
+
+def sent(device: Faulty, lines: List[bytes]) -> List[Sent]:
+    """Plays input lines; returns what is sent, each packet with the number of its input."""
+    device.start()
+    found: List[Sent] = []
+    try:
+        for number, line in enumerate(lines):
+            kind, at, *words = line.decode().split(" ")
+            if kind == ">":
+                device.send(int(at), bytes.fromhex(words[0]))
+            elif kind == "t":
+                device.tick(int(at))
+            elif kind == "p":
+                device.presence(int(at), words[0])
+            else:
+                device.play(line.decode())
+            packet: Optional[bytes] = device.read(0)
+            while packet is not None:
+                found.append((number, packet))
+                packet = device.read(0)
+    finally:
+        device.close()
+    return found
+
+
+def head(packets: List[Sent], place: int) -> bytes:
+    """Returns what a packet is: its command and first byte; nothing where there is none."""
+    return packets[place][1][4:8] if place < len(packets) else b""
+
+
+def difference(fault: Fault, lines: List[bytes]) -> Optional[Tuple[bytes, bytes]]:
+    """Returns what the first packet that differs is, with the fault and without it."""
+    try:
+        right, wrong = sent(Faulty(WHOLE if fault.request else PLAIN), lines), sent(Faulty(fault), lines)
+    except (OSError, KeyError, IndexError, ValueError, AttributeError, TypeError):
+        # Faults are written for the corpus; a hostile log may end one by an exception of Python.
+        return None
+    for place in range(max(len(right), len(wrong))):
+        if right[place : place + 1] != wrong[place : place + 1]:
+            return head(wrong, place), head(right, place)
+    return None
+
+
+class Differs(shrink.Command):
+    """Fails on a log on which a fault differs in the same way."""
+
+    def __init__(self, fault: Fault) -> None:
+        super().__init__([], None)
+        self.fault = fault
+
+    def failure(self, blocks: Any) -> Any:
+        """Returns how a fault differs, or None."""
+        return difference(self.fault, inputs_of(shrink.joined(blocks)))
+
+
+def found(fault: Fault, count: int) -> Optional[bytes]:
+    """Returns the shortest log on which a fault differs."""
+    for number in range(count):
+        lines = inputs_of(hostile_log("conformance", number))
+        if difference(fault, lines) is None:
+            continue
+        command = Differs(fault)
+        blocks = shrink.blocks_of(b"".join(line + b"\n" for line in lines))
+        wanted = command.failure(blocks)
+        shortest: bytes = shrink.joined(shrink.without_blocks(command, blocks, wanted))
+        return shortest
+    return None
+
+
+def main(arguments: List[str]) -> int:
+    """Looks for a finding of each fault."""
+    parser = argparse.ArgumentParser(description="Lets the fuzzer find wrong authenticators.")
+    parser.add_argument("folder", metavar="FOLDER")
+    parser.add_argument("--count", type=int, default=1500, help="how many hostile logs; by default 1500")
+    parser.add_argument("words", nargs="*", metavar="WORD")
+    options = parser.parse_intermixed_args(arguments)
+    os.makedirs(options.folder, exist_ok=True)
+    for name, fault in FAULTS.items():
+        if options.words and not any(word in name for word in options.words):
+            continue
+        log = found(fault, options.count)
+        print(f"{name}: {'nothing was found' if log is None else str(log.count(bytes([10]))) + ' lines'}", flush=True)
+        if log is not None:
+            with open(os.path.join(options.folder, name + ".log"), "wb") as file:
+                file.write(log)
+    return 0
+
+
+if __name__ == "__main__":
+    sys.exit(main(sys.argv[1:]))

@@ -1,0 +1,46 @@
+"""Keeps the credentials of the authenticator in Python in a file, while it has no power."""
+
+from __future__ import annotations
+
+import json
+import os
+from typing import Any, Dict, List
+
+from cryptography.hazmat.primitives import serialization
+from cryptography.hazmat.primitives.asymmetric import ec
+from python_key import Credential
+
+
+def written(one: Credential) -> Dict[str, Any]:
+    """Returns a credential as JSON has it; its private key is in the clear."""
+    pem = one.private.private_bytes(
+        serialization.Encoding.PEM, serialization.PrivateFormat.PKCS8, serialization.NoEncryption()
+    )
+    user = {**one.user, "id": one.user["id"].hex()}
+    kept = {"id": one.id.hex(), "rp": one.rp, "user": user, "discoverable": one.discoverable}
+    return {**kept, "private": pem.decode(), "counter": one.counter}
+
+
+def read(kept: Dict[str, Any]) -> Credential:
+    """Returns a credential that was kept."""
+    user = {**kept["user"], "id": bytes.fromhex(kept["user"]["id"])}
+    one = Credential(kept["rp"], user, kept["discoverable"])
+    one.id, one.counter = bytes.fromhex(kept["id"]), kept["counter"]
+    private = serialization.load_pem_private_key(kept["private"].encode(), None)
+    assert isinstance(private, ec.EllipticCurvePrivateKey)
+    one.private = private
+    return one
+
+
+def load(path: str) -> List[Credential]:
+    """Returns the credentials of a file, none where there is no file."""
+    if not os.path.exists(path):
+        return []
+    with open(path, encoding="utf-8") as file:
+        return [read(kept) for kept in json.load(file)]
+
+
+def save(path: str, credentials: List[Credential]) -> None:
+    """Writes the credentials."""
+    with open(path, "w", encoding="utf-8") as file:
+        json.dump([written(one) for one in credentials], file)

@@ -1,0 +1,211 @@
+#!/usr/bin/env python3
+"""Records browsers: what Chromium's and Firefox's own code for security keys sends.
+
+    conformance/recorded/browsers.py FOLDER [chromium|firefox]    writes FOLDER/NAME_RUN.log, cut down
+
+The browser sees a device of hidraw: fake_udev.c stands in for libudev, and a terminal without line editing for
+/dev/hidrawN. Behind it is the program of release/, and a user who touches at once. It needs gcc and the browser.
+"""
+
+from __future__ import annotations
+
+import fcntl
+import os
+import pty
+import select
+import shutil
+import signal
+import struct
+import subprocess
+import sys
+import tempfile
+import termios
+import threading
+import time
+import tty
+from http.server import BaseHTTPRequestHandler, ThreadingHTTPServer
+from typing import Any, Dict, List
+
+HERE = os.path.dirname(os.path.abspath(__file__))
+sys.path.insert(0, os.path.join(HERE, ".."))
+
+from devices import LiveDevice  # noqa: E402
+from trim import trimmed  # noqa: E402
+
+# The report descriptor of CTAP 2.1, 11.2.8.1: usage page f1d0, 64 bytes each way.
+DESCRIPTOR = bytes.fromhex("06d0f10901a1010920150026ff00750895408102092115002 6ff00750895409102c0".replace(" ", ""))
+TOUCH_AFTER = 0.3
+SECONDS = 60
+# A browser that sends nothing for so long waits for a person who closes its window.
+IDLE = 7.0
+# What the page does, a browser and a key without credentials for each.
+RUNS = {"excluded": "register,sign_in,excluded", "discoverable": "discoverable,found", "unknown": "register,unknown"}
+BROWSERS: Dict[str, List[str]] = {
+    "chromium": ["chromium", "--headless=new", "--no-sandbox", "--user-data-dir=PROFILE", "URL"],
+    "firefox": ["firefox-esr", "--headless", "--no-remote", "--profile", "PROFILE", "URL"],
+}
+
+
+class RecordedDevice(LiveDevice):
+    """Keeps the input lines."""
+
+    def __init__(self) -> None:
+        super().__init__()
+        self.lines: List[str] = []
+
+    def exchange(self, line: str) -> List[str]:
+        """Writes an input line and returns the answer's lines."""
+        self.lines.append(line)
+        answers: List[str] = super().exchange(line)
+        return answers
+
+
+class Terminal:
+    """Serves the program on a terminal, a packet at a time, as a device of hidraw would."""
+
+    def __init__(self) -> None:
+        self.master, self.slave = pty.openpty()
+        tty.setraw(self.slave)
+        self.path = os.ttyname(self.slave)
+        self.device = RecordedDevice()
+        self.device.start()
+        self.begun = time.monotonic()
+        self.asked = 0.0
+        # When a packet came last.
+        self.latest = time.monotonic() + SECONDS
+        self.ended = False
+        self.thread = threading.Thread(target=self.serve, daemon=True)
+        self.thread.start()
+
+    def now(self) -> int:
+        """Returns the moment in milliseconds."""
+        return int((time.monotonic() - self.begun) * 1000)
+
+    def unread(self) -> int:
+        """Returns how many bytes the browser has yet to read."""
+        return int(struct.unpack("i", fcntl.ioctl(self.slave, termios.FIONREAD, b"\0" * 4))[0])
+
+    def answer(self) -> None:
+        """Does what the program needs, and hands on its packets."""
+        while self.device.need == "key" or self.device.need.startswith("signature"):
+            if self.device.need == "key":
+                self.device.key(self.now(), ["yes"])
+            else:
+                self.device.signature(self.now(), ["yes"])
+        if self.device.need != "presence":
+            self.asked = time.monotonic()
+        elif time.monotonic() - self.asked > TOUCH_AFTER:
+            self.device.presence(self.now(), "granted")
+            self.answer()
+        packet = self.device.read(0)
+        while packet is not None:
+            os.write(self.master, packet)
+            end = time.monotonic() + 2
+            while self.unread() and time.monotonic() < end:
+                time.sleep(0.001)
+            if self.unread():
+                # Nobody has the device open.
+                termios.tcflush(self.slave, termios.TCIFLUSH)
+            packet = self.device.read(0)
+
+    def serve(self) -> None:
+        """Serves until the end."""
+        rest = b""
+        while not self.ended:
+            ready, _, _ = select.select([self.master], [], [], 0.05)
+            rest += os.read(self.master, 65) if ready else b""
+            while len(rest) >= 65:
+                report, rest = rest[:65], rest[65:]
+                self.latest = time.monotonic()
+                self.device.send(self.now(), report[1:])
+                self.answer()
+            if not ready:
+                self.device.tick(self.now())
+                self.answer()
+
+    def end(self) -> List[str]:
+        """Ends the program and returns what was recorded."""
+        self.ended = True
+        self.thread.join()
+        self.device.close()
+        return self.device.lines
+
+
+class Handler(BaseHTTPRequestHandler):
+    """Serves the page, and hears what came of it."""
+
+    def log_message(self, *words: Any) -> None:
+        """Says nothing of each request."""
+
+    def do_GET(self) -> None:
+        """Serves the page."""
+        with open(os.path.join(HERE, "browsers.html"), "rb") as file:
+            body = file.read()
+        self.send_response(200)
+        self.send_header("Content-Type", "text/html")
+        self.end_headers()
+        self.wfile.write(body)
+
+    def do_POST(self) -> None:
+        """Hears of the end."""
+        server: Any = self.server
+        server.said = self.rfile.read(int(self.headers["Content-Length"])).decode()
+        server.done.set()
+        self.send_response(200)
+        self.end_headers()
+
+
+def compiled(room: str) -> str:
+    """Compiles what stands in for libudev."""
+    library = os.path.join(room, "libudev.so.1")
+    words = ["gcc", "-std=c11", "-O2", "-shared", "-fPIC", "-Wl,-soname,libudev.so.1"]
+    script = "-Wl,--version-script=" + os.path.join(HERE, "fake_udev.map")
+    subprocess.run(words + [script, "-o", library, os.path.join(HERE, "fake_udev.c")], check=True)
+    return library
+
+
+def record(name: str, steps: str, room: str) -> List[str]:
+    """Lets a browser do some steps; returns the recording."""
+    terminal = Terminal()
+    server: Any = ThreadingHTTPServer(("127.0.0.1", 0), Handler)
+    server.done, server.said = threading.Event(), "it waits for a person"
+    threading.Thread(target=server.serve_forever, daemon=True).start()
+    for folder in ("profile", "sysfs/hidraw/hidraw0"):
+        os.makedirs(os.path.join(room, folder))
+    with open(os.path.join(room, "sysfs/report_descriptor"), "wb") as file:
+        file.write(DESCRIPTOR)
+    places = {"PROFILE": os.path.join(room, "profile"), "URL": f"http://localhost:{server.server_port}/#{steps}"}
+    words = [word.replace("PROFILE", places["PROFILE"]).replace("URL", places["URL"]) for word in BROWSERS[name]]
+    fake = {"LD_PRELOAD": compiled(room), "FAKE_HIDRAW": terminal.path, "FAKE_SYSFS": os.path.join(room, "sysfs")}
+    quiet = subprocess.DEVNULL if "VERBOSE" not in os.environ else None
+    browser = subprocess.Popen(words, env={**os.environ, **fake}, stdout=quiet, stderr=quiet, start_new_session=True)
+    end = time.monotonic() + SECONDS
+    while not server.done.wait(0.1) and time.monotonic() < min(end, terminal.latest + IDLE):
+        pass
+    os.killpg(browser.pid, signal.SIGTERM)
+    browser.wait()
+    server.shutdown()
+    print(f"{name} {steps}:\n{server.said}")
+    return terminal.end()
+
+
+def main(words: List[str]) -> int:
+    """Records the browsers that are there."""
+    if not words:
+        print(__doc__, file=sys.stderr)
+        return 2
+    for name in words[1:] or list(BROWSERS):
+        if not shutil.which(BROWSERS[name][0]):
+            print(f"{name} is missing; nothing was recorded", file=sys.stderr)
+            continue
+        for run, steps in RUNS.items():
+            with tempfile.TemporaryDirectory(ignore_cleanup_errors=True) as room:
+                lines = trimmed(record(name, steps, room))
+            os.makedirs(words[0], exist_ok=True)
+            with open(os.path.join(words[0], f"{name}_{run}.log"), "w", encoding="utf-8") as file:
+                file.write("\n".join(lines) + "\n")
+    return 0
+
+
+if __name__ == "__main__":
+    sys.exit(main(sys.argv[1:]))

@@ -1,0 +1,44 @@
+#!/usr/bin/env python3
+"""Cuts recordings down to what the corpus needs of them: what the host sent, and when the user and the caller answered.
+
+    conformance/recorded/trim.py LOG ..    writes each file anew
+
+Moments are at most ten milliseconds apart, public keys and signatures are made up: a device has its own.
+"""
+
+from __future__ import annotations
+
+import sys
+from typing import List
+
+
+def trimmed(lines: List[str]) -> List[str]:
+    """Returns the lines that are kept."""
+    kept, latest, at = [], -1, 0
+    for line in lines:
+        kind, _, rest = line.partition(" ")
+        if kind not in (">", "p", "k", "s"):
+            continue
+        moment, *words = rest.split(" ")
+        at += min(int(moment) - latest, 10) if latest >= 0 else 0
+        latest = int(moment)
+        if kind == "k":
+            words = [words[0], "bb" * 32, "cc" * 32]
+        if kind == "s":
+            words = ["dd" * 70]
+        kept.append(f"{kind} {at} {' '.join(words)}")
+    return kept
+
+
+def main(paths: List[str]) -> int:
+    """Writes the files anew."""
+    for path in paths:
+        with open(path, encoding="utf-8") as file:
+            lines = file.read().splitlines()
+        with open(path, "w", encoding="utf-8") as file:
+            file.write("\n".join(trimmed(lines)) + "\n")
+    return 0
+
+
+if __name__ == "__main__":
+    sys.exit(main(sys.argv[1:]))

@@ -1,0 +1,65 @@
+#!/bin/sh
+# The first program of the virtual machine that hidraw.sh starts: plugs the key in, runs the corpus's runner, does with the
+# plug what the runner asks for, switches off. What it says to hidraw.sh begins with "@@ ".
+/bin/busybox --install -s /bin
+export PATH=/bin:/usr/bin HOME=/root PYTHONDONTWRITEBYTECODE=1
+mount -t proc proc /proc
+mount -t sysfs sys /sys
+mount -t devtmpfs dev /dev
+cd /root || exit
+bridge=
+
+# Waits at most ten seconds until a command works.
+soon() {
+    for _ in $(seq 100); do
+        "$@" >/dev/null 2>&1 && return
+        usleep 100000
+    done
+    return 1
+}
+
+is_gone() {
+    [ ! -e /dev/hidraw0 ]
+}
+
+# The user takes more than a second, since sessions look at what happens before the touch. The kernel keeps 64 packets of
+# a device of hidraw and loses more, so the runner comes before the bridge.
+plug_in() {
+    /usr/bin/nice -n 19 uhid -t 1500 key.state 2>>bridge.err &
+    bridge=$!
+    soon test -c /dev/hidraw0
+}
+
+unplug() {
+    kill "$bridge"
+    wait "$bridge" || echo "@@ FAILED the bridge ended with $?"
+    soon is_gone
+}
+
+for module in hid hid-generic uhid; do
+    insmod "/modules/$module.ko" || echo "@@ FAILED insmod $module"
+done
+plug_in || echo "@@ FAILED there is no /dev/hidraw0"
+mkfifo said
+/usr/bin/nice -n -20 xargs python3 /conformance/run.py --device /dev/hidraw0 --touch --reset </words >report 2>said &
+player=$!
+times=0
+while read -r line; do
+    case $line in
+    "unplug the key now") unplug ;;
+    "plug the key in again now")
+        times=$((times + 1))
+        plug_in
+        ;;
+    "playing "*) ;;
+    *) echo "$line" ;;
+    esac
+done <said
+wait "$player" || echo "@@ FAILED run.py ended with $?"
+grep -v '^skipped' report | sed 's/^/@@ /'
+grep '^skipped' report | sed 's/.*: //' | sort | uniq -c | sort -rn | sed 's/^/@@ skipped /'
+unplug
+echo "@@ the key was unplugged and plugged in again $times times"
+[ ! -s bridge.err ] || sed 's/^/@@ FAILED the bridge: /' bridge.err
+echo "@@ end after $(cut -d' ' -f1 /proc/uptime) s"
+poweroff -f

@@ -1,0 +1,110 @@
+#!/bin/sh
+# The first program of the virtual machine that record.sh starts: plugs in a key without credentials for each client, lets
+# the client do its work, and writes the recording to the console. What it says to record.sh begins with "@@ " or "@log ".
+/bin/busybox --install -s /bin
+export PATH=/bin:/usr/bin HOME=/root PYTHONDONTWRITEBYTECODE=1
+mount -t proc proc /proc
+mount -t sysfs sys /sys
+mount -t devtmpfs dev /dev
+cd /root || exit
+device=/dev/hidraw0
+
+# Waits at most ten seconds until a command works.
+soon() {
+    for _ in $(seq 100); do
+        "$@" >/dev/null 2>&1 && return
+        usleep 100000
+    done
+    return 1
+}
+
+is_gone() {
+    [ ! -e "$device" ]
+}
+
+# Records a client: record NAME COMMAND ..
+record() {
+    log=$1
+    shift
+    rm -f key.state
+    uhid -r "$log.log" key.state &
+    bridge=$!
+    soon test -c "$device"
+    if "$@" >out 2>&1 </dev/null; then
+        echo "@@ ok $log"
+    else
+        echo "@@ FAILED $log"
+        cat out
+    fi
+    kill "$bridge"
+    wait "$bridge" || echo "@@ FAILED the bridge ended with $?"
+    soon is_gone
+    sed "s/^/@log $log /" "$log.log"
+}
+
+random() {
+    head -c 32 /dev/urandom | base64
+}
+
+# Registers by libfido2's tools: register NAME OPTIONS ..
+register() {
+    user=$1
+    shift
+    { random && echo relying.example && echo "$user" && random; } >"$user.in"
+    fido2-cred -M "$@" -i "$user.in" "$device" >"$user.cred" && fido2-cred -V -i "$user.cred" >"$user.public" &&
+        sed 1d "$user.public" >"$user.pem"
+}
+
+sign_in() {
+    { random && echo relying.example && head -1 "$1.public"; } >"$1.asked"
+    fido2-assert -G "$2" "$3" -i "$1.asked" "$device" >"$1.answer" && fido2-assert -V -i "$1.answer" "$1.pem" es256
+}
+
+libfido2_token() {
+    fido2-token -L && fido2-token -I "$device"
+}
+
+libfido2_register() {
+    register alice && sign_in alice -t up=true && sign_in alice -t up=true
+}
+
+libfido2_discoverable() {
+    register alice -r && register bob -r && { random && echo relying.example; } >asked &&
+        fido2-assert -G -r -i asked "$device"
+}
+
+libfido2_refused() {
+    register alice && ! fido2-cred -M -i alice.in "$device" eddsa &&
+        { random && echo other.example && head -1 alice.public; } >asked && ! fido2-assert -G -i asked "$device"
+}
+
+openssh_key() {
+    ssh-keygen -q -t ecdsa-sk -N '' -C hidlog -f id && echo a text >text && ssh-keygen -Y sign -f id -n file text
+}
+
+openssh_untouched() {
+    ssh-keygen -q -t ecdsa-sk -O no-touch-required -N '' -C hidlog -f un && echo a text >text &&
+        ssh-keygen -Y sign -f un -n file text
+}
+
+openssh_refused() {
+    ! ssh-keygen -q -t ed25519-sk -N '' -f other
+}
+
+pam_u2f() {
+    register alice && printf 'root:%s,%s,es256,+presence\n' "$(head -1 alice.public)" \
+        "$(grep -v -- ---- alice.pem | base64 -d | tail -c 64 | base64 -w 0)" >authfile &&
+        printf 'auth required pam_u2f.so authfile=/root/authfile origin=relying.example appid=relying.example\n' \
+            >/etc/pam.d/hidlog && pamtester hidlog root authenticate
+}
+
+for module in hid hid-generic uhid; do
+    insmod "/modules/$module.ko" || echo "@@ FAILED insmod $module"
+done
+for client in libfido2_token libfido2_register libfido2_discoverable libfido2_refused openssh_key openssh_untouched \
+    openssh_refused pam_u2f; do
+    record "$client" "$client"
+done
+record python_fido2 python3 python_fido2.py
+echo "@@ end after $(cut -d' ' -f1 /proc/uptime) s"
+poweroff -f
