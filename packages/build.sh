@@ -1,11 +1,14 @@
 #!/usr/bin/env bash
 # Makes the packages from release/, docs/ and the Python package, with no toolchain: packages/build.sh FOLDER
 #
-#     hidlog-VERSION-linux-x86_64.tar.gz   the program, the C library, its header, the man page
-#     hidlog_VERSION_amd64.deb             the program and its man page
+#     hidlog-VERSION-linux-x86_64.tar.gz   the program, the C library, its header, the man page, the completions
+#     hidlog_VERSION_amd64.deb             the program, its man page, completions for bash, zsh and fish
 #     libhidlog0_VERSION_amd64.deb         the shared library
 #     libhidlog-dev_VERSION_amd64.deb      the header, the static library, and what pkg-config reads
 #     hidlog-VERSION-*.whl, .tar.gz        the Python package
+#     hidlog-VERSION.tgz                   the key in a page, for npm: ES module, CommonJS, one script, types
+#     hidlog-VERSION.spdx.json             what the packages hold, in SPDX 2.3
+#     hidlog-VERSION.provenance.json       what they were made from and by which commands, as in-toto and SLSA say it
 #
 # The same release/ gives the same bytes. It needs tar, gzip, dpkg-deb and Python 3.11.
 set -euo pipefail
@@ -31,6 +34,13 @@ put() {
     install -D -m "$1" "$top/$2" "$3"
 }
 
+# The completions of the program's words, each where its shell looks for them: put_completions ROOT
+put_completions() {
+    install -D -m 644 "$room/completions/hidlog.bash" "$1/bash-completion/completions/hidlog"
+    install -D -m 644 "$room/completions/_hidlog" "$1/zsh/vendor-completions/_hidlog"
+    install -D -m 644 "$room/completions/hidlog.fish" "$1/fish/vendor_completions.d/hidlog.fish"
+}
+
 # The tarball: everything in one folder, to be unpacked anywhere.
 make_tarball() {
     local folder=hidlog-$version
@@ -39,6 +49,7 @@ make_tarball() {
     put 755 release/libhidlog.so.0 "$room/$folder/lib/libhidlog.so.0"
     put 644 release/hidlog.h "$room/$folder/include/hidlog.h"
     put 644 docs/hidlog.1 "$room/$folder/share/man/man1/hidlog.1"
+    put_completions "$room/$folder/share"
     for name in LICENSE-APACHE LICENSE-MIT CHANGELOG.md release/BUILD; do
         put 644 "$name" "$room/$folder/$(basename "$name")"
     done
@@ -99,6 +110,7 @@ make_program() {
     put 755 release/hidlog "$room/hidlog/usr/bin/hidlog"
     put 644 docs/hidlog.1 "$room/hidlog/usr/share/man/man1/hidlog.1"
     gzip -9n "$room/hidlog/usr/share/man/man1/hidlog.1"
+    put_completions "$room/hidlog/usr/share"
     override hidlog "It runs on any Linux, also where the C library is another." \
         "statically-linked-binary [usr/bin/hidlog]"
     pack hidlog utils "" "FIDO2 security key as a program, for tests" \
@@ -127,9 +139,30 @@ make_development() {
         "What a C program needs to be built with libhidlog."
 }
 
+# The key in a page as npm has it: all in a folder of the name package.
+make_npm() {
+    local folder=$room/npm/package name
+    for name in security_key.js security_key.mjs security_key.d.ts security_key.d.mts; do
+        put 644 "web/dist/$name" "$folder/$name"
+    done
+    for name in cjs d.cts; do
+        put 644 "packages/npm/security_key.$name" "$folder/security_key.$name"
+    done
+    put 644 web/README.md "$folder/README.md"
+    for name in LICENSE-APACHE LICENSE-MIT CHANGELOG.md; do
+        put 644 "$name" "$folder/$name"
+    done
+    sed "s/VERSION/$version/" "$top/packages/npm/package.json" >"$folder/package.json"
+    tar -C "$room/npm" --sort=name --owner=0 --group=0 --numeric-owner --mtime="@$SOURCE_DATE_EPOCH" -cf - package |
+        gzip -9n >"$to/hidlog-$version.tgz"
+}
+
+"$top/packages/completions.py" "$top/release/hidlog" "$room/completions"
 make_tarball
 make_program
 make_library
 make_development
+make_npm
 python3 "$top/python/backend.py" "$to" >/dev/null
+python3 "$top/packages/statements.py" "$to"
 (cd "$to" && sha256sum ./*"$version"* >SHA256SUMS && cat SHA256SUMS)

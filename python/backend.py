@@ -21,15 +21,18 @@ from pathlib import Path
 from typing import Any
 
 TOP = Path(__file__).resolve().parent
-# What comes from release/. Neither needs a C library by name, so both run on any Linux of this processor.
-RELEASED = ("hidlog", "libhidlog.so.0")
+# What comes from release/. Neither program nor library needs a C library by name, so both run on any Linux of this
+# processor. BUILD names the version and the sources.
+RELEASED = ("hidlog", "libhidlog.so.0", "BUILD")
 TAG = "py3-none-manylinux_2_17_x86_64"
 
 
 def project() -> dict[str, Any]:
-    """Returns the table [project] of pyproject.toml."""
+    """Returns the table [project] of pyproject.toml, with the version of the release."""
     table: dict[str, Any] = tomllib.loads((TOP / "pyproject.toml").read_text(encoding="utf-8"))["project"]
-    return table
+    build = released("BUILD").decode().splitlines()
+    version = next(line.removeprefix("version: ") for line in build if line.startswith("version: "))
+    return {**table, "version": version}
 
 
 def released(name: str) -> bytes:

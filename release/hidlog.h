@@ -1,10 +1,10 @@
 /* Session logs of a security key: the commands of `hidlog` as functions over bytes (docs/LOG_FORMAT.md). Link with
  * libhidlog.a or libhidlog.so.0 of release/, which release/build.sh makes from crates/hidlog_c.
  *
- * Each function reads a whole log and a snapshot (0 bytes of it: no credentials), and writes what the command writes to
- * the front of `out`, at most `room` bytes. What came of it stands in *outcome. The log is the state: nothing is kept
- * between two calls, nothing is allocated, and calls in several threads don't meet. To hand the key one more input, put
- * its line after the log and call again.
+ * Each function reads a whole log and a snapshot (0 bytes of it: no credentials; hidlog_show takes none), and writes
+ * what the command writes to the front of `out`, at most `room` bytes. What came of it is in *outcome. The log is the
+ * state: nothing is kept between two calls, nothing is allocated, and calls in several threads don't meet. To hand the
+ * key one more input, put its line after the log and call again.
  *
  * No pointer may be null, also where the length beside it is 0, and *outcome and the buffer overlap nothing else. Where
  * the buffer is too small, it is full, and the fault is 5; no byte past it is touched. Where the snapshot is refused
@@ -64,6 +64,12 @@ void hidlog_check(const uint8_t *log, size_t log_len, const uint8_t *snapshot, s
 void hidlog_quiet(const uint8_t *log, size_t log_len, const uint8_t *snapshot, size_t snapshot_len, uint8_t *out,
                   size_t room, struct hidlog_outcome *outcome);
 
+/* Writes what a person reads of the log (docs/LOG_FORMAT.md, "Shown to a person"). No key plays it: it takes no
+ * snapshot, and the status is never HIDLOG_REFUSED. Its faults are HIDLOG_BAD_LINE, HIDLOG_TOO_LONG and
+ * HIDLOG_TOO_MANY_LINES, with the texts of the lines before the faulty one in `out`, and HIDLOG_WRITE, with the front
+ * of the text. To have the text of any log, call again with a larger buffer while the fault is HIDLOG_WRITE. */
+void hidlog_show(const uint8_t *log, size_t log_len, uint8_t *out, size_t room, struct hidlog_outcome *outcome);
+
 /* ---- A key that is held: state in, one input, packets out --------------------------------------------------------
  *
  * struct hidlog_key owns a session in memory of the caller's. Begin with a struct of zeros, set `memory` to
@@ -76,7 +82,7 @@ void hidlog_quiet(const uint8_t *log, size_t log_len, const uint8_t *snapshot, s
  * was. No pointer may be null. Moments are milliseconds; one that is earlier than the latest counts as the latest.
  *
  * hidlog_key_make takes 165 kB of the stack, hidlog_key_add 105 kB, _remove 85 kB, _clear 45 kB, _lines 40 kB, each
- * other call on a key under 20 kB (x86-64); a function on a whole log takes 185 kB. */
+ * other call on a key under 20 kB (x86-64); hidlog_show takes 35 kB, each other function on a whole log 185 kB. */
 
 struct hidlog_key {
     void *memory;      /* hidlog_key_size() bytes, aligned to 16 */

@@ -25,6 +25,7 @@ from .errors import (
     SnapshotError,
 )
 from .logs import Result, check, live, quiet, replay
+from .version import version
 
 if TYPE_CHECKING:
     from .client import Client
@@ -32,7 +33,7 @@ if TYPE_CHECKING:
     from .key import SecurityKey
     from .session import Recording
 
-__version__ = "0.1.0"
+__version__ = version()
 __all__ = [
     "ArgumentError",
     "Client",

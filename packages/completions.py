@@ -1,0 +1,133 @@
+#!/usr/bin/env python3
+"""Writes the completions of the program's words for bash, zsh and fish, from what the program says in its help.
+
+    packages/completions.py PROGRAM FOLDER      writes hidlog.bash, _hidlog and hidlog.fish into FOLDER
+"""
+
+from __future__ import annotations
+
+import re
+import subprocess
+import sys
+from dataclasses import dataclass
+from pathlib import Path
+
+COMMAND = re.compile(r"^  (\w+) +(\S.*)$", re.MULTILINE)
+OPTION = re.compile(r"^ +(?:(-\w), )?(--[\w-]+)( <\w+>)? +(\S.*)$", re.MULTILINE)
+
+
+@dataclass(frozen=True)
+class Option:
+    """An option: its names, whether a file's path follows, and what it does."""
+
+    short: str
+    long: str
+    takes_file: bool
+    says: str
+
+
+@dataclass(frozen=True)
+class Command:
+    """A command, what it does, and its options."""
+
+    name: str
+    says: str
+    options: list[Option]
+
+
+def help_of(program: str, *words: str) -> str:
+    """Returns what the program says for --help."""
+    return subprocess.run([program, *words, "--help"], check=True, capture_output=True, text=True).stdout
+
+
+def options_in(text: str) -> list[Option]:
+    """Returns the options that a help lists."""
+    listed = text.partition("Options:\n")[2]
+    return [Option(it[1] or "", it[2], bool(it[3]), it[4]) for it in OPTION.finditer(listed)]
+
+
+def commands_of(program: str) -> list[Command]:
+    """Returns the program's commands."""
+    listed = help_of(program).partition("Commands:\n")[2].partition("\n\n")[0]
+    found = [(it[1], it[2]) for it in COMMAND.finditer(listed + "\n")]
+    return [Command(name, says, options_in(help_of(program, name))) for name, says in found if name != "help"]
+
+
+def for_bash(commands: list[Command]) -> str:
+    """Returns the completion of bash. A path is completed after an option that takes one."""
+    words = {it.name: [option.long for option in it.options] for it in commands}
+    files = "|".join(sorted({option.long for it in commands for option in it.options if option.takes_file}))
+    cases = "".join(f"        {name}) words='{' '.join(options)}' ;;\n" for name, options in words.items())
+    return (
+        "# Completion of hidlog for bash. Made by packages/completions.py from the program's help.\n"
+        "_hidlog() {\n"
+        "    local word=${COMP_WORDS[COMP_CWORD]} before=${COMP_WORDS[COMP_CWORD - 1]} words\n"
+        f"    case $before in\n        {files})\n"
+        '            mapfile -t COMPREPLY < <(compgen -f -- "$word")\n'
+        "            compopt -o filenames 2>/dev/null\n"
+        "            return ;;\n    esac\n"
+        "    case ${COMP_WORDS[1]} in\n"
+        f"{cases}"
+        f"        *) words='{' '.join([*words, 'help', '--help', '--version'])}' ;;\n"
+        "    esac\n"
+        '    mapfile -t COMPREPLY < <(compgen -W "$words" -- "$word")\n'
+        "}\n"
+        "complete -F _hidlog hidlog\n"
+    )
+
+
+def quoted(text: str) -> str:
+    """Returns a text in single quotes of a shell."""
+    return "'" + text.replace("'", "'\\''") + "'"
+
+
+def for_zsh(commands: list[Command]) -> str:
+    """Returns the completion of zsh."""
+
+    def spec(option: Option) -> str:
+        return quoted(f"{option.long}[{option.says}]" + (":file:_files" if option.takes_file else ""))
+
+    listed = "".join(f"        {quoted(f'{it.name}:{it.says}')}\n" for it in commands)
+    cases = "".join(f"        {it.name}) _arguments {' '.join(map(spec, it.options))} ;;\n" for it in commands)
+    return (
+        "#compdef hidlog\n"
+        "# Completion of hidlog for zsh. Made by packages/completions.py from the program's help.\n"
+        f"_hidlog() {{\n    local -a commands=(\n{listed}    )\n"
+        "    if ((CURRENT == 2)); then\n        _describe command commands\n        return\n    fi\n"
+        "    shift words\n    ((CURRENT--))\n"
+        f"    case $words[1] in\n{cases}    esac\n}}\n"
+        '_hidlog "$@"\n'
+    )
+
+
+def for_fish(commands: list[Command]) -> str:
+    """Returns the completion of fish."""
+    lines = ["# Completion of hidlog for fish. Made by packages/completions.py from the program's help."]
+    lines.append("complete -c hidlog -f")
+    lines += [f"complete -c hidlog -n __fish_use_subcommand -a {it.name} -d {quoted(it.says)}" for it in commands]
+    for it in commands:
+        for option in it.options:
+            file = " -r -F" if option.takes_file else ""
+            seen = f"-n '__fish_seen_subcommand_from {it.name}'"
+            lines.append(f"complete -c hidlog {seen} -l {option.long[2:]}{file} -d {quoted(option.says)}")
+    return "\n".join(lines) + "\n"
+
+
+def main() -> int:
+    words = sys.argv[1:]
+    if len(words) != 2:
+        print((__doc__ or "").strip(), file=sys.stderr)
+        return 2
+    commands, folder = commands_of(words[0]), Path(words[1])
+    folder.mkdir(parents=True, exist_ok=True)
+    for name, text in (
+        ("hidlog.bash", for_bash(commands)),
+        ("_hidlog", for_zsh(commands)),
+        ("hidlog.fish", for_fish(commands)),
+    ):
+        (folder / name).write_text(text, encoding="utf-8")
+    return 0
+
+
+if __name__ == "__main__":
+    sys.exit(main())

@@ -1,0 +1,7 @@
+// The key for `require`, over the script beside it.
+"use strict";
+
+require("./security_key.js");
+
+const { SecurityKey, current, install, send } = globalThis.hidlogKey;
+module.exports = { SecurityKey, current, install, send };

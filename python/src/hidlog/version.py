@@ -1,0 +1,15 @@
+"""The version of the package: that of the release that it is made from."""
+
+from __future__ import annotations
+
+from pathlib import Path
+
+
+def version() -> str:
+    """Returns the version, which the file BUILD names: in the package, or release/BUILD of a clone."""
+    here = Path(__file__).resolve().parent
+    for path in (here / "BUILD", *(it / "release" / "BUILD" for it in here.parents[2:3])):
+        if path.is_file():
+            lines = path.read_text(encoding="utf-8").splitlines()
+            return next(line[len("version: ") :] for line in lines if line.startswith("version: "))
+    raise ImportError(f"{here / 'BUILD'} is missing: install the package anew")
