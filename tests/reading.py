@@ -1,12 +1,12 @@
 #!/usr/bin/env python3
-"""Compares docs/READING.md with the definitions that the headline theorem needs.
+"""Compares docs/READING.md with the definitions that the headline theorem needs, and the index docs/DEFINITIONS.md.
 
-    tests/reading.py            ends with 1 where the page misses a definition, names one that isn't needed, or where
-                                the counts that it says aren't those of today
-    tests/reading.py --write    writes the lists of definitions and the counts into the page anew
+    tests/reading.py            ends with 1 where the page misses a definition, names one that isn't needed, where the
+                                counts that it says aren't those of today, or where the index isn't that of today
+    tests/reading.py --write    writes the lists of definitions, the counts and the index anew
 
-From the clauses of `every_history_is_answered` it follows each name that a definition uses, through the `use` lines, to
-the definition itself. What the page says of a file stands above its list and is written by hand; a definition's
+From the headline, the clause `answered` of `drive_new`, it follows each name that a definition uses, through the `use`
+lines, to the definition itself. What the page says of a file stands above its list and is written by hand; a definition's
 sentence is the comment above it. It needs no toolchain.
 """
 
@@ -18,13 +18,12 @@ import textwrap
 from dataclasses import dataclass, field
 from pathlib import Path
 
+import definitions
+
 TOP = Path(__file__).resolve().parent.parent
 PAGE = TOP / "docs" / "READING.md"
-ROOTS = (
-    ("token_session/specs/Headline.antt", "IsAnswered"),
-    ("token_session/specs/Carried.antt", "ArriveWhole"),
-    ("cred_table/specs/Rows.antt", "Lawful"),
-)
+HEADLINE = TOP / "crates" / "token_session" / "src" / "driving.rt"
+CLAUSE = re.compile(r"pub fn drive_new<.*?ensures answered \{(.*?)\n    (?://|ensures)", re.DOTALL)
 USE = re.compile(r"use ([\w.]+)\.\{(.*)\}")
 DECLARES = re.compile(r"(?:(?:unfoldable|abbrev|pub|record|data) )*(\S+)")
 TOKEN = re.compile(r"[^\s(){}\[\],.;:]+")
@@ -113,6 +112,20 @@ def path_of(module: str) -> Path | None:
     return path if path.is_file() else None
 
 
+def headline() -> list[tuple[Path, str]]:
+    """Returns the definitions that the headline's clause names, each with its file."""
+    code, uses = HEADLINE.read_text(encoding="utf-8"), File()
+    for line in code.splitlines():
+        take_uses(uses, line.removeprefix("ghost "))
+    clause = CLAUSE.search(code)
+    if clause is None:
+        raise SystemExit(f"tests/reading.py: {HEADLINE.relative_to(TOP)} has no clause `answered` of `drive_new`")
+    named = (
+        (path_of(uses.uses[word][0]), uses.uses[word][1]) for word in TOKEN.findall(clause[1]) if word in uses.uses
+    )
+    return [(path, name) for path, name in named if path]
+
+
 class Walk:
     """The definitions that the headline needs, by their files."""
 
@@ -120,12 +133,12 @@ class Walk:
         self.files: dict[Path, File] = {}
         self.needed: dict[Path, set[str]] = {}
         self.declared: set[str] = set()
-        for path, name in ROOTS:
-            self.visit(TOP / "crates" / path, name)
+        for path, name in headline():
+            self.visit(path, name)
 
     def file(self, path: Path) -> File:
         if path not in self.files:
-            self.files[path] = read(path)
+            self.files[path] = read(path) if path.is_file() else File()
         return self.files[path]
 
     def visit(self, path: Path, name: str) -> None:
@@ -195,12 +208,21 @@ def faults(walk: Walk, page: str) -> list[str]:
     return found
 
 
+def comments() -> dict[Path, dict[str, str]]:
+    """Returns the comment above each definition of the repository, by files."""
+    files = {it: read(it) for it in sorted((TOP / "crates").glob("*/specs/**/*.antt"))}
+    return {path: {it.name: it.comment for it in file.definitions.values()} for path, file in files.items()}
+
+
 def main() -> int:
     walk, page = Walk(), PAGE.read_text(encoding="utf-8")
     if sys.argv[1:] == ["--write"]:
         write(walk, page)
+        definitions.INDEX.write_text(definitions.page(comments()), encoding="utf-8")
         return 0
     found = faults(walk, page)
+    if definitions.INDEX.read_text(encoding="utf-8") != definitions.page(comments()):
+        found.append("docs/DEFINITIONS.md isn't what the comments of the definitions say: tests/reading.py --write")
     for line in found:
         print(line)
     print(f"docs/READING.md: {said(walk).strip('*')}, {len(found)} faults")

@@ -1,12 +1,11 @@
 #!/usr/bin/env bash
 # Has each of the first allocations of every test fail in turn, so many as the first argument says (12), in each
-# crate that has tests of calls that allocate: cbor_tests (decode_value, encode_value), authenticator_tests (save)
-# and log_tests (show). Then it gives one verdict. Needs rt and Python 3. Status 0: a refusal changes nothing but
+# crate that has tests of calls that allocate: cbor_tests (decode_value, encode_value) and authenticator_tests (save).
+# Then it prints one verdict. Needs rt and Python 3. Status 0: a refusal changes nothing but
 # the answer. 1: it does.
 #
-# A test that is refused memory may end with that as its error, and with nothing else. Tests of `show` write to a
-# vector: where that one is refused memory, it is a write that fails. Tests of `.._after_refused_memory` make the
-# same call again and have to pass.
+# A test that is refused memory may end with that as its error, and with nothing else. Tests of `.._after_refused_memory`
+# make the same call again and have to pass.
 set -u
 cd "$(dirname "$0")/.." || exit 2
 work=$(mktemp -d)
@@ -18,7 +17,7 @@ try_crate() {
     done
 }
 
-for crate in cbor_tests authenticator_tests log_tests; do
+for crate in cbor_tests authenticator_tests; do
     try_crate "$crate" "${1:-12}" &
 done
 wait
@@ -28,7 +27,6 @@ import re
 import sys
 
 REFUSED = re.compile(r"AllocError|AllocFailed|Memory")
-WRITE_REFUSED = re.compile(r"left: Err\(Write\)")
 wrong = []
 refusals = 0
 runs = sorted(os.listdir(sys.argv[1]))
@@ -43,8 +41,7 @@ for name in runs:
         if result == "ok":
             continue
         refusals += 1
-        is_named = REFUSED.search(text) or crate == "log_tests" and WRITE_REFUSED.search(text)
-        if test.endswith("_after_refused_memory") or not is_named:
+        if test.endswith("_after_refused_memory") or not REFUSED.search(text):
             wrong.append(f"{crate}, allocation {number}: {test}")
 for line in wrong:
     print(line)

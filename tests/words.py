@@ -3,8 +3,8 @@
 
     tests/words.py [PAGE ..]    by default README.md, the pages of docs/ and the comments of the crates' code
 
-A page may hold none of them, except in code, links and outputs. In older pages and in the code's comments there are still
-some: their number is below, and may only get smaller. Ends with 1 where there are more.
+A page or a comment may hold none of them, except in code, links and outputs. Where there are still some, their number is
+below. Ends with 1 where there are more.
 """
 
 from __future__ import annotations
@@ -24,13 +24,9 @@ WORDS = {
     "there is none, not none is had": r"\b(?:is|are) had\b",
     "fail, not give up": r"\bgiv(?:e|es|en|ing) up\b",
 }
-# What is left in a page, or in a crate's comments (the folder of its code). These numbers only get smaller.
+# What is left in a page, or in the comments of the crates ("crates"). These numbers only get smaller.
 LEFT = {
-    "docs/DECISIONS.md": 46,
-    "docs/DEFINITIONS.md": 22,
-    "docs/READING.md": 21,
     "docs/WORKING_HERE.md": 1,  # where the words are named
-    "crates": 204,
 }
 EXCEPTIONS = (
     re.compile(r"`[^`]*`"),  # names of code

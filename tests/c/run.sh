@@ -1,7 +1,7 @@
 #!/usr/bin/env bash
-# Runs the C library from C programs: the commands on logs (commands.c), a key that is held (key.c), which has to write
-# of each worked log what the program writes, and its credentials (credentials.c), saved as the program saves them. Linked with the static and with the shared library of release/; with
-# the sanitizers of gcc; and for aarch64 where its compiler and qemu are there. Looks too at what the libraries call: no
+# Runs the C library from C programs: the commands on logs (commands.c), a log that is shown (show.c), a key that is held
+# (key.c), which have to write of each worked log what the program writes, and its credentials (credentials.c), saved as
+# the program saves them. Linked with the static and with the shared library of release/; with the sanitizers of gcc; and for aarch64 where its compiler and qemu are there. Looks too at what the libraries call: no
 # allocator, and nothing else but three functions that move bytes; and whether C++ takes the header. Ends with 3 where
 # gcc is missing.
 set -euo pipefail
@@ -32,6 +32,45 @@ play_on() {
     played=$((played + 1))
 }
 
+# Shows a log, and compares with the program, the text and the line of a fault: show_log LOG [WORD ..]
+show_log() {
+    local status=0 wanted=0
+    "$top/release/hidlog" show <"$1" >"$room/shown" 2>"$room/fault" || wanted=$?
+    "${@:2}" "$room/show" <"$1" >"$room/held" 2>"$room/said" || status=$?
+    [ "$status" = "$wanted" ] || stop "showing $1 ends with $status"
+    cmp -s "$room/shown" "$room/held" || stop "what is shown differs at $1"
+    [ "$(sed -n 's/^hidlog: line \([0-9]*\):.*/\1/p' "$room/fault")" = "$(sed -n 's/.*line //p' "$room/said")" ] ||
+        stop "the fault of $1 is another"
+    shown=$((shown + 1))
+}
+
+# Makes hostile logs, those of the fuzzer's seed 1.
+make_hostile() {
+    mkdir "$room/hostile"
+    python3 - "$top/tests/fuzz" "$room/hostile" <<'PYTHON'
+import sys
+from pathlib import Path
+
+sys.path.insert(0, sys.argv[1])
+from hostile import hostile_log
+
+for number in range(40):
+    Path(sys.argv[2], f"{number}.log").write_bytes(hostile_log(1, number))
+PYTHON
+}
+
+# Shows the worked logs and the hostile ones, and of each the front.
+show_logs() {
+    shown=0
+    for log in "${logs[@]}" "$room"/hostile/*.log; do
+        show_log "$log" "$@"
+        head -c 700 "$log" >"$room/front"
+        show_log "$room/front" "$@"
+    done
+    [ "$shown" -ge 150 ] || stop "only $shown logs were shown"
+    echo "tests/c: $shown logs shown as the program shows them"
+}
+
 # Runs the programs with the words before them.
 run() {
     echo "tests/c: $1"
@@ -43,12 +82,13 @@ run() {
     done
     [ "$played" -ge 50 ] || stop "only $played logs were played"
     echo "tests/c: $played logs played on a key that is held, as the program plays them"
+    show_logs "${@:2}"
 }
 
 # Builds the programs: build COMPILER WORD ..
 build() {
     local name
-    for name in commands key credentials; do
+    for name in commands show key credentials; do
         "$1" "${options[@]}" -o "$room/$name" "$top/tests/c/$name.c" "${@:2}"
     done
 }
@@ -57,6 +97,7 @@ for library in libhidlog.a aarch64/libhidlog.a; do
     calls=$(nm --undefined-only --format=just-symbols "$top/release/$library" | grep -v ':$' | sort -u | xargs)
     [ "$calls" = "memcpy memmove memset" ] || stop "$library calls $calls, and not memcpy, memmove and memset alone"
 done
+make_hostile
 build gcc "$top/release/libhidlog.a"
 run "the static library"
 build gcc -L "$top/release" -l:libhidlog.so.0 "-Wl,-rpath,$top/release"

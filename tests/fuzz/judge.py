@@ -40,6 +40,7 @@ LINE = re.compile(
     % {b"m": MOMENT, b"p": DIGITS + rb"{128}", b"k": KEY, b"d": DIGITS},
     re.DOTALL,
 )
+REFUSED = re.compile(rb"hidlog: snapshot refused: (?:1|2|3)\n  [^\n]+: (?:it|credential \d+) [^\n]+\n")
 COUNTS = re.compile(rb"= held (\d+) rows (\d+) pending (\d+) requests (\d+) bytes (\d+) steps (\d+)")
 # 196 bytes are signed for a registration, 69 for a sign-in.
 NEED = re.compile(
@@ -73,13 +74,38 @@ def is_line(line):
     return bool(found) and all(int(it) < 2**64 for it in found.groups() if it)
 
 
+def is_front(text):
+    """Whether a log line can begin so."""
+    letter, _, rest = text.partition(b" ")
+    if text[:1] in (b"", b"#", b"="):
+        return True
+    if letter == b"<":
+        return bool(re.fullmatch(DIGITS + rb"{0,128}", rest))
+    moment, space, field = rest.partition(b" ")
+    is_moment = re.fullmatch(MOMENT, moment) and int(moment) < 2**64
+    if letter == b"t" or not is_moment:
+        return letter in (b">", b"t", b"p", b"k", b"s") and not space and (moment == b"" or bool(is_moment))
+    words = {b"p": (b"granted", b"denied", b"timeout"), b"k": (b"no",), b"s": (b"no",)}.get(letter, ())
+    fields = {b">": rb"%(d)s{0,128}", b"k": rb"(?:%(k)s ){0,2}%(d)s{0,64}", b"s": rb"%(d)s{0,144}"}.get(letter)
+    is_field = fields and re.fullmatch(fields % {b"d": DIGITS, b"k": KEY}, field)
+    return bool(is_field) or any(it.startswith(field) for it in words)
+
+
+def misfit(line):
+    """What is said of the byte at which a line stops being a log line, as a pattern."""
+    fits = max(it for it in range(len(line) + 1) if is_front(line[:it]))
+    if fits == len(line):
+        return rb"  it ends after byte %d, too early\n" % fits
+    return rb"  byte %d (?:is|begins) [^\n]+\n" % (fits + 1)
+
+
 def fault_of(lines):
-    """The number of the first line with a fault, and its words."""
+    """The number of the first line with a fault, and its words, as a pattern."""
     for number, line in enumerate(lines, 1):
         if len(line) > 255:
             return number, b"hidlog: line %d: longer than 255 bytes\n" % number
         if not is_line(line):
-            return number, b"hidlog: line %d: not a log line\n" % number
+            return number, b"hidlog: line %d: not a log line\n" % number + misfit(line)
     return None
 
 
@@ -113,7 +139,7 @@ def judge_end(command, ended, fault):
     """Looks at how a command ended; its output."""
     status, output, said = ended
     hold(status == (1 if fault else 0), "status", f"{command} ended with {status}, said {said[:200]!r}")
-    hold(said == (fault[1] if fault else b""), "fault", f"{command} said {said[:200]!r} and not {fault!r}")
+    hold(re.fullmatch(fault[1] if fault else b"", said), "fault", f"{command} said {said[:200]!r} and not {fault!r}")
     return output
 
 
@@ -207,7 +233,8 @@ def judge_live(log, output, run):
 def judge_show(log, run):
     """Looks at what is shown: a line for each input and packet, and messages between them."""
     shown = lines_of(judge_end("show", run("show", log), None))
-    found = [it for it in shown if not re.match(rb"\d+   (request|answer) [0-9a-f]{2}", it)]
+    # Not those of messages and of their members, which begin with more spaces, nor comments.
+    found = [it for it in shown if not re.match(rb"\d+ (  |#)", it)]
     wanted = []
     for number, line in enumerate(lines_of(log), 1):
         if line[:1] in (b">", b"<", b"t", b"p", b"k", b"s"):
@@ -225,7 +252,7 @@ def judge_fault(log, fault, run):
     status, output, said = run("check", log)
     differs = re.fullmatch(rb"hidlog: line (\d+): differs at packet [1-9]\d*\n", said)
     hold(status == 1 and output == b"", "status", f"check ended with {status}")
-    hold(said == fault[1] or differs and int(differs[1]) < fault[0], "fault", f"check said {said!r}")
+    hold(re.fullmatch(fault[1], said) or differs and int(differs[1]) < fault[0], "fault", f"check said {said!r}")
     for command, output in outputs.items():
         whole = judge_end(command, run(command, before), None)
         cut = whole
@@ -256,7 +283,7 @@ def judge_saved(log, output, fault, run, folder, damaged):
         file.write(damaged(read(first)))
     status, written, said = run("replay", log, "--load", second)
     if status == 2:
-        hold(written == b"" and re.fullmatch(rb"hidlog: snapshot refused: [123]\n", said), "refused", repr(said))
+        hold(written == b"" and re.fullmatch(REFUSED, said), "refused", repr(said))
     else:
         hold((status, said) == (0, b""), "refused", f"{status}, {said!r}")
         judge_written(lines_of(log), written)

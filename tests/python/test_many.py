@@ -22,6 +22,6 @@ def test_two_thousand_sign_ins_take_flat_time(make: Callable[..., hidlog.Securit
             answer = client.request(2, {1: "a", 2: bytes(32)})
         parts.append(time.process_time() - began)
     assert int.from_bytes(answer[2][33:37], "big") == 2000
-    # The quickest of a few, since other programs run beside this one.
-    assert min(parts[-5:]) < 1.5 * min(parts[:5]), parts
+    # The quickest of many, since other programs run beside this one. Playing a session again would take 20 times as long.
+    assert min(parts[-10:]) < 2 * min(parts[:10]), parts
     assert resource.getrusage(resource.RUSAGE_SELF).ru_maxrss < 300_000

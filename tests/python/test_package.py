@@ -3,6 +3,7 @@
 from __future__ import annotations
 
 import os
+import re
 import subprocess
 import sys
 import zipfile
@@ -12,12 +13,22 @@ from pathlib import Path
 import hidlog
 
 DIST = Path(os.environ["HIDLOG_DIST"])
+TOP = Path(os.environ["HIDLOG_EXAMPLES"]).resolve().parent
+HEADINGS = re.findall(r"^## (\d.*)$", (TOP / "CHANGELOG.md").read_text(encoding="utf-8"), re.MULTILINE)
+VERSION = HEADINGS[0]
 
 
 def test_the_installed_package_is_tested() -> None:
     assert Path(hidlog.__file__).is_relative_to(sys.prefix)
-    assert hidlog.__version__ == metadata.version("hidlog") == "0.1.0"
+    assert hidlog.__version__ == metadata.version("hidlog") == VERSION
     assert (Path(hidlog.__file__).parent / "py.typed").exists()
+
+
+def test_the_version_is_the_same_everywhere() -> None:
+    assert f"\nversion: {VERSION}\n" in (TOP / "CITATION.cff").read_text(encoding="utf-8")
+    assert f"\nVersion: {VERSION}\n" in (TOP / "release" / "hidlog.pc").read_text(encoding="utf-8")
+    said = subprocess.run([TOP / "release" / "hidlog", "--version"], check=True, capture_output=True, text=True)
+    assert said.stdout == f"hidlog {VERSION}\n"
 
 
 def test_the_sdist_makes_the_same_wheel(tmp_path: Path) -> None:
@@ -32,7 +43,7 @@ def test_the_sdist_makes_the_same_wheel(tmp_path: Path) -> None:
 def test_the_wheel_holds_what_its_record_says() -> None:
     (wheel,) = DIST.glob("*.whl")
     with zipfile.ZipFile(wheel) as archive:
-        record = archive.read("hidlog-0.1.0.dist-info/RECORD").decode().splitlines()
+        record = archive.read(f"hidlog-{VERSION}.dist-info/RECORD").decode().splitlines()
         assert sorted(it.split(",")[0] for it in record) == sorted(archive.namelist())
 
 

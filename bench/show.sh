@@ -1,0 +1,58 @@
+#!/usr/bin/env bash
+# Prints how many megabytes of log a second of processor time a program shows: bench/show.sh [PROGRAM], by default
+# release/hidlog. The logs have 24 MB: the worked ones again and again; requests of one long byte string; and requests
+# of one long text of control characters, of which each is written in six.
+set -euo pipefail
+top=$(cd "$(dirname "$0")/.." && pwd)
+program=${1:-$top/release/hidlog}
+work=$(mktemp -d)
+trap 'rm -rf "$work"' EXIT
+
+python3 - "$top" "$work" <<'PYTHON'
+import sys
+from pathlib import Path
+
+top, work = map(Path, sys.argv[1:])
+SIZE = 24_000_000
+
+
+def repeated(log):
+    return log * (SIZE // len(log))
+
+
+def request(head, byte):
+    """The lines of a request of 7609 bytes: the command 1, and a map with one string."""
+    length = 7609 - 6
+    message = b"\x01\xa1\x01" + bytes([head]) + length.to_bytes(2, "big") + byte * length
+    packets = ["0000000190" + f"{len(message):04x}" + message[:57].hex()]
+    rest = message[57:]
+    for number in range((len(rest) + 58) // 59):
+        packets.append("00000001" + f"{number:02x}" + rest[59 * number : 59 * number + 59].hex())
+    return "".join(f"> 0 {it.ljust(128, '0')}\n" for it in packets).encode()
+
+
+worked = b"".join(it.read_bytes() for it in sorted((top / "crates/worked_logs/data").glob("*/*.log")))
+(work / "worked").write_bytes(repeated(worked))
+(work / "bytes").write_bytes(repeated(request(0x59, b"\xaa")))
+(work / "controls").write_bytes(repeated(request(0x79, b"\x1b")))
+PYTHON
+
+for name in worked bytes controls; do
+    python3 - "$program" "$work/$name" "$name" <<'PYTHON'
+import os, resource, statistics, subprocess, sys
+
+program, log, name = sys.argv[1:]
+
+
+def took():
+    before = resource.getrusage(resource.RUSAGE_CHILDREN)
+    with open(log, "rb") as source, open(os.devnull, "wb") as target:
+        subprocess.run([program, "show"], stdin=source, stdout=target, check=True)
+    after = resource.getrusage(resource.RUSAGE_CHILDREN)
+    return after.ru_utime + after.ru_stime - before.ru_utime - before.ru_stime
+
+
+seconds = statistics.median(took() for _ in range(5))
+print(f"{name}: {os.path.getsize(log) / 1e6 / seconds:.0f} MB a second")
+PYTHON
+done

@@ -1,0 +1,157 @@
+/* Measures how much of the stack each call of the C library takes: it is made on a thread whose stack was filled with a
+ * pattern, and what of that is gone afterwards was written by the call. A call that writes only below a part that it
+ * left alone counts down to the deepest byte.
+ *
+ *     stack LOG SNAPSHOT */
+#include <pthread.h>
+#include <stdio.h>
+#include <stdlib.h>
+#include <string.h>
+
+#include "hidlog.h"
+
+enum { STACK = 1 << 20, PATTERN = 0xA5 };
+
+struct bytes {
+    uint8_t *data;
+    size_t len;
+};
+
+static struct bytes session_log, snapshot;
+static uint8_t out[1 << 20];
+static struct hidlog_key key;
+static uint8_t *stack;
+
+static struct bytes read_whole(const char *path) {
+    FILE *file = fopen(path, "rb");
+    struct bytes read = {malloc(1 << 20), 0};
+    if (file == NULL || read.data == NULL) {
+        perror(path);
+        exit(2);
+    }
+    read.len = fread(read.data, 1, 1 << 20, file);
+    fclose(file);
+    return read;
+}
+
+static void nothing(void) {}
+
+static void on_log(void (*command)(const uint8_t *, size_t, const uint8_t *, size_t, uint8_t *, size_t,
+                                   struct hidlog_outcome *),
+                   size_t held) {
+    struct hidlog_outcome outcome;
+    command(session_log.data, session_log.len, snapshot.data, held, out, sizeof out, &outcome);
+}
+
+static void replay(void) { on_log(hidlog_replay, 0); }
+static void replay_loaded(void) { on_log(hidlog_replay, snapshot.len); }
+static void live(void) { on_log(hidlog_live, 0); }
+static void check(void) { on_log(hidlog_check, 0); }
+static void quiet(void) { on_log(hidlog_quiet, 0); }
+
+static void make(void) {
+    static const uint8_t aaguid[16];
+    hidlog_key_make(&key, aaguid, 0, snapshot.data, snapshot.len);
+}
+
+static void lines(void) {
+    struct hidlog_outcome outcome;
+    hidlog_key_lines(&key, session_log.data, session_log.len, out, sizeof out, &outcome);
+}
+
+/* An INIT that comes in a packet, and its answer. */
+static void packet(void) {
+    uint8_t bytes[64] = {0xff, 0xff, 0xff, 0xff, 0x86, 0, 8, 0, 1, 2, 3, 4, 5, 6, 7};
+    hidlog_key_packet(&key, 100000, bytes);
+    while (hidlog_key_next(&key, bytes) >= 0) {
+    }
+}
+
+static void need(void) {
+    struct hidlog_need needed;
+    hidlog_key_need(&key, &needed);
+}
+
+static void credential(void) {
+    struct hidlog_credential found;
+    hidlog_key_credential(&key, 0, &found);
+}
+
+static void add(void) {
+    struct hidlog_credential added;
+    memset(&added, 7, sizeof added);
+    added.user_len = added.name_len = 1;
+    added.discoverable = 1;
+    hidlog_key_add(&key, 200000, &added);
+}
+
+static void take_out(void) {
+    uint8_t id[32];
+    memset(id, 7, sizeof id);
+    hidlog_key_remove(&key, 300000, id);
+}
+
+static void save(void) { hidlog_key_save(&key, out, sizeof out); }
+static void clear(void) { hidlog_key_clear(&key, 400000); }
+
+static void *runs(void *call) {
+    (*(void (**)(void))call)();
+    return NULL;
+}
+
+/* Returns how many bytes of the stack a thread takes that makes this call. */
+static size_t taken(void (*call)(void)) {
+    pthread_attr_t how;
+    pthread_t thread;
+    size_t left = 0;
+    memset(stack, PATTERN, STACK);
+    if (pthread_attr_init(&how) || pthread_attr_setstack(&how, stack, STACK) ||
+        pthread_create(&thread, &how, runs, &call) || pthread_join(thread, NULL)) {
+        fputs("no thread\n", stderr);
+        exit(2);
+    }
+    pthread_attr_destroy(&how);
+    while (left < STACK && stack[left] == PATTERN) {
+        left++;
+    }
+    return STACK - left;
+}
+
+int main(int count, char **words) {
+    static const struct {
+        const char *name;
+        void (*call)(void);
+    } calls[] = {
+        {"hidlog_replay", replay},
+        {"hidlog_replay, a snapshot", replay_loaded},
+        {"hidlog_live", live},
+        {"hidlog_check", check},
+        {"hidlog_quiet", quiet},
+        {"hidlog_key_make", make},
+        {"hidlog_key_packet, _next", packet},
+        {"hidlog_key_lines", lines},
+        {"hidlog_key_need", need},
+        {"hidlog_key_credential", credential},
+        {"hidlog_key_add", add},
+        {"hidlog_key_remove", take_out},
+        {"hidlog_key_save", save},
+        {"hidlog_key_clear", clear},
+    };
+    size_t own;
+    if (count != 3) {
+        fputs("stack LOG SNAPSHOT\n", stderr);
+        return 2;
+    }
+    session_log = read_whole(words[1]);
+    snapshot = read_whole(words[2]);
+    key.memory = aligned_alloc(16, (hidlog_key_size() + 15) / 16 * 16);
+    stack = aligned_alloc(4096, STACK);
+    if (key.memory == NULL || stack == NULL) {
+        return 2;
+    }
+    own = taken(nothing);
+    for (size_t i = 0; i < sizeof calls / sizeof calls[0]; i++) {
+        printf("%7zu  %s\n", taken(calls[i].call) - own, calls[i].name);
+    }
+    return 0;
+}

@@ -1,0 +1,52 @@
+#!/usr/bin/env bash
+# Measures what the program takes before its first line, and how much stack: instructions (callgrind) of each command on
+# a log of one INIT, and the least stack, in kB, with which each runs a whole session; then the stack of each call of the
+# C library (bench/stack.c). Needs valgrind, gcc and Python 3.
+#
+#     bench/start.sh [PROGRAM [LIBRARY]]        release/hidlog and release/libhidlog.a where none is named
+set -euo pipefail
+cd "$(dirname "${BASH_SOURCE[0]}")/.."
+program=$(readlink -f "${1:-release/hidlog}")
+library=$(readlink -f "${2:-release/libhidlog.a}")
+work=$(mktemp -d)
+trap 'rm -rf "$work"' EXIT
+printf '> 0 ffffffff8600080001020304050607%098d\n' 0 >"$work/init"
+"$program" replay <"$work/init" >"$work/log"
+
+instructions() {
+    valgrind --tool=callgrind --callgrind-out-file=/dev/null "$program" "$@" <"$work/log" 2>&1 >/dev/null |
+        sed -n 's/.*Collected : \([0-9]*\).*/\1/p'
+}
+
+echo "instructions to start and to answer an INIT:"
+for words in replay live check quiet show --help --version "replay --load examples/example_com.snapshot"; do
+    # shellcheck disable=SC2086  # the words are to be split
+    echo "$(instructions $words)  $words"
+done
+echo "the least stack in kB, for whole sessions:"
+python3 - "$program" <<'PYTHON'
+import resource
+import subprocess
+import sys
+
+SNAPSHOT = ["--load", "examples/example_com.snapshot"]
+RUNS = [(it, "sign_in") for it in (["replay"], ["live"], ["check"], ["quiet"], ["show"], ["--help"])]
+RUNS.append((["replay", *SNAPSHOT], "sign_in_again"))
+
+
+def runs(words, log, kilobytes):
+    def limit():
+        resource.setrlimit(resource.RLIMIT_STACK, (kilobytes * 1024, resource.RLIM_INFINITY))
+
+    with open(f"examples/{log}.log") as file:
+        return subprocess.run(
+            [sys.argv[1], *words], stdin=file, stdout=subprocess.DEVNULL, env={}, preexec_fn=limit
+        ).returncode == 0
+
+
+for words, log in RUNS:
+    print(next(it for it in range(8, 8192, 4) if runs(words, log, it)), "", *words)
+PYTHON
+echo "the stack of calls of the C library, in bytes:"
+gcc -std=c11 -O2 -D_GNU_SOURCE -I release -o "$work/stack" bench/stack.c "$library" -lpthread
+"$work/stack" examples/sign_in.log examples/example_com.snapshot

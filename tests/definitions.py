@@ -1,0 +1,103 @@
+"""The index of definitions by section of the public standards, docs/DEFINITIONS.md. tests/reading.py writes and compares it.
+
+A definition is listed under a section where the comment above it names the section. A file is, where the comment at its
+top does, or what docs/READING.md says of the file.
+"""
+
+from __future__ import annotations
+
+import re
+from collections import defaultdict
+from dataclasses import dataclass, field
+from pathlib import Path
+
+TOP = Path(__file__).resolve().parent.parent
+INDEX = TOP / "docs" / "DEFINITIONS.md"
+STANDARDS = ("CTAP 2.1", "WebAuthn Level 2", "RFC 8949")
+NUMBER = r"\d+(?:\.\d+)*"
+CITES = re.compile(rf"({'|'.join(map(re.escape, STANDARDS))}), sections? ({NUMBER}(?:(?:, | and |, and ){NUMBER})*)")
+ENCODING = re.compile(r"CTAP 2\.1, \"Message Encoding\"")
+HEADING = re.compile(r"^### (\w+), (\w+)\.antt\n\n(.*?)\n\n", re.MULTILINE | re.DOTALL)
+INTRO = """# Definitions by section of the standard
+
+Where you read a section of a standard and ask what this repository makes of it, look here. A file alone is about the
+section as a whole; names are the definitions that state it. [READING.md](READING.md) has those that the headline needs,
+in the order to read them, each with its sentence. `tests/reading.py --write` writes this page from the comments above the
+definitions, and fails where it differs.
+"""
+
+
+@dataclass
+class Entry:
+    """What a section has of one file: the file as a whole, or some of its definitions."""
+
+    whole: bool = False
+    names: list[str] = field(default_factory=list)
+
+
+Index = dict[tuple[str, str], dict[Path, Entry]]
+
+
+def sections_in(text: str) -> list[tuple[str, str]]:
+    """Returns the sections that a text names, each with its standard."""
+    joined = " ".join(text.split())
+    found = [(it[1], number) for it in CITES.finditer(joined) for number in re.findall(NUMBER, it[2])]
+    return found + ([("CTAP 2.1", "8")] if ENCODING.search(joined) else [])
+
+
+def top_comment(text: str) -> str:
+    """Returns the comment at the top of a file."""
+    lines = []
+    for line in text.splitlines():
+        if not line.startswith("--"):
+            break
+        lines.append(line.removeprefix("--").strip())
+    return " ".join(lines)
+
+
+def said_of_files() -> dict[Path, str]:
+    """Returns what docs/READING.md says of each file."""
+    page = (TOP / "docs" / "READING.md").read_text(encoding="utf-8")
+    return {
+        TOP / "crates" / it[1] / "specs" / f"{it[2]}.antt": it[3].split("*Ask:*")[0] for it in HEADING.finditer(page)
+    }
+
+
+def index(comments: dict[Path, dict[str, str]]) -> Index:
+    """Returns the files and definitions of each section. `comments` has those of a file's definitions by name."""
+    found: Index = defaultdict(lambda: defaultdict(Entry))
+    said = said_of_files()
+    for path, names in sorted(comments.items()):
+        text = top_comment(path.read_text(encoding="utf-8")) + " " + said.get(path, "")
+        for section in sections_in(text):
+            found[section][path].whole = True
+        for name, comment in names.items():
+            for section in sections_in(comment):
+                found[section][path].names.append(name)
+    return found
+
+
+def order(section: str) -> list[int]:
+    """Returns a section's numbers, by which sections are sorted."""
+    return [int(it) for it in section.split(".")]
+
+
+def line(section: str, entries: dict[Path, Entry]) -> str:
+    """Returns the row of a section."""
+    cells = []
+    for path, entry in entries.items():
+        crate, file = path.relative_to(TOP / "crates").parts[0], path.name.removesuffix(".antt")
+        link = f"[{crate}, {file}](../{path.relative_to(TOP)})"
+        names = ", ".join(f"`{it}`" for it in dict.fromkeys(entry.names))
+        cells.append(f"{link}: {names}" if names else link)
+    return f"| {section} | {'; '.join(cells)} |\n"
+
+
+def page(comments: dict[Path, dict[str, str]]) -> str:
+    """Returns the text of the page."""
+    text, found = INTRO, index(comments)
+    for standard in STANDARDS:
+        text += f"\n## {standard}\n\n| Section | Where |\n|---|---|\n"
+        sections = sorted((section for of, section in found if of == standard), key=order)
+        text += "".join(line(it, found[standard, it]) for it in sections)
+    return text

@@ -1,0 +1,501 @@
+#!/usr/bin/env python3
+"""Runs the program as hurried and hostile users do: bad paths, full disks, signals, closed pipes, folders, faults of
+the system. Faults are injected by strace, where it is there; what needs it is skipped by name without it.
+
+    tests/program/run.py [PROGRAM]        release/hidlog where none is named
+
+Exit status: 1 where something isn't as it should be.
+"""
+
+from __future__ import annotations
+
+import os
+import resource
+import shutil
+import signal
+import subprocess
+import sys
+import tempfile
+import time
+from concurrent.futures import ThreadPoolExecutor
+from pathlib import Path
+from typing import Callable, Optional, Sequence
+
+TOP = Path(__file__).resolve().parents[2]
+PROGRAM = str(Path(sys.argv[1]).resolve() if len(sys.argv) > 1 else TOP / "release/hidlog")
+EXAMPLES = TOP / "examples"
+SNAPSHOT = EXAMPLES / "example_com.snapshot"
+AGAIN = EXAMPLES / "sign_in_again.log"
+INIT = b"> 0 " + b"ffffffff8600080001020304050607".ljust(128, b"0") + b"\n"
+COUNTS = b"= held 0 rows 0 pending 0 requests 0 bytes 0 steps 0\n"
+NOBODY = 65534
+# What docs/LIMITS.md says of the program, with the arguments and the environment that lie on it.
+STACK = 216 << 10
+
+Said = subprocess.CompletedProcess[bytes]
+
+
+def run(
+    words: Sequence[str],
+    log: bytes = b"",
+    *,
+    stdin: Optional[Path] = None,
+    trace: Sequence[str] = (),
+    before: Optional[Callable[[], None]] = None,
+) -> Said:
+    """Runs the program with these words on a log, or on a file; under strace where something is to be injected."""
+    command = [PROGRAM, *words]
+    if trace:
+        command = ["strace", "-f", "-qq", "-o", "/dev/null", *trace, *command]
+    if stdin is None:
+        return subprocess.run(command, input=log, capture_output=True, preexec_fn=before, timeout=30)
+    with open(stdin, "rb") as file:
+        return subprocess.run(command, stdin=file, capture_output=True, preexec_fn=before, timeout=30)
+
+
+def wants(said: Said, status: int, faults: bytes, output: Optional[bytes] = None) -> None:
+    """Fails unless the program ended so, and said so."""
+    assert said.returncode == status, f"status {said.returncode} and not {status}: {said.stderr!r}"
+    assert said.stderr == faults, f"said {said.stderr!r} and not {faults!r}"
+    if output is not None:
+        assert said.stdout == output, f"wrote {said.stdout!r} and not {output!r}"
+
+
+def lacks(room: Path, path: str, reason: str) -> bytes:
+    return f"hidlog: cannot write snapshot\n  {path}: {reason}\n".encode()
+
+
+def as_nobody() -> None:
+    """Makes a process of root's one that permissions hold for."""
+    if os.geteuid() == 0:
+        os.setgroups([])
+        os.setgid(NOBODY)
+        os.setuid(NOBODY)
+
+
+# ---- where --save writes
+
+
+def live_refuses_first(room: Path) -> None:
+    """`live` says what is wrong with the path of --save before it reads a line."""
+    missing, folder = f"{room}/none/keys", str(room)
+    wants(
+        run(["live", "--save", missing], INIT), 2, lacks(room, missing, "No such file or directory (os error 2)"), b""
+    )
+    wants(run(["live", "--save", folder], INIT), 2, lacks(room, folder, "Is a directory (os error 21)"), b"")
+    wants(run(["live", "--save", ""], INIT), 2, lacks(room, "", "No such file or directory (os error 2)"), b"")
+    inside = f"{SNAPSHOT}/keys"
+    wants(run(["live", "--save", inside], INIT), 2, lacks(room, inside, "Not a directory (os error 20)"), b"")
+    said = run(["live", "--save", f"{room}/keys"], b"t 5\n")
+    wants(said, 0, b"")
+    assert sorted(os.listdir(room)) == ["keys"], os.listdir(room)
+
+
+def live_needs_permission(room: Path) -> None:
+    """A file or a folder that may not be written to is refused before the session, and nothing is made there."""
+    keys = room / "keys"
+    keys.write_bytes(b"old")
+    keys.chmod(0o444)
+    room.chmod(0o555)
+    denied = "Permission denied (os error 13)"
+    wants(run(["live", "--save", str(keys)], INIT, before=as_nobody), 2, lacks(room, str(keys), denied), b"")
+    wants(run(["live", "--save", f"{keys}2"], INIT, before=as_nobody), 2, lacks(room, f"{keys}2", denied), b"")
+    said = run(["replay", "--save", str(keys)], b"", before=as_nobody)
+    wants(said, 2, lacks(room, str(keys), denied), COUNTS)
+    room.chmod(0o755)
+    assert keys.read_bytes() == b"old" and os.listdir(room) == ["keys"]
+
+
+def replay_refuses_last(room: Path) -> None:
+    """`replay` writes its result whole, and then says that the snapshot can't be written."""
+    missing = f"{room}/none/keys"
+    wants(run(["replay", "--save", missing]), 2, lacks(room, missing, "No such file or directory (os error 2)"), COUNTS)
+    wants(run(["replay", "--save", str(room)]), 2, lacks(room, str(room), "Is a directory (os error 21)"), COUNTS)
+    full = "No space left on device (os error 28)"
+    wants(run(["replay", "--save", "/dev/full"]), 2, lacks(room, "/dev/full", full), COUNTS)
+
+
+def the_log_is_kept(room: Path) -> None:
+    """--save onto the log that is read, or onto the result, is refused."""
+    log = room / "log"
+    log.write_bytes(INIT)
+    lost = lacks(room, str(log), "it is the log, which would be lost")
+    wants(run(["live", "--save", str(log)], stdin=log), 2, lost, b"")
+    said = run(["replay", "--save", str(log)], stdin=log)
+    assert said.returncode == 2 and said.stderr == lost and said.stdout.startswith(INIT)
+    assert log.read_bytes() == INIT
+    other = room / "link"
+    os.link(log, other)
+    assert run(["replay", "--save", str(other)], stdin=log).returncode == 2 and log.read_bytes() == INIT
+    with open(room / "out", "wb") as out:
+        words = [PROGRAM, "replay", "--save", str(room / "out")]
+        ended = subprocess.run(words, input=b"", stdout=out, stderr=subprocess.PIPE)
+    wants(ended, 2, lacks(room, str(room / "out"), "it is the file that standard output goes to"))
+    assert (room / "out").read_bytes() == COUNTS
+
+
+def a_pipe_needs_its_reader(room: Path) -> None:
+    """--save to a FIFO without a reader is refused at once; one with a reader gets the snapshot."""
+    fifo = room / "fifo"
+    os.mkfifo(fifo)
+    wants(run(["replay", "--save", str(fifo)]), 2, lacks(room, str(fifo), "Broken pipe (os error 32)"), COUNTS)
+    with subprocess.Popen(["cat", str(fifo)], stdout=subprocess.PIPE) as reader:
+        while not any(os.path.samefile(fifo, f"/proc/{reader.pid}/fd/{fd}") for fd in open_files(reader.pid)):
+            # The reader's open waits for a writer, so it is never seen as open: a moment has to do.
+            time.sleep(0.2)
+            break
+        wants(run(["replay", "--save", str(fifo)]), 0, b"", COUNTS)
+        assert reader.stdout is not None and reader.stdout.read() == bytes.fromhex("a201020280")
+
+
+def open_files(pid: int) -> list[str]:
+    return [fd for fd in os.listdir(f"/proc/{pid}/fd") if os.path.exists(f"/proc/{pid}/fd/{fd}")]
+
+
+def saved_whole(room: Path) -> bytes:
+    """Returns what a sign-in with the example's credential saves."""
+    keys = room / "wanted"
+    wants(run(["replay", "--load", str(SNAPSHOT), "--save", str(keys)], AGAIN.read_bytes()), 0, b"")
+    return keys.read_bytes()
+
+
+def saving_replaces(room: Path) -> None:
+    """A shorter, a longer and an equal snapshot take the place of what the file had, whole and in place."""
+    wanted = saved_whole(room)
+    for old in (b"", b"x", wanted[:-1], wanted, wanted + b"x", wanted * 400):
+        keys = room / "keys"
+        keys.write_bytes(old)
+        node = keys.stat().st_ino
+        wants(run(["replay", "--load", str(SNAPSHOT), "--save", str(keys)], AGAIN.read_bytes()), 0, b"")
+        assert keys.read_bytes() == wanted and keys.stat().st_ino == node, f"over {len(old)} bytes"
+
+
+def a_failed_write_keeps(room: Path) -> None:
+    """A write of the snapshot that fails, or a kill at it, leaves the old file as it was."""
+    for old in (SNAPSHOT.read_bytes(), bytes.fromhex("a201020280")):
+        for fault in ("error=ENOSPC", "error=EIO", "signal=KILL"):
+            keys = room / "keys"
+            keys.write_bytes(old)
+            words = ["replay", "--load", str(SNAPSHOT), "--save", str(keys)]
+            trace = ["-e", f"inject=pwrite64:{fault}:when=1"]
+            said = run(words, AGAIN.read_bytes(), trace=trace)
+            assert said.returncode != 0, f"{fault}: nothing was injected"
+            assert keys.read_bytes() == old, f"{fault}: the file has {len(keys.read_bytes())} bytes"
+            if fault.startswith("error"):
+                assert said.stderr.startswith(b"hidlog: cannot write snapshot\n  "), said.stderr
+
+
+def a_full_disk_keeps(room: Path) -> None:
+    """A file system without a free block leaves the old snapshot, and one that isn't longer is written there."""
+    folder = room / "small"
+    folder.mkdir()
+    if (
+        subprocess.run(
+            ["mount", "-t", "tmpfs", "-o", "size=64k,nr_inodes=20", "none", folder], capture_output=True
+        ).returncode
+        != 0
+    ):
+        raise Skipped("no file system can be mounted here")
+    try:
+        keys, fill, fresh = folder / "keys", folder / "fill", folder / "fresh"
+        wanted = saved_whole(room)
+        for old in (wanted + b"x" * 1000, bytes.fromhex("a201020280")):
+            keys.write_bytes(old)
+            fresh.write_bytes(b"")
+            filled(fill)
+            said = run(["replay", "--load", str(SNAPSHOT), "--save", str(fresh)], AGAIN.read_bytes())
+            assert said.returncode == 2 and fresh.read_bytes() == b"", said.stderr
+            wants(said, 2, lacks(room, str(fresh), "No space left on device (os error 28)"))
+            said = run(["replay", "--load", str(SNAPSHOT), "--save", str(keys)], AGAIN.read_bytes())
+            assert keys.read_bytes() == (wanted if said.returncode == 0 else old), said.stderr
+            fill.unlink()
+    finally:
+        subprocess.run(["umount", folder], check=True)
+
+
+def filled(path: Path) -> None:
+    """Writes a file until its file system is full."""
+    with open(path, "wb", buffering=0) as file:
+        try:
+            while True:
+                file.write(b"x" * 512)
+        except OSError:
+            pass
+
+
+def two_at_once(room: Path) -> None:
+    """With `--save new` and `mv`, as the manual has it, none of 200 programs on one file finds half a snapshot."""
+    keys = room / "keys"
+    shutil.copy(SNAPSHOT, keys)
+    script = '"$0" replay --load "$1" --save "$1.$2" <"$3" >/dev/null && mv "$1.$2" "$1"'
+
+    def once(number: int) -> Said:
+        words = ["sh", "-c", script, PROGRAM, str(keys), str(number), str(AGAIN)]
+        return subprocess.run(words, capture_output=True)
+
+    with ThreadPoolExecutor(8) as lanes:
+        for said in lanes.map(once, range(200)):
+            wants(said, 0, b"")
+    assert os.listdir(room) == ["keys"]
+
+
+# ---- signals
+
+
+def signals_save_nothing(room: Path) -> None:
+    """SIGINT and SIGTERM end `live` without a word and keep the old file; closing its input saves."""
+    keys = room / "keys"
+    for number in (signal.SIGINT, signal.SIGTERM):
+        keys.write_bytes(b"old")
+        with live(keys) as program:
+            assert program.stdin is not None and program.stdout is not None and program.stderr is not None
+            program.stdin.write(b"t 5\n")
+            program.stdin.flush()
+            assert program.stdout.readline() == b"t 5\n"
+            program.send_signal(number)
+            assert program.wait(10) == -number and program.stderr.read() == b""
+        assert keys.read_bytes() == b"old"
+    with live(keys) as program:
+        output, faults = program.communicate(b"t 5\n", 10)
+        assert program.returncode == 0 and faults == b"" and output.endswith(COUNTS)
+    assert keys.read_bytes() == bytes.fromhex("a201020280")
+
+
+def live(keys: Path) -> subprocess.Popen[bytes]:
+    pipe = subprocess.PIPE
+    return subprocess.Popen([PROGRAM, "live", "--save", str(keys)], stdin=pipe, stdout=pipe, stderr=pipe)
+
+
+# ---- what is said
+
+
+def snapshots_are_refused_in_words(room: Path) -> None:
+    """A snapshot that can't be read or is refused is named, with the reason, in all four commands."""
+    whole = SNAPSHOT.read_bytes()
+    cases = [
+        (b"", "1", "it is empty"),
+        (whole[:-1], "1", "it begins as a snapshot, and is cut off or changed"),
+        (whole + b"\0", "1", "it begins as a snapshot, and is cut off or changed"),
+        (whole[:2] + b"\x03" + whole[3:], "1", "it is of version 3, and 1 and 2 are read"),
+        (b"# a log\n", "1", "it is no snapshot"),
+        (bytes.fromhex("a20102029841") + b"\0" * 65, "2", "it has more than 64 credentials"),
+        (bytes.fromhex("a201020281a0"), "3", "credential 1 is broken, or is there twice"),
+    ]
+    keys = room / "keys"
+    for command in ("replay", "live", "check", "quiet"):
+        words = [command, "--load", str(keys)]
+        for data, number, reason in cases:
+            keys.write_bytes(data)
+            wants(run(words, INIT), 2, f"hidlog: snapshot refused: {number}\n  {keys}: {reason}\n".encode(), b"")
+        keys.unlink()
+        cannot = f"hidlog: cannot read snapshot\n  {keys}: No such file or directory (os error 2)\n"
+        wants(run(words, INIT), 2, cannot.encode(), b"")
+        cannot = f"hidlog: cannot read snapshot\n  {room}: Is a directory (os error 21)\n"
+        wants(run([command, "--load", str(room)], INIT), 2, cannot.encode(), b"")
+        keys.write_bytes(whole)
+        keys.chmod(0)
+        cannot = f"hidlog: cannot read snapshot\n  {keys}: Permission denied (os error 13)\n"
+        room.chmod(0o755)
+        wants(run(words, INIT, before=as_nobody), 2, cannot.encode(), b"")
+        keys.chmod(0o644)
+
+
+def bad_lines_say_where(_: Path) -> None:
+    """A line that isn't a log line is told with the first byte that doesn't fit."""
+    feed = "is a carriage return: lines end with a line feed alone (tr -d '\\r' drops the others)"
+    fits_not = "which fits no log line here"
+    cases = [
+        (INIT.replace(b"\n", b"\r\n"), f"byte 133 {feed}"),
+        (b"\r", f"byte 1 {feed}"),
+        (b"\xef\xbb\xbf# a log", "byte 1 begins a byte order mark: a log has none"),
+        (b"t 05", f"byte 4 is '5', {fits_not}"),
+        (b"t", "it ends after byte 1, too early"),
+        (b"t ", "it ends after byte 2, too early"),
+        (b"t\t5", f"byte 2 is 0x09, {fits_not}"),
+        (b"t 18446744073709551616", f"byte 22 is '6', {fits_not}"),
+        (b"t 5 ", f"byte 4 is ' ', {fits_not}"),
+        (b"x 5", f"byte 1 is 'x', {fits_not}"),
+        (b"> 5 " + b"0" * 127, "it ends after byte 131, too early"),
+        (b"> 5 " + b"0" * 129, f"byte 133 is '0', {fits_not}"),
+        (b"> 5 0g", f"byte 6 is 'g', {fits_not}"),
+        (b"< 0g", f"byte 4 is 'g', {fits_not}"),
+        (b"p 5 grant", "it ends after byte 9, too early"),
+        (b"p 5 dinied", f"byte 6 is 'i', {fits_not}"),
+        (b"p 5 granted ", f"byte 12 is ' ', {fits_not}"),
+        (b"k 5 nope", f"byte 7 is 'p', {fits_not}"),
+        (b"k 5 " + b"a" * 64 + b" " + b"b" * 63 + b"x", f"byte 133 is 'x', {fits_not}"),
+        (b"k 5 " + b"a" * 64 + b" " + b"b" * 64, "it ends after byte 133, too early"),
+        (b"s 5 abc", "it ends after byte 7, too early"),
+        (b"s 5 ", "it ends after byte 4, too early"),
+        (b"s 5 " + b"a" * 146, f"byte 149 is 'a', {fits_not}"),
+        (b"  t 5", f"byte 1 is ' ', {fits_not}"),
+        (b"t \xff", f"byte 3 is 0xff, {fits_not}"),
+    ]
+    for line, reason in cases:
+        for command in ("replay", "live", "check", "quiet", "show"):
+            said = run([command], line + b"\n")
+            wants(said, 1, f"hidlog: line 1: not a log line\n  {reason}\n".encode())
+    # The line is found after many others too, and before those that were read with it.
+    for front in (1, 3, 40, 5000):
+        log = b"# a comment of some length, so that reads end within lines\n" * front + b"t 5x\nt 6y\n" + b"t 7\n" * 99
+        said = run(["quiet"], log)
+        wants(said, 1, f"hidlog: line {front + 1}: not a log line\n  byte 4 is 'x', {fits_not}\n".encode())
+
+
+def other_faults_have_no_reason(_: Path) -> None:
+    """A fault of another kind says nothing about lines that weren't played."""
+    wants(run(["check"], b"< " + b"0" * 128 + b"\nt 5x\n"), 1, b"hidlog: line 0: differs at packet 1\n", b"")
+    wants(run(["replay"], b"#" * 256 + b"\nt 5x\n"), 1, b"hidlog: line 1: longer than 255 bytes\n", b"")
+
+
+# ---- streams that fail
+
+
+def a_closed_pipe_is_silent(room: Path) -> None:
+    """`| head` ends the program without a word, with the status of a program that SIGPIPE ended."""
+    for words in (["replay"], ["live"], ["quiet"], ["show"], ["--help"]):
+        reader, writer = os.pipe()
+        os.close(reader)
+        said = subprocess.run([PROGRAM, *words], input=INIT * 9, stdout=writer, stderr=subprocess.PIPE)
+        os.close(writer)
+        wants(said, 141, b"")
+    # In the midst of its output, too.
+    script = '"$0" replay 2>"$1" <"$2" | head -1 >/dev/null; echo "${PIPESTATUS[0]}"'
+    (room / "log").write_bytes(INIT * 40_000)
+    words = ["bash", "-c", script, PROGRAM, str(room / "faults"), str(room / "log")]
+    assert subprocess.run(words, capture_output=True).stdout == b"141\n"
+    assert (room / "faults").read_bytes() == b""
+
+
+def a_full_output_says_so(_: Path) -> None:
+    """A standard output that can't be written to is told with the reason; help too."""
+    full = b"hidlog: writing failed\n  standard output: No space left on device (os error 28)\n"
+    for words, status in ((["replay"], 1), (["check"], 1), (["show"], 1), (["--help"], 2), (["--version"], 2)):
+        with open("/dev/full", "wb") as out:
+            said = subprocess.run([PROGRAM, *words], input=INIT[:-1], stdout=out, stderr=subprocess.PIPE)
+        if words == ["check"]:
+            wants(said, 1, b"hidlog: line 1: differs at packet 1\n")
+        else:
+            wants(said, status, full)
+
+
+def a_full_standard_error_changes_nothing(_: Path) -> None:
+    """A text that can't be written to standard error changes no status."""
+    for words, status in ((["replay"], 1), (["replay", "--load", "/none"], 2), (["--what"], 2)):
+        with open("/dev/full", "wb") as faults:
+            said = subprocess.run([PROGRAM, *words], input=b"t 05\n", stdout=subprocess.PIPE, stderr=faults)
+        assert said.returncode == status, f"{words}: {said.returncode}"
+
+
+def folders_on_standard_input(_: Path) -> None:
+    """A folder on standard input is told with the reason, by each command."""
+    for command in ("replay", "live", "check", "quiet", "show"):
+        folder = os.open("/", os.O_RDONLY)
+        try:
+            said = subprocess.run([PROGRAM, command], stdin=folder, capture_output=True)
+        finally:
+            os.close(folder)
+        wants(said, 1, b"hidlog: line 1: reading failed\n  standard input: Is a directory (os error 21)\n", b"")
+
+
+def interrupted_calls_are_tried_again(_: Path) -> None:
+    """EINTR at any of the first reads and writes changes nothing."""
+    log = (EXAMPLES / "registration.log").read_bytes()
+    for call in ("read", "write"):
+        for when in ("1", "2", "2+", "1..3"):
+            spread = "1+2" if when == "2+" else when
+            said = run(["replay"], log, trace=["-e", f"inject={call}:error=EINTR:when={spread}"])
+            wants(said, 0, b"", log)
+
+
+def a_call_that_would_wait_is_told(_: Path) -> None:
+    """EAGAIN is told as what it is."""
+    again = "Resource temporarily unavailable (os error 11)"
+    said = run(["replay"], INIT, trace=["-e", "inject=write:error=EAGAIN:when=1"])
+    wants(said, 1, f"hidlog: writing failed\n  standard output: {again}\n".encode(), b"")
+    said = run(["replay"], INIT, trace=["-e", "inject=read:error=EAGAIN:when=1"])
+    wants(said, 1, f"hidlog: line 1: reading failed\n  standard input: {again}\n".encode(), b"")
+
+
+def a_file_as_an_argument_gets_a_hint(_: Path) -> None:
+    """A log that is named as an argument is told where logs come from."""
+    said = run(["show", "a.log"])
+    assert said.returncode == 2 and b"unexpected argument 'a.log' found" in said.stderr
+    assert said.stderr.endswith(b"hidlog reads the log on standard input: hidlog COMMAND < FILE\n"), said.stderr
+    assert b"standard input" not in run(["show", "--what"]).stderr
+
+
+# ---- what it takes
+
+
+def little_stack_is_enough(_: Path) -> None:
+    """Each command runs in the stack that docs/LIMITS.md names."""
+
+    def small() -> None:
+        resource.setrlimit(resource.RLIMIT_STACK, (STACK, resource.RLIM_INFINITY))
+
+    log = (EXAMPLES / "registration.log").read_bytes()
+    for words in (["replay"], ["live"], ["check"], ["quiet"], ["show"], ["--help"]):
+        wants(run(words, log, before=small), 0, b"")
+    wants(run(["replay", "--load", str(SNAPSHOT)], AGAIN.read_bytes(), before=small), 0, b"")
+
+
+class Skipped(Exception):
+    """Something is missing that a test needs."""
+
+
+TRACED = {a_failed_write_keeps, interrupted_calls_are_tried_again, a_call_that_would_wait_is_told}
+TESTS = [
+    live_refuses_first,
+    live_needs_permission,
+    replay_refuses_last,
+    the_log_is_kept,
+    a_pipe_needs_its_reader,
+    saving_replaces,
+    a_failed_write_keeps,
+    a_full_disk_keeps,
+    two_at_once,
+    signals_save_nothing,
+    snapshots_are_refused_in_words,
+    bad_lines_say_where,
+    other_faults_have_no_reason,
+    a_closed_pipe_is_silent,
+    a_full_output_says_so,
+    a_full_standard_error_changes_nothing,
+    folders_on_standard_input,
+    interrupted_calls_are_tried_again,
+    a_call_that_would_wait_is_told,
+    a_file_as_an_argument_gets_a_hint,
+    little_stack_is_enough,
+]
+
+
+def tried(test: Callable[[Path], None]) -> Optional[str]:
+    """Runs a test in a folder of its own. Returns what is wrong, if anything is."""
+    if test in TRACED and shutil.which("strace") is None:
+        print(f"skipped  {test.__name__}: strace is missing")
+        return None
+    with tempfile.TemporaryDirectory() as folder:
+        Path(folder).chmod(0o755)
+        try:
+            test(Path(folder))
+        except Skipped as missing:
+            print(f"skipped  {test.__name__}: {missing}")
+        except (AssertionError, subprocess.TimeoutExpired) as wrong:
+            return str(wrong)
+    return None
+
+
+def main() -> int:
+    failed = 0
+    for test in TESTS:
+        wrong = tried(test)
+        if wrong is not None:
+            print(f"FAILED   {test.__name__}: {wrong}")
+            failed += 1
+    print(f"{len(TESTS) - failed} of {len(TESTS)} tests of the program passed")
+    return 1 if failed else 0
+
+
+if __name__ == "__main__":
+    sys.exit(main())

@@ -1,0 +1,78 @@
+#!/usr/bin/env python3
+"""Makes the README's pictures anew, docs/web_light.png and docs/web_dark.png, from the page as it is.
+
+    tests/web/pictures.py
+
+The page compares a recorded session in which the counter of the second sign-in doesn't rise. Ends with 3 where
+chromium or chromedriver is missing.
+"""
+
+import base64
+import sys
+import tempfile
+import time
+from pathlib import Path
+
+from driver import Driver, is_there
+
+TOP = Path(__file__).resolve().parents[2]
+WIDTH, HEIGHT = 1200, 720
+COUNTER_LINE, RAISED, SAME = 35, "470100000002", "470100000001"
+
+
+def broken_log():
+    """Returns a recorded session with the counter of its second sign-in set back."""
+    lines = (TOP / "examples" / "sign_in.log").read_text(encoding="ascii").splitlines(keepends=True)
+    if RAISED not in lines[COUNTER_LINE - 1]:
+        raise SystemExit(f"pictures.py: line {COUNTER_LINE} of examples/sign_in.log has no counter 2")
+    lines[COUNTER_LINE - 1] = lines[COUNTER_LINE - 1].replace(RAISED, SAME)
+    return "".join(lines)
+
+
+def open_log(driver, path):
+    """Opens a log in the page, as the button Open does."""
+    document = driver.devtools("DOM.getDocument")["root"]["nodeId"]
+    node = driver.devtools("DOM.querySelector", nodeId=document, selector="#file")["nodeId"]
+    driver.devtools("DOM.setFileInputFiles", nodeId=node, files=[str(path)])
+    wait(driver, "!document.getElementById('check').disabled")
+
+
+def wait(driver, condition):
+    """Waits until a condition holds in the page."""
+    for _ in range(200):
+        if driver.run(f"arguments[arguments.length - 1]({condition})"):
+            return
+        time.sleep(0.05)
+    raise SystemExit(f"pictures.py: the page never had: {condition}")
+
+
+def picture(driver, scheme, path):
+    """Writes what the page shows in light or in dark."""
+    features = [{"name": "prefers-color-scheme", "value": scheme}]
+    driver.devtools("Emulation.setEmulatedMedia", features=features)
+    time.sleep(0.3)
+    shot = driver.devtools("Page.captureScreenshot", format="png")
+    path.write_bytes(base64.b64decode(shot["data"]))
+    print(path.relative_to(TOP))
+
+
+def main():
+    if not is_there():
+        print("pictures.py: chromedriver is missing (apt-get install chromium-driver)", file=sys.stderr)
+        return 3
+    with tempfile.TemporaryDirectory() as folder, Driver() as driver:
+        log = Path(folder, "counter_that_stays.log")
+        log.write_text(broken_log(), encoding="ascii")
+        size = {"width": WIDTH, "height": HEIGHT, "deviceScaleFactor": 1, "mobile": False}
+        driver.devtools("Emulation.setDeviceMetricsOverride", **size)
+        driver.open(f"file://{TOP}/web/index.html")
+        open_log(driver, log)
+        driver.run("document.getElementById('check').click(); arguments[arguments.length - 1]()")
+        wait(driver, "/differs/.test(document.getElementById('notice').textContent)")
+        for scheme in ("light", "dark"):
+            picture(driver, scheme, TOP / "docs" / f"web_{scheme}.png")
+    return 0
+
+
+if __name__ == "__main__":
+    sys.exit(main())
