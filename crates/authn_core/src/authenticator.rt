@@ -1,6 +1,8 @@
 //! The authenticator.
 
-ghost use Rattle.std.specs.Prelude.{◌≡◌, ◌≤◌, ℕ, max, min, option_map, length};
+ghost use Rattle.std.specs.Prelude.{◌≡◌, ◌≤◌, ℕ, max, min, option_map, length, List, Ok, MatchResult};
+ghost use Rattle.cred_table.specs.declared.row.Row.{Row as AnyRow};
+ghost use Rattle.cred_table.specs.Snapshots.{Loads, Refuses};
 ghost use Rattle.cred_table.specs.Waiting.{pending_count};
 ghost use Rattle.ctap_message.specs.Requests.{steps_of, LARGEST};
 ghost use Rattle.authn_core.specs.State.{Request as Asks, PresenceIs, KeyIs, SignatureIs, Cancel, Drop as DropWork};
@@ -14,7 +16,7 @@ use crate::rows::known_capacity;
 use crate::steps::{need_of, status_of};
 use crate::task::Job;
 use crate::work::{KeepaliveStatus, Work};
-use cred_table::{Pending, Table};
+use cred_table::{Pending, SnapshotFault, Table, load};
 use ctap_message::{Answer, Status, read_request};
 use std::marker::Model;
 
@@ -132,6 +134,25 @@ impl<T: Table<C>, const C: usize> Core<T, C> {
             pending: Pending::new(),
             work: None,
         }
+    }
+
+    /// Begins anew with this configuration at the moment `start`, in milliseconds, with the rows of a snapshot in place of
+    /// its own and no waiting work. A snapshot that is refused leaves all as it was.
+    pub fn load(&mut self, config: Config, snapshot: &[u8], start: u64) -> Result<(), SnapshotFault>
+        ensures { MatchResult result
+            (λ _. (rows : List AnyRow) × Loads C snapshot.now (Ok tt) rows
+            × (self.new.core ≡ first_state (record { aaguid = config.aaguid; moment = start; room = C; rows = rows }))
+            × (self.new.latest ≡ start))
+            (λ fault. Refuses C snapshot.now fault × (self.new ≡ self.old)) }
+    {
+        load(snapshot, &mut self.table)?;
+        self.config = config;
+        self.began = start;
+        self.latest = start;
+        self.last_steps = 0;
+        self.pending.clear();
+        self.work = None;
+        Ok(())
     }
 
     /// The turn of a request that came at `at` on the channel `cid`: `message` is its command byte and what follows.

@@ -1,5 +1,5 @@
 -- The promises of every history, together.
-use Rattle.std.proofs.Common.{◌≡◌, ℕ, ◌+◌, ◌-◌, ◌*◌, ◌≤◌, List, [], ◌∷◌, ◌++◌, length, map, reverse, Option, Some, None, refl, sym, ◌∙◌, ap, subst, append-nil, append_assoc}
+use Rattle.std.proofs.Common.{◌≡◌, ℕ, ◌+◌, ◌-◌, ◌*◌, ◌≤◌, List, [], ◌∷◌, ◌++◌, length, map, reverse, Option, Some, None, Result, Ok, Err, IfOk, take, refl, sym, ◌∙◌, ap, subst, append-nil, append_assoc, arith, take_all}
 use Rattle.std.proofs.lemmas.List.{map-append, reverse-append}
 use Rattle.std.specs.List.{AllByRecursion}
 use Rattle.ctap_message.specs.Requests.{steps_of}
@@ -7,13 +7,15 @@ use Rattle.authn_core.specs.Turn.{Start}
 use Rattle.token_session.specs.declared.input.Sent.{Sent}
 use Rattle.token_session.specs.declared.input.Timed.{Timed}
 use Rattle.token_session.specs.Carried.{ArriveWhole}
-use Rattle.token_session.specs.Drive.{as_pair, packet_of}
+use Rattle.token_session.specs.Drive.{as_pair, done_of, packet_of, HadRoom}
+use Rattle.token_session.specs.declared.driving.DriveFault.{DriveFault}
+use Rattle.token_session.specs.declared.input.Meters.{Meters}
 use Rattle.token_session.specs.Effects.{request_in}
 use Rattle.token_session.specs.Inputs.{Judged}
 use Rattle.token_session.specs.History.{judged, sent}
 use Rattle.token_session.specs.Law.{event_at, numbered, onto, sent_from, sent_now, turns_send}
 use Rattle.token_session.specs.Machine.{machine}
-use Rattle.token_session.specs.Meters.{as_list, requests}
+use Rattle.token_session.specs.Meters.{as_list, requests, meters_of, session_of, SessionState, StandsAfter}
 use Rattle.token_session.specs.Headline.{AllCarried, IsAnswered}
 use Rattle.token_session.proofs.Carrying.{finished_is_carried}
 use Rattle.token_session.proofs.Follows.{machine_follows}
@@ -90,3 +92,20 @@ run_answered start xs out w is answers =
     turns_send_sent start (reverse xs)
     ∙ sym (packets_pairs out ∙ ap (map (λ (p : ℕ × List ℕ). p.1)) is ∙ sent_reverse xs start)
     ) (answers (whole_reverse xs w))
+
+-- A drive of a new session that stepped all inputs returns the meters that their history names.
+pub meters_named : (start : Start) (xs : List Timed) (result : Result Meters DriveFault) (s : SessionState)
+    → StandsAfter s start (onto (take (done_of (length xs) result) xs) []) → IfOk result (λ meters. meters ≡ s.meters)
+    → IfOk result (λ meters. meters ≡ meters_of start (judged start (reverse xs)))
+unfolding session_of
+meters_named start xs (Ok meters) s after is =
+    is ∙ ap (λ (v : SessionState). v.meters) after
+    ∙ ap (λ (h : List Timed). meters_of start (judged start h))
+    (ap (λ (ys : List Timed). onto ys []) (take_all _ xs (omega arith)) ∙ onto_reverse xs [] ∙ append-nil (reverse xs))
+meters_named start xs (Err fault) s after is = tt
+
+pub room_named : (places : ℕ) (old : List Sent) (s t : SessionState) (xs : List Timed) (done : ℕ) → old ≡ [] → s ≡ t
+    → HadRoom places (map as_pair old) s xs done → HadRoom places [] t xs done
+room_named places old s t xs done none is had =
+    subst (λ (v : SessionState). HadRoom places [] v xs done) is
+    (subst (λ (o : List Sent). HadRoom places (map as_pair o) s xs done) none had)

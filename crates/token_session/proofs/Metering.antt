@@ -1,5 +1,5 @@
 -- The meters that a history names go on by one input.
-use Rattle.std.proofs.Common.{◌≡◌, ℕ, ◌+◌, ◌-◌, ◌*◌, ◌≤◌, List, [], ◌∷◌, ◌++◌, length, max, min, sum_by, Option, Some, None, option_map, refl, sym, ◌∙◌, ap, arith}
+use Rattle.std.proofs.Common.{◌≡◌, ℕ, ◌+◌, ◌-◌, ◌*◌, ◌≤◌, List, [], ◌∷◌, ◌++◌, length, max, min, sum_by, Option, Some, None, option_map, refl, sym, ◌∙◌, ap, subst, arith}
 use Rattle.std.proofs.lemmas.List.Sums.{sum_by-cons}
 use Rattle.hid_assemble.specs.Assembly.{held_bytes}
 use Rattle.ctap_message.specs.Requests.{steps_of, LARGEST}
@@ -97,6 +97,16 @@ unfolding start_state session_of named meters_of requests peak_held peak_rows pe
 starts start m rows is counted =
     (λ i. record { machine = m; meters = record { held = 0; rows = counted i; pending = 0; requests = 0; bytes = 0; steps = 0 } })
     ∙ ap (λ (v : State). record { machine = v; meters = record { held = 0; rows = length v.core.state.rows; pending = 0; requests = 0; bytes = 0; steps = 0 } }) is
+
+-- the same with meters that are those of a start
+pub begins : (start : Start) (m : State) (k : Meters) (rows : ℕ) → m ≡ start_state start
+    → k ≡ record { held = 0; rows = rows; pending = 0; requests = 0; bytes = 0; steps = 0 } → rows ≡ length m.core.state.rows
+    → record { machine = m; meters = k } ≡ session_of start []
+begins start m k rows is first counted =
+    ap (λ (v : Meters). record { machine = m; meters = v }) first ∙ starts start m rows is counted
+
+pub bounded_first : (k : Meters) (rows : ℕ) → k ≡ record { held = 0; rows = rows; pending = 0; requests = 0; bytes = 0; steps = 0 } → AreBounded k
+bounded_first k rows first = subst AreBounded (sym first) (omega arith)
 
 pub machine_after : (s : SessionState) (start : Start) (h : List Timed) → StandsAfter s start h → IsAfter s.machine start h
 unfolding session_of

@@ -1,5 +1,7 @@
-ghost use Rattle.std.specs.Prelude.{◌≡◌, ◌+◌, ◌≤◌, ◌++◌, [], Some, IfSome, length, max, min, option_map, if◌then◌else◌};
+ghost use Rattle.std.specs.Prelude.{◌≡◌, ◌+◌, ◌≤◌, ◌++◌, [], List, Some, Ok, IfSome, MatchResult, length, max, min, option_map, if◌then◌else◌};
 ghost use Rattle.ctap_message.specs.Requests.{steps_of, LARGEST};
+ghost use Rattle.cred_table.specs.declared.row.Row.{Row as AnyRow};
+ghost use Rattle.cred_table.specs.Snapshots.{Loads, Refuses};
 ghost use Rattle.authn_core.specs.Turn.{core_after, core_answer, first_state, waiting, working};
 ghost use Rattle.authn_core.specs.Views.{status_number, work_of};
 ghost use Rattle.token_session.specs.Replies.{keepalive, asker, status_of, answer_packets, answer_keeps_alive};
@@ -9,7 +11,7 @@ ghost use Rattle.token_session.specs.Effects.{request_in};
 ghost use Rattle.hid_packet.specs.declared.limit.TheConstants.{LONGEST_MESSAGE, OUTBOX_CAPACITY};
 
 use authn_core::{Config, Core, KeepaliveStatus, NewKey, Presence, Signature, Turn, Work};
-use cred_table::{Store, Table};
+use cred_table::{SnapshotFault, Store, Table};
 use ctap_message::laws::steps_are_bounded;
 use hid_packet::Outbox;
 use hid_packet::command::{CBOR, KEEPALIVE};
@@ -130,6 +132,46 @@ impl<const C: usize> Authenticator<C> {
             core: Core::new(config, rows, start),
             keepalive_at: 0,
         }
+    }
+
+    /// Returns an authenticator without credentials, for which no work waits.
+    #[inline(never)]
+    pub(crate) fn bare(config: Config, start: u64) -> Self
+        requires some { 1 ≤ C }
+        requires few { C ≤ 256 }
+        ensures core { result.core.core ≡ first_state (record {
+          aaguid = config.aaguid;
+          moment = start;
+          room = C;
+          rows = [];
+        }) }
+        ensures latest { result.core.latest ≡ start }
+        ensures keepalive { result.keepalive_at ≡ 0 }
+    {
+        Authenticator {
+            core: Core::new(config, Store::new(), start),
+            keepalive_at: 0,
+        }
+    }
+
+    /// Begins anew with the credentials of a snapshot in place of its own, and no waiting work. A snapshot that is
+    /// refused leaves all as it was.
+    pub(crate) fn load(
+        &mut self,
+        config: Config,
+        snapshot: &[u8],
+        start: u64,
+    ) -> Result<(), SnapshotFault>
+        ensures { MatchResult result
+            (λ _. (rows : List AnyRow) × Loads C snapshot.now (Ok tt) rows
+            × (self.new.core.core ≡ first_state (record { aaguid = config.aaguid; moment = start; room = C; rows = rows }))
+            × (self.new.core.latest ≡ start) × (self.new.keepalive_at ≡ 0))
+            (λ fault. Refuses C snapshot.now fault × (self.new.core ≡ self.old.core)
+            × (self.new.keepalive_at ≡ self.old.keepalive_at)) }
+    {
+        self.core.load(config, snapshot, start)?;
+        self.keepalive_at = 0;
+        Ok(())
     }
 
     /// Returns the channel of the waiting work.

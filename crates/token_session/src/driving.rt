@@ -8,7 +8,8 @@ ghost use Rattle.token_session.specs.Drive.{as_pair, packet_of, both_number, dri
 ghost use Rattle.token_session.specs.declared.driving.BothFault.TheVariants.{Full as BothFull};
 ghost use Rattle.token_session.specs.Headline.{IsAnswered, start_of};
 ghost use Rattle.token_session.specs.Law.{numbered, onto, sent_from};
-ghost use Rattle.token_session.specs.Meters.{StandsAfter};
+ghost use Rattle.token_session.specs.History.{judged};
+ghost use Rattle.token_session.specs.Meters.{StandsAfter, meters_of, session_of};
 ghost use Rattle.token_session.specs.Noise.{Quiet, quiet_from};
 ghost use Rattle.hid_packet.specs.declared.limit.TheConstants.{OUTBOX_CAPACITY};
 
@@ -151,9 +152,16 @@ pub fn drive_new<const C: usize, const N: usize>(
     ensures numbers { map as_pair sent.new.items
         ≡ sent_from 0 (start_of config.aaguid start C (⟦<Store<C> as Table<C>>⟧.rows rows.entry)) []
         (take (done_of (length inputs.now) result) inputs.now) }
+    ensures meters { IfOk result (λ meters. meters
+        ≡ meters_of (start_of config.aaguid start C (⟦<Store<C> as Table<C>>⟧.rows rows.entry))
+        (judged (start_of config.aaguid start C (⟦<Store<C> as Table<C>>⟧.rows rows.entry)) (reverse inputs.now))) }
     // It is full exactly where too few places are free.
     ensures full { IfErr result (λ e. (done_of 0 result < length inputs.now)
         × (N < array_vec_len sent.new + OUTBOX_CAPACITY)) }
+    // Before each input that was stepped 130 places were free.
+    ensures room { HadRoom N []
+        (session_of (start_of config.aaguid start C (⟦<Store<C> as Table<C>>⟧.rows rows.entry)) [])
+        inputs.now (done_of (length inputs.now) result) }
 {
     every_history_is_answered();
     sent.clear();

@@ -1,7 +1,9 @@
-ghost use Rattle.std.specs.Prelude.{◌≡◌, ℕ, ◌≤◌, [], ◌∷◌, List, length, option_map};
+ghost use Rattle.std.specs.Prelude.{◌≡◌, ℕ, ◌≤◌, [], ◌∷◌, List, Ok, length, option_map, MatchResult};
 ghost use Rattle.hid_assemble.specs.Assembly.{held_bytes};
 ghost use Rattle.authn_core.specs.Needs.{IsNeed};
 ghost use Rattle.authn_core.specs.Views.{needs, needed};
+ghost use Rattle.cred_table.specs.declared.row.Row.{Row as AnyRow};
+ghost use Rattle.cred_table.specs.Snapshots.{Loads, Refuses};
 ghost use Rattle.cred_table.specs.Waiting.{pending_count};
 ghost use Rattle.authn_core.specs.Turn.{Start};
 ghost use Rattle.token_session.specs.declared.input.Timed.{Timed as OneInput};
@@ -17,7 +19,7 @@ use crate::authenticator::{Authenticator, Reading};
 use crate::input::{Input, Meters};
 use crate::service::{admit, event_in, is_noise, put_error, put_verdict};
 use authn_core::{Config, Need};
-use cred_table::{Store, Table};
+use cred_table::{SnapshotFault, Store, Table};
 use ctap_message::laws::steps_are_bounded;
 use hid_assemble::{Assembler, ErrorCode};
 use hid_packet::Outbox;
@@ -72,6 +74,20 @@ fn count(meters: Meters, held: u16, rows: u16, pending: u16, request: Option<Rea
     counted
 }
 
+/// Returns the meters at a start with so many credentials.
+fn first_meters(rows: u16) -> Meters
+    ensures { result ≡ record { held = 0; rows = rows; pending = 0; requests = 0; bytes = 0; steps = 0 } }
+{
+    Meters {
+        held: 0,
+        rows,
+        pending: 0,
+        requests: 0,
+        bytes: 0,
+        steps: 0,
+    }
+}
+
 impl<const C: usize> Session<C> {
     /// A session that begins at the moment `start`, in milliseconds, with these credentials. No channel is given out,
     /// and no work waits.
@@ -89,25 +105,44 @@ impl<const C: usize> Session<C> {
             latest: start,
             assembler: Assembler::new(),
             authenticator,
-            meters: Meters {
-                held: 0,
-                rows,
-                pending: 0,
-                requests: 0,
-                bytes: 0,
-                steps: 0,
-            },
+            meters: first_meters(rows),
         }
     }
 
     /// A session without credentials that begins at the moment `start`, in milliseconds, for an authenticator with this
     /// AAGUID. No channel is given out. It has capacity for 1 to 256 credentials.
+    // It is made where it stays: 29 kB that are moved are copied.
+    #[inline(never)]
     pub fn bare(aaguid: [u8; 16], start: u64) -> Self
         requires some { 1 ≤ C }
         requires few { C ≤ 256 }
         ensures { result ≡ session_of (record { aaguid = aaguid; moment = start; room = C; rows = [] }) [] }
     {
-        Session::new(Config { aaguid }, Store::new(), start)
+        Session {
+            latest: start,
+            assembler: Assembler::new(),
+            authenticator: Authenticator::bare(Config { aaguid }, start),
+            meters: first_meters(0),
+        }
+    }
+
+    /// Begins anew at the moment `start`, in milliseconds, with the credentials of a snapshot in place of its own. No
+    /// channel is given out, and no work waits. A snapshot that is refused leaves the session as it was.
+    pub fn load(&mut self, config: Config, snapshot: &[u8], start: u64) -> Result<(), SnapshotFault>
+        ensures { MatchResult result
+            (λ _. (rows : List AnyRow) × Loads C snapshot.now (Ok tt) rows
+            × (self.new ≡ session_of (record { aaguid = config.aaguid; moment = start; room = C; rows = rows }) []))
+            (λ fault. Refuses C snapshot.now fault × (self.new ≡ self.old)) }
+    {
+        match self.authenticator.load(config, snapshot, start) {
+            Ok(()) => {
+                self.latest = start;
+                self.assembler = Assembler::new();
+                self.meters = first_meters(self.authenticator.core.credentials() as u16);
+                Ok(())
+            }
+            Err(fault) => Err(fault),
+        }
     }
 
     /// Takes one input that came at `at`, in milliseconds, and puts the packets to send into the

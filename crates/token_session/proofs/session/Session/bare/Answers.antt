@@ -1,9 +1,17 @@
-use Rattle.std.proofs.Common.{List, [], ap, ◌∙◌}
-use Rattle.cred_table.specs.declared.row.Row.{Row}
-use Rattle.token_session.specs.Meters.{session_of}
+use Rattle.std.proofs.Common.{sym, ap, length}
+use Rattle.authn_core.specs.Turn.{CoreState}
+use Rattle.token_session.specs.Machine.{start_state}
+use Rattle.token_session.proofs.Metering.{begins, bounded_first}
+use Rattle.token_session.proofs.Passing.{whole}
+use Rattle.token_session.proofs.Turning.{at_most}
 use Rattle.token_session.proofs.session.Session.bare.Goals as goal
 
 pub returns : goal.returns
+unfolding start_state
 returns g c =
-    c.new-2.ensures
-    ∙ ap (λ (rows : List Row). session_of (record { aaguid = c.args.aaguid; moment = c.args.start; room = g.row.C; rows = rows }) []) c.new.ensures
+    let a = c.bare in
+    begins _ _ _ _ (λ i. whole c.args.start (c.new.ensures.value i) (a.ensures.core i) (a.ensures.keepalive i))
+    c.first_meters.ensures (ap (λ (v : CoreState). length v.state.rows) (sym a.ensures.core))
+
+pub invariant_of-result : goal.invariant_of-result
+invariant_of-result g c = (at_most _ _ c.bare.ensures.latest, bounded_first _ _ c.first_meters.ensures)

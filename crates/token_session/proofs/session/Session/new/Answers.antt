@@ -1,6 +1,6 @@
-use Rattle.std.proofs.Common.{refl, arith}
+use Rattle.std.proofs.Common.{arith}
 use Rattle.token_session.specs.Machine.{start_state}
-use Rattle.token_session.proofs.Metering.{starts}
+use Rattle.token_session.proofs.Metering.{begins, bounded_first}
 use Rattle.token_session.proofs.Passing.{whole}
 use Rattle.token_session.proofs.Turning.{at_most}
 use Rattle.token_session.proofs.session.Session.new.Goals as goal
@@ -9,10 +9,11 @@ pub returns : goal.returns
 unfolding start_state
 returns g c =
     let a = c.new-authenticator in
-    starts _ _ _ (λ i. whole c.args.start (c.new.ensures.value i) (a.ensures.core i) (a.ensures.keepalive i)) c.credentials-rows.ensures.value
+    begins _ _ _ _ (λ i. whole c.args.start (c.new.ensures.value i) (a.ensures.core i) (a.ensures.keepalive i))
+    c.first_meters.ensures c.credentials-rows.ensures.value
 
 pub invariant_of-result : goal.invariant_of-result
-invariant_of-result g c = (at_most _ _ c.new-authenticator.ensures.latest, at_most 0 0 refl)
+invariant_of-result g c = (at_most _ _ c.new-authenticator.ensures.latest, bounded_first _ _ c.first_meters.ensures)
 
 pub overflow_cast-rows : goal.overflow_cast-rows
 overflow_cast-rows g c = let few = c.credentials-rows.ensures.few in omega (arith, few.0, few.1)

@@ -1,0 +1,14 @@
+use Rattle.token_session.specs.Machine.{start_state}
+use Rattle.token_session.proofs.Metering.{begins}
+use Rattle.token_session.proofs.Passing.{whole}
+use Rattle.token_session.proofs.session.Session.load.Goals as goal
+
+pub returns-in-Ok : goal.returns-in-Ok
+unfolding start_state
+returns-in-Ok g c =
+    let e = c.in-Ok.ensures in (
+      e.0,
+      e.1,
+      begins _ _ _ _ (λ i. whole c.args.start (c.new-self-inside.ensures.value i) (e.2 i) (e.4 i))
+          c.first_meters-self-inside.ensures c.credentials.ensures.value,
+    )
