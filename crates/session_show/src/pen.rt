@@ -14,6 +14,8 @@ pub struct Pen {
     /// How many bytes are still to pass over.
     before: usize,
     part: ArrayVec<u8, PART>,
+    /// Whether what is written stands in a JSON text.
+    is_quoted: bool,
 }
 
 /// Returns the digit of a number below 16.
@@ -34,6 +36,7 @@ impl Pen {
         Pen {
             before: 0,
             part: ArrayVec::new(),
+            is_quoted: false,
         }
     }
 
@@ -41,6 +44,7 @@ impl Pen {
     pub fn begin(&mut self, before: usize) {
         self.before = before;
         self.part.clear();
+        self.is_quoted = false;
     }
 
     /// The part of the text so far.
@@ -68,9 +72,28 @@ impl Pen {
             .try_extend_from_slice(rest.split_at(room.min(rest.len())).0);
     }
 
+    /// Begins a JSON text, or ends it: in one a backslash is written before `"` and `\`.
+    pub fn quote(&mut self, is_quoted: bool) {
+        self.is_quoted = is_quoted;
+    }
+
     /// Writes a text.
     pub fn text(&mut self, text: &str) {
-        self.bytes(text.as_bytes());
+        if self.is_quoted {
+            self.quoted(text);
+        } else {
+            self.bytes(text.as_bytes());
+        }
+    }
+
+    /// Writes a text in a JSON text.
+    fn quoted(&mut self, text: &str) {
+        for byte in text.as_bytes() {
+            if matches!(byte, b'"' | b'\\') {
+                self.bytes(b"\\");
+            }
+            self.bytes(&[*byte]);
+        }
     }
 
     /// Writes a number in decimal digits.
@@ -102,8 +125,14 @@ impl Pen {
 
     /// Writes a character as `\u` and four digits.
     pub fn escape(&mut self, high: u8, low: u8) {
-        let [first, second] = digits(high);
-        let [third, fourth] = digits(low);
-        self.bytes(&[b'\\', b'u', first, second, third, fourth]);
+        let len = if self.is_quoted { 7 } else { 6 };
+        // Most of a long text may be escapes, which are passed over at once.
+        if len <= self.before {
+            self.before -= len;
+            return;
+        }
+        self.text("\\u");
+        self.bytes(&digits(high));
+        self.bytes(&digits(low));
     }
 }
