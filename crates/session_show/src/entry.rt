@@ -144,8 +144,14 @@ fn write_front(pen: &mut Pen, number: u64, kind: &str, first: u8, item: &[u8]) {
     pen.decimal(number);
     pen.text(kind);
     pen.hex(&[first]);
-    if !item.is_empty() {
-        pen.text(" ");
+    if item.is_empty() {
+        return;
+    }
+    pen.text(" ");
+    // An item may be long, so it isn't written again for the parts after it.
+    if !pen.pass_known() {
+        let before = pen.before();
         Diagnostic(item).write(pen);
+        pen.know(before);
     }
 }

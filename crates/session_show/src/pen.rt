@@ -16,6 +16,8 @@ pub struct Pen {
     part: ArrayVec<u8, PART>,
     /// Whether what is written stands in a JSON text.
     is_quoted: bool,
+    /// How long a piece is that is written at most once in the text, where that is known from an earlier part.
+    known: Option<usize>,
 }
 
 /// Returns the digit of a number below 16.
@@ -37,6 +39,7 @@ impl Pen {
             before: 0,
             part: ArrayVec::new(),
             is_quoted: false,
+            known: None,
         }
     }
 
@@ -45,6 +48,32 @@ impl Pen {
         self.before = before;
         self.part.clear();
         self.is_quoted = false;
+        if before == 0 {
+            self.known = None;
+        }
+    }
+
+    /// Returns how many bytes are still to pass over.
+    pub fn before(&self) -> usize {
+        self.before
+    }
+
+    /// Passes over a piece whose length is known, and returns whether it did.
+    pub fn pass_known(&mut self) -> bool {
+        match self.known {
+            Some(len) if len <= self.before => {
+                self.before -= len;
+                true
+            }
+            _ => false,
+        }
+    }
+
+    /// Keeps the length of a piece that was passed over, when so many bytes were still to pass over before it.
+    pub fn know(&mut self, before: usize) {
+        if self.before > 0 {
+            self.known = Some(before.saturating_sub(self.before));
+        }
     }
 
     /// The part of the text so far.
