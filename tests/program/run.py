@@ -9,6 +9,7 @@ Exit status: 1 where something isn't as it should be.
 
 from __future__ import annotations
 
+import json
 import os
 import resource
 import shutil
@@ -497,6 +498,8 @@ def several_are_checked(room: Path) -> None:
     loaded = run(["check", "--load", str(SNAPSHOT)], stdin=AGAIN).stdout
     said = run(["check", "--load", str(SNAPSHOT), "-", str(AGAIN)], stdin=AGAIN)
     wants(said, 0, b"", b"-: " + loaded + f"{AGAIN}: ".encode() + loaded)
+    mixed = run(["check", str(good), "-", str(again)], again.read_bytes())
+    wants(mixed, 0, b"", f"{good}: ".encode() + same + b"-: " + more + f"{again}: ".encode() + more)
     wants(
         run(["check", "--load", "/none", str(good), str(good)]),
         2,
@@ -506,6 +509,34 @@ def several_are_checked(room: Path) -> None:
     for command in ("replay", "live", "quiet", "show"):
         said = run([command, str(good), str(again)])
         assert said.returncode == 2 and b"unexpected argument" in said.stderr and said.stdout == b""
+
+
+def forms_are_shown(room: Path) -> None:
+    """`show --summary` and `show --json` say other things than lines, of a log with a fault too; JSON comes first."""
+    log = EXAMPLES / "sign_in.log"
+    lines = run(["show", str(log)]).stdout
+    summary = run(["show", "--summary", str(log)])
+    wants(summary, 0, b"")
+    assert b"authenticatorGetAssertion" in summary.stdout and summary.stdout != lines
+    for words in (["show", "--json"], ["show", "--summary", "--json"]):
+        said = run([*words, str(log)])
+        wants(said, 0, b"")
+        objects = [json.loads(line) for line in said.stdout.splitlines()]
+        assert len(objects) > 20 and all(isinstance(it, dict) for it in objects)
+    bad = room / "bad.log"
+    bad.write_bytes(log.read_bytes() + b"t 5x\n")
+    count = len(bad.read_bytes().splitlines())
+    told = f"hidlog: line {count}: not a log line\n  byte 4 is 'x', which fits no log line here\n".encode()
+    said = run(["show", "--summary", str(bad)])
+    wants(said, 1, told, summary.stdout)
+    said = run(["show", "--json", str(bad)])
+    wants(said, 1, told)
+    assert [json.loads(line) for line in said.stdout.splitlines()][-1] not in objects
+    for form in ("--summary", "--json"):
+        with open("/dev/full", "wb") as out:
+            ended = subprocess.run([PROGRAM, "show", form, str(log)], stdout=out, stderr=subprocess.PIPE)
+        full = b"hidlog: writing failed\n  standard output: No space left on device (os error 28)\n"
+        wants(ended, 1, full)
 
 
 def a_full_output_ends_several(_: Path) -> None:
@@ -579,7 +610,16 @@ def little_stack_is_enough(_: Path) -> None:
         resource.setrlimit(resource.RLIMIT_STACK, (STACK, resource.RLIM_INFINITY))
 
     log = (EXAMPLES / "registration.log").read_bytes()
-    for words in (["replay"], ["live"], ["check"], ["quiet"], ["show"], ["--help"]):
+    for words in (
+        ["replay"],
+        ["live"],
+        ["check"],
+        ["quiet"],
+        ["show"],
+        ["--help"],
+        ["show", "--summary"],
+        ["show", "--json"],
+    ):
         wants(run(words, log, before=small), 0, b"")
     wants(run(["replay", "--load", str(SNAPSHOT)], AGAIN.read_bytes(), before=small), 0, b"")
 
@@ -618,6 +658,7 @@ TESTS = [
     bad_files_are_told,
     faults_of_files_say_why,
     several_are_checked,
+    forms_are_shown,
     a_full_output_ends_several,
     many_files_take_no_memory,
     the_named_log_is_kept,

@@ -16,6 +16,7 @@ use Rattle.clap.specs.declared.builder.command.Command.TheViews.{out-Command as 
 use Rattle.clap.specs.declared.parser.matches.ArgMatches.{ArgMatches}
 use Rattle.clap.specs.declared.parser.matches.Found.{Found}
 use Rattle.clap.specs.declared.error.kind.ErrorKind.TheVariants as kind
+use Rattle.hidlog.specs.declared.command_line.Form.TheVariants.{Lines}
 use Rattle.hidlog.specs.CommandLine.{AddsCommand, ask_of, asked_by, grammar, answers_to, logs_of, replay, live, check, quiet, show}
 
 -- the rules of which clap's clauses speak
@@ -251,6 +252,6 @@ pub plain_quiet : (name : Text) → asked_by (name ∷ codes "quiet" ∷ []) ≡
 unfolding asked_by answers_to clap_on_literals
 plain_quiet name = refl
 
-pub plain_show : (name : Text) → asked_by (name ∷ codes "show" ∷ []) ≡ Some (show None)
+pub plain_show : (name : Text) → asked_by (name ∷ codes "show" ∷ []) ≡ Some (show Lines None)
 unfolding asked_by answers_to clap_on_literals
 plain_show name = refl

@@ -3,6 +3,7 @@ use Rattle.std.proofs.Common.{◌≡◌, ℕ, List, [], ◌∷◌, Option, Some,
 use Rattle.clap.proofs.OnLiterals.{clap_on_literals}
 use Rattle.clap.specs.Kinds.{Kinds}
 use Rattle.clap.specs.declared.error.kind.ErrorKind.TheVariants.{DisplayVersion}
+use Rattle.hidlog.specs.declared.command_line.Form.TheVariants.{Json, Lines, Summary}
 use Rattle.hidlog.specs.CommandLine.{Ask, replay, live, check, quiet, show, answers_to, asked_by}
 
 -- what clap answers to these words after the program's name
@@ -39,7 +40,7 @@ quiet_alone : asked (codes "quiet" ∷ []) ≡ Some (quiet None None)
 unfolding asked
 quiet_alone = refl
 
-show_alone : asked (codes "show" ∷ []) ≡ Some (show None)
+show_alone : asked (codes "show" ∷ []) ≡ Some (show Lines None)
 unfolding asked
 show_alone = refl
 
@@ -60,3 +61,12 @@ one_to_show = refl
 hyphens_end_options : asked (codes "quiet" ∷ codes "--" ∷ codes "-a" ∷ []) ≡ Some (quiet None (Some (codes "-a")))
 unfolding asked
 hyphens_end_options = refl
+
+-- a summary, and JSON, which comes before it
+summary_asked : asked (codes "show" ∷ codes "--summary" ∷ codes "a.log" ∷ []) ≡ Some (show Summary (Some (codes "a.log")))
+unfolding asked
+summary_asked = refl
+
+json_asked : asked (codes "show" ∷ codes "--json" ∷ codes "--summary" ∷ []) ≡ Some (show Json None)
+unfolding asked
+json_asked = refl

@@ -1,6 +1,7 @@
 -- Which words ask for what, by the rules of `clap`.
-use Rattle.std.specs.Prelude.{◌≡◌, ℕ, Result, IsOkAnd, true, false, List, [], ◌∷◌, Option, Some, None, codes, option_map, option_and_then, unwrap_or, map, if◌then◌else◌}
+use Rattle.std.specs.Prelude.{◌≡◌, ℕ, Bool, Result, IsOkAnd, true, false, List, [], ◌∷◌, Option, Some, None, codes, option_map, option_and_then, unwrap_or, map, if◌then◌else◌}
 use Rattle.std.specs.Borrow.{Bor}
+use Rattle.std.specs.Option.{option_map_or}
 use Rattle.std.specs.Str.{bytes_eq}
 use Rattle.clap.specs.Simple.{App, Shape, app_of, new_rule, new_shape, shape_of, subcommand_of, with_subcommand}
 use Rattle.clap.specs.declared.builder.command.Command.{Command}
@@ -8,7 +9,9 @@ use Rattle.clap.specs.declared.builder.command.Command.TheViews.{out-Command as 
 use Rattle.clap.specs.Kinds.{Kinds}
 use Rattle.clap.specs.Faults.{fault_of}
 use Rattle.clap.specs.Walk.{Row, Rule, all_of, first_of}
-use Rattle.clap.specs.declared.builder.action.ArgAction.TheVariants.{Append}
+use Rattle.clap.specs.declared.builder.action.ArgAction.TheVariants.{Append, SetTrue}
+use Rattle.hidlog.specs.declared.command_line.Form.{Form}
+use Rattle.hidlog.specs.declared.command_line.Form.TheVariants.{Json, Lines, Summary}
 use Rattle.hidlog.specs.declared.command_line.Task.{Task}
 use Rattle.hidlog.specs.declared.command_line.Task.TheVariants.{Replay, Live, Check, Quiet, Show}
 
@@ -17,6 +20,10 @@ use Rattle.hidlog.specs.declared.command_line.Task.TheVariants.{Replay, Live, Ch
 -- an option with a value, the path of a snapshot
 abbrev pub path_option : List ℕ → Rule
 path_option name = record (new_rule name) { long = Some name; value_names = 1 }
+
+-- an option without a value
+abbrev pub flag : List ℕ → Rule
+flag name = record (new_rule name) { long = Some name; action = Some SetTrue }
 
 -- the path of a log, and those of any number of logs
 abbrev pub log_path : Rule
@@ -37,7 +44,7 @@ grammar = record {
       ∷ command (codes "live") (path_option (codes "load") ∷ path_option (codes "save") ∷ log_path ∷ [])
       ∷ command (codes "check") (path_option (codes "load") ∷ log_paths ∷ [])
       ∷ command (codes "quiet") (path_option (codes "load") ∷ log_path ∷ [])
-      ∷ command (codes "show") (log_path ∷ [])
+      ∷ command (codes "show") (flag (codes "summary") ∷ flag (codes "json") ∷ log_path ∷ [])
       ∷ [];
 }
 
@@ -59,7 +66,7 @@ pub data Ask : Type 0 where
   live : (load save log : Option (List ℕ)) → Ask
   check : (load : Option (List ℕ)) (logs : List (List ℕ)) → Ask
   quiet : (load log : Option (List ℕ)) → Ask
-  show : (log : Option (List ℕ)) → Ask
+  show : (form : Form) (log : Option (List ℕ)) → Ask
 
 abbrev pub path_of : Option (Bor (List ℕ)) → Option (List ℕ)
 path_of = option_map (λ path. path.now)
@@ -73,7 +80,15 @@ asks (Replay load save log) = replay (path_of load) (path_of save) (path_of log)
 asks (Live load save log) = live (path_of load) (path_of save) (path_of log)
 asks (Check load logs) = check (path_of load) (texts_of logs.items)
 asks (Quiet load log) = quiet (path_of load) (path_of log)
-asks (Show log) = show (path_of log)
+asks (Show form log) = show form (path_of log)
+
+-- whether an option without a value was found
+abbrev pub is_set : List ℕ → List Row → Bool
+is_set name found = option_map_or (λ text. bytes_eq text (codes "true")) (first_of name found) false
+
+-- the form that is asked for: JSON before a summary
+abbrev pub form_of : List Row → Form
+form_of found = if is_set (codes "json") found then Json else if is_set (codes "summary") found then Summary else Lines
 
 -- the paths of logs that were found
 abbrev pub logs_of : List Row → List (List ℕ)
@@ -89,7 +104,7 @@ ask_of (name, found) =
     else if bytes_eq name (codes "check") then Some (check (first_of (codes "load") found) (logs_of found))
     else if bytes_eq name (codes "quiet") then Some (quiet (first_of (codes "load") found)
     (first_of (codes "log") found))
-    else if bytes_eq name (codes "show") then Some (show (first_of (codes "log") found))
+    else if bytes_eq name (codes "show") then Some (show (form_of found) (first_of (codes "log") found))
     else None
 
 abbrev pub unless : Kinds → Option Ask → Option Ask

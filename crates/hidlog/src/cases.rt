@@ -14,11 +14,11 @@ use std::io::{self, Error, ErrorKind};
 use std::process::Abort;
 use std::str;
 
-/// A log on standard input, beside which the file `log` has these bytes, and no other file any.
+/// A log on standard input, which the file `log` has too, and no other file.
 #[derive(Drop)]
 struct TextLog<'a> {
     rest: SliceIn<'a>,
-    file: &'a [u8],
+    whole: &'a [u8],
 }
 
 impl<'a> Source for TextLog<'a> {
@@ -46,8 +46,12 @@ impl Logs for TextLog<'_> {
         if path != "log" {
             return Err(Error::from(ErrorKind::NotFound));
         }
-        self.rest = SliceIn::new(self.file);
+        self.rest = SliceIn::new(self.whole);
         Ok(())
+    }
+
+    fn restart(&mut self) {
+        self.rest = SliceIn::new(self.whole);
     }
 
     fn lines(&self) -> &[u8] {
@@ -130,7 +134,7 @@ pub fn assert_run<R: Abort, D: Files>(
         words.as_slice(),
         &mut TextLog {
             rest: SliceIn::new(texts.log.as_bytes()),
-            file: texts.log.as_bytes(),
+            whole: texts.log.as_bytes(),
         },
         &mut ToWrite::new(&mut out),
         &mut ToWrite::new(&mut told),

@@ -2,8 +2,8 @@
 ghost use Rattle.std.specs.Prelude.{◌≡◌, [], ◌∷◌, false, Some, codes, IfOk, IfErr, IfSome, option_map, option_and_then};
 ghost use Rattle.clap.specs.Words.{HasKind, app_of, rule_of, shape_of, subcommand_rows_of};
 ghost use Rattle.clap.specs.declared.builder.command.Command.TheViews.{out-Command as fields_of};
-ghost use Rattle.hidlog.specs.CommandLine.{AddsCommand, command, grammar, log_path, log_paths, path_option};
-ghost use Rattle.hidlog.specs.CommandLine.{answers_to, ask_of, asked_by, asks, logs_of, texts_of};
+ghost use Rattle.hidlog.specs.CommandLine.{AddsCommand, command, flag, grammar, log_path, log_paths, path_option};
+ghost use Rattle.hidlog.specs.CommandLine.{answers_to, ask_of, asked_by, asks, form_of, is_set as is_found, logs_of, texts_of};
 ghost use Rattle.clap.specs.Matches.{found_of};
 ghost use Rattle.clap.specs.Walk.{rows_of};
 
@@ -13,6 +13,17 @@ use std::alloc::{AllocError, Global};
 
 /// The version, which CHANGELOG.md describes.
 const VERSION: &str = "0.2.0";
+
+/// How a log is shown.
+#[derive(Clone, Copy, Debug, PartialEq, Eq)]
+pub enum Form {
+    /// Line by line.
+    Lines,
+    /// As a summary of the session.
+    Summary,
+    /// As objects of JSON.
+    Json,
+}
 
 /// What the program is asked to do, with the paths of snapshots and logs as they are.
 #[derive(Debug, Drop)]
@@ -39,8 +50,9 @@ pub enum Task<'a> {
         load: Option<&'a str>,
         log: Option<&'a str>,
     },
-    /// `hidlog show [FILE]`
+    /// `hidlog show [--summary] [--json] [FILE]`
     Show {
+        form: Form,
         log: Option<&'a str>,
     },
 }
@@ -64,6 +76,28 @@ fn save<'a>(alloc: Global) -> Arg<'a>
         "Writes a snapshot of the credentials to F at the end, unless the log has a fault; a kill within that write can \
          lose the old one, so save to a new file and then mv it to F",
     )
+}
+
+/// The option `--summary`.
+fn summary<'a>(alloc: Global) -> Arg<'a>
+    ensures rule { rule_of result ≡ flag (codes "summary") }
+    ensures local { result.global ≡ false }
+{
+    Arg::new(alloc, "summary")
+        .long("summary")
+        .action(ArgAction::SetTrue)
+        .help("Writes a summary of the session: its transactions in a table, credentials, noise")
+}
+
+/// The option `--json`.
+fn json<'a>(alloc: Global) -> Arg<'a>
+    ensures rule { rule_of result ≡ flag (codes "json") }
+    ensures local { result.global ≡ false }
+{
+    Arg::new(alloc, "json")
+        .long("json")
+        .action(ArgAction::SetTrue)
+        .help("Writes an object of JSON a line, for scripts")
 }
 
 /// The path of a log.
@@ -143,11 +177,14 @@ fn quiet<'a>(alloc: Global) -> Result<Command<'a>, AllocError>
 
 /// The command `show`.
 fn show<'a>(alloc: Global) -> Result<Command<'a>, AllocError>
-    ensures shape { IfOk result (λ made. shape_of made ≡ command (codes "show") (log_path ∷ [])) }
+    ensures shape { IfOk result (λ made. shape_of made ≡ command (codes "show")
+        (flag (codes "summary") ∷ flag (codes "json") ∷ log_path ∷ [])) }
     ensures local { IfOk result (λ made. (fields_of made).has_globals ≡ false) }
 {
     Command::new(alloc, "show")
         .about("Writes what the log's lines say, line by line")
+        .arg(summary(alloc))?
+        .arg(json(alloc))?
         .arg(log(alloc))
 }
 
@@ -172,6 +209,29 @@ fn program<'a>(alloc: Global) -> Result<Command<'a>, AllocError>
     let played = with_command(with_command(named, replay(alloc))?, live(alloc))?;
     let read = with_command(with_command(played, check(alloc))?, quiet(alloc))?;
     with_command(read, show(alloc))
+}
+
+/// Returns whether an option without a value was found.
+fn is_set(options: &ArgMatches<'_>, name: &str) -> bool
+    ensures { result ≡ is_found name.now (rows_of (found_of options.now)) }
+{
+    match options.get_str(name) {
+        Some(text) => text == "true",
+        None => false,
+    }
+}
+
+/// Returns the form that is asked for.
+fn form_in(options: &ArgMatches<'_>) -> Form
+    ensures { result ≡ form_of (rows_of (found_of options.now)) }
+{
+    if is_set(options, "json") {
+        Form::Json
+    } else if is_set(options, "summary") {
+        Form::Summary
+    } else {
+        Form::Lines
+    }
 }
 
 /// Returns the paths of logs that were found.
@@ -214,6 +274,7 @@ fn task_in<'a>(alloc: Global, matches: &ArgMatches<'a>) -> Result<Option<Task<'a
             log: options.get_str("log"),
         })),
         "show" => Ok(Some(Task::Show {
+            form: form_in(options),
             log: options.get_str("log"),
         })),
         _ => Ok(None),
@@ -233,7 +294,10 @@ fn plain_task<'a>(alloc: Global, program: &str, name: &str) -> Option<Task<'a>>
             logs: Vec::new(alloc),
         }),
         "quiet" => Some(Task::Quiet { load, log }),
-        "show" => Some(Task::Show { log }),
+        "show" => Some(Task::Show {
+            form: Form::Lines,
+            log,
+        }),
         _ => None,
     }
 }

@@ -20,6 +20,10 @@ pub trait Logs: Source {
             (λ _. unopenable self.old path.now × (self.new ≡ self.old)) }
         ensures counted { Self.failed self.new ≡ Self.failed self.old };
 
+    /// Reads standard input from now on, whatever was read before.
+    fn restart(&mut self)
+        ensures { Self.failed self.new ≡ Self.failed self.old };
+
     /// Returns the lines that were read last, without the front of one that is remembered in part.
     fn lines(&self) -> &[u8];
 
@@ -125,6 +129,18 @@ impl<'a> HostLog<'a> {
         })
     }
 
+    /// Begins to read a stream, of which it is said first what is awaited, where that may be a terminal.
+    fn begin(&mut self, stream: Stream, is_new: bool)
+        ensures { self.new.failures ≡ self.old.failures }
+    {
+        self.stream = Patient::new(stream);
+        self.is_new = is_new;
+        self.at = 0;
+        self.end = 0;
+        self.forgot = false;
+        self.ended = false;
+    }
+
     /// Returns what the log is called: its path, where it has one.
     pub fn name(&self) -> &str {
         self.name.as_str()
@@ -185,13 +201,12 @@ impl Logs for HostLog<'_> {
     fn open(&mut self, path: &str) -> io::Result<()> {
         let file = open_file(self.rt, path)?;
         self.name = String::from_str(self.rt.alloc(), path)?;
-        self.stream = Patient::new(Stream::Named(file));
-        self.is_new = false;
-        self.at = 0;
-        self.end = 0;
-        self.forgot = false;
-        self.ended = false;
+        self.begin(Stream::Named(file), false);
         Ok(())
+    }
+
+    fn restart(&mut self) {
+        self.begin(Stream::Standard(self.rt.stdin()), true);
     }
 
     fn lines(&self) -> &[u8] {

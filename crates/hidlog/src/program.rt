@@ -1,11 +1,13 @@
 //! The program over any source and targets.
 ghost use Rattle.std.specs.Prelude.{◌≡◌, ◌<◌, ◌-◌, ◌^◌, ◌⊎◌, ◌∷◌, [], None, Some, Result, IfErr, IsSomeAnd, MatchOption, OnOk, OnErr, codes, option_and_then};
 ghost use Rattle.clap.specs.Words.{kind_of};
+ghost use Rattle.session_log.specs.Command.{status_of};
+ghost use Rattle.session_log.specs.Streams.{IsAllRead};
 ghost use Rattle.hidlog.specs.CommandLine.{check, live, named, quiet, replay, show as shown, path_of, texts_of};
 ghost use Rattle.hidlog.specs.Program.{Explains, IsTold, cannot_read_log};
 ghost use Rattle.hidlog.specs.Commands.{Answers, Compares, Does};
 
-use crate::command_line::{Task, task_of};
+use crate::command_line::{Form, Task, task_of};
 use crate::files::Files;
 use crate::logs::Logs;
 use crate::process::{log_fault, no_memory, tell, tell_why};
@@ -13,8 +15,10 @@ use crate::several::check_each;
 use crate::snapshots::{begin, look, save_rows};
 use clap::Error;
 use clap::error::ErrorKind;
-use session_log::{Target, check_command, live_command, put_all, quiet_command, replay_command};
-use session_show::show;
+use session_log::{
+    LogFault, Target, check_command, live_command, put_all, quiet_command, replay_command,
+};
+use session_show::{Summary, put_json_fault, show, show_json, summarize};
 use std::alloc::Global;
 
 /// Writes what clap answers: help to the output, what is wrong with the words to the faults. The status is
@@ -212,11 +216,58 @@ where
     quiet_command(session, input, output, faults)
 }
 
+/// Writes a summary of the log, also of one with a fault, up to there.
+#[inline(never)]
+fn show_summary<L: Logs, O: Target>(input: &mut L, output: &mut O) -> Result<(), LogFault>
+    requires reads { L.failed input.old < 2 ^ 64 - 1 }
+    requires writes { O.failed output.old < 2 ^ 64 - 1 }
+    ensures { OnOk result (IsAllRead L.left L.ended input.new) }
+{
+    let mut summary = Summary::new();
+    let ended = summarize(input, output, &mut summary);
+    if output.failures() == u64::MAX || ended == Err(LogFault::Write) {
+        return Err(LogFault::Write);
+    }
+    match summary.put(output) {
+        Ok(()) => ended,
+        Err(_) => Err(LogFault::Write),
+    }
+}
+
+/// Writes the log as objects of JSON. A fault is the last one.
+#[inline(never)]
+fn show_objects<L: Logs, O: Target>(input: &mut L, output: &mut O) -> Result<(), LogFault>
+    requires reads { L.failed input.old < 2 ^ 64 - 1 }
+    requires writes { O.failed output.old < 2 ^ 64 - 1 }
+    ensures { OnOk result (IsAllRead L.left L.ended input.new) }
+{
+    let ended = show_json(input, output);
+    if let Err(fault) = &ended {
+        if *fault != LogFault::Write && output.failures() < u64::MAX {
+            let _ = put_json_fault(output, fault);
+        }
+    }
+    ended
+}
+
+/// Writes the fault that a log was shown up to, if it has one. An error holds the exit status, 1.
+fn shown_to<E: Target>(faults: &mut E, answer: Result<(), LogFault>) -> Result<(), u8>
+    requires { E.failed faults.old < 2 ^ 64 - 1 }
+    ensures status { result ≡ status_of answer }
+    ensures silent { OnOk result (faults.new ≡ faults.old) }
+{
+    match answer {
+        Ok(()) => Ok(()),
+        Err(fault) => Err(log_fault(faults, &fault)),
+    }
+}
+
 /// Shows the log.
 #[inline(never)]
 fn show_log<D, L, O, E>(
     files: &D,
     alloc: Global,
+    form: Form,
     log: Option<&str>,
     input: &mut L,
     output: &mut O,
@@ -232,13 +283,23 @@ where
     requires tells { E.failed faults.old < 2 ^ 64 - 1 }
     ensures status { IfErr result (λ code. (code ≡ 1) ⊎ (code ≡ 2)) }
     ensures does { Does D.holds D.unreadable D.written D.unwritten D.unwritable L.opened L.unopenable L.left L.failed L.ended
-        O.taken O.failed E.taken E.failed (shown (path_of log.entry)) result
+        O.taken O.failed E.taken E.failed (shown form (path_of log.entry)) result
         (files.now, files.now) (input.old, input.new) (output.old, output.new) (faults.old, faults.new) }
 {
     open_log(input, alloc, log, faults)?;
-    match show(input, output) {
-        Ok(()) => Ok(()),
-        Err(fault) => Err(log_fault(faults, &fault)),
+    match form {
+        Form::Lines => {
+            let answer = show(input, output);
+            shown_to(faults, answer)
+        }
+        Form::Summary => {
+            let answer = show_summary(input, output);
+            shown_to(faults, answer)
+        }
+        Form::Json => {
+            let answer = show_objects(input, output);
+            shown_to(faults, answer)
+        }
     }
 }
 
@@ -311,7 +372,7 @@ where
         Ok(Task::Quiet { load, log }) => {
             quiet_log(files, alloc, load, log, input, output, faults)
         }
-        Ok(Task::Show { log }) => show_log(files, alloc, log, input, output, faults),
+        Ok(Task::Show { form, log }) => { show_log(files, alloc, form, log, input, output, faults) }
         Err(error) => explain(alloc, &error, output, faults),
     }
 }

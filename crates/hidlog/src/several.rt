@@ -9,7 +9,7 @@ use crate::program::check_log;
 use session_log::{Failed, Target, ToWrite, put_all};
 use std::alloc::Global;
 
-/// The front of a fault's text that names a line. The program's name in it gives way to the log's path.
+/// The front of a fault's text that names a line. The log's path comes in place of the program's name.
 const FAULT: &[u8] = b"hidlog: line ";
 
 const OWN_NAME: &[u8] = b"hidlog: ";
@@ -71,6 +71,9 @@ where
     requires tells { E.failed faults.old < 2 ^ 64 - 1 }
     ensures { IfErr result (λ code. (code ≡ 1) ⊎ (code ≡ 2)) }
 {
+    if path == "-" {
+        input.restart();
+    }
     let (mut same, mut told) = (Vec::new(alloc), Vec::new(alloc));
     let ended = check_log(
         files,

@@ -110,7 +110,7 @@ const LOGS: &str = "\
 -> 0 ffffffff8600080001020304050607..
 -< ffffffff860011000102030405060700000001020100000c..
 +log: same 1 inputs 1 packets
-+-: same 0 inputs 0 packets
++-: same 1 inputs 1 packets
 
 1 hidlog check log log
 -# idle

@@ -1,6 +1,6 @@
 use Rattle.std.proofs.Common.{◌≡◌, [], ◌∷◌, codes, rules, true}
 use Rattle.clap.specs.Simple.{App, app_of, new_app, on_top, with_subcommand}
-use Rattle.hidlog.specs.CommandLine.{command, log_path, log_paths, path_option}
+use Rattle.hidlog.specs.CommandLine.{command, flag, log_path, log_paths, path_option}
 use Rattle.hidlog.proofs.CommandLine.{last_one, one_more}
 use Rattle.hidlog.proofs.command_line.program.Goals as goal
 
@@ -20,5 +20,5 @@ returns c =
     one_more c.in_ok-played.played c.in_ok-with_command-2.field-0 c.check.result (with_subcommand (with_subcommand alone replay) live) check c.in_ok-with_command-2.ensures c.check.ensures.shape c.check.ensures.local two in
     let four : app_of c.in_ok-read.read ≡ with_subcommand (with_subcommand (with_subcommand (with_subcommand alone replay) live) check) quiet =
     one_more c.in_ok-with_command-2.field-0 c.in_ok-read.read c.quiet.result (with_subcommand (with_subcommand (with_subcommand alone replay) live) check) quiet c.in_ok-read.ensures c.quiet.ensures.shape c.quiet.ensures.local three in
-    last_one c.in_ok-read.read c.with_command-5.result c.show.result (with_subcommand (with_subcommand (with_subcommand (with_subcommand alone replay) live) check) quiet) (command (codes "show") (log_path ∷ []))
+    last_one c.in_ok-read.read c.with_command-5.result c.show.result (with_subcommand (with_subcommand (with_subcommand (with_subcommand alone replay) live) check) quiet) (command (codes "show") (flag (codes "summary") ∷ flag (codes "json") ∷ log_path ∷ []))
     c.with_command-5.ensures c.show.ensures.shape c.show.ensures.local four

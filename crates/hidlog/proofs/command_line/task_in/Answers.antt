@@ -1,4 +1,4 @@
-use Rattle.std.proofs.Common.{Some, codes, sym, ◌∙◌, ap, ap₂}
+use Rattle.std.proofs.Common.{Some, codes, sym, ◌∙◌, ap₂}
 use Rattle.clap.specs.Matches.{found_of}
 use Rattle.clap.specs.Walk.{rows_of}
 use Rattle.hidlog.specs.CommandLine.{replay, live, check, quiet, show, path_of}
@@ -47,6 +47,6 @@ pub returns-in-show : goal.returns-in-show
 returns-in-show c =
     let found = found_of c.in-Some.options.now in
     let is = met_is c.args.matches.now c.in-Some.name.now found c.in-Some.ensures.name c.in-Some.ensures.rows in
-    ap (λ log. Some (show log))
+    ap₂ (λ form log. Some (show form log)) c.form_in.ensures
     (path_is found (codes "log") (path_of c.get_str-in-show.result) c.get_str-in-show.ensures)
     ∙ sym (asks_of c.args.matches.now c.in-Some.name.now (codes "show") (rows_of found) is c.in-show.is)
