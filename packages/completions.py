@@ -28,11 +28,12 @@ class Option:
 
 @dataclass(frozen=True)
 class Command:
-    """A command, what it does, and its options."""
+    """A command, what it does, its options, and whether logs are named after it."""
 
     name: str
     says: str
     options: list[Option]
+    takes_logs: bool
 
 
 def help_of(program: str, *words: str) -> str:
@@ -50,14 +51,16 @@ def commands_of(program: str) -> list[Command]:
     """Returns the program's commands."""
     listed = help_of(program).partition("Commands:\n")[2].partition("\n\n")[0]
     found = [(it[1], it[2]) for it in COMMAND.finditer(listed + "\n")]
-    return [Command(name, says, options_in(help_of(program, name))) for name, says in found if name != "help"]
+    helps = [(name, says, help_of(program, name)) for name, says in found if name != "help"]
+    return [Command(name, says, options_in(text), "Arguments:\n" in text) for name, says, text in helps]
 
 
 def for_bash(commands: list[Command]) -> str:
-    """Returns the completion of bash. A path is completed after an option that takes one."""
+    """Returns the completion of bash. A path is completed after an option that takes one, and as a log."""
     words = {it.name: [option.long for option in it.options] for it in commands}
     files = "|".join(sorted({option.long for it in commands for option in it.options if option.takes_file}))
     cases = "".join(f"        {name}) words='{' '.join(options)}' ;;\n" for name, options in words.items())
+    logs = "|".join(it.name for it in commands if it.takes_logs)
     return (
         "# Completion of hidlog for bash. Made by packages/completions.py from the program's help.\n"
         "_hidlog() {\n"
@@ -71,6 +74,10 @@ def for_bash(commands: list[Command]) -> str:
         f"        *) words='{' '.join([*words, 'help', '--help', '--version'])}' ;;\n"
         "    esac\n"
         '    mapfile -t COMPREPLY < <(compgen -W "$words" -- "$word")\n'
+        f"    case ${{COMP_WORDS[1]}} in\n        {logs})\n"
+        "            ((COMP_CWORD > 1)) || return\n"
+        '            mapfile -t -O ${#COMPREPLY[@]} COMPREPLY < <(compgen -f -- "$word")\n'
+        "            compopt -o filenames 2>/dev/null ;;\n    esac\n"
         "}\n"
         "complete -F _hidlog hidlog\n"
     )
@@ -88,7 +95,13 @@ def for_zsh(commands: list[Command]) -> str:
         return quoted(f"{option.long}[{option.says}]" + (":file:_files" if option.takes_file else ""))
 
     listed = "".join(f"        {quoted(f'{it.name}:{it.says}')}\n" for it in commands)
-    cases = "".join(f"        {it.name}) _arguments {' '.join(map(spec, it.options))} ;;\n" for it in commands)
+
+    def rest(it: Command) -> str:
+        return " '*:log:_files'" if it.takes_logs else ""
+
+    cases = "".join(
+        f"        {it.name}) _arguments {' '.join(map(spec, it.options))}{rest(it)} ;;\n" for it in commands
+    )
     return (
         "#compdef hidlog\n"
         "# Completion of hidlog for zsh. Made by packages/completions.py from the program's help.\n"
@@ -103,7 +116,7 @@ def for_zsh(commands: list[Command]) -> str:
 def for_fish(commands: list[Command]) -> str:
     """Returns the completion of fish."""
     lines = ["# Completion of hidlog for fish. Made by packages/completions.py from the program's help."]
-    lines.append("complete -c hidlog -f")
+    lines.append("complete -c hidlog -n __fish_use_subcommand -f")
     lines += [f"complete -c hidlog -n __fish_use_subcommand -a {it.name} -d {quoted(it.says)}" for it in commands]
     for it in commands:
         for option in it.options:

@@ -9,6 +9,7 @@ Exit status: 1 where something isn't as it should be.
 
 from __future__ import annotations
 
+import json
 import os
 import resource
 import shutil
@@ -417,12 +418,186 @@ def a_call_that_would_wait_is_told(_: Path) -> None:
     wants(said, 1, f"hidlog: line 1: reading failed\n  standard input: {again}\n".encode(), b"")
 
 
-def a_file_as_an_argument_gets_a_hint(_: Path) -> None:
-    """A log that is named as an argument is told where logs come from."""
-    said = run(["show", "a.log"])
-    assert said.returncode == 2 and b"unexpected argument 'a.log' found" in said.stderr
-    assert said.stderr.endswith(b"hidlog reads the log on standard input: hidlog COMMAND < FILE\n"), said.stderr
-    assert b"standard input" not in run(["show", "--what"]).stderr
+# ---- logs by their names
+
+
+def files_are_read_by_name(room: Path) -> None:
+    """A file that is named is played as it is on standard input, by each command; `-` is standard input."""
+    log = EXAMPLES / "registration.log"
+    for words in (["replay"], ["live"], ["check"], ["quiet"], ["show"]):
+        wanted = run(words, stdin=log)
+        wants(wanted, 0, b"")
+        assert wanted.stdout != b""
+        for given in ([str(log)], ["-"], ["--", str(log)]):
+            said = run([*words, *given], stdin=log if given == ["-"] else None)
+            wants(said, 0, b"", wanted.stdout)
+    odd = room / "-odd \u00e9.log"
+    odd.write_bytes(AGAIN.read_bytes())
+    said = run(["check", "--load", str(SNAPSHOT), "--", str(odd)])
+    wants(said, 0, b"", run(["check", "--load", str(SNAPSHOT)], stdin=AGAIN).stdout)
+
+
+def bad_files_are_told(room: Path) -> None:
+    """A file that isn't there, a folder and an unreadable file are told with the path and the reason. The status is 1,
+    nothing is written, and a snapshot isn't looked at first."""
+    closed = room / "closed.log"
+    closed.write_bytes(INIT)
+    closed.chmod(0)
+    cases = [
+        (f"{room}/none.log", "No such file or directory (os error 2)"),
+        (str(room), "Is a directory (os error 21)"),
+        (str(closed), "Permission denied (os error 13)"),
+        ("", "No such file or directory (os error 2)"),
+    ]
+    for command in ("replay", "live", "check", "quiet", "show"):
+        for path, reason in cases:
+            said = run([command, path], before=as_nobody)
+            wants(said, 1, f"hidlog: cannot read log\n  {path}: {reason}\n".encode(), b"")
+    said = run(["replay", "--load", "/none", f"{room}/none.log"])
+    assert said.returncode == 1 and said.stderr.startswith(b"hidlog: cannot read log\n"), said.stderr
+
+
+def faults_of_files_say_why(room: Path) -> None:
+    """A fault of a file that is named has the same text and reason as on standard input; of a failed read the path."""
+    log = room / "a.log"
+    log.write_bytes(INIT + b"t 5\r\n")
+    for command in ("replay", "live", "quiet", "show"):
+        wants(run([command, str(log)]), 1, run([command], stdin=log).stderr)
+    assert b"byte 4 is a carriage return" in run(["show", str(log)]).stderr
+    reading = ["-P", str(log), "-e", "inject=read:error=EIO:when=1"]
+    wants(
+        run(["replay", str(log)], trace=reading),
+        1,
+        f"hidlog: line 1: reading failed\n  {log}: Input/output error (os error 5)\n".encode(),
+        b"",
+    )
+
+
+def several_are_checked(room: Path) -> None:
+    """`check` compares each file on a session of its own, and says of each what came of it; no other command does."""
+    good, again = EXAMPLES / "registration.log", EXAMPLES / "sign_in.log"
+    same = run(["check"], stdin=good).stdout
+    more = run(["check"], stdin=again).stdout
+    wants(
+        run(["check", str(good), str(again), str(good)]),
+        0,
+        b"",
+        f"{good}: ".encode() + same + f"{again}: ".encode() + more + f"{good}: ".encode() + same,
+    )
+    differs, bad, none = room / "differs.log", room / "bad.log", room / "none.log"
+    differs.write_bytes(INIT + b"t 5\n")
+    bad.write_bytes(b"t 5\nt 6x\n")
+    told = (
+        f"{differs}: line 1: differs at packet 1\n"
+        f"{bad}: line 2: not a log line\n  byte 4 is 'x', which fits no log line here\n"
+        f"hidlog: cannot read log\n  {none}: No such file or directory (os error 2)\n"
+    )
+    paths = [str(it) for it in (differs, bad, none, good)]
+    wants(run(["check", *paths]), 1, told.encode(), f"{good}: ".encode() + same)
+    # Standard input may be one of them, and a snapshot is loaded for each.
+    loaded = run(["check", "--load", str(SNAPSHOT)], stdin=AGAIN).stdout
+    said = run(["check", "--load", str(SNAPSHOT), "-", str(AGAIN)], stdin=AGAIN)
+    wants(said, 0, b"", b"-: " + loaded + f"{AGAIN}: ".encode() + loaded)
+    mixed = run(["check", str(good), "-", str(again)], again.read_bytes())
+    wants(mixed, 0, b"", f"{good}: ".encode() + same + b"-: " + more + f"{again}: ".encode() + more)
+    wants(
+        run(["check", "--load", "/none", str(good), str(good)]),
+        2,
+        b"hidlog: cannot read snapshot\n  /none: No such file or directory (os error 2)\n",
+        b"",
+    )
+    for command in ("replay", "live", "quiet", "show"):
+        said = run([command, str(good), str(again)])
+        assert said.returncode == 2 and b"unexpected argument" in said.stderr and said.stdout == b""
+
+
+def forms_are_shown(room: Path) -> None:
+    """`show --summary` and `show --json` say other things than lines, of a log with a fault too; JSON comes first."""
+    log = EXAMPLES / "sign_in.log"
+    lines = run(["show", str(log)]).stdout
+    summary = run(["show", "--summary", str(log)])
+    wants(summary, 0, b"")
+    assert b"authenticatorGetAssertion" in summary.stdout and summary.stdout != lines
+    for words in (["show", "--json"], ["show", "--summary", "--json"]):
+        said = run([*words, str(log)])
+        wants(said, 0, b"")
+        objects = [json.loads(line) for line in said.stdout.splitlines()]
+        assert len(objects) > 20 and all(isinstance(it, dict) for it in objects)
+    bad = room / "bad.log"
+    bad.write_bytes(log.read_bytes() + b"t 5x\n")
+    count = len(bad.read_bytes().splitlines())
+    told = f"hidlog: line {count}: not a log line\n  byte 4 is 'x', which fits no log line here\n".encode()
+    said = run(["show", "--summary", str(bad)])
+    wants(said, 1, told, summary.stdout)
+    said = run(["show", "--json", str(bad)])
+    wants(said, 1, told)
+    assert [json.loads(line) for line in said.stdout.splitlines()][-1] not in objects
+    for form in ("--summary", "--json"):
+        with open("/dev/full", "wb") as out:
+            ended = subprocess.run([PROGRAM, "show", form, str(log)], stdout=out, stderr=subprocess.PIPE)
+        full = b"hidlog: writing failed\n  standard output: No space left on device (os error 28)\n"
+        wants(ended, 1, full)
+
+
+def a_full_output_ends_several(_: Path) -> None:
+    """Where standard output is full or closed, no further log is compared."""
+    good = str(EXAMPLES / "registration.log")
+    full = b"hidlog: writing failed\n  standard output: No space left on device (os error 28)\n"
+    with open("/dev/full", "wb") as out:
+        said = subprocess.run([PROGRAM, "check", good, good, "/none"], stdout=out, stderr=subprocess.PIPE)
+    wants(said, 1, full)
+
+
+def many_files_take_no_memory(room: Path) -> None:
+    """A thousand logs are compared in the stack and the memory that one takes."""
+    log = room / "a.log"
+    log.write_bytes((EXAMPLES / "registration.log").read_bytes())
+
+    def small() -> None:
+        resource.setrlimit(resource.RLIMIT_STACK, (STACK + 40_000, resource.RLIM_INFINITY))
+        resource.setrlimit(resource.RLIMIT_AS, (24 << 20, 24 << 20))
+
+    said = run(["check", *[str(log)] * 1000], before=small)
+    assert said.returncode == 0 and said.stderr == b"" and len(said.stdout.splitlines()) == 1000, said
+
+
+def the_named_log_is_kept(room: Path) -> None:
+    """--save onto the log that is named is refused, also by another name of it."""
+    log, link = room / "log", room / "link"
+    log.write_bytes(INIT)
+    os.symlink(log, link)
+    for path in (log, link):
+        lost = lacks(room, str(path), "it is the log, which would be lost")
+        wants(run(["live", "--save", str(path), str(log)]), 2, lost, b"")
+        said = run(["replay", "--save", str(path), str(log)])
+        assert said.returncode == 2 and said.stderr == lost and said.stdout.startswith(INIT)
+        assert log.read_bytes() == INIT
+    # What isn't the log may be saved to, whatever standard input is.
+    keys = room / "keys"
+    keys.write_bytes(b"old")
+    wants(run(["replay", "--save", str(keys), str(log)], stdin=keys), 0, b"")
+    assert keys.read_bytes() == bytes.fromhex("a201020280")
+
+
+def at_a_terminal(words: Sequence[str], typed: bytes) -> bytes:
+    """Returns what the program says on standard error where standard input is a terminal at which this is typed."""
+    terminal, end = os.openpty()
+    with subprocess.Popen([PROGRAM, *words], stdin=end, stdout=subprocess.DEVNULL, stderr=subprocess.PIPE) as program:
+        os.close(end)
+        os.write(terminal, typed + b"\x04")
+        _, faults = program.communicate(timeout=30)
+    os.close(terminal)
+    assert program.returncode == 0
+    return faults
+
+
+def a_terminal_is_told(_: Path) -> None:
+    """Where standard input is a terminal and no file is named, it is said once what is awaited."""
+    awaited = b"hidlog: reads a log from the terminal, up to Ctrl-D\n"
+    for words in (["replay"], ["live"], ["check"], ["quiet"], ["show"], ["show", "-"]):
+        assert at_a_terminal(words, b"t 5\nt 6\n") == awaited, words
+    assert at_a_terminal(["show", str(AGAIN)], b"") == b""
+    assert at_a_terminal(["--help"], b"") == b""
 
 
 # ---- what it takes
@@ -435,7 +610,16 @@ def little_stack_is_enough(_: Path) -> None:
         resource.setrlimit(resource.RLIMIT_STACK, (STACK, resource.RLIM_INFINITY))
 
     log = (EXAMPLES / "registration.log").read_bytes()
-    for words in (["replay"], ["live"], ["check"], ["quiet"], ["show"], ["--help"]):
+    for words in (
+        ["replay"],
+        ["live"],
+        ["check"],
+        ["quiet"],
+        ["show"],
+        ["--help"],
+        ["show", "--summary"],
+        ["show", "--json"],
+    ):
         wants(run(words, log, before=small), 0, b"")
     wants(run(["replay", "--load", str(SNAPSHOT)], AGAIN.read_bytes(), before=small), 0, b"")
 
@@ -444,7 +628,12 @@ class Skipped(Exception):
     """Something is missing that a test needs."""
 
 
-TRACED = {a_failed_write_keeps, interrupted_calls_are_tried_again, a_call_that_would_wait_is_told}
+TRACED = {
+    a_failed_write_keeps,
+    faults_of_files_say_why,
+    interrupted_calls_are_tried_again,
+    a_call_that_would_wait_is_told,
+}
 TESTS = [
     live_refuses_first,
     live_needs_permission,
@@ -465,7 +654,15 @@ TESTS = [
     folders_on_standard_input,
     interrupted_calls_are_tried_again,
     a_call_that_would_wait_is_told,
-    a_file_as_an_argument_gets_a_hint,
+    files_are_read_by_name,
+    bad_files_are_told,
+    faults_of_files_say_why,
+    several_are_checked,
+    forms_are_shown,
+    a_full_output_ends_several,
+    many_files_take_no_memory,
+    the_named_log_is_kept,
+    a_terminal_is_told,
     little_stack_is_enough,
 ]
 

@@ -1,5 +1,5 @@
 -- What follows from the rules of `clap` for the words of the program.
-use Rattle.std.proofs.Common.{◌≡◌, ℕ, Bool, true, false, not, ◌&&◌, List, [], ◌∷◌, Option, Some, None, is_some, codes, option_and_then, option_map, Result, Ok, Err, IfOk, refl, sym, ◌∙◌, ap, subst, cond, if◌then◌else◌, ◌||◌}
+use Rattle.std.proofs.Common.{◌≡◌, ℕ, Bool, true, false, not, ◌&&◌, List, [], ◌∷◌, Option, Some, None, is_some, codes, option_and_then, option_map, unwrap_or, Result, Ok, Err, IfOk, refl, sym, ◌∙◌, ap, subst, cond, if◌then◌else◌, ◌||◌}
 use Rattle.std.specs.List.{fold, slice_index_or}
 use Rattle.std.specs.Str.{bytes_eq}
 use Rattle.std.proofs.lemmas.Slice.Eq.{bytes_eq-Decides}
@@ -9,14 +9,15 @@ use Rattle.clap.specs.Lexer.{long_of, short_of}
 use Rattle.clap.specs.Kinds.{Kinds, or_else, check_kinds}
 use Rattle.clap.specs.Faults.{fault_of, check_fault, defaults_fault, entered_fault, level_fault, other_fault, settle_fault, step_fault, turn_fault, walk_fault, word_fault, is_simple_and_free}
 use Rattle.clap.specs.Simple.{App, HasMatchesOf, Shape, is_simple, subcommand_of, argument_words, built, entered, help_shape, names_of, rows_at, shape_of, app_of, subcommand_rows_of, with_subcommand}
-use Rattle.clap.specs.Matches.{first_value, subcommand_name_of}
-use Rattle.clap.proofs.WalkLemmas.{first_value-rows}
+use Rattle.clap.specs.Matches.{first_value, matched_of, raw_values, subcommand_name_of}
+use Rattle.clap.proofs.WalkLemmas.{first_value-rows, raw_values-rows}
 use Rattle.clap.specs.declared.builder.command.Command.{Command}
 use Rattle.clap.specs.declared.builder.command.Command.TheViews.{out-Command as fields_of}
 use Rattle.clap.specs.declared.parser.matches.ArgMatches.{ArgMatches}
 use Rattle.clap.specs.declared.parser.matches.Found.{Found}
 use Rattle.clap.specs.declared.error.kind.ErrorKind.TheVariants as kind
-use Rattle.hidlog.specs.CommandLine.{AddsCommand, ask_of, asked_by, grammar, answers_to, replay, live, check, quiet, show}
+use Rattle.hidlog.specs.declared.command_line.Form.TheVariants.{Lines}
+use Rattle.hidlog.specs.CommandLine.{AddsCommand, ask_of, asked_by, grammar, answers_to, logs_of, replay, live, check, quiet, show}
 
 -- the rules of which clap's clauses speak
 is_simple_grammar : is_simple_and_free grammar ≡ true
@@ -219,27 +220,38 @@ met_is m name found named rows = both_parts (subcommand_rows_of m) name (rows_of
 pub path_is : (found : Found) (id : Text) (path : Option Text) → path ≡ first_value found id → path ≡ first_of id (rows_of found)
 path_is found id path is = is ∙ first_value-rows found id
 
+pub three_paths : {A B : Type 0} (f : A → A → A → B) {a a' b b' d d' : A} → a ≡ a' → b ≡ b' → d ≡ d' → f a b d ≡ f a' b' d'
+three_paths f {a} {a'} {b} {b'} {d} {d'} p q r = ap (λ x. f x b d) p ∙ (ap (λ x. f a' x d) q ∙ ap (f a' b') r)
+
+-- the paths of logs, where some were found, and where none was
+pub logs_are : (found : Found) (logs : List Text) → Some logs ≡ option_map raw_values (matched_of found (codes "log"))
+    → logs ≡ logs_of (rows_of found)
+logs_are found logs is = ap (λ all. unwrap_or all []) (is ∙ raw_values-rows found (codes "log"))
+
+pub no_logs : (found : Found) → None ≡ option_map raw_values (matched_of found (codes "log")) → [] ≡ logs_of (rows_of found)
+no_logs found is = ap (λ all. unwrap_or all []) (is ∙ raw_values-rows found (codes "log"))
+
 pub asks_of : (m : ArgMatches) (name word : Text) (rows : List Row) → subcommand_rows_of m ≡ Some (name, rows) → name ≡ word
     → option_and_then ask_of (subcommand_rows_of m) ≡ ask_of (word, rows)
 asks_of m name word rows is named = ap (option_and_then ask_of) (is ∙ ap (λ n. Some (n, rows)) named)
 
 -- What a command alone asks for, whatever the program's name is.
-pub plain_replay : (name : Text) → asked_by (name ∷ codes "replay" ∷ []) ≡ Some (replay None None)
+pub plain_replay : (name : Text) → asked_by (name ∷ codes "replay" ∷ []) ≡ Some (replay None None None)
 unfolding asked_by answers_to clap_on_literals
 plain_replay name = refl
 
-pub plain_live : (name : Text) → asked_by (name ∷ codes "live" ∷ []) ≡ Some (live None None)
+pub plain_live : (name : Text) → asked_by (name ∷ codes "live" ∷ []) ≡ Some (live None None None)
 unfolding asked_by answers_to clap_on_literals
 plain_live name = refl
 
-pub plain_check : (name : Text) → asked_by (name ∷ codes "check" ∷ []) ≡ Some (check None)
+pub plain_check : (name : Text) → asked_by (name ∷ codes "check" ∷ []) ≡ Some (check None [])
 unfolding asked_by answers_to clap_on_literals
 plain_check name = refl
 
-pub plain_quiet : (name : Text) → asked_by (name ∷ codes "quiet" ∷ []) ≡ Some (quiet None)
+pub plain_quiet : (name : Text) → asked_by (name ∷ codes "quiet" ∷ []) ≡ Some (quiet None None)
 unfolding asked_by answers_to clap_on_literals
 plain_quiet name = refl
 
-pub plain_show : (name : Text) → asked_by (name ∷ codes "show" ∷ []) ≡ Some show
+pub plain_show : (name : Text) → asked_by (name ∷ codes "show" ∷ []) ≡ Some (show Lines None)
 unfolding asked_by answers_to clap_on_literals
 plain_show name = refl

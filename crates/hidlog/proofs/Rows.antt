@@ -3,6 +3,7 @@ use Rattle.std.proofs.Common.{◌≡◌, ℕ, List, [], ◌∷◌, Option, Some,
 use Rattle.clap.proofs.OnLiterals.{clap_on_literals}
 use Rattle.clap.specs.Kinds.{Kinds}
 use Rattle.clap.specs.declared.error.kind.ErrorKind.TheVariants.{DisplayVersion}
+use Rattle.hidlog.specs.declared.command_line.Form.TheVariants.{Json, Lines, Summary}
 use Rattle.hidlog.specs.CommandLine.{Ask, replay, live, check, quiet, show, answers_to, asked_by}
 
 -- what clap answers to these words after the program's name
@@ -18,27 +19,54 @@ version_asked : answers (codes "--version" ∷ []) ≡ DisplayVersion ∷ []
 unfolding answers
 version_asked = refl
 
-replay_alone : asked (codes "replay" ∷ []) ≡ Some (replay None None)
+replay_alone : asked (codes "replay" ∷ []) ≡ Some (replay None None None)
 unfolding asked
 replay_alone = refl
 
-both_options : asked (codes "replay" ∷ codes "--save" ∷ codes "new" ∷ codes "--load" ∷ codes "old" ∷ []) ≡ Some (replay (Some (codes "old")) (Some (codes "new")))
+both_options : asked (codes "replay" ∷ codes "--save" ∷ codes "new" ∷ codes "--load" ∷ codes "old" ∷ []) ≡ Some (replay (Some (codes "old")) (Some (codes "new")) None)
 unfolding asked
 both_options = refl
 
-live_alone : asked (codes "live" ∷ codes "--save" ∷ codes "new" ∷ []) ≡ Some (live None (Some (codes "new")))
+live_alone : asked (codes "live" ∷ codes "--save" ∷ codes "new" ∷ []) ≡ Some (live None (Some (codes "new")) None)
 unfolding asked
 live_alone = refl
 
 -- a value may stand after `=`
-attached : asked (codes "check" ∷ codes "--load=old" ∷ []) ≡ Some (check (Some (codes "old")))
+attached : asked (codes "check" ∷ codes "--load=old" ∷ []) ≡ Some (check (Some (codes "old")) [])
 unfolding asked
 attached = refl
 
-quiet_alone : asked (codes "quiet" ∷ []) ≡ Some (quiet None)
+quiet_alone : asked (codes "quiet" ∷ []) ≡ Some (quiet None None)
 unfolding asked
 quiet_alone = refl
 
-show_alone : asked (codes "show" ∷ []) ≡ Some show
+show_alone : asked (codes "show" ∷ []) ≡ Some (show Lines None)
 unfolding asked
 show_alone = refl
+
+-- a log may be named, before an option and after one, and several to `check` alone
+log_named : asked (codes "replay" ∷ codes "a.log" ∷ codes "--save" ∷ codes "new" ∷ []) ≡ Some (replay None (Some (codes "new")) (Some (codes "a.log")))
+unfolding asked
+log_named = refl
+
+logs_named : asked (codes "check" ∷ codes "a.log" ∷ codes "-" ∷ codes "b.log" ∷ []) ≡ Some (check None (codes "a.log" ∷ codes "-" ∷ codes "b.log" ∷ []))
+unfolding asked
+logs_named = refl
+
+one_to_show : asked (codes "show" ∷ codes "a.log" ∷ codes "b.log" ∷ []) ≡ None
+unfolding asked
+one_to_show = refl
+
+-- a log whose name begins with a hyphen comes after `--`
+hyphens_end_options : asked (codes "quiet" ∷ codes "--" ∷ codes "-a" ∷ []) ≡ Some (quiet None (Some (codes "-a")))
+unfolding asked
+hyphens_end_options = refl
+
+-- a summary, and JSON, which comes before it
+summary_asked : asked (codes "show" ∷ codes "--summary" ∷ codes "a.log" ∷ []) ≡ Some (show Summary (Some (codes "a.log")))
+unfolding asked
+summary_asked = refl
+
+json_asked : asked (codes "show" ∷ codes "--json" ∷ codes "--summary" ∷ []) ≡ Some (show Json None)
+unfolding asked
+json_asked = refl

@@ -1,13 +1,17 @@
 -- Which words ask for what, by the rules of `clap`.
-use Rattle.std.specs.Prelude.{◌≡◌, ℕ, Result, IsOkAnd, true, false, List, [], ◌∷◌, Option, Some, None, codes, option_map, option_and_then, map, if◌then◌else◌}
+use Rattle.std.specs.Prelude.{◌≡◌, ℕ, Bool, Result, IsOkAnd, true, false, List, [], ◌∷◌, Option, Some, None, codes, option_map, option_and_then, unwrap_or, map, if◌then◌else◌}
 use Rattle.std.specs.Borrow.{Bor}
+use Rattle.std.specs.Option.{option_map_or}
 use Rattle.std.specs.Str.{bytes_eq}
 use Rattle.clap.specs.Simple.{App, Shape, app_of, new_rule, new_shape, shape_of, subcommand_of, with_subcommand}
 use Rattle.clap.specs.declared.builder.command.Command.{Command}
 use Rattle.clap.specs.declared.builder.command.Command.TheViews.{out-Command as fields_of}
 use Rattle.clap.specs.Kinds.{Kinds}
 use Rattle.clap.specs.Faults.{fault_of}
-use Rattle.clap.specs.Walk.{Row, Rule, first_of}
+use Rattle.clap.specs.Walk.{Row, Rule, all_of, first_of}
+use Rattle.clap.specs.declared.builder.action.ArgAction.TheVariants.{Append, SetTrue}
+use Rattle.hidlog.specs.declared.command_line.Form.{Form}
+use Rattle.hidlog.specs.declared.command_line.Form.TheVariants.{Json, Lines, Summary}
 use Rattle.hidlog.specs.declared.command_line.Task.{Task}
 use Rattle.hidlog.specs.declared.command_line.Task.TheVariants.{Replay, Live, Check, Quiet, Show}
 
@@ -17,6 +21,17 @@ use Rattle.hidlog.specs.declared.command_line.Task.TheVariants.{Replay, Live, Ch
 abbrev pub path_option : List ℕ → Rule
 path_option name = record (new_rule name) { long = Some name; value_names = 1 }
 
+-- an option without a value
+abbrev pub flag : List ℕ → Rule
+flag name = record (new_rule name) { long = Some name; action = Some SetTrue }
+
+-- the path of a log, and those of any number of logs
+abbrev pub log_path : Rule
+log_path = record (new_rule (codes "log")) { value_names = 1 }
+
+abbrev pub log_paths : Rule
+log_paths = record (new_rule (codes "log")) { value_names = 1; action = Some Append }
+
 -- a command with these options
 abbrev pub command : List ℕ → List Rule → Shape
 command name options = record (new_shape name) { rules = options }
@@ -25,11 +40,11 @@ command name options = record (new_shape name) { rules = options }
 abbrev pub grammar : App
 grammar = record {
   top = record (new_shape (codes "hidlog")) { has_version = true; subcommand_required = true; is_leaf = false };
-  subs = command (codes "replay") (path_option (codes "load") ∷ path_option (codes "save") ∷ [])
-      ∷ command (codes "live") (path_option (codes "load") ∷ path_option (codes "save") ∷ [])
-      ∷ command (codes "check") (path_option (codes "load") ∷ [])
-      ∷ command (codes "quiet") (path_option (codes "load") ∷ [])
-      ∷ command (codes "show") []
+  subs = command (codes "replay") (path_option (codes "load") ∷ path_option (codes "save") ∷ log_path ∷ [])
+      ∷ command (codes "live") (path_option (codes "load") ∷ path_option (codes "save") ∷ log_path ∷ [])
+      ∷ command (codes "check") (path_option (codes "load") ∷ log_paths ∷ [])
+      ∷ command (codes "quiet") (path_option (codes "load") ∷ log_path ∷ [])
+      ∷ command (codes "show") (flag (codes "summary") ∷ flag (codes "json") ∷ log_path ∷ [])
       ∷ [];
 }
 
@@ -45,33 +60,51 @@ AddsCommand program command more = IsOkAnd command (λ sub. (fields_of sub).has_
 
 -- ---- what is asked
 
--- what words ask for, with the paths that they give
+-- what words ask for, with the paths that they have
 pub data Ask : Type 0 where
-  replay : (load save : Option (List ℕ)) → Ask
-  live : (load save : Option (List ℕ)) → Ask
-  check : (load : Option (List ℕ)) → Ask
-  quiet : (load : Option (List ℕ)) → Ask
-  show : Ask
+  replay : (load save log : Option (List ℕ)) → Ask
+  live : (load save log : Option (List ℕ)) → Ask
+  check : (load : Option (List ℕ)) (logs : List (List ℕ)) → Ask
+  quiet : (load log : Option (List ℕ)) → Ask
+  show : (form : Form) (log : Option (List ℕ)) → Ask
 
 abbrev pub path_of : Option (Bor (List ℕ)) → Option (List ℕ)
 path_of = option_map (λ path. path.now)
 
+-- the words' bytes
+abbrev pub texts_of : List (Bor (List ℕ)) → List (List ℕ)
+texts_of words = map (λ word. word.now) words
+
 abbrev pub asks : Task → Ask
-asks (Replay load save) = replay (path_of load) (path_of save)
-asks (Live load save) = live (path_of load) (path_of save)
-asks (Check load) = check (path_of load)
-asks (Quiet load) = quiet (path_of load)
-asks Show = show
+asks (Replay load save log) = replay (path_of load) (path_of save) (path_of log)
+asks (Live load save log) = live (path_of load) (path_of save) (path_of log)
+asks (Check load logs) = check (path_of load) (texts_of logs.items)
+asks (Quiet load log) = quiet (path_of load) (path_of log)
+asks (Show form log) = show form (path_of log)
+
+-- whether an option without a value was found
+abbrev pub is_set : List ℕ → List Row → Bool
+is_set name found = option_map_or (λ text. bytes_eq text (codes "true")) (first_of name found) false
+
+-- the form that is asked for: JSON before a summary
+abbrev pub form_of : List Row → Form
+form_of found = if is_set (codes "json") found then Json else if is_set (codes "summary") found then Summary else Lines
+
+-- the paths of logs that were found
+abbrev pub logs_of : List Row → List (List ℕ)
+logs_of found = unwrap_or (all_of (codes "log") found) []
 
 -- a command that was met, and what was found for its options
 abbrev pub ask_of : List ℕ × List Row → Option Ask
 ask_of (name, found) =
-    if bytes_eq name (codes "replay") then Some (replay (first_of (codes "load") found) (first_of (codes "save") found))
+    if bytes_eq name (codes "replay") then Some (replay (first_of (codes "load") found) (first_of (codes "save") found)
+    (first_of (codes "log") found))
     else if bytes_eq name (codes "live") then Some (live (first_of (codes "load") found)
-    (first_of (codes "save") found))
-    else if bytes_eq name (codes "check") then Some (check (first_of (codes "load") found))
-    else if bytes_eq name (codes "quiet") then Some (quiet (first_of (codes "load") found))
-    else if bytes_eq name (codes "show") then Some show
+    (first_of (codes "save") found) (first_of (codes "log") found))
+    else if bytes_eq name (codes "check") then Some (check (first_of (codes "load") found) (logs_of found))
+    else if bytes_eq name (codes "quiet") then Some (quiet (first_of (codes "load") found)
+    (first_of (codes "log") found))
+    else if bytes_eq name (codes "show") then Some (show (form_of found) (first_of (codes "log") found))
     else None
 
 abbrev pub unless : Kinds → Option Ask → Option Ask
@@ -82,6 +115,6 @@ unless (kind ∷ kinds) ask = None
 unfoldable pub asked_by : List (List ℕ) → Option Ask
 asked_by words = unless (answers_to words) (option_and_then ask_of (subcommand_of grammar words))
 
--- the words' bytes
-abbrev pub texts_of : List (Bor (List ℕ)) → List (List ℕ)
-texts_of words = map (λ word. word.now) words
+-- The log that a path names: none, and `-`, name that on standard input.
+abbrev pub named : Option (List ℕ) → Option (List ℕ)
+named = option_and_then (λ path. if bytes_eq path (codes "-") then None else Some path)

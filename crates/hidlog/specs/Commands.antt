@@ -1,5 +1,5 @@
 -- What each command does. A pair is the files, a source or a target before and after the call.
-use Rattle.std.specs.Prelude.{◌≡◌, ◌⊎◌, ℕ, Bool, List, [], ◌∷◌, Option, Result, Err, MatchOption, MatchResult, OnOk}
+use Rattle.std.specs.Prelude.{◌≡◌, ◌⊎◌, ℕ, Bool, List, [], ◌∷◌, Option, Some, None, Result, Err, MatchOption, MatchResult, IsSomeAnd, OnOk}
 use Rattle.clap.specs.Words.{IsAmong}
 use Rattle.clap.specs.declared.error.kind.ErrorKind.{ErrorKind}
 use Rattle.clap.specs.declared.error.kind.ErrorKind.TheVariants.{OutOfMemory}
@@ -11,15 +11,28 @@ use Rattle.session_log.specs.declared.fault.LogFault.{LogFault}
 use Rattle.session_log.specs.Command.{IsChecked, IsCounted, IsLogged, IsQuieted, Status, start_with, status_of}
 use Rattle.session_log.specs.Session.{history, live_history}
 use Rattle.session_log.specs.World.{World}
-use Rattle.hidlog.specs.CommandLine.{Ask, answers_to, asked_by, replay, live, check, quiet, show}
-use Rattle.hidlog.specs.Program.{Explains, LacksMemory}
+use Rattle.hidlog.specs.CommandLine.{Ask, answers_to, asked_by, named, replay, live, check, quiet, show}
+use Rattle.hidlog.specs.declared.command_line.Form.{Form}
+use Rattle.hidlog.specs.declared.command_line.Form.TheVariants.{Lines}
+use Rattle.session_log.specs.Streams.{IsAllRead}
+use Rattle.hidlog.specs.Program.{Explains, IsTold, LacksMemory, cannot_read_log}
 use Rattle.hidlog.specs.Saved.{FailsToOpen, FailsToSave, Opens, Saves}
 
 -- what is said of the files, of the log's source, of the target of the result and of that of the faults
 module _ {D I O F : Type 0} (holds : D → List ℕ → List ℕ → Type 0) (unreadable : D → List ℕ → Type 0)
     (written unwritten : D → List ℕ → List ℕ → D → Type 0) (unwritable : D → List ℕ → Type 0)
+    (opened : I → List ℕ → I → Type 0) (unopenable : I → List ℕ → Type 0)
     (left : I → Option (List ℕ)) (unread : I → ℕ) (ended : I → Bool) (taken : O → Option (List ℕ)) (unput : O → ℕ)
     (said : F → Option (List ℕ)) (unsaid : F → ℕ) where
+  -- The log at the path is read, or that on standard input where none is named. Where it can't be opened, the status is
+  -- 1, and nothing is written.
+  abbrev pub Reads : Option (List ℕ) → ((I × I) → Type 0) → Status → (D × D) → (I × I) → (O × O) → (F × F) → Type 0
+  Reads log Goes status files input output faults =
+      ((status ≡ Err 1) × (files.1 ≡ files.0) × (input.1 ≡ input.0) × (output.1 ≡ output.0)
+      × IsSomeAnd (named log) (unopenable input.0) × IsTold said unsaid faults cannot_read_log)
+      ⊎ ((begun : I) × MatchOption (named log) (begun ≡ input.0) (λ path. opened input.0 path begun)
+      × Goes (begun, input.1))
+
   -- The log is played on the program's start with the credentials of the snapshot at the path, as is said of that
   -- start. Where the snapshot can't be opened, the status is 2, the log isn't read, and nothing is written.
   abbrev pub Begins : Option (List ℕ) → (Start → Type 0) → Status → (D × D) → (I × I) → (O × O) → (F × F) → Type 0
@@ -52,29 +65,39 @@ module _ {D I O F : Type 0} (holds : D → List ℕ → List ℕ → Type 0) (un
       ((s : SessionState) × IsChecked start [] left unread ended taken unput status s input output)
       × (files.1 ≡ files.0) × OnOk status (faults.1 ≡ faults.0)
 
+  abbrev pub Compares : Option (List ℕ) → Option (List ℕ) → Status → (D × D) → (I × I) → (O × O) → (F × F) → Type 0
+  Compares load log status files input output faults = Reads log (λ read. Begins load
+      (Checks status files read output faults) status files read output faults) status files input output faults
+
   abbrev pub Quiets : Status → (D × D) → (I × I) → (O × O) → (F × F) → Start → Type 0
   Quiets status files input output faults start =
       ((s : SessionState) × IsQuieted start [] left unread ended taken unput status s input output)
       × (files.1 ≡ files.0) × OnOk status (faults.1 ≡ faults.0)
 
-  -- The log was shown.
-  abbrev pub Shows : Status → (D × D) → (I × I) → (O × O) → (F × F) → Type 0
-  Shows status files input output faults =
+  -- The log was shown. Without a fault all of it was read.
+  abbrev pub Shows : Form → Status → (D × D) → (I × I) → (O × O) → (F × F) → Type 0
+  Shows Lines status files input output faults =
       ((answer : Result (Unit {0}) LogFault) × (status ≡ status_of answer)
       × IsCounted left unread ended unput answer input output)
       × (files.1 ≡ files.0) × OnOk status (faults.1 ≡ faults.0)
+  Shows _ status files input output faults =
+      (files.1 ≡ files.0) × OnOk status (IsAllRead left ended input.1 × (faults.1 ≡ faults.0))
 
-  -- What is asked for is done.
+  -- What is asked for is done. Of several logs each is compared, and the files stay as they are.
   abbrev pub Does : Ask → Status → (D × D) → (I × I) → (O × O) → (F × F) → Type 0
-  Does (replay load save) status files input output faults =
-      Begins load (Replays history save status files input output faults) status files input output faults
-  Does (live load save) status files input output faults =
-      Begins load (Lives save status files input output faults) status files input output faults
-  Does (check load) status files input output faults =
-      Begins load (Checks status files input output faults) status files input output faults
-  Does (quiet load) status files input output faults =
-      Begins load (Quiets status files input output faults) status files input output faults
-  Does show status files input output faults = Shows status files input output faults
+  Does (replay load save log) status files input output faults = Reads log (λ read. Begins load
+      (Replays history save status files read output faults) status files read output faults)
+      status files input output faults
+  Does (live load save log) status files input output faults = Reads log (λ read. Begins load
+      (Lives save status files read output faults) status files read output faults) status files input output faults
+  Does (check load []) status files input output faults = Compares load None status files input output faults
+  Does (check load (log ∷ [])) status files input output faults =
+      Compares load (Some log) status files input output faults
+  Does (check load (log ∷ next ∷ logs)) status files input output faults = files.1 ≡ files.0
+  Does (quiet load log) status files input output faults = Reads log (λ read. Begins load
+      (Quiets status files read output faults) status files read output faults) status files input output faults
+  Does (show form log) status files input output faults = Reads log (λ read. Shows form status files read output faults)
+      status files input output faults
 
   -- What words ask for is done, or memory was refused. Where they ask for nothing, clap's answer is given. But for what
   -- was asked for, the files and the log are left as they are.

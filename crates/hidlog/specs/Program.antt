@@ -30,6 +30,10 @@ not_text = codes "hidlog: an argument is not UTF-8" ++ 10 ∷ []
 abbrev pub cannot_read : List ℕ
 cannot_read = codes "hidlog: cannot read snapshot" ++ 10 ∷ []
 
+-- the text for a log that can't be read
+abbrev pub cannot_read_log : List ℕ
+cannot_read_log = codes "hidlog: cannot read log" ++ 10 ∷ []
+
 abbrev pub refused : SnapshotFault → List ℕ
 refused NotSnapshot = codes "hidlog: snapshot refused: 1" ++ 10 ∷ []
 refused TooMany = codes "hidlog: snapshot refused: 2" ++ 10 ∷ []

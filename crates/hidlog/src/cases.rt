@@ -3,12 +3,65 @@
 //! A case is a block of lines. The first is the exit status and the words. Of each further line the first sign says
 //! where it is: `-` in the log, `+` in what is written, `|` in both, `?` in what is said of faults. Two dots at its
 //! end mean zeros, up to 128 digits in all. A line of a mere `!` says that the log's last line has no line feed.
+ghost use Rattle.std.specs.Prelude.{◌≡◌, ◌≢◌, None, codes};
+
 use crate::files::Files;
+use crate::logs::Logs;
 use crate::program::run;
-use session_log::{SliceIn, ToWrite};
+use session_log::{Failed, SliceIn, Source, ToWrite};
 use std::alloc::{AllocError, Global};
+use std::io::{self, Error, ErrorKind};
 use std::process::Abort;
 use std::str;
+
+/// A log on standard input, which the file `log` has too, and no other file.
+#[derive(Drop)]
+struct TextLog<'a> {
+    rest: SliceIn<'a>,
+    whole: &'a [u8],
+}
+
+impl<'a> Source for TextLog<'a> {
+    ghost left = { λ _. None };
+
+    ghost ended = { λ s. ⟦<SliceIn<'a> as Source>⟧.ended s.rest };
+
+    ghost failed = { λ _. 0 };
+
+    fn get(&mut self, out: &mut [u8]) -> Result<usize, Failed> {
+        self.rest.get(out)
+    }
+
+    fn failures(&self) -> u64 {
+        0
+    }
+}
+
+impl Logs for TextLog<'_> {
+    ghost opened = { λ _ path _. path ≡ codes "log" };
+
+    ghost unopenable = { λ _ path. path ≢ codes "log" };
+
+    fn open(&mut self, path: &str) -> io::Result<()> {
+        if path != "log" {
+            return Err(Error::from(ErrorKind::NotFound));
+        }
+        self.rest = SliceIn::new(self.whole);
+        Ok(())
+    }
+
+    fn restart(&mut self) {
+        self.rest = SliceIn::new(self.whole);
+    }
+
+    fn lines(&self) -> &[u8] {
+        &[]
+    }
+
+    fn failure(&self) -> Option<&Error> {
+        None
+    }
+}
 
 /// What is read and written in a run.
 #[derive(Drop)]
@@ -79,7 +132,10 @@ pub fn assert_run<R: Abort, D: Files>(
         files,
         alloc,
         words.as_slice(),
-        &mut SliceIn::new(texts.log.as_bytes()),
+        &mut TextLog {
+            rest: SliceIn::new(texts.log.as_bytes()),
+            whole: texts.log.as_bytes(),
+        },
         &mut ToWrite::new(&mut out),
         &mut ToWrite::new(&mut told),
     );

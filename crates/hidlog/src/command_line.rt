@@ -2,39 +2,59 @@
 ghost use Rattle.std.specs.Prelude.{◌≡◌, [], ◌∷◌, false, Some, codes, IfOk, IfErr, IfSome, option_map, option_and_then};
 ghost use Rattle.clap.specs.Words.{HasKind, app_of, rule_of, shape_of, subcommand_rows_of};
 ghost use Rattle.clap.specs.declared.builder.command.Command.TheViews.{out-Command as fields_of};
-ghost use Rattle.hidlog.specs.CommandLine.{AddsCommand, command, grammar, path_option};
-ghost use Rattle.hidlog.specs.CommandLine.{answers_to, ask_of, asked_by, asks, texts_of};
+ghost use Rattle.hidlog.specs.CommandLine.{AddsCommand, command, flag, grammar, log_path, log_paths, path_option};
+ghost use Rattle.hidlog.specs.CommandLine.{answers_to, ask_of, asked_by, asks, form_of, is_set as is_found, logs_of, texts_of};
+ghost use Rattle.clap.specs.Matches.{found_of};
+ghost use Rattle.clap.specs.Walk.{rows_of};
 
 use clap::error::ErrorKind;
-use clap::{Arg, ArgMatches, Command, Error};
+use clap::{Arg, ArgAction, ArgMatches, Command, Error};
 use std::alloc::{AllocError, Global};
 
 /// The version, which CHANGELOG.md describes.
 const VERSION: &str = "0.2.0";
 
-/// What the program is asked to do, with the paths of snapshots as they are.
+/// How a log is shown.
 #[derive(Clone, Copy, Debug, PartialEq, Eq)]
+pub enum Form {
+    /// Line by line.
+    Lines,
+    /// As a summary of the session.
+    Summary,
+    /// As objects of JSON.
+    Json,
+}
+
+/// What the program is asked to do, with the paths of snapshots and logs as they are.
+#[derive(Debug, Drop)]
 pub enum Task<'a> {
-    /// `hidlog replay [--load F] [--save F]`
+    /// `hidlog replay [--load F] [--save F] [FILE]`
     Replay {
         load: Option<&'a str>,
         save: Option<&'a str>,
+        log: Option<&'a str>,
     },
-    /// `hidlog live [--load F] [--save F]`
+    /// `hidlog live [--load F] [--save F] [FILE]`
     Live {
         load: Option<&'a str>,
         save: Option<&'a str>,
+        log: Option<&'a str>,
     },
-    /// `hidlog check [--load F]`
+    /// `hidlog check [--load F] [FILE]..`
     Check {
         load: Option<&'a str>,
+        logs: Vec<&'a str>,
     },
-    /// `hidlog quiet [--load F]`
+    /// `hidlog quiet [--load F] [FILE]`
     Quiet {
         load: Option<&'a str>,
+        log: Option<&'a str>,
     },
-    /// `hidlog show`
-    Show,
+    /// `hidlog show [--summary] [--json] [FILE]`
+    Show {
+        form: Form,
+        log: Option<&'a str>,
+    },
 }
 
 /// The option `--load F`.
@@ -58,24 +78,68 @@ fn save<'a>(alloc: Global) -> Arg<'a>
     )
 }
 
+/// The option `--summary`.
+fn summary<'a>(alloc: Global) -> Arg<'a>
+    ensures rule { rule_of result ≡ flag (codes "summary") }
+    ensures local { result.global ≡ false }
+{
+    Arg::new(alloc, "summary")
+        .long("summary")
+        .action(ArgAction::SetTrue)
+        .help("Writes a summary of the session: its transactions in a table, credentials, noise")
+}
+
+/// The option `--json`.
+fn json<'a>(alloc: Global) -> Arg<'a>
+    ensures rule { rule_of result ≡ flag (codes "json") }
+    ensures local { result.global ≡ false }
+{
+    Arg::new(alloc, "json")
+        .long("json")
+        .action(ArgAction::SetTrue)
+        .help("Writes an object of JSON a line, for scripts")
+}
+
+/// The path of a log.
+fn log<'a>(alloc: Global) -> Arg<'a>
+    ensures rule { rule_of result ≡ log_path }
+    ensures local { result.global ≡ false }
+{
+    Arg::new(alloc, "log")
+        .value_name("FILE")
+        .help("The log; standard input where none is named, and for -")
+}
+
+/// The paths of any number of logs.
+fn logs<'a>(alloc: Global) -> Arg<'a>
+    ensures rule { rule_of result ≡ log_paths }
+    ensures local { result.global ≡ false }
+{
+    Arg::new(alloc, "log")
+        .value_name("FILE")
+        .action(ArgAction::Append)
+        .help("The logs; standard input where none is named, and for -")
+}
+
 /// The command `replay`.
 fn replay<'a>(alloc: Global) -> Result<Command<'a>, AllocError>
     ensures shape { IfOk result (λ made. shape_of made
-        ≡ command (codes "replay") (path_option (codes "load") ∷ path_option (codes "save") ∷ [])) }
+        ≡ command (codes "replay") (path_option (codes "load") ∷ path_option (codes "save") ∷ log_path ∷ [])) }
     ensures local { IfOk result (λ made. (fields_of made).has_globals ≡ false) }
 {
     Command::new(alloc, "replay")
         .about(
-            "Replays the log on standard input: writes it with the packets that the key sends, and what it counted",
+            "Replays the log: writes it with the packets that the key sends, and what it counted",
         )
         .arg(load(alloc))?
-        .arg(save(alloc))
+        .arg(save(alloc))?
+        .arg(log(alloc))
 }
 
 /// The command `live`.
 fn live<'a>(alloc: Global) -> Result<Command<'a>, AllocError>
     ensures shape { IfOk result (λ made. shape_of made
-        ≡ command (codes "live") (path_option (codes "load") ∷ path_option (codes "save") ∷ [])) }
+        ≡ command (codes "live") (path_option (codes "load") ∷ path_option (codes "save") ∷ log_path ∷ [])) }
     ensures local { IfOk result (λ made. (fields_of made).has_globals ≡ false) }
 {
     Command::new(alloc, "live")
@@ -83,35 +147,45 @@ fn live<'a>(alloc: Global) -> Result<Command<'a>, AllocError>
             "Replays the log line by line as it comes, and says what the key needs after each input",
         )
         .arg(load(alloc))?
-        .arg(save(alloc))
+        .arg(save(alloc))?
+        .arg(log(alloc))
 }
 
 /// The command `check`.
 fn check<'a>(alloc: Global) -> Result<Command<'a>, AllocError>
-    ensures shape { IfOk result (λ made. shape_of made ≡ command (codes "check") (path_option (codes "load") ∷ [])) }
+    ensures shape { IfOk result (λ made. shape_of made ≡ command (codes "check")
+        (path_option (codes "load") ∷ log_paths ∷ [])) }
     ensures local { IfOk result (λ made. (fields_of made).has_globals ≡ false) }
 {
     Command::new(alloc, "check")
         .about("Compares the packets that the log names as sent with those that the key sends")
-        .arg(load(alloc))
+        .arg(load(alloc))?
+        .arg(logs(alloc))
 }
 
 /// The command `quiet`.
 fn quiet<'a>(alloc: Global) -> Result<Command<'a>, AllocError>
-    ensures shape { IfOk result (λ made. shape_of made ≡ command (codes "quiet") (path_option (codes "load") ∷ [])) }
+    ensures shape { IfOk result (λ made. shape_of made ≡ command (codes "quiet")
+        (path_option (codes "load") ∷ log_path ∷ [])) }
     ensures local { IfOk result (λ made. (fields_of made).has_globals ≡ false) }
 {
     Command::new(alloc, "quiet")
         .about("Writes the log's inputs, with a tick in place of each that is noise")
-        .arg(load(alloc))
+        .arg(load(alloc))?
+        .arg(log(alloc))
 }
 
 /// The command `show`.
-fn show<'a>(alloc: Global) -> Command<'a>
-    ensures shape { shape_of result ≡ command (codes "show") [] }
-    ensures local { (fields_of result).has_globals ≡ false }
+fn show<'a>(alloc: Global) -> Result<Command<'a>, AllocError>
+    ensures shape { IfOk result (λ made. shape_of made ≡ command (codes "show")
+        (flag (codes "summary") ∷ flag (codes "json") ∷ log_path ∷ [])) }
+    ensures local { IfOk result (λ made. (fields_of made).has_globals ≡ false) }
 {
-    Command::new(alloc, "show").about("Writes what the log's lines say, line by line")
+    Command::new(alloc, "show")
+        .about("Writes what the log's lines say, line by line")
+        .arg(summary(alloc))?
+        .arg(json(alloc))?
+        .arg(log(alloc))
 }
 
 /// The program with one more command, where there was memory for it.
@@ -134,60 +208,107 @@ fn program<'a>(alloc: Global) -> Result<Command<'a>, AllocError>
         .subcommand_required(true);
     let played = with_command(with_command(named, replay(alloc))?, live(alloc))?;
     let read = with_command(with_command(played, check(alloc))?, quiet(alloc))?;
-    with_command(read, Ok(show(alloc)))
+    with_command(read, show(alloc))
+}
+
+/// Returns whether an option without a value was found.
+fn is_set(options: &ArgMatches<'_>, name: &str) -> bool
+    ensures { result ≡ is_found name.now (rows_of (found_of options.now)) }
+{
+    match options.get_str(name) {
+        Some(text) => text == "true",
+        None => false,
+    }
+}
+
+/// Returns the form that is asked for.
+fn form_in(options: &ArgMatches<'_>) -> Form
+    ensures { result ≡ form_of (rows_of (found_of options.now)) }
+{
+    if is_set(options, "json") {
+        Form::Json
+    } else if is_set(options, "summary") {
+        Form::Summary
+    } else {
+        Form::Lines
+    }
+}
+
+/// Returns the paths of logs that were found.
+fn logs_in<'a>(alloc: Global, options: &ArgMatches<'a>) -> Result<Vec<&'a str>, AllocError>
+    ensures { IfOk result (λ logs. texts_of logs.items ≡ logs_of (rows_of (found_of options.now))) }
+{
+    match options.get_strs("log") {
+        Some(paths) => {
+            let logs = paths.to_vec(alloc)?;
+            Ok(logs)
+        }
+        None => Ok(Vec::new(alloc)),
+    }
 }
 
 /// What the command that was met asks for.
-fn task_in<'a>(matches: &ArgMatches<'a>) -> Option<Task<'a>>
-    ensures { option_map asks result ≡ option_and_then ask_of (subcommand_rows_of matches.now) }
+fn task_in<'a>(alloc: Global, matches: &ArgMatches<'a>) -> Result<Option<Task<'a>>, AllocError>
+    ensures { IfOk result (λ task. option_map asks task ≡ option_and_then ask_of (subcommand_rows_of matches.now)) }
 {
-    match matches.subcommand()? {
-        ("replay", options) => Some(Task::Replay {
+    let Some((name, options)) = matches.subcommand() else {
+        return Ok(None);
+    };
+    match name {
+        "replay" => Ok(Some(Task::Replay {
             load: options.get_str("load"),
             save: options.get_str("save"),
-        }),
-        ("live", options) => Some(Task::Live {
+            log: options.get_str("log"),
+        })),
+        "live" => Ok(Some(Task::Live {
             load: options.get_str("load"),
             save: options.get_str("save"),
-        }),
-        ("check", options) => Some(Task::Check {
+            log: options.get_str("log"),
+        })),
+        "check" => Ok(Some(Task::Check {
             load: options.get_str("load"),
-        }),
-        ("quiet", options) => Some(Task::Quiet {
+            logs: logs_in(alloc, options)?,
+        })),
+        "quiet" => Ok(Some(Task::Quiet {
             load: options.get_str("load"),
-        }),
-        ("show", _) => Some(Task::Show),
-        _ => None,
+            log: options.get_str("log"),
+        })),
+        "show" => Ok(Some(Task::Show {
+            form: form_in(options),
+            log: options.get_str("log"),
+        })),
+        _ => Ok(None),
     }
 }
 
 /// Returns what a word after the program's name asks for, where it is a command.
-fn plain_task<'a>(program: &str, name: &str) -> Option<Task<'a>>
+fn plain_task<'a>(alloc: Global, program: &str, name: &str) -> Option<Task<'a>>
     ensures { IfSome result (λ task. asked_by (program.now ∷ name.now ∷ []) ≡ Some (asks task)) }
 {
+    let (load, save, log) = (None, None, None);
     match name {
-        "replay" => Some(Task::Replay {
-            load: None,
-            save: None,
+        "replay" => Some(Task::Replay { load, save, log }),
+        "live" => Some(Task::Live { load, save, log }),
+        "check" => Some(Task::Check {
+            load,
+            logs: Vec::new(alloc),
         }),
-        "live" => Some(Task::Live {
-            load: None,
-            save: None,
+        "quiet" => Some(Task::Quiet { load, log }),
+        "show" => Some(Task::Show {
+            form: Form::Lines,
+            log,
         }),
-        "check" => Some(Task::Check { load: None }),
-        "quiet" => Some(Task::Quiet { load: None }),
-        "show" => Some(Task::Show),
         _ => None,
     }
 }
 
 /// Returns what the words ask for where they are a command alone. Clap isn't asked: it takes a fifth of the
 /// instructions to the first line.
-fn alone<'a>(words: &[&str]) -> Option<Task<'a>>
+fn alone<'a>(alloc: Global, words: &[&str]) -> Option<Task<'a>>
     ensures { IfSome result (λ task. asked_by (texts_of words.now) ≡ Some (asks task)) }
 {
     match words {
-        [program, name] => plain_task(program, name),
+        [program, name] => plain_task(alloc, program, name),
         _ => None,
     }
 }
@@ -198,12 +319,13 @@ pub fn task_of<'a>(alloc: Global, words: &'a [&'a str]) -> Result<Task<'a>, Erro
     ensures task { IfOk result (λ task. asked_by (texts_of words.now) ≡ Some (asks task)) }
     ensures answer { IfErr result (λ error. HasKind (answers_to (texts_of words.now)) error) }
 {
-    if let Some(task) = alone(words) {
+    if let Some(task) = alone(alloc, words) {
         return Ok(task);
     }
     let mut program = program(alloc)?;
     let matches = program.try_get_matches_from_mut(words)?;
-    match task_in(&matches) {
+    let found = task_in(alloc, &matches)?;
+    match found {
         Some(task) => Ok(task),
         None => Err(program.error(ErrorKind::MissingSubcommand, "a command is needed")?),
     }

@@ -28,12 +28,12 @@ pub trait Files {
         ensures { MatchResult result (λ bytes. holds self.now path.now bytes.items)
             (λ error. (error_kind error ≡ ErrorKind.OutOfMemory) ⊎ unreadable self.now path.now) };
 
-    /// Looks whether a file can be written to, as far as that is seen before it is.
-    fn look(&self, path: &str) -> io::Result<()>
+    /// Looks whether a file can be written to, as far as that is seen before it is. The log is none that may be.
+    fn look(&self, path: &str, log: Option<&str>) -> io::Result<()>
         ensures { IfErr result (λ _. unwritable self.now path.now) };
 
-    /// Writes a file whole and in place.
-    fn write(&mut self, path: &str, bytes: &[u8]) -> io::Result<()>
+    /// Writes a file whole and in place, but not over the log.
+    fn write(&mut self, path: &str, bytes: &[u8], log: Option<&str>) -> io::Result<()>
         ensures { MatchResult result (λ _. written self.old path.now bytes.now self.new)
             (λ _. unwritten self.old path.now bytes.now self.new) };
 }
@@ -47,7 +47,7 @@ const ENOENT: i32 = 2;
 
 const EISDIR: i32 = 21;
 
-/// Whether a path names the file that one of the process's streams is.
+/// Returns whether a file is the one that another path names, or a stream of the process.
 fn is_stream(rt: &HostRuntime, found: &Metadata, stream: &str) -> bool {
     match fs::metadata(rt, stream) {
         Ok(other) => other.ino() == found.ino() && other.dev() == found.dev(),
@@ -56,11 +56,11 @@ fn is_stream(rt: &HostRuntime, found: &Metadata, stream: &str) -> bool {
 }
 
 /// Refuses a folder, and the files that the log is read from and the result is written to.
-fn refuse_found(rt: &HostRuntime, found: &Metadata) -> io::Result<()> {
+fn refuse_found(rt: &HostRuntime, found: &Metadata, log: Option<&str>) -> io::Result<()> {
     if found.is_dir() {
         return Err(Error::from_raw_os_error(EISDIR));
     }
-    if found.is_file() && is_stream(rt, found, "/dev/stdin") {
+    if found.is_file() && is_stream(rt, found, log.unwrap_or("/dev/stdin")) {
         let message = "it is the log, which would be lost";
         return Err(Error::new(ErrorKind::InvalidInput, message));
     }
@@ -122,25 +122,25 @@ impl Files for HostFiles<'_> {
         fs::read(self.0, path)
     }
 
-    fn look(&self, path: &str) -> io::Result<()> {
+    fn look(&self, path: &str, log: Option<&str>) -> io::Result<()> {
         match fs::metadata(self.0, path) {
             Ok(found) if found.is_file() => {
-                refuse_found(self.0, &found)?;
+                refuse_found(self.0, &found, log)?;
                 OpenOptions::new().write(true).open(self.0, path)?;
                 Ok(())
             }
-            Ok(found) => refuse_found(self.0, &found),
+            Ok(found) => refuse_found(self.0, &found, log),
             Err(error) if error.kind() == ErrorKind::NotFound => look_beside(self.0, path),
             Err(error) => Err(error),
         }
     }
 
-    fn write(&mut self, path: &str, bytes: &[u8]) -> io::Result<()> {
+    fn write(&mut self, path: &str, bytes: &[u8], log: Option<&str>) -> io::Result<()> {
         match fs::metadata(self.0, path) {
             Ok(found) if found.file_type().is_fifo() => write_to_pipe(self.0, path, bytes),
             Ok(found) if !found.is_file() => fs::write(self.0, path, bytes),
             Ok(found) => {
-                refuse_found(self.0, &found)?;
+                refuse_found(self.0, &found, log)?;
                 let file = OpenOptions::new().write(true).open(self.0, path)?;
                 write_over(&file, bytes)
             }

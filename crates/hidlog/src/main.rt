@@ -7,9 +7,11 @@ ghost use Rattle.std.specs.Prelude.{◌<◌, ◌-◌, ◌^◌};
 mod cases;
 mod command_line;
 mod files;
+mod logs;
 mod misfit;
 mod process;
 mod program;
+mod several;
 #[cfg(test)]
 mod snapshot_tests;
 mod snapshots;
@@ -18,41 +20,37 @@ mod streams;
 mod tests;
 
 use files::HostFiles;
+use logs::{HostLog, Logs};
 use misfit::first_reason;
 use process::{no_memory, tell, tell_why, words_of};
 use program::run;
-use session_log::{FromRead, Target, ToWrite};
+use session_log::{Target, ToWrite};
 use std::alloc::Global;
-use std::io::{self, BufReader, ErrorKind, Printer, Stdin};
+use std::io::{self, ErrorKind, Printer};
 use std::process::ExitCode;
-use streams::{Faults, Patient, Remembering, WRITING_FAILED};
+use streams::{Faults, Patient, WRITING_FAILED};
 
 /// The exit status where standard output was closed, as a shell returns it for a program that SIGPIPE ended.
 const CLOSED_PIPE: u8 = 141;
 
-/// What the process reads and writes.
-#[derive(Drop)]
-struct Standard<'a> {
-    reader: Patient<Stdin>,
-    writer: Patient<Printer<'a, HostRuntime>>,
-}
+/// What standard output is written by.
+type Output<'a> = Patient<Printer<'a, HostRuntime>>;
 
-/// Runs the program on these words, and says why a line of the log is none. An error holds the exit status.
+/// Runs the program on these words, and says why a line of the log is none, or why reading it failed. An error holds the
+/// exit status.
 fn play<'a, E: Target>(
     rt: &HostRuntime,
     words: &'a [&'a str],
-    streams: &mut Standard<'_>,
+    writer: &mut Output<'_>,
     faults: &mut Faults<E>,
 ) -> Result<(), u8>
     requires { E.failed faults.old.inner < 2 ^ 64 - 1 }
 {
     let alloc = rt.alloc();
-    // A read of the system brings many lines where many are there, and waits only where none is.
-    let Ok(reader) = BufReader::new(alloc, &mut streams.reader) else {
+    let Ok(mut input) = HostLog::new(rt) else {
         return Err(no_memory(faults));
     };
-    let mut input = Remembering::new(FromRead::new(reader));
-    let mut output = ToWrite::new(&mut streams.writer);
+    let mut output = ToWrite::new(writer);
     let ended = run(
         &mut HostFiles(rt),
         alloc,
@@ -61,18 +59,25 @@ fn play<'a, E: Target>(
         &mut output,
         faults,
     );
-    if faults.has_bad_line() && faults.failures() == 0 {
+    if faults.failures() > 0 {
+        return ended;
+    }
+    if faults.has_bad_line() {
         if let Some(reason) = first_reason(alloc, input.lines()) {
             tell(faults, reason.as_bytes());
         }
+    } else if faults.has_failed_read()
+        && let Some(error) = input.failure()
+    {
+        tell_why(faults, alloc, b"", input.name(), error);
     }
     ended
 }
 
-/// Says why a stream failed. A standard output that was closed has an exit status of its own, and nothing is said.
+/// Says why writing failed. A standard output that was closed has an exit status of its own, and nothing is said.
 fn explain<E: Target>(
     alloc: Global,
-    streams: &Standard<'_>,
+    writer: &Output<'_>,
     faults: &mut Faults<E>,
     ended: Result<(), u8>,
 ) -> Result<(), u8> {
@@ -80,16 +85,11 @@ fn explain<E: Target>(
     if faults.failures() > 0 {
         return ended;
     }
-    match streams.writer.failure() {
+    match writer.failure() {
         Some(error) if error.kind() == ErrorKind::BrokenPipe => return Err(CLOSED_PIPE),
         Some(error) => tell_why(faults, alloc, WRITING_FAILED, "standard output", error),
         None if held_back => tell(faults, WRITING_FAILED),
         None => {}
-    }
-    if faults.failures() == 0
-        && let Some(error) = streams.reader.failure()
-    {
-        tell_why(faults, alloc, b"", "standard input", error);
     }
     ended
 }
@@ -103,12 +103,9 @@ fn start<E: Target>(rt: &HostRuntime, faults: &mut Faults<E>) -> Result<(), u8>
     let Ok(words) = words else {
         return Err(no_memory(faults));
     };
-    let mut streams = Standard {
-        reader: Patient::new(rt.stdin()),
-        writer: Patient::new(io::writer(rt)),
-    };
-    let ended = play(rt, words.as_slice(), &mut streams, faults);
-    explain(rt.alloc(), &streams, faults, ended)
+    let mut writer = Patient::new(io::writer(rt));
+    let ended = play(rt, words.as_slice(), &mut writer, faults);
+    explain(rt.alloc(), &writer, faults, ended)
 }
 
 fn main(rt: HostRuntime) -> ExitCode {

@@ -9,7 +9,7 @@ use std::fmt::Display;
 use std::io::{self, ErrorKind};
 use std::rt::Env;
 
-/// Gives a text to the faults. One that can't be written is dropped.
+/// Writes a text to the faults. One that can't be written is dropped.
 pub fn tell<E: Target>(faults: &mut E, text: &[u8])
     requires { E.failed faults.old < 2 ^ 64 - 1 }
     ensures { IsGiven E.taken E.failed (faults.old, faults.new) text.now }
@@ -17,7 +17,7 @@ pub fn tell<E: Target>(faults: &mut E, text: &[u8])
     let _ = put_all(faults, text);
 }
 
-/// Gives a text to the faults, and on the next line what it is about and why. Where memory is refused, that line is
+/// Writes a text to the faults, and on the next line what it is about and why. Where memory is refused, that line is
 /// left out.
 pub fn tell_why<E: Target, W: Display>(
     faults: &mut E,

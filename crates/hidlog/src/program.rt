@@ -1,32 +1,25 @@
 //! The program over any source and targets.
-ghost use Rattle.std.specs.Prelude.{◌≡◌, ◌<◌, ◌-◌, ◌^◌, ◌⊎◌, Result, IfErr, OnOk};
+ghost use Rattle.std.specs.Prelude.{◌≡◌, ◌<◌, ◌-◌, ◌^◌, ◌⊎◌, ◌∷◌, [], None, Some, Result, IfErr, IsSomeAnd, MatchOption, OnOk, OnErr, codes, option_and_then};
 ghost use Rattle.clap.specs.Words.{kind_of};
-ghost use Rattle.session_log.specs.declared.fault.LogFault.{LogFault as AnyFault};
-ghost use Rattle.session_log.specs.Command.{IsCounted, status_of};
-ghost use Rattle.hidlog.specs.CommandLine.{check, live, quiet, replay, path_of, texts_of};
-ghost use Rattle.hidlog.specs.Program.{Explains};
-ghost use Rattle.hidlog.specs.Commands.{Answers, Does};
+ghost use Rattle.session_log.specs.Command.{status_of};
+ghost use Rattle.session_log.specs.Streams.{IsAllRead};
+ghost use Rattle.hidlog.specs.CommandLine.{check, live, named, quiet, replay, show as shown, path_of, texts_of};
+ghost use Rattle.hidlog.specs.Program.{Explains, IsTold, cannot_read_log};
+ghost use Rattle.hidlog.specs.Commands.{Answers, Compares, Does};
 
-use crate::command_line::{Task, task_of};
+use crate::command_line::{Form, Task, task_of};
 use crate::files::Files;
-use crate::process::{log_fault, no_memory, tell};
+use crate::logs::Logs;
+use crate::process::{log_fault, no_memory, tell, tell_why};
+use crate::several::check_each;
 use crate::snapshots::{begin, look, save_rows};
 use clap::Error;
 use clap::error::ErrorKind;
 use session_log::{
-    Source, Target, check_command, live_command, put_all, quiet_command, replay_command,
+    LogFault, Target, check_command, live_command, put_all, quiet_command, replay_command,
 };
-use session_show::show;
+use session_show::{Summary, put_json_fault, show, show_json, summarize};
 use std::alloc::Global;
-
-/// What is said where a file is named as an argument.
-const FILES_COME_IN: &str = "\nhidlog reads the log on standard input: hidlog COMMAND < FILE\n";
-
-/// Returns whether clap's answer is about a word that is no option.
-fn names_a_file(text: &str) -> bool {
-    let word = "error: unexpected argument '";
-    text.starts_with(word) && !text.starts_with("error: unexpected argument '-")
-}
 
 /// Writes what clap answers: help to the output, what is wrong with the words to the faults. The status is
 /// 2 for all but help that was written.
@@ -41,110 +34,153 @@ fn explain<O: Target, E: Target>(
     ensures { Explains (kind_of error.now) O.taken O.failed E.taken E.failed result (output.old, output.new)
         (faults.old, faults.new) }
 {
-    let mut text = match error.to_string(alloc) {
+    let text = match error.to_string(alloc) {
         Ok(text) if error.kind() != ErrorKind::OutOfMemory => text,
         _ => return Err(no_memory(faults)),
     };
     if error.use_stderr() {
-        if names_a_file(text.as_str()) {
-            let _ = text.push_str(FILES_COME_IN);
-        }
         tell(faults, text.as_bytes());
         return Err(2);
     }
     put_all(output, text.as_bytes()).map_err(|_| 2)
 }
 
+/// Returns the path of the log, where it isn't on standard input.
+fn path_in(log: Option<&str>) -> Option<&str>
+    ensures { path_of result ≡ named (path_of log.entry) }
+{
+    match log {
+        Some("-") | None => None,
+        Some(path) => Some(path),
+    }
+}
+
+/// Begins at the front of the log. Where it can't be opened, that is written, and an error holds the exit status, 1.
+fn open_log<L: Logs, E: Target>(
+    input: &mut L,
+    alloc: Global,
+    log: Option<&str>,
+    faults: &mut E,
+) -> Result<(), u8>
+    requires { E.failed faults.old < 2 ^ 64 - 1 }
+    ensures opened { OnOk result (MatchOption (named (path_of log.entry)) (input.new ≡ input.old)
+        (λ path. L.opened input.old path input.new)) }
+    ensures silent { OnOk result (faults.new ≡ faults.old) }
+    ensures status { IfErr result (λ code. code ≡ 1) }
+    ensures told { OnErr result (IsSomeAnd (named (path_of log.entry)) (L.unopenable input.old)
+        × IsTold E.taken E.failed (faults.old, faults.new) cannot_read_log) }
+    ensures unread { OnErr result (input.new ≡ input.old) }
+    ensures counted { L.failed input.new ≡ L.failed input.old }
+{
+    let Some(path) = path_in(log) else {
+        return Ok(());
+    };
+    match input.open(path) {
+        Ok(()) => Ok(()),
+        Err(error) => {
+            tell_why(faults, alloc, b"hidlog: cannot read log\n", path, &error);
+            Err(1)
+        }
+    }
+}
+
 /// Replays the log, and saves the credentials that the session has after it.
 #[inline(never)]
-fn replay_log<D, S, O, E>(
+fn replay_log<D, L, O, E>(
     files: &mut D,
     alloc: Global,
     load: Option<&str>,
     save: Option<&str>,
-    input: &mut S,
+    log: Option<&str>,
+    input: &mut L,
     output: &mut O,
     faults: &mut E,
 ) -> Result<(), u8>
 where
     D: Files,
-    S: Source,
+    L: Logs,
     O: Target,
     E: Target,
-    requires reads { S.failed input.old < 2 ^ 64 - 1 }
+    requires reads { L.failed input.old < 2 ^ 64 - 1 }
     requires writes { O.failed output.old < 2 ^ 64 - 1 }
     requires tells { E.failed faults.old < 2 ^ 64 - 1 }
     ensures status { IfErr result (λ code. (code ≡ 1) ⊎ (code ≡ 2)) }
-    ensures does { Does D.holds D.unreadable D.written D.unwritten D.unwritable S.left S.failed S.ended O.taken O.failed
-        E.taken E.failed (replay (path_of load.entry) (path_of save.entry)) result
+    ensures does { Does D.holds D.unreadable D.written D.unwritten D.unwritable L.opened L.unopenable L.left L.failed L.ended
+        O.taken O.failed E.taken E.failed (replay (path_of load.entry) (path_of save.entry) (path_of log.entry)) result
         (files.old, files.new) (input.old, input.new) (output.old, output.new) (faults.old, faults.new) }
 {
+    open_log(input, alloc, log, faults)?;
     let mut place = None;
     let session = begin(&mut place, files, alloc, load, faults)?;
     replay_command(session, input, output, faults)?;
     match save {
-        Some(path) => save_rows(files, alloc, path, session, faults),
+        Some(path) => save_rows(files, alloc, path, path_in(log), session, faults),
         None => Ok(()),
     }
 }
 
 /// Replays the log and says what the key needs, and saves the credentials that the session has after it.
 #[inline(never)]
-fn live_log<D, S, O, E>(
+fn live_log<D, L, O, E>(
     files: &mut D,
     alloc: Global,
     load: Option<&str>,
     save: Option<&str>,
-    input: &mut S,
+    log: Option<&str>,
+    input: &mut L,
     output: &mut O,
     faults: &mut E,
 ) -> Result<(), u8>
 where
     D: Files,
-    S: Source,
+    L: Logs,
     O: Target,
     E: Target,
-    requires reads { S.failed input.old < 2 ^ 64 - 1 }
+    requires reads { L.failed input.old < 2 ^ 64 - 1 }
     requires writes { O.failed output.old < 2 ^ 64 - 1 }
     requires tells { E.failed faults.old < 2 ^ 64 - 1 }
     ensures status { IfErr result (λ code. (code ≡ 1) ⊎ (code ≡ 2)) }
-    ensures does { Does D.holds D.unreadable D.written D.unwritten D.unwritable S.left S.failed S.ended O.taken O.failed
-        E.taken E.failed (live (path_of load.entry) (path_of save.entry)) result
+    ensures does { Does D.holds D.unreadable D.written D.unwritten D.unwritable L.opened L.unopenable L.left L.failed L.ended
+        O.taken O.failed E.taken E.failed (live (path_of load.entry) (path_of save.entry) (path_of log.entry)) result
         (files.old, files.new) (input.old, input.new) (output.old, output.new) (faults.old, faults.new) }
 {
+    open_log(input, alloc, log, faults)?;
     let mut place = None;
     let session = begin(&mut place, files, alloc, load, faults)?;
-    look(files, alloc, save, faults)?;
+    look(files, alloc, save, path_in(log), faults)?;
     live_command(session, input, output, faults)?;
     match save {
-        Some(path) => save_rows(files, alloc, path, session, faults),
+        Some(path) => save_rows(files, alloc, path, path_in(log), session, faults),
         None => Ok(()),
     }
 }
 
 /// Compares the log with what the session sends.
 #[inline(never)]
-fn check_log<D, S, O, E>(
+pub fn check_log<D, L, O, E>(
     files: &D,
     alloc: Global,
     load: Option<&str>,
-    input: &mut S,
+    log: Option<&str>,
+    input: &mut L,
     output: &mut O,
     faults: &mut E,
 ) -> Result<(), u8>
 where
     D: Files,
-    S: Source,
+    L: Logs,
     O: Target,
     E: Target,
-    requires reads { S.failed input.old < 2 ^ 64 - 1 }
+    requires reads { L.failed input.old < 2 ^ 64 - 1 }
     requires writes { O.failed output.old < 2 ^ 64 - 1 }
     requires tells { E.failed faults.old < 2 ^ 64 - 1 }
     ensures status { IfErr result (λ code. (code ≡ 1) ⊎ (code ≡ 2)) }
-    ensures does { Does D.holds D.unreadable D.written D.unwritten D.unwritable S.left S.failed S.ended O.taken O.failed
-        E.taken E.failed (check (path_of load.entry)) result
+    ensures does { Compares D.holds D.unreadable D.written D.unwritten D.unwritable L.opened L.unopenable L.left L.failed L.ended
+        O.taken O.failed E.taken E.failed
+        (path_of load.entry) (path_of log.entry) result
         (files.now, files.now) (input.old, input.new) (output.old, output.new) (faults.old, faults.new) }
 {
+    open_log(input, alloc, log, faults)?;
     let mut place = None;
     let session = begin(&mut place, files, alloc, load, faults)?;
     check_command(session, input, output, faults)
@@ -152,87 +188,191 @@ where
 
 /// Makes the log quiet.
 #[inline(never)]
-fn quiet_log<D, S, O, E>(
+fn quiet_log<D, L, O, E>(
     files: &D,
     alloc: Global,
     load: Option<&str>,
-    input: &mut S,
+    log: Option<&str>,
+    input: &mut L,
     output: &mut O,
     faults: &mut E,
 ) -> Result<(), u8>
 where
     D: Files,
-    S: Source,
+    L: Logs,
     O: Target,
     E: Target,
-    requires reads { S.failed input.old < 2 ^ 64 - 1 }
+    requires reads { L.failed input.old < 2 ^ 64 - 1 }
     requires writes { O.failed output.old < 2 ^ 64 - 1 }
     requires tells { E.failed faults.old < 2 ^ 64 - 1 }
     ensures status { IfErr result (λ code. (code ≡ 1) ⊎ (code ≡ 2)) }
-    ensures does { Does D.holds D.unreadable D.written D.unwritten D.unwritable S.left S.failed S.ended O.taken O.failed
-        E.taken E.failed (quiet (path_of load.entry)) result
+    ensures does { Does D.holds D.unreadable D.written D.unwritten D.unwritable L.opened L.unopenable L.left L.failed L.ended
+        O.taken O.failed E.taken E.failed (quiet (path_of load.entry) (path_of log.entry)) result
         (files.now, files.now) (input.old, input.new) (output.old, output.new) (faults.old, faults.new) }
 {
+    open_log(input, alloc, log, faults)?;
     let mut place = None;
     let session = begin(&mut place, files, alloc, load, faults)?;
     quiet_command(session, input, output, faults)
 }
 
-/// Shows the log.
+/// Writes a summary of the log, also of one with a fault, up to there.
 #[inline(never)]
-fn show_log<S, O, E>(input: &mut S, output: &mut O, faults: &mut E) -> Result<(), u8>
-where
-    S: Source,
-    O: Target,
-    E: Target,
-    requires reads { S.failed input.old < 2 ^ 64 - 1 }
+fn show_summary<L: Logs, O: Target>(input: &mut L, output: &mut O) -> Result<(), LogFault>
+    requires reads { L.failed input.old < 2 ^ 64 - 1 }
     requires writes { O.failed output.old < 2 ^ 64 - 1 }
-    requires tells { E.failed faults.old < 2 ^ 64 - 1 }
-    ensures answer { (answer : Result (Unit {0}) AnyFault) × (result ≡ status_of answer)
-        × IsCounted S.left S.failed S.ended O.failed answer (input.old, input.new) (output.old, output.new) }
+    ensures { OnOk result (IsAllRead L.left L.ended input.new) }
+{
+    let mut summary = Summary::new();
+    let ended = summarize(input, output, &mut summary);
+    if output.failures() == u64::MAX || ended == Err(LogFault::Write) {
+        return Err(LogFault::Write);
+    }
+    match summary.put(output) {
+        Ok(()) => ended,
+        Err(_) => Err(LogFault::Write),
+    }
+}
+
+/// Writes the log as objects of JSON. A fault is the last one.
+#[inline(never)]
+fn show_objects<L: Logs, O: Target>(input: &mut L, output: &mut O) -> Result<(), LogFault>
+    requires reads { L.failed input.old < 2 ^ 64 - 1 }
+    requires writes { O.failed output.old < 2 ^ 64 - 1 }
+    ensures { OnOk result (IsAllRead L.left L.ended input.new) }
+{
+    let ended = show_json(input, output);
+    if let Err(fault) = &ended {
+        if *fault != LogFault::Write && output.failures() < u64::MAX {
+            let _ = put_json_fault(output, fault);
+        }
+    }
+    ended
+}
+
+/// Writes the fault that a log was shown up to, if it has one. An error holds the exit status, 1.
+fn shown_to<E: Target>(faults: &mut E, answer: Result<(), LogFault>) -> Result<(), u8>
+    requires { E.failed faults.old < 2 ^ 64 - 1 }
+    ensures status { result ≡ status_of answer }
     ensures silent { OnOk result (faults.new ≡ faults.old) }
 {
-    match show(input, output) {
+    match answer {
         Ok(()) => Ok(()),
         Err(fault) => Err(log_fault(faults, &fault)),
+    }
+}
+
+/// Shows the log.
+#[inline(never)]
+fn show_log<D, L, O, E>(
+    files: &D,
+    alloc: Global,
+    form: Form,
+    log: Option<&str>,
+    input: &mut L,
+    output: &mut O,
+    faults: &mut E,
+) -> Result<(), u8>
+where
+    D: Files,
+    L: Logs,
+    O: Target,
+    E: Target,
+    requires reads { L.failed input.old < 2 ^ 64 - 1 }
+    requires writes { O.failed output.old < 2 ^ 64 - 1 }
+    requires tells { E.failed faults.old < 2 ^ 64 - 1 }
+    ensures status { IfErr result (λ code. (code ≡ 1) ⊎ (code ≡ 2)) }
+    ensures does { Does D.holds D.unreadable D.written D.unwritten D.unwritable L.opened L.unopenable L.left L.failed L.ended
+        O.taken O.failed E.taken E.failed (shown form (path_of log.entry)) result
+        (files.now, files.now) (input.old, input.new) (output.old, output.new) (faults.old, faults.new) }
+{
+    open_log(input, alloc, log, faults)?;
+    match form {
+        Form::Lines => {
+            let answer = show(input, output);
+            shown_to(faults, answer)
+        }
+        Form::Summary => {
+            let answer = show_summary(input, output);
+            shown_to(faults, answer)
+        }
+        Form::Json => {
+            let answer = show_objects(input, output);
+            shown_to(faults, answer)
+        }
+    }
+}
+
+/// Compares the logs at these paths, each on a session of its own. Of several it is said which is meant.
+fn check_logs<D, L, O, E>(
+    files: &D,
+    alloc: Global,
+    load: Option<&str>,
+    logs: &[&str],
+    input: &mut L,
+    output: &mut O,
+    faults: &mut E,
+) -> Result<(), u8>
+where
+    D: Files,
+    L: Logs,
+    O: Target,
+    E: Target,
+    requires reads { L.failed input.old < 2 ^ 64 - 1 }
+    requires writes { O.failed output.old < 2 ^ 64 - 1 }
+    requires tells { E.failed faults.old < 2 ^ 64 - 1 }
+    ensures status { IfErr result (λ code. (code ≡ 1) ⊎ (code ≡ 2)) }
+    ensures does { Does D.holds D.unreadable D.written D.unwritten D.unwritable L.opened L.unopenable L.left L.failed L.ended
+        O.taken O.failed E.taken E.failed
+        (check (path_of load.entry) (texts_of logs.now)) result
+        (files.now, files.now) (input.old, input.new) (output.old, output.new) (faults.old, faults.new) }
+{
+    match logs {
+        [] => check_log(files, alloc, load, None, input, output, faults),
+        [log] => check_log(files, alloc, load, Some(*log), input, output, faults),
+        _ => check_each(files, alloc, load, logs, input, output, faults),
     }
 }
 
 /// Runs the program on these words, the first of them being its own name. An error holds the exit status: 1
 /// for a fault of the log, 2 for words that are no command, for a snapshot's file, and for refused memory
 /// outside the log. Its text was given to `faults`, if that could be.
-pub fn run<'a, D, S, O, E>(
+pub fn run<'a, D, L, O, E>(
     files: &mut D,
     alloc: Global,
     words: &'a [&'a str],
-    input: &mut S,
+    input: &mut L,
     output: &mut O,
     faults: &mut E,
 ) -> Result<(), u8>
 where
     D: Files,
-    S: Source,
+    L: Logs,
     O: Target,
     E: Target,
-    requires reads { S.failed input.old < 2 ^ 64 - 1 }
+    requires reads { L.failed input.old < 2 ^ 64 - 1 }
     requires writes { O.failed output.old < 2 ^ 64 - 1 }
     requires tells { E.failed faults.old < 2 ^ 64 - 1 }
     ensures status { IfErr result (λ code. (code ≡ 1) ⊎ (code ≡ 2)) }
     // What the words ask for is done.
-    ensures answered { Answers D.holds D.unreadable D.written D.unwritten D.unwritable S.left S.failed S.ended O.taken O.failed
-        E.taken E.failed (texts_of words.now) result
+    ensures answered { Answers D.holds D.unreadable D.written D.unwritten D.unwritable L.opened L.unopenable L.left L.failed L.ended
+        O.taken O.failed E.taken E.failed (texts_of words.now) result
         (files.old, files.new) (input.old, input.new) (output.old, output.new) (faults.old, faults.new) }
 {
     match task_of(alloc, words) {
-        Ok(Task::Replay { load, save }) => {
-            replay_log(files, alloc, load, save, input, output, faults)
+        Ok(Task::Replay { load, save, log }) => {
+            replay_log(files, alloc, load, save, log, input, output, faults)
         }
-        Ok(Task::Live { load, save }) => {
-            live_log(files, alloc, load, save, input, output, faults)
+        Ok(Task::Live { load, save, log }) => {
+            live_log(files, alloc, load, save, log, input, output, faults)
         }
-        Ok(Task::Check { load }) => check_log(files, alloc, load, input, output, faults),
-        Ok(Task::Quiet { load }) => quiet_log(files, alloc, load, input, output, faults),
-        Ok(Task::Show) => show_log(input, output, faults),
+        Ok(Task::Check { load, logs }) => {
+            check_logs(files, alloc, load, &logs, input, output, faults)
+        }
+        Ok(Task::Quiet { load, log }) => {
+            quiet_log(files, alloc, load, log, input, output, faults)
+        }
+        Ok(Task::Show { form, log }) => { show_log(files, alloc, form, log, input, output, faults) }
         Err(error) => explain(alloc, &error, output, faults),
     }
 }

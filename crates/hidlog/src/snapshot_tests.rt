@@ -39,7 +39,7 @@ impl Files for Memory {
         Ok(self.old.as_slice().to_vec(self.alloc)?)
     }
 
-    fn look(&self, path: &str) -> io::Result<()> {
+    fn look(&self, path: &str, _log: Option<&str>) -> io::Result<()> {
         if path == "new" {
             Ok(())
         } else {
@@ -47,7 +47,7 @@ impl Files for Memory {
         }
     }
 
-    fn write(&mut self, path: &str, bytes: &[u8]) -> io::Result<()> {
+    fn write(&mut self, path: &str, bytes: &[u8], _log: Option<&str>) -> io::Result<()> {
         if path != "new" {
             return Err(io::Error::from(ErrorKind::StorageFull));
         }

@@ -183,6 +183,7 @@ pub fn look<D: Files, E: Target>(
     files: &D,
     alloc: Global,
     path: Option<&str>,
+    log: Option<&str>,
     faults: &mut E,
 ) -> Result<(), u8>
     requires { E.failed faults.old < 2 ^ 64 - 1 }
@@ -194,7 +195,7 @@ pub fn look<D: Files, E: Target>(
     let Some(path) = path else {
         return Ok(());
     };
-    match files.look(path) {
+    match files.look(path, log) {
         Ok(()) => Ok(()),
         Err(error) => {
             tell_why(
@@ -215,6 +216,7 @@ pub fn save_rows<D: Files, E: Target>(
     files: &mut D,
     alloc: Global,
     path: &str,
+    log: Option<&str>,
     session: &Session<CAPACITY>,
     faults: &mut E,
 ) -> Result<(), u8>
@@ -226,7 +228,7 @@ pub fn save_rows<D: Files, E: Target>(
     if save(session.table(), &mut bytes).is_err() {
         return Err(no_memory(faults));
     }
-    match files.write(path, bytes.as_slice()) {
+    match files.write(path, bytes.as_slice(), log) {
         Ok(()) => Ok(()),
         Err(error) => {
             tell_why(

@@ -1,8 +1,7 @@
 //! The streams of the program's process, with what is known of them when they fail.
 ghost use Rattle.std.specs.Prelude.{◌≡◌, None};
 
-use arrayvec::ArrayVec;
-use session_log::{Failed, Source, Target};
+use session_log::{Failed, Target};
 use std::io::{self, ErrorKind, Read, Write};
 
 /// A reader or a writer that is called again where a signal interrupts a call. It keeps the error at which it failed.
@@ -64,83 +63,16 @@ impl<W: Write> Write for Patient<W> {
     }
 }
 
-/// The most bytes that are remembered. A line that is refused begins in the last 256 that were read.
-const REMEMBERED: usize = 4096;
-
-/// How many of them stay where there are more.
-const KEPT: usize = 512;
-
-/// A source that remembers what it yielded last.
-#[derive(Drop)]
-pub struct Remembering<S> {
-    inner: S,
-    last: ArrayVec<u8, REMEMBERED>,
-    forgot: bool,
-}
-
-impl<S: Source> Remembering<S> {
-    /// Returns the source, which yielded nothing yet.
-    pub fn new(inner: S) -> Self
-        ensures { ⟦<Remembering<S> as Source>⟧.failed result ≡ S.failed inner }
-    {
-        Remembering {
-            inner,
-            last: ArrayVec::new(),
-            forgot: false,
-        }
-    }
-
-    /// Returns the lines that it yielded last, without the front of one that it remembers in part.
-    pub fn lines(&self) -> &[u8] {
-        let last = self.last.as_slice();
-        if !self.forgot {
-            return last;
-        }
-        match last.iter().position(|byte| *byte == b'\n') {
-            Some(end) => last.split_at(end).1,
-            None => &[],
-        }
-    }
-}
-
-/// Remembers a piece after what was given before it. Returns whether some of that was forgotten.
-fn remember(last: &mut ArrayVec<u8, REMEMBERED>, piece: &[u8]) -> bool {
-    let held = last.len();
-    let is_full = held > KEPT && piece.len() > REMEMBERED - held;
-    if is_full {
-        last.drain(..held - KEPT);
-    }
-    let _ = last.try_extend_from_slice(piece);
-    is_full
-}
-
-impl<S: Source> Source for Remembering<S> {
-    ghost left = { λ s. S.left s.inner };
-
-    ghost ended = { λ s. S.ended s.inner };
-
-    ghost failed = { λ s. S.failed s.inner };
-
-    fn get(&mut self, out: &mut [u8]) -> Result<usize, Failed> {
-        let n = self.inner.get(out)?;
-        let forgot = remember(&mut self.last, out.split_at(n).0);
-        self.forgot = self.forgot || forgot;
-        Ok(n)
-    }
-
-    fn failures(&self) -> u64 {
-        self.inner.failures()
-    }
-}
-
 /// The text of a write that failed. The program writes it once it knows why.
 pub const WRITING_FAILED: &[u8] = b"hidlog: writing failed\n";
 
-/// A target for the texts of faults. It holds that of a failed write back, and notes that of a line that is none.
+/// A target for the texts of faults. It holds that of a failed write back, and notes those of a line that is none and of
+/// a read that failed, of a log that isn't one of several.
 #[derive(Drop)]
 pub struct Faults<E> {
     inner: E,
     has_bad_line: bool,
+    has_failed_read: bool,
     held_back: bool,
     holds_back: bool,
 }
@@ -153,6 +85,7 @@ impl<E: Target> Faults<E> {
         Faults {
             inner,
             has_bad_line: false,
+            has_failed_read: false,
             held_back: false,
             holds_back: true,
         }
@@ -161,6 +94,11 @@ impl<E: Target> Faults<E> {
     /// Returns whether it took the text of a line that isn't a log line.
     pub fn has_bad_line(&self) -> bool {
         self.has_bad_line
+    }
+
+    /// Returns whether it took the text of a read that failed.
+    pub fn has_failed_read(&self) -> bool {
+        self.has_failed_read
     }
 
     /// Holds nothing back from now on. Returns whether it did.
@@ -180,7 +118,10 @@ impl<E: Target> Target for Faults<E> {
             self.held_back = true;
             return Ok(piece.len());
         }
-        self.has_bad_line = self.has_bad_line || piece.ends_with(b": not a log line\n");
+        if piece.starts_with(b"hidlog: line ") {
+            self.has_bad_line = self.has_bad_line || piece.ends_with(b": not a log line\n");
+            self.has_failed_read = self.has_failed_read || piece.ends_with(b": reading failed\n");
+        }
         self.inner.put(piece)
     }
 

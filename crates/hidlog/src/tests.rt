@@ -15,7 +15,7 @@ const WORDS: &str = "\
 +Usage: hidlog <COMMAND>
 +
 +Commands:
-+  replay  Replays the log on standard input: writes it with the packets that the key sends, and what it counted
++  replay  Replays the log: writes it with the packets that the key sends, and what it counted
 +  live    Replays the log line by line as it comes, and says what the key needs after each input
 +  check   Compares the packets that the log names as sent with those that the key sends
 +  quiet   Writes the log's inputs, with a tick in place of each that is noise
@@ -32,7 +32,10 @@ const WORDS: &str = "\
 0 hidlog live --help
 +Replays the log line by line as it comes, and says what the key needs after each input
 +
-+Usage: hidlog live [OPTIONS]
++Usage: hidlog live [OPTIONS] [FILE]
++
++Arguments:
++  [FILE]  The log; standard input where none is named, and for -
 +
 +Options:
 +      --load <F>  Starts with the credentials of the snapshot F, and not with none
@@ -41,9 +44,12 @@ const WORDS: &str = "\
 +  -h, --help      Print help
 
 0 hidlog replay --help
-+Replays the log on standard input: writes it with the packets that the key sends, and what it counted
++Replays the log: writes it with the packets that the key sends, and what it counted
 +
-+Usage: hidlog replay [OPTIONS]
++Usage: hidlog replay [OPTIONS] [FILE]
++
++Arguments:
++  [FILE]  The log; standard input where none is named, and for -
 +
 +Options:
 +      --load <F>  Starts with the credentials of the snapshot F, and not with none
@@ -94,6 +100,28 @@ const LOGS: &str = "\
 -< 00000001810003616263..
 -< 00000001810003616263..
 ?hidlog: line 3: differs at packet 2
+
+0 hidlog check log
+-> 0 ffffffff8600080001020304050607..
+-< ffffffff860011000102030405060700000001020100000c..
++same 1 inputs 1 packets
+
+0 hidlog check log -
+-> 0 ffffffff8600080001020304050607..
+-< ffffffff860011000102030405060700000001020100000c..
++log: same 1 inputs 1 packets
++-: same 1 inputs 1 packets
+
+1 hidlog check log log
+-# idle
+-> 0 ffffffff8600080001020304050607..
+?log: line 2: differs at packet 1
+?log: line 2: differs at packet 1
+
+1 hidlog show none
+-# idle
+?hidlog: cannot read log
+?  none: entity not found
 
 0 hidlog quiet
 |# idle

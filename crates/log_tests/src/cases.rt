@@ -7,10 +7,40 @@
 ghost use Rattle.std.specs.Prelude.{◌<◌, ◌-◌, ◌^◌};
 
 use session_log::{LogFault, SliceIn, Source, Target, ToWrite, check, live, quiet, replay};
-use session_show::show;
+use session_show::{Summary, put_json_fault, show, show_json, summarize};
 use std::alloc::{AllocError, Global};
 use std::process::Abort;
 use token_session::Session;
+
+/// Writes a log's summary, also of a log with a fault.
+fn summarized<S: Source, T: Target>(reader: &mut S, writer: &mut T) -> Result<(), LogFault>
+    requires read { S.failed reader.old < 2 ^ 64 - 1 }
+    requires write { T.failed writer.old < 2 ^ 64 - 1 }
+{
+    let mut summary = Summary::new();
+    match summarize(reader, writer, &mut summary) {
+        Err(LogFault::Write) => Err(LogFault::Write),
+        result => match summary.put(writer) {
+            Ok(()) => result,
+            Err(_) => Err(LogFault::Write),
+        },
+    }
+}
+
+/// Writes a log as JSON, with the object of its fault.
+fn shown_as_json<S: Source, T: Target>(reader: &mut S, writer: &mut T) -> Result<(), LogFault>
+    requires read { S.failed reader.old < 2 ^ 64 - 1 }
+    requires write { T.failed writer.old < 2 ^ 64 - 1 }
+{
+    let result = show_json(reader, writer);
+    match result {
+        Ok(()) | Err(LogFault::Write) => result,
+        Err(fault) => match put_json_fault(writer, &fault) {
+            Ok(()) => result,
+            Err(_) => Err(LogFault::Write),
+        },
+    }
+}
 
 /// Plays a log by a command, on a new session.
 pub fn play<S: Source, T: Target>(
@@ -28,6 +58,8 @@ pub fn play<S: Source, T: Target>(
         "live" => live(reader, writer, &mut session).map(|_| ()),
         "check" => check(reader, writer, &mut session),
         "quiet" => quiet(reader, writer, &mut session),
+        "summary" => summarized(reader, writer),
+        "json" => shown_as_json(reader, writer),
         _ => show(reader, writer),
     }
 }

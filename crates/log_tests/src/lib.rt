@@ -15,8 +15,14 @@ mod page;
 #[cfg(test)]
 mod quieting;
 #[cfg(test)]
+mod reading;
+#[cfg(test)]
 mod replaying;
+#[cfg(test)]
+mod scripting;
 #[cfg(test)]
 mod showing;
 #[cfg(test)]
 mod streams;
+#[cfg(test)]
+mod summarizing;

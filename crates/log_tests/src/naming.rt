@@ -217,6 +217,7 @@ show
 +3       aaguid c3c3c3c3c3c3c3c3c3c3c3c3c3c3c3c3
 +3       credentialId d4d5
 +3       publicKey {1: 2}
++3         1 kty: 2  EC2
 +3     3 attStmt: {\"sig\": h'3006020105020107'}
 +3       r 05
 +3       s 07

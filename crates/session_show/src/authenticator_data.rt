@@ -1,16 +1,22 @@
 //! Authenticator data in lines (WebAuthn, section 6.1).
 
+use crate::cose::write_key;
 use crate::diagnostic::Diagnostic;
+use crate::escape::write_line;
 use crate::pen::Pen;
 use crate::putting::Written;
+use crate::rp_id::RpId;
 use ctap_cbor::Cursor;
+use sha2::{Digest, Sha256};
 
 /// The flag that says that a credential follows.
 const CREDENTIAL: u8 = 0x40;
 
 /// Writes lines for what authenticator data hold, as far as the bytes reach.
-pub fn write_authenticator_data(pen: &mut Pen, number: u64, bytes: &[u8]) {
-    write_bytes(pen, number, "rpIdHash ", bytes.get(..32));
+pub fn write_authenticator_data(pen: &mut Pen, number: u64, bytes: &[u8], rp_id: &RpId) {
+    if let Some(hash) = bytes.get(..32) {
+        write_hash(pen, number, hash, rp_id);
+    }
     let Some([flags, first, second, third, fourth]) = bytes.get(32..37) else {
         return;
     };
@@ -26,6 +32,18 @@ pub fn write_authenticator_data(pen: &mut Pen, number: u64, bytes: &[u8]) {
     } else {
         write_credential(pen, number, rest);
     }
+}
+
+/// Writes the line of an RP id's hash, with the RP id that the request named.
+fn write_hash(pen: &mut Pen, number: u64, hash: &[u8], rp_id: &RpId) {
+    write_front(pen, number, "rpIdHash ");
+    pen.hex(hash);
+    if !rp_id.bytes().is_empty() {
+        let is_its = Sha256::digest(rp_id.bytes()).as_slice() == hash;
+        pen.text(if is_its { "  " } else { "  not that of " });
+        write_line(pen, rp_id.bytes());
+    }
+    pen.text("\n");
 }
 
 /// Writes lines for a credential, and for the extensions after it.
@@ -45,7 +63,9 @@ fn write_credential(pen: &mut Pen, number: u64, bytes: &[u8]) {
         return;
     }
     let place = cursor.place();
-    write_item(pen, number, "publicKey ", rest.get(..place).unwrap_or(b""));
+    let key = rest.get(..place).unwrap_or(b"");
+    write_item(pen, number, "publicKey ", key);
+    write_key(pen, number, key);
     write_item(pen, number, "extensions ", rest.get(place..).unwrap_or(b""));
 }
 

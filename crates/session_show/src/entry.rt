@@ -1,5 +1,6 @@
 //! The text for a line of a log.
 
+use crate::asked::Asked;
 use crate::diagnostic::Diagnostic;
 use crate::escape::write_line;
 use crate::member_names::Map;
@@ -7,6 +8,7 @@ use crate::members::write_members;
 use crate::packet_line::write_packet;
 use crate::pen::Pen;
 use crate::putting::Written;
+use crate::rp_id::RpId;
 use crate::words::{command_name, status_name, write_name};
 use authn_core::Presence;
 use session_log::Line;
@@ -17,8 +19,8 @@ use token_session::{Input, Timed};
 pub enum Message<'a> {
     /// What a host asked.
     Request(&'a [u8]),
-    /// What the key answered, to this command where it is known.
-    Answer(Option<u8>, &'a [u8]),
+    /// What the key answered, to this request where it is known.
+    Answer(Option<&'a Asked>, &'a [u8]),
 }
 
 /// A line of a log, and the message whose last packet it has.
@@ -111,7 +113,7 @@ fn write_comment(pen: &mut Pen, number: u64, line: &[u8]) {
 fn write_message(pen: &mut Pen, number: u64, message: Message<'_>) {
     match message {
         Message::Request(bytes) => write_request(pen, number, bytes),
-        Message::Answer(command, bytes) => write_answer(pen, number, command, bytes),
+        Message::Answer(asked, bytes) => write_answer(pen, number, asked, bytes),
     }
 }
 
@@ -122,18 +124,18 @@ fn write_request(pen: &mut Pen, number: u64, message: &[u8]) {
     write_front(pen, number, "   request ", *command, item);
     write_name(pen, command_name(*command));
     pen.text("\n");
-    write_members(pen, number, Map::Request(*command), item);
+    write_members(pen, number, Map::Request(*command), item, &RpId::none());
 }
 
-fn write_answer(pen: &mut Pen, number: u64, command: Option<u8>, message: &[u8]) {
+fn write_answer(pen: &mut Pen, number: u64, asked: Option<&Asked>, message: &[u8]) {
     let Some((status, item)) = message.split_first() else {
         return;
     };
     write_front(pen, number, "   answer ", *status, item);
     write_name(pen, status_name(*status));
     pen.text("\n");
-    if let Some(command) = command {
-        write_members(pen, number, Map::Answer(command), item);
+    if let Some(asked) = asked {
+        write_members(pen, number, Map::Answer(asked.command), item, &asked.rp_id);
     }
 }
 
@@ -142,8 +144,14 @@ fn write_front(pen: &mut Pen, number: u64, kind: &str, first: u8, item: &[u8]) {
     pen.decimal(number);
     pen.text(kind);
     pen.hex(&[first]);
-    if !item.is_empty() {
-        pen.text(" ");
+    if item.is_empty() {
+        return;
+    }
+    pen.text(" ");
+    // An item may be long, so it isn't written again for the parts after it.
+    if !pen.pass_known() {
+        let before = pen.before();
         Diagnostic(item).write(pen);
+        pen.know(before);
     }
 }

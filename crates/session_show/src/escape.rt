@@ -4,7 +4,7 @@ use crate::pen::Pen;
 
 /// Whether a character is seen as nothing, or moves others: a control character, one that turns the direction of
 /// writing, a line break, or one without width.
-fn is_hidden(c: char) -> bool {
+pub fn is_hidden(c: char) -> bool {
     matches!(
         c,
         '\0'..='\u{1f}'

@@ -4,19 +4,34 @@
 
 mod asked;
 mod authenticator_data;
+mod cose;
+mod counts;
 mod der;
 mod diagnostic;
 mod entry;
 mod escape;
+mod json;
+mod json_line;
+mod json_showing;
 mod member_names;
 mod members;
 mod message;
 mod packet_line;
 mod pen;
 mod putting;
+mod reader;
+mod row;
+mod rp_id;
 mod showing;
+mod summary;
+mod telling;
+mod transactions;
 mod transcript;
 mod words;
 
 pub use diagnostic::show_item;
+pub use json_showing::{put_json_fault, show_json};
+pub use reader::{Reader, put_transaction};
 pub use showing::show;
+pub use summary::{Summary, summarize};
+pub use transactions::Transaction;

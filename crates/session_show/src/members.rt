@@ -1,15 +1,18 @@
 //! A line for each member of a request or an answer, and for what its bytes hold.
 
 use crate::authenticator_data::write_authenticator_data;
+use crate::cose::algorithm_name;
 use crate::der::write_signature;
 use crate::diagnostic::{Diagnostic, write_scalar};
 use crate::member_names::Map;
 use crate::pen::Pen;
 use crate::putting::Written;
+use crate::rp_id::RpId;
+use crate::words::write_name;
 use ctap_cbor::{Cursor, Item, check};
 
 /// Writes a line for each member of a map whose members have names, where the bytes are one.
-pub fn write_members(pen: &mut Pen, number: u64, map: Map, item: &[u8]) {
+pub fn write_members(pen: &mut Pen, number: u64, map: Map, item: &[u8], rp_id: &RpId) {
     if !map.is_named() || check(item).result.is_err() {
         return;
     }
@@ -30,12 +33,12 @@ pub fn write_members(pen: &mut Pen, number: u64, map: Map, item: &[u8]) {
         pen.decimal(number);
         pen.text("     ");
         write_member(pen, map, key, value);
-        write_inside(pen, number, map, key, value);
+        write_inside(pen, number, (map, key), value, rp_id);
     }
 }
 
 /// Passes the value that comes next in a map, and returns its bytes.
-fn next_value<'a>(cursor: &mut Cursor<'a>, item: &'a [u8]) -> Option<&'a [u8]> {
+pub fn next_value<'a>(cursor: &mut Cursor<'a>, item: &'a [u8]) -> Option<&'a [u8]> {
     let start = cursor.place();
     cursor.skip(2).ok()?;
     item.get(start..cursor.place())
@@ -56,14 +59,14 @@ fn write_member(pen: &mut Pen, map: Map, key: Item<'_>, value: &[u8]) {
 }
 
 /// Writes what a member holds: authenticator data, a signature, or a statement with one.
-fn write_inside(pen: &mut Pen, number: u64, map: Map, key: Item<'_>, value: &[u8]) {
+fn write_inside(pen: &mut Pen, number: u64, member: (Map, Item<'_>), value: &[u8], rp_id: &RpId) {
     let bytes = match Cursor::new(value).item(1) {
         Ok(Item::Bytes(bytes)) => bytes,
         _ => b"",
     };
-    match (map, key) {
+    match member {
         (Map::Answer(0x01 | 0x02 | 0x08), Item::Int(2)) => {
-            write_authenticator_data(pen, number, bytes);
+            write_authenticator_data(pen, number, bytes, rp_id);
         }
         (Map::Answer(0x02 | 0x08), Item::Int(3)) => write_signature(pen, number, bytes),
         (Map::Answer(0x01), Item::Int(3)) => write_statement(pen, number, value),
@@ -71,7 +74,7 @@ fn write_inside(pen: &mut Pen, number: u64, map: Map, key: Item<'_>, value: &[u8
     }
 }
 
-/// Writes the numbers of the signature in an attestation statement.
+/// Writes the algorithm and the numbers of the signature in an attestation statement.
 fn write_statement(pen: &mut Pen, number: u64, statement: &[u8]) {
     let mut cursor = Cursor::new(statement);
     let Ok(Item::Map(count)) = cursor.item(1) else {
@@ -85,8 +88,20 @@ fn write_statement(pen: &mut Pen, number: u64, statement: &[u8]) {
             return;
         };
         match (key, Cursor::new(value).item(1)) {
+            (Item::Text("alg"), Ok(Item::Int(algorithm))) => {
+                write_algorithm(pen, number, algorithm);
+            }
             (Item::Text("sig"), Ok(Item::Bytes(bytes))) => write_signature(pen, number, bytes),
             _ => {}
         }
     }
+}
+
+/// Writes the line of a statement's algorithm.
+fn write_algorithm(pen: &mut Pen, number: u64, algorithm: i128) {
+    pen.decimal(number);
+    pen.text("       alg ");
+    pen.integer(algorithm);
+    write_name(pen, algorithm_name(algorithm));
+    pen.text("\n");
 }

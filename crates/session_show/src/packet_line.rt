@@ -6,7 +6,7 @@ use hid_packet::command::{CANCEL, CBOR, ERROR, INIT, KEEPALIVE, LOCK, MSG, PING,
 use hid_packet::{Packet, View};
 
 /// Returns the name of a command, where it has one.
-fn name_of(command: u8) -> Option<&'static str> {
+pub fn name_of(command: u8) -> Option<&'static str> {
     match command {
         PING => Some("PING"),
         MSG => Some("MSG"),

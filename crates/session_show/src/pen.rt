@@ -14,6 +14,10 @@ pub struct Pen {
     /// How many bytes are still to pass over.
     before: usize,
     part: ArrayVec<u8, PART>,
+    /// Whether what is written stands in a JSON text.
+    is_quoted: bool,
+    /// How long a piece is that is written at most once in the text, where that is known from an earlier part.
+    known: Option<usize>,
 }
 
 /// Returns the digit of a number below 16.
@@ -34,6 +38,8 @@ impl Pen {
         Pen {
             before: 0,
             part: ArrayVec::new(),
+            is_quoted: false,
+            known: None,
         }
     }
 
@@ -41,6 +47,33 @@ impl Pen {
     pub fn begin(&mut self, before: usize) {
         self.before = before;
         self.part.clear();
+        self.is_quoted = false;
+        if before == 0 {
+            self.known = None;
+        }
+    }
+
+    /// Returns how many bytes are still to pass over.
+    pub fn before(&self) -> usize {
+        self.before
+    }
+
+    /// Passes over a piece whose length is known, and returns whether it did.
+    pub fn pass_known(&mut self) -> bool {
+        match self.known {
+            Some(len) if len <= self.before => {
+                self.before -= len;
+                true
+            }
+            _ => false,
+        }
+    }
+
+    /// Keeps the length of a piece that was passed over, when so many bytes were still to pass over before it.
+    pub fn know(&mut self, before: usize) {
+        if self.before > 0 {
+            self.known = Some(before.saturating_sub(self.before));
+        }
     }
 
     /// The part of the text so far.
@@ -68,9 +101,28 @@ impl Pen {
             .try_extend_from_slice(rest.split_at(room.min(rest.len())).0);
     }
 
+    /// Begins a JSON text, or ends it: in one a backslash is written before `"` and `\`.
+    pub fn quote(&mut self, is_quoted: bool) {
+        self.is_quoted = is_quoted;
+    }
+
     /// Writes a text.
     pub fn text(&mut self, text: &str) {
-        self.bytes(text.as_bytes());
+        if self.is_quoted {
+            self.quoted(text);
+        } else {
+            self.bytes(text.as_bytes());
+        }
+    }
+
+    /// Writes a text in a JSON text.
+    fn quoted(&mut self, text: &str) {
+        for byte in text.as_bytes() {
+            if matches!(byte, b'"' | b'\\') {
+                self.bytes(b"\\");
+            }
+            self.bytes(&[*byte]);
+        }
     }
 
     /// Writes a number in decimal digits.
@@ -102,8 +154,14 @@ impl Pen {
 
     /// Writes a character as `\u` and four digits.
     pub fn escape(&mut self, high: u8, low: u8) {
-        let [first, second] = digits(high);
-        let [third, fourth] = digits(low);
-        self.bytes(&[b'\\', b'u', first, second, third, fourth]);
+        let len = if self.is_quoted { 7 } else { 6 };
+        // Most of a long text may be escapes, which are passed over at once.
+        if len <= self.before {
+            self.before -= len;
+            return;
+        }
+        self.text("\\u");
+        self.bytes(&digits(high));
+        self.bytes(&digits(low));
     }
 }

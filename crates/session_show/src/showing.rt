@@ -1,15 +1,16 @@
 //! A log as a person reads it.
-ghost use Rattle.std.specs.Prelude.{◌<◌, ◌-◌, ◌^◌, OnOk, IfErr};
+ghost use Rattle.std.specs.Prelude.{◌<◌, ◌-◌, ◌^◌, OnOk};
 ghost use Rattle.session_log.specs.Ending.{ending_of, read_fails, write_fails};
-ghost use Rattle.session_log.specs.Replay.{IsOfLine, ReadsTo};
+ghost use Rattle.session_log.specs.Replay.{ReadsTo};
 ghost use Rattle.session_log.specs.Streams.{Counts, IsAllRead};
-ghost use Rattle.session_show.specs.Shown.{Shows, ShowsLine, reading};
+ghost use Rattle.session_show.specs.Shown.{Shows, reading};
 ghost use Rattle.session_show.specs.Written.{Grows};
 
 use crate::pen::Pen;
 use crate::putting::put_written;
+use crate::telling::{Telling, tell_all};
 use crate::transcript::Transcript;
-use session_log::{LogFault, Source, Target, Window, next_line, read_line};
+use session_log::{LogFault, Source, Target, read_line};
 
 /// What is kept from line to line.
 #[derive(Drop)]
@@ -25,19 +26,15 @@ impl Showing {
             pen: Pen::new(),
         }
     }
+}
 
-    /// Writes what is shown for a line.
-    fn show_line<T: Target>(
+impl Telling for Showing {
+    fn tell<T: Target>(
         &mut self,
-        line: &[u8],
         number: u64,
+        line: &[u8],
         writer: &mut T,
-    ) -> Result<(), LogFault>
-        requires { T.failed writer.old < 2 ^ 64 - 1 }
-        ensures shown { ShowsLine number line.now (T.failed writer.old, T.failed writer.new) (ending_of result) }
-        ensures own { IfErr result (IsOfLine number) }
-        ensures grown { Grows (T.taken writer.old) (T.taken writer.new) }
-    {
+    ) -> Result<(), LogFault> {
         let Some(said) = read_line(line) else {
             return Err(LogFault::BadLine(number));
         };
@@ -76,17 +73,5 @@ pub fn show<S: Source, T: Target>(reader: &mut S, writer: &mut T) -> Result<(), 
     ensures reads { Counts S.failed (reader.old, reader.new) (read_fails (ending_of result)) }
     ensures writes { Counts T.failed (writer.old, writer.new) (write_fails (ending_of result)) }
 {
-    let mut showing = Showing::new();
-    let mut window = Window::new();
-    let mut number = 1;
-    'lines: while let Some(end) = next_line(&mut window, reader, number)? {
-        let line = window.as_slice().split_at(end).0;
-        showing.show_line(line, number, writer)?;
-        window.drop_front(end + 1);
-        number += 1;
-    }
-    if window.is_empty() {
-        return Ok(());
-    }
-    showing.show_line(window.as_slice(), number, writer)
+    tell_all(&mut Showing::new(), reader, writer)
 }

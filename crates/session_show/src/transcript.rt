@@ -3,7 +3,8 @@
 use crate::asked::Lately;
 use crate::entry::{Entry, Message};
 use crate::message::Collector;
-use hid_packet::{Packet, View};
+use crate::transactions::channel_of;
+use hid_packet::Packet;
 use session_log::Line;
 use token_session::{Input, Timed};
 
@@ -22,6 +23,15 @@ impl Transcript {
             requests: Collector::new(),
             answers: Collector::new(),
             lately: Lately::new(),
+        }
+    }
+
+    /// Returns one that has taken the same lines.
+    pub fn copy(&self) -> Self {
+        Transcript {
+            requests: self.requests.copy(),
+            answers: self.answers.copy(),
+            lately: self.lately.copy(),
         }
     }
 
@@ -48,23 +58,15 @@ impl Transcript {
     /// Takes a packet from a host.
     fn take_request(&mut self, packet: &Packet) -> Option<Message<'_>> {
         let message = self.requests.add(packet)?;
-        if let Some(command) = message.first() {
-            self.lately.add(channel_of(packet), *command);
+        if let [command, item @ ..] = message {
+            self.lately.add(channel_of(packet), *command, item);
         }
         Some(Message::Request(message))
     }
 
     /// Takes a packet that was sent.
     fn take_answer(&mut self, packet: &Packet) -> Option<Message<'_>> {
-        let command = self.lately.command_on(channel_of(packet));
         let message = self.answers.add(packet)?;
-        Some(Message::Answer(command, message))
-    }
-}
-
-/// Returns a packet's channel.
-fn channel_of(packet: &Packet) -> u32 {
-    match packet.view() {
-        View::Start { cid, .. } | View::More { cid, .. } => cid,
+        Some(Message::Answer(self.lately.on(channel_of(packet)), message))
     }
 }

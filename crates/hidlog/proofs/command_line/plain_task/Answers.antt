@@ -1,3 +1,5 @@
+use Rattle.std.proofs.Common.{Some, None, ◌∙◌, ap, sym}
+use Rattle.hidlog.specs.CommandLine.{check, texts_of}
 use Rattle.hidlog.proofs.CommandLine.{plain_replay, plain_live, plain_check, plain_quiet, plain_show}
 use Rattle.hidlog.proofs.command_line.plain_task.Goals as goal
 
@@ -8,7 +10,8 @@ pub returns-in-live : goal.returns-in-live
 returns-in-live c = rw c.in-live.is (plain_live c.args.program.now)
 
 pub returns-in-check : goal.returns-in-check
-returns-in-check c = rw c.in-check.is (plain_check c.args.program.now)
+returns-in-check c =
+    rw c.in-check.is (plain_check c.args.program.now ∙ ap (λ logs. Some (check None (texts_of logs))) (sym c.new.ensures.items))
 
 pub returns-in-quiet : goal.returns-in-quiet
 returns-in-quiet c = rw c.in-quiet.is (plain_quiet c.args.program.now)

@@ -1,7 +1,7 @@
-use Rattle.std.proofs.Common.{◌≡◌, [], ◌∙◌, is_some, option_and_then, ap, sym, true, false}
+use Rattle.std.proofs.Common.{◌≡◌, [], ◌∙◌, is_some, option_and_then, option_map, ap, sym, true, false}
 use Rattle.clap.specs.Words.{HasKind, app_of, subcommand_rows_of}
 use Rattle.clap.proofs.TakesLemmas.{passed_up}
-use Rattle.hidlog.specs.CommandLine.{answers_to, ask_of, texts_of}
+use Rattle.hidlog.specs.CommandLine.{answers_to, ask_of, asks, texts_of}
 use Rattle.hidlog.proofs.CommandLine.{asked_is, asked_some, faults_are}
 use Rattle.hidlog.proofs.command_line.task_of.Goals as goal
 
@@ -10,16 +10,16 @@ returns-in_err-matches-clause-answer c =
     passed_up c.from_residual-in_err-matches.result c.in_err-matches.field-0.0 (HasKind (answers_to (texts_of c.args.words.now))) c.from_residual-in_err-matches.ensures.1
     (faults_are (app_of c.in_ok-program.program) (texts_of c.args.words.now) (λ kinds. HasKind kinds c.in_err-matches.field-0.0) c.in_ok-program.ensures c.in_err-matches.ensures.kinds)
 
-pub returns-in-Some-task_in-clause-task : goal.returns-in-Some-task_in-clause-task
-returns-in-Some-task_in-clause-task c =
+pub returns-in-Some-found-clause-task : goal.returns-in-Some-found-clause-task
+returns-in-Some-found-clause-task c =
     let none = faults_are (app_of c.in_ok-program.program) (texts_of c.args.words.now) (λ kinds. kinds ≡ []) c.in_ok-program.ensures c.in_ok-matches.ensures.kinds in
     asked_is (app_of c.in_ok-program.program) (texts_of c.args.words.now) c.in_ok-matches.matches c.in_ok-program.ensures c.in_ok-matches.ensures.ok.2 none
-    ∙ sym c.in-Some-task_in.ensures
+    ∙ (sym c.in_ok-found.ensures ∙ ap (option_map asks) c.in-Some-found.is)
 
 pub returns-clause-answer : goal.returns-clause-answer
 returns-clause-answer c =
     let none = faults_are (app_of c.in_ok-program.program) (texts_of c.args.words.now) (λ kinds. kinds ≡ []) c.in_ok-program.ensures c.in_ok-matches.ensures.kinds in
     let some : is_some (option_and_then ask_of (subcommand_rows_of c.in_ok-matches.matches)) ≡ true =
     asked_some (app_of c.in_ok-program.program) (texts_of c.args.words.now) c.in_ok-matches.matches c.in_ok-program.ensures c.in_ok-matches.ensures.ok.2 none in
-    let no : false ≡ is_some (option_and_then ask_of (subcommand_rows_of c.in_ok-matches.matches)) = ap is_some c.in-None.ensures in
+    let no : false ≡ is_some (option_and_then ask_of (subcommand_rows_of c.in_ok-matches.matches)) = ap is_some (sym (ap (option_map asks) c.in-None.is) ∙ c.in_ok-found.ensures) in
     let bad : false ≡ true = no ∙ some in cc

@@ -1,33 +1,41 @@
 use Rattle.session_log.specs.Command.{start_with}
-use Rattle.std.proofs.Common.{◌≡◌, ◌∙◌, inr, refl, rules, sym, Ok, Err, []}
+use Rattle.std.proofs.Common.{◌≡◌, ◌∙◌, inr, refl, rules, sym, Ok, Err, [], inl}
 use Rattle.hidlog.proofs.program.live_log.Goals as goal
 
 pub returns-in_err-live_command-clause-does : goal.returns-in_err-live_command-clause-does
 returns-in_err-live_command-clause-does g c =
     let begun = c.in_ok-session.ensures.begins in
     inr (
-      begun.0,
-      begun.1,
+      c.open_log.new.input,
+      c.in_ok-open_log.ensures.opened,
       inr (
-        Err c.in_err-live_command.field-0.0,
-        c.live_command.new.session,
-        c.in_err-live_command.ensures.lived (start_with begun.0) [] begun.2,
-        (search rules, refl),
+        begun.0,
+        begun.1,
+        inr (
+          Err c.in_err-live_command.field-0.0,
+          c.live_command.new.session,
+          c.in_err-live_command.ensures.lived (start_with begun.0) [] begun.2,
+          (search rules, refl),
+        ),
       ),
     )
 
 pub returns-in-Some-clause-does : goal.returns-in-Some-clause-does
 returns-in-Some-clause-does g c =
     let begun = c.in_ok-session.ensures.begins in
-    let silent : c.live_command.new.faults ≡ c.args.faults.now = c.in_ok-live_command.ensures.silent ∙ (c.in_ok-look.ensures.silent ∙ c.in_ok-session.ensures.silent) in
+    let silent : c.live_command.new.faults ≡ c.args.faults.now = c.in_ok-live_command.ensures.silent ∙ (c.in_ok-look.ensures.silent ∙ (c.in_ok-session.ensures.silent ∙ c.in_ok-open_log.ensures.silent)) in
     inr (
-      begun.0,
-      begun.1,
+      c.open_log.new.input,
+      c.in_ok-open_log.ensures.opened,
       inr (
-        Ok c.in_ok-live_command.field-0,
-        c.live_command.new.session,
-        c.in_ok-live_command.ensures.lived (start_with begun.0) [] begun.2,
-        rw (c.in-Some.is, sym silent) c.save_rows.ensures,
+        begun.0,
+        begun.1,
+        inr (
+          Ok c.in_ok-live_command.field-0,
+          c.live_command.new.session,
+          c.in_ok-live_command.ensures.lived (start_with begun.0) [] begun.2,
+          rw (c.in-Some.is, sym silent) c.save_rows.ensures,
+        ),
       ),
     )
 
@@ -35,12 +43,37 @@ pub returns-in-None-clause-does : goal.returns-in-None-clause-does
 returns-in-None-clause-does g c =
     let begun = c.in_ok-session.ensures.begins in
     inr (
-      begun.0,
-      begun.1,
+      c.open_log.new.input,
+      c.in_ok-open_log.ensures.opened,
       inr (
-        Ok c.in_ok-live_command.field-0,
-        c.live_command.new.session,
-        c.in_ok-live_command.ensures.lived (start_with begun.0) [] begun.2,
-        rw c.in-None.is (refl, refl, c.in_ok-live_command.ensures.silent ∙ (c.in_ok-look.ensures.silent ∙ c.in_ok-session.ensures.silent)),
+        begun.0,
+        begun.1,
+        inr (
+          Ok c.in_ok-live_command.field-0,
+          c.live_command.new.session,
+          c.in_ok-live_command.ensures.lived (start_with begun.0) [] begun.2,
+          rw c.in-None.is (refl, refl, c.in_ok-live_command.ensures.silent ∙ (c.in_ok-look.ensures.silent ∙ (c.in_ok-session.ensures.silent ∙ c.in_ok-open_log.ensures.silent))),
+        ),
+      ),
+    )
+
+pub returns-in_err-session-clause-does : goal.returns-in_err-session-clause-does
+returns-in_err-session-clause-does g c =
+    inr (
+      c.open_log.new.input,
+      c.in_ok-open_log.ensures.opened,
+      inl (search rules, refl, refl, refl, rw (sym c.in_ok-open_log.ensures.silent) c.in_err-session.ensures.told),
+    )
+
+pub returns-in_err-look-clause-does : goal.returns-in_err-look-clause-does
+returns-in_err-look-clause-does g c =
+    let begun = c.in_ok-session.ensures.begins in
+    inr (
+      c.open_log.new.input,
+      c.in_ok-open_log.ensures.opened,
+      inr (
+        begun.0,
+        begun.1,
+        inl (search rules, refl, refl, refl, rw (sym (c.in_ok-session.ensures.silent ∙ c.in_ok-open_log.ensures.silent)) c.in_err-look.ensures.told),
       ),
     )

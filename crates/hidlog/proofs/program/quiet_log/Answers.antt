@@ -1,5 +1,5 @@
 use Rattle.session_log.specs.Command.{start_with}
-use Rattle.std.proofs.Common.{inr, refl, sym, []}
+use Rattle.std.proofs.Common.{inr, refl, sym, [], ◌∙◌, inl, rules}
 use Rattle.hidlog.proofs.Statuses.{is_status}
 use Rattle.hidlog.proofs.program.quiet_log.Goals as goal
 
@@ -13,11 +13,23 @@ pub returns-clause-does : goal.returns-clause-does
 returns-clause-does g c =
     let begun = c.in_ok-session.ensures.begins in
     inr (
-      begun.0,
-      begun.1,
-      (
-        (c.quiet_command.new.session, c.quiet_command.ensures.quieted (start_with begun.0) [] begun.2),
-        refl,
-        rw (sym c.in_ok-session.ensures.silent) c.quiet_command.ensures.silent,
+      c.open_log.new.input,
+      c.in_ok-open_log.ensures.opened,
+      inr (
+        begun.0,
+        begun.1,
+        (
+          (c.quiet_command.new.session, c.quiet_command.ensures.quieted (start_with begun.0) [] begun.2),
+          refl,
+          rw (sym (c.in_ok-session.ensures.silent ∙ c.in_ok-open_log.ensures.silent)) c.quiet_command.ensures.silent,
+        ),
       ),
+    )
+
+pub returns-in_err-session-clause-does : goal.returns-in_err-session-clause-does
+returns-in_err-session-clause-does g c =
+    inr (
+      c.open_log.new.input,
+      c.in_ok-open_log.ensures.opened,
+      inl (search rules, refl, refl, refl, rw (sym c.in_ok-open_log.ensures.silent) c.in_err-session.ensures.told),
     )

@@ -13,7 +13,7 @@ use Rattle.session_log.proofs.Failures.{on_any, on_err, counts_none, counts_on, 
 use Rattle.session_log.proofs.Lasts.{faulty_in_front, faulty_last, none_bad}
 use Rattle.session_show.specs.Shown.{Shows, reading, unknown, failures_of}
 use Rattle.session_show.proofs.Parts.{grows_on}
-use Rattle.session_show.proofs.showing.show.Goals as goal
+use Rattle.session_show.proofs.telling.tell_all.Goals as goal
 
 pub lines-init : goal.lines-init
 lines-init g c =
@@ -41,15 +41,15 @@ lines-preserved g c =
     let w = c.next_line.new.window in
     let line = c.split_at.result.0.now in
     let is_line : line ≡ take c.in-Some.end w = c.split_at.ensures.front ∙ ap (take c.in-Some.end) c.as_slice.ensures.value in
-    let shown = c.in_ok-show_line.ensures.shown in
+    let shown = c.in_ok-tell.ensures.shown in
     let read = read_on (left c.args.reader.now) (left c.lines.reader) (left c.next_line.new.reader) before.0 c.lines.window w before.2 c.in_ok-end.ensures.bytes in
-    let next = goes_on reading unknown failures_of (left c.args.reader.now) (left c.next_line.new.reader) None (failed c.lines.writer, failed c.show_line.new.writer)
+    let next = goes_on reading unknown failures_of (left c.args.reader.now) (left c.next_line.new.reader) None (failed c.lines.writer, failed c.tell.new.writer)
     tt tt tt before.0 before.1 w c.drop_front.new.self line c.lines.number c.in-Some.end read tt before.3 has is_line c.drop_front.ensures shown in
     record {
       reads = ◌∙◌ {b = g.S.Source.failed c.lines.reader} c.in_ok-end.ensures.reads c.lines.invariant.reads;
       writes = shown.3.1 ∙ c.lines.invariant.writes;
       counted = omega (arith, has.counted);
-      grown = grows_on (taken c.args.writer.now) (taken c.lines.writer) (taken c.show_line.new.writer) c.lines.invariant.grown c.in_ok-show_line.ensures.grown;
+      grown = grows_on (taken c.args.writer.now) (taken c.lines.writer) (taken c.tell.new.writer) c.lines.invariant.grown c.in_ok-tell.ensures.grown;
       done = (next.0, next.1, next.2, next.4);
     }
 
@@ -78,38 +78,38 @@ returns-in_err-end g c =
           (counts_none _ _ _ (stops_unwritten c.lines.number w e stopped) c.lines.invariant.writes);
     }
 
-pub returns-in_err-show_line : goal.returns-in_err-show_line
-returns-in_err-show_line g c =
+pub returns-in_err-tell : goal.returns-in_err-tell
+returns-in_err-tell g c =
     let left = g.S.Source.left in
     let taken = g.T.Target.taken in
     let failed = g.T.Target.failed in
     let before = c.lines.invariant.done in
-    let e = c.in_err-show_line.field-0.0 in
-    let r = c.from_residual-in_err-show_line.result in
+    let e = c.in_err-tell.field-0.0 in
+    let r = c.from_residual-in_err-tell.result in
     let w = c.next_line.new.window in
     let all = IsAllRead left g.S.Source.ended c.next_line.new.reader in
     let has = rw c.in-Some.is at c.in_ok-end.ensures.found in
     let line = c.split_at.result.0.now in
     let is_line : line ≡ take c.in-Some.end w = c.split_at.ensures.front ∙ ap (take c.in-Some.end) c.as_slice.ensures.value in
-    let shown = c.in_err-show_line.ensures.shown in
-    let from = err_from_is_err_and r c.from_residual-in_err-show_line.ensures.1 in
+    let shown = c.in_err-tell.ensures.shown in
+    let from = err_from_is_err_and r c.from_residual-in_err-tell.ensures.1 in
     let is : r ≡ Err e = from.1 ∙ ap (λ (f : LogFault). Err f) from.2 in
     let read = read_on (left c.args.reader.now) (left c.lines.reader) (left c.next_line.new.reader) before.0 c.lines.window w before.2 c.in_ok-end.ensures.bytes in
     record {
       shown = as_err r e (λ (q : Ending). Shows (left c.args.reader.now) (left c.next_line.new.reader) q) is
-          (stops_in_front reading unknown failures_of (left c.args.reader.now) (left c.next_line.new.reader) None (failed c.lines.writer, failed c.show_line.new.writer)
+          (stops_in_front reading unknown failures_of (left c.args.reader.now) (left c.next_line.new.reader) None (failed c.lines.writer, failed c.tell.new.writer)
           tt tt tt before.0 before.1 w line c.lines.number c.in-Some.end e read tt before.3 has is_line shown);
       reach = as_err r e (λ (q : Ending). ReadsTo reading tt (left c.args.reader.now) (left c.next_line.new.reader) all q) is
-          (faulty_in_front reading unknown failures_of (left c.args.reader.now) (left c.next_line.new.reader) (failed c.lines.writer, failed c.show_line.new.writer)
-          tt tt tt before.0 before.1 w line c.lines.number c.in-Some.end all e c.in_err-show_line.ensures.own read before.3 has is_line shown);
-      grown = grows_on (taken c.args.writer.now) (taken c.lines.writer) (taken c.show_line.new.writer) c.lines.invariant.grown c.in_err-show_line.ensures.grown;
+          (faulty_in_front reading unknown failures_of (left c.args.reader.now) (left c.next_line.new.reader) (failed c.lines.writer, failed c.tell.new.writer)
+          tt tt tt before.0 before.1 w line c.lines.number c.in-Some.end all e c.in_err-tell.ensures.own read before.3 has is_line shown);
+      grown = grows_on (taken c.args.writer.now) (taken c.lines.writer) (taken c.tell.new.writer) c.lines.invariant.grown c.in_err-tell.ensures.grown;
       end = on_err all r e is;
       reads = as_err r e (λ (q : Ending). Counts g.S.Source.failed (c.args.reader.now, c.next_line.new.reader) (read_fails q)) is
-          (counts_none _ _ _ (plays_unread reading unknown failures_of c.lines.number tt tt line (failed c.lines.writer, failed c.show_line.new.writer) (ended_by e) shown)
+          (counts_none _ _ _ (plays_unread reading unknown failures_of c.lines.number tt tt line (failed c.lines.writer, failed c.tell.new.writer) (ended_by e) shown)
           (◌∙◌ {b = g.S.Source.failed c.lines.reader} c.in_ok-end.ensures.reads c.lines.invariant.reads));
-      writes = as_err r e (λ (q : Ending). Counts failed (c.args.writer.now, c.show_line.new.writer) (write_fails q)) is
+      writes = as_err r e (λ (q : Ending). Counts failed (c.args.writer.now, c.tell.new.writer) (write_fails q)) is
           (counts_on (failed c.lines.writer) (failed c.args.writer.now) _ _ c.lines.invariant.writes
-          (plays_counts reading unknown failures_of c.lines.number tt tt line (failed c.lines.writer, failed c.show_line.new.writer) (ended_by e) shown));
+          (plays_counts reading unknown failures_of c.lines.number tt tt line (failed c.lines.writer, failed c.tell.new.writer) (ended_by e) shown));
     }
 
 pub returns-then-is_empty : goal.returns-then-is_empty
@@ -141,7 +141,7 @@ returns g c =
     let taken = g.T.Target.taken in
     let failed = g.T.Target.failed in
     let before = c.lines.invariant.done in
-    let r = c.show_line-2.result in
+    let r = c.tell-2.result in
     let window = c.next_line.new.window in
     let w = c.as_slice-2.result.now in
     let is : w ≡ window = c.as_slice-2.ensures.value in
@@ -151,18 +151,18 @@ returns g c =
     let all = IsAllRead left g.S.Source.ended c.next_line.new.reader in
     let read = read_on (left c.args.reader.now) (left c.lines.reader) (left c.next_line.new.reader) before.0 c.lines.window window before.2 c.in_ok-end.ensures.bytes in
     let last = subst (IsUnfinished c.lines.number) (sym is) at.0 in
-    let shown = c.show_line-2.ensures.shown in
+    let shown = c.tell-2.ensures.shown in
     record {
-      shown = ends reading unknown failures_of r (left c.args.reader.now) (left c.next_line.new.reader) None (failed c.lines.writer, failed c.show_line-2.new.writer)
+      shown = ends reading unknown failures_of r (left c.args.reader.now) (left c.next_line.new.reader) None (failed c.lines.writer, failed c.tell-2.new.writer)
           tt tt tt before.0 before.1 w c.lines.number
           (subst (λ (l : List ℕ). Consumes (left c.args.reader.now) (left c.next_line.new.reader) (before.0 ++ l)) (sym is) read)
           tt before.3 last some shown;
-      reach = faulty_last reading r (left c.args.reader.now) (left c.next_line.new.reader) tt tt before.0 before.1 window c.lines.number all c.show_line-2.ensures.own
+      reach = faulty_last reading r (left c.args.reader.now) (left c.next_line.new.reader) tt tt before.0 before.1 window c.lines.number all c.tell-2.ensures.own
           read before.3 (omega (arith, small)) at.1;
-      grown = grows_on (taken c.args.writer.now) (taken c.lines.writer) (taken c.show_line-2.new.writer) c.lines.invariant.grown c.show_line-2.ensures.grown;
+      grown = grows_on (taken c.args.writer.now) (taken c.lines.writer) (taken c.tell-2.new.writer) c.lines.invariant.grown c.tell-2.ensures.grown;
       end = on_any r at.1;
-      reads = counts_none _ _ _ (plays_unread reading unknown failures_of c.lines.number tt tt w (failed c.lines.writer, failed c.show_line-2.new.writer) (ending_of r) shown)
+      reads = counts_none _ _ _ (plays_unread reading unknown failures_of c.lines.number tt tt w (failed c.lines.writer, failed c.tell-2.new.writer) (ending_of r) shown)
           (◌∙◌ {b = g.S.Source.failed c.lines.reader} c.in_ok-end.ensures.reads c.lines.invariant.reads);
       writes = counts_on (failed c.lines.writer) (failed c.args.writer.now) _ _ c.lines.invariant.writes
-          (plays_counts reading unknown failures_of c.lines.number tt tt w (failed c.lines.writer, failed c.show_line-2.new.writer) (ending_of r) shown);
+          (plays_counts reading unknown failures_of c.lines.number tt tt w (failed c.lines.writer, failed c.tell-2.new.writer) (ending_of r) shown);
     }

@@ -1,0 +1,48 @@
+use Rattle.std.proofs.Common.{inr, refl, sym}
+use Rattle.hidlog.proofs.Statuses.{both_ok, is_status}
+use Rattle.hidlog.proofs.program.show_log.Goals as goal
+
+pub returns-in-Lines-clause-status : goal.returns-in-Lines-clause-status
+returns-in-Lines-clause-status g c = is_status c.show-answer.result c.shown_to.result c.shown_to.ensures.status
+
+pub returns-in-Lines-clause-does : goal.returns-in-Lines-clause-does
+returns-in-Lines-clause-does g c =
+    inr (
+      c.open_log.new.input,
+      c.in_ok-open_log.ensures.opened,
+      rw c.in-Lines.is (
+        (c.show-answer.result, c.shown_to.ensures.status, (c.show-answer.ensures.reads, c.show-answer.ensures.writes, c.show-answer.ensures.end)),
+        refl,
+        rw (sym c.in_ok-open_log.ensures.silent) c.shown_to.ensures.silent,
+      ),
+    )
+
+pub returns-in-Summary-clause-status : goal.returns-in-Summary-clause-status
+returns-in-Summary-clause-status g c = is_status c.show_summary-answer.result c.shown_to-in-Summary.result c.shown_to-in-Summary.ensures.status
+
+pub returns-in-Summary-clause-does : goal.returns-in-Summary-clause-does
+returns-in-Summary-clause-does g c =
+    inr (
+      c.open_log.new.input,
+      c.in_ok-open_log.ensures.opened,
+      rw c.in-Summary.is (
+        refl,
+        both_ok _ _ c.show_summary-answer.result c.shown_to-in-Summary.result c.shown_to-in-Summary.ensures.status c.show_summary-answer.ensures
+            (rw (sym c.in_ok-open_log.ensures.silent) c.shown_to-in-Summary.ensures.silent),
+      ),
+    )
+
+pub returns-in-Json-clause-status : goal.returns-in-Json-clause-status
+returns-in-Json-clause-status g c = is_status c.show_objects-answer.result c.shown_to-in-Json.result c.shown_to-in-Json.ensures.status
+
+pub returns-in-Json-clause-does : goal.returns-in-Json-clause-does
+returns-in-Json-clause-does g c =
+    inr (
+      c.open_log.new.input,
+      c.in_ok-open_log.ensures.opened,
+      rw c.in-Json.is (
+        refl,
+        both_ok _ _ c.show_objects-answer.result c.shown_to-in-Json.result c.shown_to-in-Json.ensures.status c.show_objects-answer.ensures
+            (rw (sym c.in_ok-open_log.ensures.silent) c.shown_to-in-Json.ensures.silent),
+      ),
+    )

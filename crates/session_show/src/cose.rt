@@ -1,0 +1,102 @@
+//! A COSE key in lines (RFC 9053, section 7), and the algorithms' names.
+
+use crate::diagnostic::{Diagnostic, write_scalar};
+use crate::members::next_value;
+use crate::pen::Pen;
+use crate::putting::Written;
+use crate::words::write_name;
+use ctap_cbor::{Cursor, Item};
+
+/// Writes a line for each member of a key, where the bytes are a map.
+pub fn write_key(pen: &mut Pen, number: u64, item: &[u8]) {
+    let mut cursor = Cursor::new(item);
+    let Ok(Item::Map(count)) = cursor.item(1) else {
+        return;
+    };
+    for done in 0..count {
+        if pen.is_full() {
+            return;
+        }
+        let Ok(key) = cursor.item(2) else {
+            return;
+        };
+        let Some(value) = next_value(&mut cursor, item) else {
+            return;
+        };
+        pen.decimal(number);
+        pen.text("         ");
+        write_member(pen, key, value);
+    }
+}
+
+/// Writes a member: its key, its name where it has one, and its value, with what that means.
+fn write_member(pen: &mut Pen, key: Item<'_>, value: &[u8]) {
+    write_scalar(pen, key);
+    if let Item::Int(number) = key
+        && let Some(name) = member_name(number)
+    {
+        pen.text(" ");
+        pen.text(name);
+    }
+    pen.text(": ");
+    Diagnostic(value).write(pen);
+    if let (Item::Int(number), Ok(Item::Int(value))) = (key, Cursor::new(value).item(1)) {
+        write_name(pen, value_name(number, value));
+    }
+    pen.text("\n");
+}
+
+/// Returns the name of the member with this key.
+fn member_name(key: i128) -> Option<&'static str> {
+    match key {
+        1 => Some("kty"),
+        2 => Some("kid"),
+        3 => Some("alg"),
+        4 => Some("key_ops"),
+        -1 => Some("crv"),
+        -2 => Some("x"),
+        -3 => Some("y"),
+        _ => None,
+    }
+}
+
+/// Returns the name of a value that the member with this key has.
+fn value_name(key: i128, value: i128) -> Option<&'static str> {
+    match key {
+        1 => type_name(value),
+        3 => algorithm_name(value),
+        -1 => curve_name(value),
+        _ => None,
+    }
+}
+
+fn type_name(value: i128) -> Option<&'static str> {
+    match value {
+        1 => Some("OKP"),
+        2 => Some("EC2"),
+        3 => Some("RSA"),
+        _ => None,
+    }
+}
+
+/// Returns an algorithm's name.
+pub fn algorithm_name(value: i128) -> Option<&'static str> {
+    match value {
+        -7 => Some("ES256"),
+        -8 => Some("EdDSA"),
+        -35 => Some("ES384"),
+        -36 => Some("ES512"),
+        -257 => Some("RS256"),
+        _ => None,
+    }
+}
+
+fn curve_name(value: i128) -> Option<&'static str> {
+    match value {
+        1 => Some("P-256"),
+        2 => Some("P-384"),
+        3 => Some("P-521"),
+        6 => Some("Ed25519"),
+        _ => None,
+    }
+}
