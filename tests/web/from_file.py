@@ -15,7 +15,7 @@ def main():
         return 3
     with Driver() as driver:
         driver.open(f"{PAGE.as_uri()}#registration")
-        driver.wait_for("document.body.textContent.includes('makeCredential, packet 2 of 2')")
+        driver.wait_for("document.body.textContent.includes('+0  authenticatorMakeCredential')")
     print("ok  the page from a file")
     return 0
 
