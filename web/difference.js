@@ -63,9 +63,10 @@
         const [own, other] = [has, sends].map((line) => (line ? line.text : "nothing"));
         const [ownSays, otherSays] = [has, sends].map((line) => (line ? shown.detail(line) : []));
         const packets = has && sends ? [markedDigits(own, other), markedDigits(other, own)] : [[own], [other]];
+        const messages = [markedLines(ownSays, otherSays), markedLines(otherSays, ownSays)];
         return [
-            `${says}\n\nThe log has:\n`, ...packets[0], "\n", ...markedLines(ownSays, otherSays),
-            "\nThe key sends:\n", ...packets[1], "\n", ...markedLines(otherSays, ownSays), "\n",
+            `${says}\n\nThe log has:\n`, ...packets[0], "\nThe key sends:\n", ...packets[1],
+            "\n\nThe log's message:\n", ...messages[0], "\nThe key's message:\n", ...messages[1],
         ];
     };
 

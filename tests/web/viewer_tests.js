@@ -111,7 +111,7 @@ const namesTheMemberThatDiffers = async () => {
         lines[at] = lines[at].replace(SIGN_IN_COUNTER, "470100000007");
     });
     expect(told === "changed.log: line 35 differs: it is packet 2 for line 33." && marked === "35", told + marked);
-    const expected = ["7", "signCount 7", "2", "signCount 2"];
+    const expected = ["7", "2", "signCount 7", "signCount 2"];
     const isOther = (text) => !text.startsWith("2 authData: h'");
     expect(marks.filter(isOther).join() === expected.join() && marks.length === 6, marks.join("\n"));
 };
