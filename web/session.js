@@ -7,6 +7,7 @@
     const decoder = new TextDecoder("utf-8", { ignoreBOM: true });
     const CANCEL = 0x11;
     const KEEPALIVE = 0x3b;
+    const ERROR = 0x3f;
     const MOST_BYTES = 7609;
     const BROADCAST = "ffffffff";
 
@@ -112,6 +113,7 @@
         begin(line) {
             const begun = {
                 place: this.all.length, channel: line.channel, lines: [], asks: line.message, answer: null,
+                before: this.byChannel.get(line.channel) ?? null,
             };
             this.all.push(begun);
             this.byChannel.set(line.channel, begun);
@@ -122,8 +124,10 @@
         finish(channel, transaction, answer) {
             transaction.answer = answer;
             answer.asks = transaction.asks;
-            this.byChannel.delete(channel);
-            this.latest = this.latest === transaction ? null : this.latest;
+            // A request that is refused meanwhile doesn't end the one that waits.
+            const waiting = answer.command === ERROR ? transaction.before : null;
+            this.byChannel[waiting ? "set" : "delete"](channel, waiting);
+            this.latest = this.latest === transaction ? waiting : this.latest;
         }
     }
 

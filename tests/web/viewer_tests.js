@@ -75,6 +75,17 @@ const folds = async () => {
     expect(texts().some((text) => text.includes("presence: granted")), "unfolded");
 };
 
+/** A request that is refused meanwhile doesn't take the answer of the one that waits. */
+const keepsTheWaitingRequest = async () => {
+    await open("busy_channel.log", await fetched("failing/busy_channel.log"));
+    at("fold").click();
+    const has = (title) => texts().some((text) => text.includes(title));
+    expect(has("authenticatorGetInfo → ERR_CHANNEL_BUSY"), "the one that is refused");
+    expect(has("authenticatorMakeCredential → CTAP2_OK"), "the one that waits");
+    choose("search", "signcount 0");
+    expect(rows().length > 0, "the answer's members are those of a registration");
+};
+
 const filtersByChannel = async () => {
     await open("two_hosts.log", await fetched("two_hosts.log"));
     choose("channel", "00000002");
@@ -280,6 +291,7 @@ run({
     ...loaded,
     "a message is decoded": decodesAMessage,
     "transactions fold": folds,
+    "one request is refused while another waits": keepsTheWaitingRequest,
     "one channel alone": filtersByChannel,
     "check marks the first difference": marksTheDifference,
     "a member that differs is marked": namesTheMemberThatDiffers,
