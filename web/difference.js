@@ -58,14 +58,29 @@
     const markedLines = (lines, others) =>
         lines.flatMap((line) => [others.includes(line) ? line : mark(line), "\n"]);
 
-    /** The difference as a page's nodes: both packets, and what their messages say. @param {any} shown */
+    // A longer line, say of bytes, is looked at below.
+    const SHORT = 70;
+
+    /** What differs at a glance: the short lines of each that the other hasn't. */
+    const glance = (own, other) => {
+        const only = (lines, others) => lines.filter((it) => !others.includes(it) && it.length < SHORT);
+        const parts = [["In the log: ", only(own, other)], ["The key:    ", only(other, own)]];
+        return parts.flatMap(([whose, lines]) => lines.flatMap((line) => [whose, mark(line.trim()), "\n"]));
+    };
+
+    const NONE = "CTAP2_ERR_NO_CREDENTIALS";
+    const HINT = "The key has no credential for this: a log that began with some needs its snapshot, dropped first.\n";
+
+    /** The difference as a page's nodes: both packets, and what their messages say. */
     const nodes = ({ has, sends, says }, shown) => {
         const [own, other] = [has, sends].map((line) => (line ? line.text : "nothing"));
         const [ownSays, otherSays] = [has, sends].map((line) => (line ? shown.detail(line) : []));
         const packets = has && sends ? [markedDigits(own, other), markedDigits(other, own)] : [[own], [other]];
         const messages = [markedLines(ownSays, otherSays), markedLines(otherSays, ownSays)];
+        const isNone = otherSays.join().includes(NONE) && !ownSays.join().includes(NONE);
         return [
-            `${says}\n\nThe log has:\n`, ...packets[0], "\nThe key sends:\n", ...packets[1],
+            `${says}\n`, isNone ? HINT : "", ...glance(ownSays, otherSays),
+            "\nThe log has:\n", ...packets[0], "\nThe key sends:\n", ...packets[1],
             "\n\nThe log's message:\n", ...messages[0], "\nThe key's message:\n", ...messages[1],
         ];
     };

@@ -122,9 +122,22 @@ const namesTheMemberThatDiffers = async () => {
         lines[at] = lines[at].replace(SIGN_IN_COUNTER, "470100000007");
     });
     expect(told === "changed.log: line 35 differs: it is packet 2 for line 33." && marked === "35", told + marked);
-    const expected = ["7", "2", "signCount 7", "signCount 2"];
+    const expected = ["signCount 7", "signCount 2", "7", "2", "signCount 7", "signCount 2"];
     const isOther = (text) => !text.startsWith("2 authData: h'");
-    expect(marks.filter(isOther).join() === expected.join() && marks.length === 6, marks.join("\n"));
+    expect(marks.filter(isOther).join() === expected.join() && marks.length === 8, marks.join("\n"));
+};
+
+const asksForTheSnapshot = async () => {
+    const bytes = await fetched("failing/wrong_snapshot.log");
+    await open("wrong_snapshot.log", bytes);
+    press("c");
+    expect(notice() === "wrong_snapshot.log: line 7 differs: it is packet 1 for line 6.", notice());
+    const said = at("detail-text").textContent;
+    expect(said.includes("needs its snapshot") && said.includes("answer 2e  CTAP2_ERR_NO_CREDENTIALS"), said);
+    drop("alice.snapshot", await fetched("failing/alice.snapshot"));
+    await until(() => notice().includes("on the credentials of alice.snapshot, not compared yet"), "the snapshot");
+    press("c");
+    expect(notice() === "Compared, the key sends just this: same 7 inputs 9 packets.", notice());
 };
 
 const namesAPacketThatIsMissing = async () => {
@@ -295,6 +308,7 @@ run({
     "one channel alone": filtersByChannel,
     "check marks the first difference": marksTheDifference,
     "a member that differs is marked": namesTheMemberThatDiffers,
+    "a log without its snapshot": asksForTheSnapshot,
     "a packet that is missing": namesAPacketThatIsMissing,
     "a packet too many": namesAPacketTooMany,
     "the core's words, line by line": hasTheCoresWords,
