@@ -169,5 +169,15 @@
         return { lines, transactions: transactions.all, channels };
     };
 
-    globalThis.hidlogSession = { readSession, BROADCAST };
+    /** The bytes of the first lines of a log. */
+    const firstLines = (bytes, count) => {
+        let [end, found] = [0, 0];
+        while (found < count && end < bytes.length) {
+            found += bytes[end] === 10 ? 1 : 0;
+            end += 1;
+        }
+        return bytes.subarray(0, end);
+    };
+
+    globalThis.hidlogSession = { readSession, firstLines, BROADCAST };
 })();

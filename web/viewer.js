@@ -8,7 +8,7 @@
     const CALLER_KINDS = ["presence", "new key", "signature"];
     const SHOWN_KINDS = ["host", "key", "comment", "need"];
     const ARROWS = { host: "→", key: "←", caller: "⇠", need: "?", time: "·", comment: "#", fault: "!" };
-    const { readSession } = globalThis.hidlogSession;
+    const { readSession, firstLines } = globalThis.hidlogSession;
     const { Shown } = globalThis.hidlogShown;
     const { draw, HEAD } = globalThis.hidlogDrawing;
     const difference = globalThis.hidlogDifference;
@@ -30,16 +30,6 @@
         text.replace(/[\p{Cc}\p{Cf}\p{Zl}\p{Zp}]/gu, (it) => `\\u{${it.codePointAt(0).toString(16)}}`);
 
     const inMegabytes = (bytes) => `${(bytes / 1024 / 1024).toFixed(1)} MB`;
-
-    /** The bytes of the first lines of a log. */
-    const firstLines = (bytes, count) => {
-        let [end, found] = [0, 0];
-        while (found < count && end < bytes.length) {
-            found += bytes[end] === 10 ? 1 : 0;
-            end += 1;
-        }
-        return bytes.subarray(0, end);
-    };
 
     // ---- what is shown
 
@@ -194,6 +184,8 @@
         state.rows = makeRows(state.sessions[state.view]);
         markDifference();
         state.chosen = chosen ? state.rows.findIndex((row) => row.line === chosen && !row.transaction) : -1;
+        // Rows of before would keep the scroller where it was.
+        at("space").replaceChildren();
         at("space").style.height = `${state.rows.length * ROW + (state.isDrawn ? HEAD : 0)}px`;
         at("count").textContent = `${state.rows.length} of ${state.sessions[state.view].lines.length} lines`;
         showDetail();

@@ -127,6 +127,38 @@ const namesTheMemberThatDiffers = async () => {
     expect(marks.filter(isOther).join() === expected.join() && marks.length === 8, marks.join("\n"));
 };
 
+/** What the page says of each failing session once it is compared, and what is found in it. */
+const FAILING = {
+    denied_user: ["Compared, the key sends just this: same 7 inputs 5 packets.", "CTAP2_ERR_OPERATION_DENIED"],
+    excluded_credential: ["Compared, the key sends just this: same 16 inputs 14 packets.", "CTAP2_ERR_CREDENTIAL_EXCLUDED"],
+    wrong_rp_id: ["Compared, the key sends just this: same 11 inputs 11 packets.", 'rpId: "www.example.com"'],
+    lost_packet: ["Compared, the key sends just this: same 3 inputs 2 packets.", "ERR_INVALID_SEQ"],
+    busy_channel: ["Compared, the key sends just this: same 10 inputs 11 packets.", "ERR_CHANNEL_BUSY"],
+    counter_stays: ["counter_stays.log: line 66 differs: it is packet 2 for line 64.", "signCount 1"],
+    truncated: ["The log is shown up to its faulty line: line 49: not a log line.", "line 49: not a log line"],
+    two_clients: ["Compared, the key sends just this: same 13 inputs 12 packets.", "ERR_CHANNEL_BUSY"],
+    noncanonical_cbor: ["Compared, the key sends just this: same 4 inputs 2 packets.", "request 01 fault 6 at 125"],
+};
+
+const readsFailingSessions = async () => {
+    for (const [name, [told, sought]] of Object.entries(FAILING)) {
+        await open(`${name}.log`, await fetched(`failing/${name}.log`));
+        press("c");
+        expect(notice() === told, `${name}: ${notice()}`);
+        choose("search", sought.toLowerCase());
+        expect(rows().length > 0, `${name}: no row says ${sought}`);
+        rows()[0].click();
+        expect(texts()[0].includes(sought) || at("detail-text").textContent.includes(sought), `${name}: ${sought}`);
+    }
+};
+
+const comparesNoInputsAlone = async () => {
+    await open("first.log", await fetched("first.log"));
+    press("c");
+    expect(notice() === "first.log has inputs alone: there is no packet of the key to compare.", notice());
+    expect(rows().every((row) => !row.classList.contains("differs")), "no row is marked");
+};
+
 const asksForTheSnapshot = async () => {
     const bytes = await fetched("failing/wrong_snapshot.log");
     await open("wrong_snapshot.log", bytes);
@@ -308,6 +340,8 @@ run({
     "one channel alone": filtersByChannel,
     "check marks the first difference": marksTheDifference,
     "a member that differs is marked": namesTheMemberThatDiffers,
+    "failing sessions": readsFailingSessions,
+    "inputs alone aren't compared": comparesNoInputsAlone,
     "a log without its snapshot": asksForTheSnapshot,
     "a packet that is missing": namesAPacketThatIsMissing,
     "a packet too many": namesAPacketTooMany,
