@@ -11,6 +11,12 @@
     const WORD = / {2}(\w+)$/;
     const decoder = new TextDecoder();
 
+    /** Whether a line is of the item of a request or an answer. */
+    const isItem = (line) => /^(request|answer) /.test(line);
+
+    /** A request's or an answer's line without its item: the number, and its name. */
+    const shortItem = (line) => line.split(" ").slice(0, 2).join(" ") + (WORD.exec(line)?.[0] ?? "");
+
     /** Lines as a log of their own. */
     const logOf = (lines) => {
         const log = new Uint8Array(lines.reduce((sum, { from, to }) => sum + to - from + 1, 0));
@@ -86,7 +92,7 @@
         name(message) {
             const first = this.rest(message.lines[0]);
             if (message.command === CBOR && message.isWhole) {
-                const [said = "CBOR"] = this.words(message.lines.at(-1)).below;
+                const said = this.words(message.lines.at(-1)).below.find(isItem) ?? "CBOR";
                 return WORD.exec(said)?.[1] ?? said.split(" ").slice(0, 2).join(" ");
             }
             return (NAMED.includes(message.command) && WORD.exec(first)?.[1]) || first.split(" ")[0];
@@ -114,11 +120,10 @@
             const { lines, held, isWhole, length } = message;
             const packets = lines.length > 1 ? `, ${lines.length} packets` : "";
             const missing = isWhole ? "" : `, not whole: ${held} of ${length} bytes`;
-            const [said, ...members] = this.words(lines.at(-1)).below;
-            const short = members.length ? said.replace(/^(\w+ \w\w) .*?(?: {2}\w+)?$/s, "$1") : said;
-            const word = members.length ? WORD.exec(said)?.[0] ?? "" : "";
-            const below = said === undefined ? [] : [short + word, ...members];
-            return [`${this.rest(lines[0])}${packets}${missing}`, ...below];
+            const { below } = this.words(lines.at(-1));
+            const hasMembers = below.some((it) => it.startsWith("  "));
+            const shortened = below.map((it) => (hasMembers && isItem(it) ? shortItem(it) : it));
+            return [`${this.rest(lines[0])}${packets}${missing}`, ...shortened];
         }
 
         /** All that is said of a line, in lines. */
