@@ -11,7 +11,7 @@ work=$(mktemp -d)
 trap 'rm -rf "$work"' EXIT
 mkdir "$work/dist"
 python3 web/embed.py release/hidlog.wasm examples/registration.log >"$work/wasm.js"
-python3 web/bundle.py hidlogBytes web/key/bytes.js web/key/cbor.js web/key/statuses.js >"$work/dist/bytes.js"
+python3 web/bundle.py hidlogBytes web/key/bytes.js >"$work/dist/bytes.js"
 python3 web/bundle.py hidlogKey web/key/index.js >"$work/dist/security_key.js"
 status=0
 for file in wasm.js dist/bytes.js dist/security_key.js; do

@@ -72,10 +72,9 @@
             this.grow(outAt + room);
             this.bytes.set(log, logAt);
             this.bytes.set(snapshot, snapshotAt);
-            this.exports[`hidlog_${command}`](
-                BigInt(logAt), BigInt(log.length), BigInt(snapshotAt), BigInt(snapshot.length),
-                BigInt(outAt), BigInt(room), BigInt(this.base),
-            );
+            const start = command === "show" ? [] : [snapshotAt, snapshot.length];
+            const given = [logAt, log.length, ...start, outAt, room, this.base];
+            this.exports[`hidlog_${command}`](...given.map(BigInt));
             return {
                 status: this.outcome.getUint32(0, true),
                 fault: this.outcome.getUint32(4, true),

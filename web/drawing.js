@@ -95,7 +95,7 @@
     };
 
     /** What a row says, in fewer words. */
-    const brief = (says) => says.replaceAll("CBOR ", "").replace("user presence needed", "presence");
+    const brief = (says) => says.replace(/^CBOR \d+ {2}|^KEEPALIVE 1 \d\d {2}/, "");
 
     const between = (pen, from, to, y, text, colour, dashes) => {
         pen.arrow(from, to, y, colour, dashes);

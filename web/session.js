@@ -4,10 +4,10 @@
 
 (() => {
     const { fromHex } = globalThis.hidlogBytes;
-    const { showMessage, nameMessage, COMMANDS, REQUESTS } = globalThis.hidlogDecode;
-    const CBOR = 0x10;
+    const decoder = new TextDecoder("utf-8", { ignoreBOM: true });
     const CANCEL = 0x11;
     const KEEPALIVE = 0x3b;
+    const ERROR = 0x3f;
     const MOST_BYTES = 7609;
     const BROADCAST = "ffffffff";
 
@@ -16,9 +16,11 @@
     };
 
     /** The fields of a line that the core has read, so that it is one of the grammar. */
-    const readLine = (text, number) => {
+    const readLine = (text, number, bytes, from, to) => {
         const kind = KINDS[text[0]] ?? "empty";
-        const line = { number, text, kind, at: null, channel: null, says: "", message: null, transaction: null };
+        const line = {
+            number, text, bytes, from, to, kind, at: null, channel: null, says: "", message: null, transaction: null,
+        };
         const fields = text.split(" ");
         if (kind === "host" || kind === "key") {
             const packet = fields[fields.length - 1].toLowerCase();
@@ -38,15 +40,9 @@
         return line;
     };
 
-    const sized = (length) => (length === 1 ? ", 1 byte" : `, ${length} bytes`);
-
-    /** How many packets a message of this length takes. */
-    const packetCount = (length) => 1 + Math.ceil(Math.max(0, length - 57) / 59);
-
     /** Collects the messages of one direction, a channel each. */
     class Collector {
-        constructor(fromHost) {
-            this.fromHost = fromHost;
+        constructor() {
             this.open = new Map();
         }
 
@@ -58,32 +54,26 @@
                 return;
             }
             const message = this.open.get(channel);
-            line.says = `packet ${packet[4] + 2}`;
             if (message && packet[4] === message.next) {
                 message.next += 1;
-                this.append(message, line, packet.subarray(5));
+                this.append(message, line, packet.length - 5);
             }
         }
 
         begin(line, command, length) {
-            const message = { command, length, bytes: new Uint8Array(0), next: 0, lines: [], fromHost: this.fromHost };
-            line.says = `${COMMANDS[command] ?? `command ${command}`}${sized(length)}`;
+            const message = { command, length, held: 0, next: 0, lines: [], isWhole: false, asks: null };
             line.begins = true;
-            message.isWhole = false;
             if (command !== CANCEL && length <= MOST_BYTES) {
                 this.open.set(line.channel, message);
             }
-            this.append(message, line, line.packet.subarray(7));
+            this.append(message, line, line.packet.length - 7);
         }
 
-        append(message, line, part) {
-            const bytes = new Uint8Array(Math.min(message.length, message.bytes.length + part.length));
-            bytes.set(message.bytes);
-            bytes.set(part.subarray(0, bytes.length - message.bytes.length), message.bytes.length);
-            message.bytes = bytes;
+        append(message, line, count) {
+            message.held = Math.min(message.length, message.held + count);
             message.lines.push(line);
             line.message = message;
-            if (bytes.length === message.length) {
+            if (message.held === message.length) {
                 message.isWhole = true;
                 line.ends = true;
                 this.open.delete(line.channel);
@@ -123,6 +113,7 @@
         begin(line) {
             const begun = {
                 place: this.all.length, channel: line.channel, lines: [], asks: line.message, answer: null,
+                before: this.byChannel.get(line.channel) ?? null,
             };
             this.all.push(begun);
             this.byChannel.set(line.channel, begun);
@@ -132,9 +123,11 @@
 
         finish(channel, transaction, answer) {
             transaction.answer = answer;
-            answer.request = REQUESTS[transaction.asks.bytes[0]];
-            this.byChannel.delete(channel);
-            this.latest = this.latest === transaction ? null : this.latest;
+            answer.asks = transaction.asks;
+            // A request that is refused meanwhile doesn't end the one that waits.
+            const waiting = answer.command === ERROR ? transaction.before : null;
+            this.byChannel[waiting ? "set" : "delete"](channel, waiting);
+            this.latest = this.latest === transaction ? waiting : this.latest;
         }
     }
 
@@ -147,57 +140,44 @@
         }
     };
 
-    /** A short text of what a line says, once its message is known. */
-    const summary = (line) => {
-        const { message } = line;
-        if (!message) {
-            return line.says;
-        }
-        if (!message.isWhole) {
-            return `${line.says} (not whole)`;
-        }
-        if (line.begins) {
-            return nameMessage(message) + (message.command === KEEPALIVE ? "" : sized(message.length));
-        }
-        return `${nameMessage(message)}, ${line.says} of ${packetCount(message.length)}`;
-    };
-
-    const title = (transaction) => {
-        const asked = nameMessage(transaction.asks);
-        return transaction.answer ? `${asked} → ${nameMessage(transaction.answer)}` : `${asked} → no answer`;
-    };
-
-    /** Reads the lines of a log that the core found without fault. */
-    const readSession = (text) => {
-        const texts = text.split("\n");
+    /** The lines of a log, each with its place in the bytes. */
+    const readLines = (bytes) => {
+        const texts = decoder.decode(bytes).split("\n");
         if (texts[texts.length - 1] === "") {
             texts.pop();
         }
-        const lines = texts.map((it, place) => readLine(it, place + 1));
-        const collectors = { host: new Collector(true), key: new Collector(false) };
+        let from = 0;
+        return texts.map((text, place) => {
+            const end = bytes.indexOf(10, from);
+            const line = readLine(text, place + 1, bytes, from, end < 0 ? bytes.length : end);
+            from = line.to + 1;
+            return line;
+        });
+    };
+
+    /** Reads a log that the core found without fault. */
+    const readSession = (bytes) => {
+        const lines = readLines(bytes);
+        const collectors = { host: new Collector(), key: new Collector() };
         const transactions = new Transactions();
         for (const line of lines) {
             collectors[line.kind]?.add(line);
             transactions.add(line);
         }
         setMoments(lines);
-        for (const line of lines) {
-            line.summary = summary(line);
-        }
         const channels = [...new Set(lines.filter((it) => it.channel).map((it) => it.channel))];
         return { lines, transactions: transactions.all, channels };
     };
 
-    /** The message of a line as a text of many lines. */
-    const detail = (line) => {
-        const { message } = line;
-        if (!message) {
-            return line.says;
+    /** The bytes of the first lines of a log. */
+    const firstLines = (bytes, count) => {
+        let [end, found] = [0, 0];
+        while (found < count && end < bytes.length) {
+            found += bytes[end] === 10 ? 1 : 0;
+            end += 1;
         }
-        const name = `${nameMessage(message)}, ${message.bytes.length} of ${message.length} bytes`;
-        const body = message.isWhole && (message.command !== CBOR || message.bytes.length) ? showMessage(message) : "";
-        return body ? `${name}\n${body}` : name;
+        return bytes.subarray(0, end);
     };
 
-    globalThis.hidlogSession = { readSession, detail, title, BROADCAST };
+    globalThis.hidlogSession = { readSession, firstLines, BROADCAST };
 })();

@@ -6,14 +6,17 @@
     const MOST_BYTES = 32 * 1024 * 1024;
     const MOST_LINES = 500000;
     const CALLER_KINDS = ["presence", "new key", "signature"];
+    const SHOWN_KINDS = ["host", "key", "comment", "need"];
     const ARROWS = { host: "→", key: "←", caller: "⇠", need: "?", time: "·", comment: "#", fault: "!" };
-    const { readSession, detail, title } = globalThis.hidlogSession;
+    const { readSession, firstLines } = globalThis.hidlogSession;
+    const { Shown } = globalThis.hidlogShown;
     const { draw, HEAD } = globalThis.hidlogDrawing;
+    const difference = globalThis.hidlogDifference;
     const at = (id) => document.getElementById(id);
     const decoder = new TextDecoder();
 
     const state = {
-        core: null, name: "", bytes: null, snapshot: new Uint8Array(0), snapshotName: "", difference: null,
+        core: null, shown: null, name: "", bytes: null, snapshot: new Uint8Array(0), snapshotName: "", difference: null,
         texts: {}, sessions: {}, view: "recorded", rows: [], chosen: -1, unfolded: new Set(), isDrawn: false,
     };
 
@@ -22,17 +25,11 @@
         at("notice").className = isFault ? "fault" : "";
     };
 
-    const inMegabytes = (bytes) => `${(bytes / 1024 / 1024).toFixed(1)} MB`;
+    /** A text of the log that isn't shown by the core: what can't be seen, or moves others, is escaped. */
+    const visible = (text) =>
+        text.replace(/[\p{Cc}\p{Cf}\p{Zl}\p{Zp}]/gu, (it) => `\\u{${it.codePointAt(0).toString(16)}}`);
 
-    /** The bytes of the first lines of a log. */
-    const firstLines = (bytes, count) => {
-        let [end, found] = [0, 0];
-        while (found < count && end < bytes.length) {
-            found += bytes[end] === 10 ? 1 : 0;
-            end += 1;
-        }
-        return bytes.subarray(0, end);
-    };
+    const inMegabytes = (bytes) => `${(bytes / 1024 / 1024).toFixed(1)} MB`;
 
     // ---- what is shown
 
@@ -43,24 +40,42 @@
         return { tick: "time", count: "comment", empty: "comment" }[line.kind] ?? line.kind;
     };
 
-    const rowOfLine = (line) => {
-        const says = CALLER_KINDS.includes(line.kind) ? `${line.kind}: ${line.says}` : line.summary;
-        const kind = line.isFault ? "fault" : kindOf(line);
-        return { line, kind, says, noise: line.went !== undefined, differs: false };
-    };
-
-    const rowOfTransaction = (transaction) => {
-        const says = `${title(transaction)}  (${transaction.lines.length} lines)`;
-        return { line: transaction.lines[0], transaction, kind: "host", says, noise: false, differs: false };
-    };
-
-    const isSought = (row, words, channel) => {
-        if (channel && row.line.channel !== channel && row.line.transaction?.channel !== channel) {
-            return false;
+    /** A row of the table: a line, or a transaction that is folded. What it says is asked for when it is in sight. */
+    class Row {
+        constructor(line, transaction = null) {
+            Object.assign(this, { line, transaction, noise: !transaction && line.went !== undefined, differs: false });
+            this.kind = line.isFault ? "fault" : kindOf(line);
         }
-        const text = () => `${row.line.text} ${row.says} ${detail(row.line)}`.toLowerCase();
-        return !words || text().includes(words);
-    };
+
+        get says() {
+            const { line, transaction } = this;
+            if (transaction) {
+                return `${state.shown.title(transaction)}  (${transaction.lines.length} lines)`;
+            }
+            if (SHOWN_KINDS.includes(line.kind) && !line.isFault) {
+                return state.shown.says(line).replace(/^# ?/, "");
+            }
+            return CALLER_KINDS.includes(line.kind) ? `${line.kind}: ${line.says}` : visible(line.says);
+        }
+
+        /** All that is said of it, in lines. */
+        detail() {
+            const { line, transaction } = this;
+            if (transaction) {
+                const messages = [transaction.asks, transaction.answer].filter(Boolean);
+                return messages.flatMap((it) => [...state.shown.message(it), ""]);
+            }
+            return line.message ? state.shown.detail(line) : [this.says];
+        }
+
+        has(words, channel) {
+            if (channel && this.line.channel !== channel && this.line.transaction?.channel !== channel) {
+                return false;
+            }
+            const text = () => [this.line.text, this.says, ...this.detail()].join("\n").toLowerCase();
+            return !words || text().includes(words);
+        }
+    }
 
     /** The rows of the view, folded, sought and of the channel that is chosen. */
     const makeRows = (session) => {
@@ -73,18 +88,21 @@
             const { transaction } = line;
             if (isFolded && transaction && !begun.has(transaction)) {
                 begun.add(transaction);
-                rows.push(rowOfTransaction(transaction));
+                rows.push(new Row(transaction.lines[0], transaction));
             }
             if (!isFolded || !transaction || state.unfolded.has(transaction.place)) {
-                rows.push(rowOfLine(line));
+                rows.push(new Row(line));
             }
         }
-        return words || channel ? rows.filter((row) => isSought(row, words, channel)) : rows;
+        if (words) {
+            state.shown.showAll(session.lines.filter((line) => !line.isFault));
+        }
+        return words || channel ? rows.filter((row) => row.has(words, channel)) : rows;
     };
 
     const markDifference = () => {
         for (const row of state.rows) {
-            row.differs = state.view === "recorded" && row.line.number === state.difference?.line && !row.transaction;
+            row.differs = state.view === "recorded" && row.line.number === state.difference?.marked && !row.transaction;
         }
     };
 
@@ -135,19 +153,14 @@
         }
         const { line } = row;
         at("detail-title").textContent = row.transaction ? row.says : `Line ${line.number}`;
-        const shown = row.transaction ? [row.transaction.asks, row.transaction.answer].filter(Boolean) : null;
-        const text = shown ? shown.map((message) => detail({ message })).join("\n\n") : detail(line);
-        const went = line.went ? `Noise: it changes nothing but the time.\nIt was: ${line.went}\n\n` : "";
-        const raw = cell(`\n\n${shown ? row.transaction.lines.map((it) => it.text).join("\n") : line.text}`, "raw");
-        at("detail-text").replaceChildren(went + differenceText(line) + text, raw);
-    };
-
-    const differenceText = (line) => {
-        const { difference } = state;
-        if (state.view !== "recorded" || difference?.line !== line.number) {
-            return "";
+        if (row.differs) {
+            at("detail-text").replaceChildren(...difference.nodes(state.difference, state.shown));
+            return;
         }
-        return `${difference.says}\nThe log has: ${difference.has}\nThe key sends: ${difference.sends}\n\n`;
+        const went = line.went ? `Noise: it changes nothing but the time.\nIt was: ${line.went}\n\n` : "";
+        const raw = row.transaction ? row.transaction.lines.map((it) => it.text) : [line.text];
+        const text = `${went}${row.detail().join("\n")}`;
+        at("detail-text").replaceChildren(text, cell(`\n\n${raw.map(visible).join("\n")}`, "raw"));
     };
 
     const choose = (place) => {
@@ -171,6 +184,8 @@
         state.rows = makeRows(state.sessions[state.view]);
         markDifference();
         state.chosen = chosen ? state.rows.findIndex((row) => row.line === chosen && !row.transaction) : -1;
+        // Rows of before would keep the scroller where it was.
+        at("space").replaceChildren();
         at("space").style.height = `${state.rows.length * ROW + (state.isDrawn ? HEAD : 0)}px`;
         at("count").textContent = `${state.rows.length} of ${state.sessions[state.view].lines.length} lines`;
         showDetail();
@@ -180,14 +195,14 @@
     // ---- the log, played
 
     /** The quiet log's session: in the place of noise stand lines that say what went. */
-    const quietSession = (text, recorded) => {
-        const session = readSession(text);
+    const quietSession = (bytes, recorded) => {
+        const session = readSession(bytes);
         const inputs = recorded.lines.filter((line) => !["key", "count"].includes(line.kind));
         session.lines.forEach((line, place) => {
             const before = inputs[place];
             if (before && before.text !== line.text) {
-                const { kind, channel, message, summary, says } = before;
-                Object.assign(line, { went: before.text, kind, channel, message, summary, says });
+                const { kind, channel, message, says } = before;
+                Object.assign(line, { went: before.text, kind, channel, message, says, source: before });
             }
         });
         return session;
@@ -198,8 +213,8 @@
             const command = view === "quiet" ? "quiet" : "replay";
             state.texts[view] = state.core.run(command, state.bytes, state.snapshot).text;
         }
-        const text = decoder.decode(firstLines(state.texts[view], MOST_LINES));
-        return view === "quiet" ? quietSession(text, state.sessions.recorded) : readSession(text);
+        const bytes = firstLines(state.texts[view], MOST_LINES);
+        return view === "quiet" ? quietSession(bytes, state.sessions.recorded) : readSession(bytes);
     };
 
     const countNoise = () => {
@@ -228,7 +243,6 @@
         return {
             number: outcome.line, text: decoder.decode(rest.subarray(0, end)), kind: "comment", isFault: true, at: null,
             channel: null, message: null, transaction: null, says: globalThis.hidlog.faultText(outcome),
-            summary: globalThis.hidlog.faultText(outcome),
         };
     };
 
@@ -244,7 +258,8 @@
             const from = state.snapshotName ? `, on the credentials of ${state.snapshotName}` : "";
             const count = state.sessions.recorded.lines.length;
             const only = count === MOST_LINES ? `, of which the first ${MOST_LINES} lines are shown` : "";
-            tell(`${state.name}: ${only ? "a long log" : `${count} lines`}, no fault${from}${only}.`);
+            const compared = "not compared yet: Check does it";
+            tell(`${state.name}: ${only ? "a long log" : `${count} lines`}${from}${only}, ${compared}.`);
         }
     };
 
@@ -309,44 +324,30 @@
         }
     };
 
-    const packetOf = (session, inputLine, packet) => {
-        const from = session.lines.findIndex((line) => line.number === inputLine);
-        const isInput = (line) => line.at !== null && line.kind !== "key";
-        const next = session.lines.findIndex((line, place) => place > from && isInput(line));
-        const sent = session.lines.slice(from + 1, next < 0 ? undefined : next).filter((line) => line.kind === "key");
-        return sent[packet - 1];
-    };
-
-    /** What the key sends where the log differs: an input has the same place among those of the replay. */
-    const sentInstead = ({ line, packet }) => {
-        const isInput = (it) => it.at !== null && it.kind !== "key";
-        const place = state.sessions.recorded.lines.filter((it) => isInput(it) && it.number <= line).length;
-        state.sessions.replayed ??= sessionOf("replayed");
-        const input = state.sessions.replayed.lines.filter(isInput)[place - 1];
-        return input && packetOf(state.sessions.replayed, input.number, packet);
-    };
-
-    const check = () => {
-        const outcome = state.core.run("check", state.bytes, state.snapshot);
-        if (outcome.status === 0) {
-            tell(`The key sends just this: ${decoder.decode(outcome.text).trim()}.`);
-            return;
-        }
-        const says = globalThis.hidlog.faultText(outcome);
-        tell(`${state.name}: ${says}.`, true);
-        if (outcome.fault !== 3) {
-            return;
-        }
+    const showDifference = (outcome) => {
         setView("recorded");
-        tell(`${state.name}: ${says}.`, true);
-        const found = packetOf(state.sessions.recorded, outcome.line, outcome.packet);
-        const sent = sentInstead(outcome);
-        const [has, sends] = [found?.text ?? "nothing", sent?.text ?? "nothing"];
-        state.difference = { line: found?.number ?? outcome.line, says, has, sends };
+        state.sessions.replayed ??= sessionOf("replayed");
+        state.difference = difference.find(state.sessions.recorded, state.sessions.replayed, outcome);
+        tell(`${state.name}: ${state.difference.says}.`, true);
         at("fold").checked = false;
         at("search").value = "";
         refresh();
-        choose(state.rows.findIndex((row) => row.line.number === state.difference.line));
+        choose(state.rows.findIndex((row) => row.differs));
+    };
+
+    const check = () => {
+        if (!hasAnswers()) {
+            tell(`${state.name} has inputs alone: there is no packet of the key to compare.`);
+            return;
+        }
+        const outcome = state.core.run("check", state.bytes, state.snapshot);
+        if (outcome.status === 0) {
+            tell(`Compared, the key sends just this: ${decoder.decode(outcome.text).trim()}.`);
+        } else if (outcome.status === 1 && outcome.fault === 3) {
+            showDifference(outcome);
+        } else {
+            describe(outcome);
+        }
     };
 
     const download = () => {
@@ -436,7 +437,7 @@
 
     const openExample = () => {
         openBytes("registration.log", globalThis.hidlogBytes.fromBase64(globalThis.HIDLOG_EXAMPLE));
-        choose(state.rows.findIndex((row) => row.says.includes("makeCredential")));
+        choose(state.rows.findIndex((row) => row.says.includes("MakeCredential")));
     };
 
     const listen = () => {
@@ -472,6 +473,7 @@
         listen();
         try {
             state.core = await globalThis.hidlog.load();
+            state.shown = new Shown(state.core);
         } catch (error) {
             const who = "Chromium 133 and Firefox 134 have it";
             tell(`This browser has no 64-bit WebAssembly (${who}): ${error.message}`, true);

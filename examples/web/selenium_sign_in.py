@@ -16,6 +16,9 @@ from selenium.webdriver.support.ui import WebDriverWait
 
 SCRIPT = Path(__file__).resolve().parents[2] / "web" / "dist" / "security_key.js"
 
+# Only a page that hangs takes so long.
+SECONDS = 60
+
 # The page under test. A service would verify what the page posts; here the page shows it.
 PAGE = """<!doctype html><title>A service</title>
 <button id="register">Register</button> <button id="sign-in">Sign in</button> <p id="said"></p>
@@ -57,6 +60,7 @@ def start_browser():
     options.add_argument("--headless=new")
     options.add_argument("--no-sandbox")
     driver = webdriver.Chrome(options=options)
+    driver.set_script_timeout(SECONDS)
     # The lines of web/README.md.
     source = SCRIPT.read_text() + "\nhidlogKey.install({ store: sessionStorage });"
     driver.execute_cdp_cmd("Page.addScriptToEvaluateOnNewDocument", {"source": source})
@@ -67,7 +71,7 @@ def click(driver, button, said):
     """Clicks a button, and waits until the page says what begins so. Returns all of it."""
     driver.find_element(By.ID, button).click()
     paragraph = driver.find_element(By.ID, "said")
-    WebDriverWait(driver, 10).until(lambda _: paragraph.text.startswith(said))
+    WebDriverWait(driver, SECONDS).until(lambda _: paragraph.text.startswith(said))
     return paragraph.text
 
 

@@ -8,7 +8,9 @@ import time
 import urllib.error
 import urllib.request
 
-SECONDS = 100
+# Only what hangs takes so long.
+SECONDS = 600
+START_SECONDS = 60
 
 
 def free_port():
@@ -36,11 +38,14 @@ class Driver:
     def __enter__(self):
         options = {"args": ["--headless=new", "--no-sandbox"]}
         wanted = {"capabilities": {"alwaysMatch": {"goog:chromeOptions": options}}}
-        for _ in range(100):
+        end = time.monotonic() + START_SECONDS
+        while not self._session:
             try:
                 self._session = f"/session/{self.call('/session', wanted)['sessionId']}"
-                break
             except (urllib.error.URLError, ConnectionError):
+                if time.monotonic() > end:
+                    self._process.kill()
+                    raise
                 time.sleep(0.05)
         self.call("/timeouts", {"script": 1000 * SECONDS})
         return self
@@ -48,7 +53,7 @@ class Driver:
     def __exit__(self, *_):
         try:
             request = urllib.request.Request(f"{self._address}{self._session}", method="DELETE")
-            urllib.request.urlopen(request, timeout=20).close()
+            urllib.request.urlopen(request, timeout=SECONDS).close()
         finally:
             self._process.terminate()
             self._process.wait()
@@ -60,6 +65,14 @@ class Driver:
         request = urllib.request.Request(f"{self._address}{self._session}{path}", body, kind)
         with urllib.request.urlopen(request, timeout=SECONDS) as answer:
             return json.load(answer)["value"]
+
+    def wait_for(self, condition):
+        """Waits until a condition holds in the page."""
+        end = time.monotonic() + SECONDS
+        while not self.run(f"arguments[arguments.length - 1](Boolean({condition}))"):
+            if time.monotonic() > end:
+                raise SystemExit(f"the page never had: {condition}")
+            time.sleep(0.05)
 
     def open(self, url):
         """Opens a page."""

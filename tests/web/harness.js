@@ -22,9 +22,13 @@ export const rejection = async (promise) => {
 
 export const wait = (milliseconds) => new Promise((done) => setTimeout(done, milliseconds));
 
-/** Waits until a condition holds. */
+// Only what hangs takes so long.
+const MOST_MS = 60_000;
+
+/** Waits until a condition holds, for as long as a busy machine takes. */
 export const until = async (holds, text) => {
-    for (let tries = 0; tries < 400; tries += 1) {
+    const end = performance.now() + MOST_MS;
+    while (performance.now() < end) {
         if (holds()) {
             return;
         }

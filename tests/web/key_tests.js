@@ -4,6 +4,9 @@ import { install, SecurityKey } from "../../web/dist/security_key.mjs";
 import { expect, post, rejection, results, until } from "./harness.js";
 import { creationOptions, P256 } from "./options.js";
 
+// Milliseconds of a delay that is over before it has passed, however slow the machine is.
+const NEVER = 1_000_000;
+
 const fromText = (text) => {
     const plain = atob(text.replaceAll("-", "+").replaceAll("_", "/"));
     return Uint8Array.from(plain, (it) => it.charCodeAt(0));
@@ -107,12 +110,13 @@ const comesLate = async (key) => {
     key.delay = 250;
     await register({ user: "ann" });
     expect(/^t \d+\n< 00000001bb000102/m.test(key.log()), "KEEPALIVE while the user is awaited");
+    key.delay = NEVER;
     await isRefused(signIn({ user: "ann" }, { publicKey: { timeout: 120 } }), "NotAllowedError");
     expect(/^> \d+ 0000000191/m.test(key.log()), "CANCEL at the time-out");
 };
 
 const canBeAborted = async (key) => {
-    key.delay = 5000;
+    key.delay = NEVER;
     const abort = new AbortController();
     setTimeout(() => abort.abort(), 150);
     await isRefused(register({ user: "ann" }, { signal: abort.signal }), "AbortError");

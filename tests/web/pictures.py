@@ -10,7 +10,6 @@ chromium or chromedriver is missing.
 import base64
 import sys
 import tempfile
-import time
 from pathlib import Path
 
 from driver import Driver, is_there
@@ -34,23 +33,14 @@ def open_log(driver, path):
     document = driver.devtools("DOM.getDocument")["root"]["nodeId"]
     node = driver.devtools("DOM.querySelector", nodeId=document, selector="#file")["nodeId"]
     driver.devtools("DOM.setFileInputFiles", nodeId=node, files=[str(path)])
-    wait(driver, "!document.getElementById('check').disabled")
-
-
-def wait(driver, condition):
-    """Waits until a condition holds in the page."""
-    for _ in range(200):
-        if driver.run(f"arguments[arguments.length - 1]({condition})"):
-            return
-        time.sleep(0.05)
-    raise SystemExit(f"pictures.py: the page never had: {condition}")
+    driver.wait_for("!document.getElementById('check').disabled")
 
 
 def picture(driver, scheme, path):
     """Writes what the page shows in light or in dark."""
     features = [{"name": "prefers-color-scheme", "value": scheme}]
     driver.devtools("Emulation.setEmulatedMedia", features=features)
-    time.sleep(0.3)
+    driver.run("requestAnimationFrame(() => requestAnimationFrame(arguments[0]))")
     shot = driver.devtools("Page.captureScreenshot", format="png")
     path.write_bytes(base64.b64decode(shot["data"]))
     print(path.relative_to(TOP))
@@ -68,7 +58,7 @@ def main():
         driver.open(f"file://{TOP}/web/index.html")
         open_log(driver, log)
         driver.run("document.getElementById('check').click(); arguments[arguments.length - 1]()")
-        wait(driver, "/differs/.test(document.getElementById('notice').textContent)")
+        driver.wait_for("/differs/.test(document.getElementById('notice').textContent)")
         for scheme in ("light", "dark"):
             picture(driver, scheme, TOP / "docs" / f"web_{scheme}.png")
     return 0

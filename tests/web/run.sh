@@ -21,7 +21,7 @@ run_pages() {
     mkdir -p "$room/$browser"
     "$with_fido2" "$here/serve.py" "$room/$browser" viewer.html,key.html "$@" || failed=1
     if [ "$browser" = chromium ]; then
-        open_from_file
+        "$with_fido2" "$here/from_file.py" || [ $? = 3 ] || failed=1
         "$with_fido2" "$here/virtual_authenticator.py" || [ $? = 3 ] || failed=1
         "$with_fido2" "$here/two_tabs.py" || [ $? = 3 ] || failed=1
         run_examples
@@ -48,18 +48,6 @@ run_examples() {
         fi
     else
         echo "tests/web: node is missing" >&2
-    fi
-}
-
-# The page is opened as a file, with no server.
-open_from_file() {
-    local words=(--headless=new --no-sandbox "--user-data-dir=$room/profile" --virtual-time-budget=5000 --dump-dom)
-    chromium "${words[@]}" "file://$top/web/index.html#registration" >"$room/page" 2>/dev/null
-    if grep -q 'CBOR makeCredential, packet 2 of 2' "$room/page"; then
-        echo "ok  the page from a file"
-    else
-        echo "FAILED  the page from a file"
-        failed=1
     fi
 }
 

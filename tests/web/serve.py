@@ -21,7 +21,8 @@ from urllib.parse import parse_qs, urlsplit
 from relying_party import RelyingParty
 
 TOP = os.path.abspath(os.path.join(os.path.dirname(__file__), "..", ".."))
-SECONDS = 120
+# Only a browser that hangs takes so long.
+SECONDS = 600
 
 
 def is_of(session, process):

@@ -47,8 +47,9 @@ const showsALog = (name) => async () => {
     await open(`${name}.log`, bytes);
     const lines = new TextDecoder().decode(bytes).split("\n").length - 1;
     const inputsAlone = notice().includes("inputs alone");
-    expect(inputsAlone || notice() === `${name}.log: ${lines} lines, no fault.`, notice());
-    expect(texts().some((text) => /INIT, (8|17) bytes/.test(text)), "the INIT is named");
+    const told = `${name}.log: ${lines} lines, not compared yet: Check does it.`;
+    expect(inputsAlone || notice() === told, notice());
+    expect(texts().some((text) => /INIT (8|17) {2}nonce/.test(text)), "the INIT is named");
     expect(inputsAlone || rows().length === Math.min(lines, rows().length), "a row a line");
 };
 
@@ -57,10 +58,10 @@ const decodesAMessage = async () => {
     choose("search", "makecredential");
     rows()[0].click();
     const said = at("detail-text").textContent;
-    expect(said.includes('(rp): {\n    "id": "example.com"'), "the request is decoded");
+    expect(said.includes('\n  2 rp: {"id": "example.com"}\n'), `the request is decoded: ${said}`);
     choose("search", "packed");
     rows()[0].click();
-    expect(at("detail-text").textContent.includes("· flags UP AT\n"), "the authenticator data are decoded");
+    expect(at("detail-text").textContent.includes("\n    flags 41 UP AT\n"), "the authenticator data are decoded");
 };
 
 const folds = async () => {
@@ -68,10 +69,21 @@ const folds = async () => {
     const lines = rows().length;
     at("fold").click();
     expect(rows().length < lines, "fewer rows");
-    expect(texts().some((text) => text.includes("CBOR makeCredential → CBOR OK")), "folded");
-    const place = texts().findIndex((text) => text.includes("makeCredential"));
+    expect(texts().some((text) => text.includes("authenticatorMakeCredential → CTAP2_OK")), "folded");
+    const place = texts().findIndex((text) => text.includes("MakeCredential"));
     rows()[place].click();
     expect(texts().some((text) => text.includes("presence: granted")), "unfolded");
+};
+
+/** A request that is refused meanwhile doesn't take the answer of the one that waits. */
+const keepsTheWaitingRequest = async () => {
+    await open("busy_channel.log", await fetched("failing/busy_channel.log"));
+    at("fold").click();
+    const has = (title) => texts().some((text) => text.includes(title));
+    expect(has("authenticatorGetInfo → ERR_CHANNEL_BUSY"), "the one that is refused");
+    expect(has("authenticatorMakeCredential → CTAP2_OK"), "the one that waits");
+    choose("search", "signcount 0");
+    expect(rows().length > 0, "the answer's members are those of a registration");
 };
 
 const filtersByChannel = async () => {
@@ -85,10 +97,134 @@ const marksTheDifference = async () => {
     const changed = text.replace("< 00000001bb000102", "< 00000001bb000101");
     await open("changed.log", encode(changed));
     at("check").click();
-    expect(notice() === "changed.log: line 5: differs at packet 1.", notice());
+    expect(notice() === "changed.log: line 6 differs: it is packet 1 for line 5.", notice());
     const marked = rows().filter((row) => row.classList.contains("differs"));
-    expect(marked.length === 1 && marked[0].textContent.startsWith("6"), "the packet's line is marked");
-    expect(at("detail-text").textContent.includes("The key sends: < 00000001bb000102"), "what is sent is shown");
+    expect(marked.length === 1 && marked[0].firstChild.textContent === "6", "the line that is named is marked");
+    const said = at("detail-text").textContent;
+    expect(said.includes("The key sends:\n< 00000001bb000102"), "what is sent is shown");
+};
+
+const SIGN_IN_COUNTER = "470100000002";
+
+/** A log of two sign-ins is changed, and checked: what is told, the line that is marked, and what is marked beside it. */
+const checkedAfter = async (change) => {
+    const lines = new TextDecoder().decode(await fetched("sign_in.log")).split("\n");
+    change(lines, lines.findIndex((line) => line.includes(SIGN_IN_COUNTER)));
+    await open("changed.log", encode(lines.join("\n")));
+    press("c");
+    const marked = rows().filter((row) => row.classList.contains("differs")).map((row) => row.firstChild.textContent);
+    const marks = [...at("detail-text").querySelectorAll("mark")].map((it) => it.textContent.trim());
+    return { told: notice(), marked: marked.join(), marks };
+};
+
+const namesTheMemberThatDiffers = async () => {
+    const { told, marked, marks } = await checkedAfter((lines, at) => {
+        lines[at] = lines[at].replace(SIGN_IN_COUNTER, "470100000007");
+    });
+    expect(told === "changed.log: line 35 differs: it is packet 2 for line 33." && marked === "35", told + marked);
+    const expected = ["signCount 7", "signCount 2", "7", "2", "signCount 7", "signCount 2"];
+    const isOther = (text) => !text.startsWith("2 authData: h'");
+    expect(marks.filter(isOther).join() === expected.join() && marks.length === 8, marks.join("\n"));
+};
+
+/** What the page says of each failing session once it is compared, and what is found in it. */
+const FAILING = {
+    denied_user: ["Compared, the key sends just this: same 7 inputs 5 packets.", "CTAP2_ERR_OPERATION_DENIED"],
+    excluded_credential: ["Compared, the key sends just this: same 16 inputs 14 packets.", "CTAP2_ERR_CREDENTIAL_EXCLUDED"],
+    wrong_rp_id: ["Compared, the key sends just this: same 11 inputs 11 packets.", 'rpId: "www.example.com"'],
+    lost_packet: ["Compared, the key sends just this: same 3 inputs 2 packets.", "ERR_INVALID_SEQ"],
+    busy_channel: ["Compared, the key sends just this: same 10 inputs 11 packets.", "ERR_CHANNEL_BUSY"],
+    counter_stays: ["counter_stays.log: line 66 differs: it is packet 2 for line 64.", "signCount 1"],
+    truncated: ["The log is shown up to its faulty line: line 49: not a log line.", "line 49: not a log line"],
+    two_clients: ["Compared, the key sends just this: same 13 inputs 12 packets.", "ERR_CHANNEL_BUSY"],
+    noncanonical_cbor: ["Compared, the key sends just this: same 4 inputs 2 packets.", "request 01 fault 6 at 125"],
+};
+
+const readsFailingSessions = async () => {
+    for (const [name, [told, sought]] of Object.entries(FAILING)) {
+        await open(`${name}.log`, await fetched(`failing/${name}.log`));
+        press("c");
+        expect(notice() === told, `${name}: ${notice()}`);
+        choose("search", sought.toLowerCase());
+        expect(rows().length > 0, `${name}: no row says ${sought}`);
+        rows()[0].click();
+        expect(texts()[0].includes(sought) || at("detail-text").textContent.includes(sought), `${name}: ${sought}`);
+    }
+};
+
+const comparesNoInputsAlone = async () => {
+    await open("first.log", await fetched("first.log"));
+    press("c");
+    expect(notice() === "first.log has inputs alone: there is no packet of the key to compare.", notice());
+    expect(rows().every((row) => !row.classList.contains("differs")), "no row is marked");
+};
+
+const asksForTheSnapshot = async () => {
+    const bytes = await fetched("failing/wrong_snapshot.log");
+    await open("wrong_snapshot.log", bytes);
+    press("c");
+    expect(notice() === "wrong_snapshot.log: line 7 differs: it is packet 1 for line 6.", notice());
+    const said = at("detail-text").textContent;
+    expect(said.includes("needs its snapshot") && said.includes("answer 2e  CTAP2_ERR_NO_CREDENTIALS"), said);
+    drop("alice.snapshot", await fetched("failing/alice.snapshot"));
+    await until(() => notice().includes("on the credentials of alice.snapshot, not compared yet"), "the snapshot");
+    press("c");
+    expect(notice() === "Compared, the key sends just this: same 7 inputs 9 packets.", notice());
+};
+
+const namesAPacketThatIsMissing = async () => {
+    const { told, marked } = await checkedAfter((lines, at) => lines.splice(at, 1));
+    expect(told === "changed.log: line 35 differs: it is packet 2 for line 33." && marked === "35", told + marked);
+    const cut = await checkedAfter((lines, at) => lines.splice(at, 9));
+    const sentence = "changed.log: line 33 differs: packet 2 that the key sends for it is missing.";
+    expect(cut.told === sentence && cut.marked === "33", cut.told + cut.marked);
+};
+
+const namesAPacketTooMany = async () => {
+    const { told, marked } = await checkedAfter((lines) => lines.splice(3, 0, lines[2]));
+    const sentence = "changed.log: line 4 is one too many: the key sends 1 packets for line 2.";
+    expect(told === sentence && marked === "4", told + marked);
+    const first = await checkedAfter((lines) => lines.splice(1, 0, lines[2]));
+    const before = "changed.log: line 2 is one too many: the key sends 0 packets before any input.";
+    expect(first.told === before && first.marked === "2", first.told + first.marked);
+};
+
+const cellOf = (place) => (row) => row.children[place].textContent;
+
+/** What the page says of lines when it shows them one by one is what the core says of the whole log. */
+const hasTheCoresWords = async () => {
+    const core = await page().hidlog.load();
+    let found = 0;
+    for (const name of LOGS) {
+        const bytes = await fetched(`${name}.log`);
+        await open(`${name}.log`, bytes);
+        choose("view", "recorded");
+        const shown = new TextDecoder().decode(core.run("show", bytes).text).split("\n");
+        const numbers = rows().filter((it) => it.querySelector(".kind-host, .kind-key")).map(cellOf(0));
+        for (const number of numbers) {
+            const row = rows().find((it) => cellOf(0)(it) === number);
+            const [channel, says] = [cellOf(3)(row), cellOf(4)(row)];
+            const [head, ...below] = shown.filter((line) => line.startsWith(`${number} `));
+            expect(`${says}  `.includes(`${head.slice(head.indexOf(channel) + 9)}  `), `${name}: ${says} for ${head}`);
+            row.click();
+            const detail = at("detail-text").textContent;
+            const members = below.slice(1).map((line) => line.slice(number.length + 3));
+            found += members.filter((line) => detail.includes(`\n${line}\n`)).length;
+            expect(members.every((line) => detail.includes(`\n${line}\n`)), `${name}: ${detail} lacks ${below}`);
+        }
+    }
+    expect(found > 30, `${found} lines of members`);
+};
+
+const escapesWhatMovesOthers = async () => {
+    await open("hostile.log", Uint8Array.of(...encode("# a\u202eb\u009b\n= c\u202ed\n# "), 0xff, 10));
+    choose("view", "recorded");
+    expect(texts()[0].endsWith("a\\u202eb\\u009b") && texts()[2].endsWith("\\xff"), texts().join("\n"));
+    expect(!/[\u202e\u009b]/.test(page().document.body.textContent), "in the table");
+    for (const row of [0, 1, 2]) {
+        rows()[row].click();
+        expect(!/[\u202e\u009b]/.test(page().document.body.textContent), "beside it");
+    }
 };
 
 const passesTheCheck = async () => {
@@ -96,7 +232,7 @@ const passesTheCheck = async () => {
     drop("example_com.snapshot", await fetched("example_com.snapshot"));
     await until(() => notice().includes("on the credentials of example_com.snapshot"), "the log on the snapshot");
     press("c");
-    expect(/The key sends just this: same \d+ inputs \d+ packets\./.test(notice()), notice());
+    expect(/^Compared, the key sends just this: same \d+ inputs \d+ packets\./.test(notice()), notice());
 };
 
 const cutsNoise = async () => {
@@ -120,33 +256,62 @@ const saysWhatIsFaulty = async () => {
     await open("huge.log", new Uint8Array(100 * 1024 * 1024));
     expect(notice() === "huge.log has 100.0 MB: the page takes logs of up to 32.0 MB.", notice());
     drop("first.log", encode(text));
-    await until(() => notice().includes("inputs alone") || notice().includes("no fault"), "the page still works");
+    await until(() => notice().includes("inputs alone") || notice().includes("not compared"), "the page still works");
 };
 
-/** 10,000 lines: how long a jump through them takes to draw. */
+const ROW = 26;
+const JUMPS = 40;
+
+/** All texts that the page draws from now on. */
+const drawnTexts = () => {
+    const { prototype } = page().CanvasRenderingContext2D;
+    const { fillText } = prototype;
+    const drawn = new Set();
+    prototype.fillText = function draw(text, ...rest) {
+        drawn.add(text);
+        return fillText.call(this, text, ...rest);
+    };
+    return drawn;
+};
+
+/** Jumps, and expects the rows in sight, all of them and no others; in the drawing a text for each at most. */
+const jumpsTo = async (top, drawn) => {
+    const scroller = at("scroller");
+    drawn.clear();
+    scroller.scrollTop = top;
+    const first = Math.floor(scroller.scrollTop / ROW) + 1;
+    const inSight = Math.ceil(scroller.clientHeight / ROW) + 1;
+    await until(() => rows()[0]?.firstChild.textContent === String(first), `line ${first} after a jump`);
+    const last = Number(rows().at(-1).firstChild.textContent);
+    expect(rows().length <= inSight && rows().length === last - first + 1, `${rows().length} rows of ${inSight}`);
+    const isLast = last === Number(at("count").textContent.split(" ")[0]);
+    expect(isLast || last * ROW >= scroller.scrollTop + scroller.clientHeight, "rows to the end of the sight");
+    expect(drawn.size <= inSight + HEADS, `${drawn.size} texts are drawn`);
+    return drawn.size;
+};
+
+// The lifelines' names.
+const HEADS = 3;
+
+/** 10,000 lines: only rows in sight are made, wherever a jump leads to. How long that takes is told alone. */
 const scrollsSmoothly = async () => {
-    const line = (at) => `t ${at}\n`;
-    const bytes = encode(Array.from({ length: 10000 }, (_, at) => line(at)).join(""));
+    const bytes = encode(Array.from({ length: 10000 }, (_, at) => `t ${at}\n`).join(""));
     const begun = performance.now();
     await open("long.log", bytes);
     await until(() => at("count").textContent.includes("of 1000"), "the rows");
-    const opened = performance.now() - begun;
-    expect(rows().length < 60, "only rows in sight are made");
-    for (const mode of ["table-tab", "drawing-tab"]) {
-        at(mode).click();
-        const scroller = at("scroller");
-        const steps = 40;
+    results.figures.push(`10,000 lines opened in ${(performance.now() - begun).toFixed(0)} ms, the page's load with it`);
+    const drawn = drawnTexts();
+    for (const mode of ["table", "drawing"]) {
+        at(`${mode}-tab`).click();
         const from = performance.now();
-        for (let step = 0; step < steps; step += 1) {
-            scroller.scrollTop = (step * scroller.scrollHeight) / steps;
-            await new Promise((done) => page().requestAnimationFrame(() => page().requestAnimationFrame(done)));
+        let texts = 0;
+        for (let jump = 1; jump <= JUMPS; jump += 1) {
+            texts += await jumpsTo((jump * at("scroller").scrollHeight) / JUMPS, drawn);
         }
-        const each = (performance.now() - from) / steps;
-        const name = mode.slice(0, -4);
-        results.figures.push(`10,000 lines, ${name}: ${each.toFixed(1)} ms for each of ${steps} jumps of two frames`);
-        expect(each < 60, "a jump takes long");
+        expect((texts > 0) === (mode === "drawing"), "drawn in the drawing alone");
+        const each = (performance.now() - from) / JUMPS;
+        results.figures.push(`10,000 lines, ${mode}: ${each.toFixed(1)} ms for each of ${JUMPS} jumps`);
     }
-    results.figures.push(`10,000 lines opened in ${opened.toFixed(0)} ms, the page's own load with it`);
 };
 
 /** 30 MB of packets on a channel that was never given out. */
@@ -159,6 +324,10 @@ const opensALongLog = async () => {
     choose("view", "quiet");
     expect(/ inputs are noise/.test(notice()), notice());
     results.figures.push(`30 MB opened and made quiet in ${((performance.now() - begun) / 1000).toFixed(1)} s`);
+    const searched = performance.now();
+    choose("search", "cancel");
+    expect(/^\d+ of \d+ lines$/.test(at("count").textContent) && rows().length > 0, at("count").textContent);
+    results.figures.push(`and searched in ${((performance.now() - searched) / 1000).toFixed(1)} s`);
 };
 
 const loaded = Object.fromEntries(LOGS.map((name) => [`examples/${name}.log`, showsALog(name)]));
@@ -167,8 +336,17 @@ run({
     ...loaded,
     "a message is decoded": decodesAMessage,
     "transactions fold": folds,
+    "one request is refused while another waits": keepsTheWaitingRequest,
     "one channel alone": filtersByChannel,
     "check marks the first difference": marksTheDifference,
+    "a member that differs is marked": namesTheMemberThatDiffers,
+    "failing sessions": readsFailingSessions,
+    "inputs alone aren't compared": comparesNoInputsAlone,
+    "a log without its snapshot": asksForTheSnapshot,
+    "a packet that is missing": namesAPacketThatIsMissing,
+    "a packet too many": namesAPacketTooMany,
+    "the core's words, line by line": hasTheCoresWords,
+    "what moves other characters is escaped": escapesWhatMovesOthers,
     "check on a snapshot": passesTheCheck,
     "quiet shows what went": cutsNoise,
     "faulty, empty and huge files": saysWhatIsFaulty,

@@ -13,7 +13,7 @@ from http.server import ThreadingHTTPServer
 from driver import Driver, is_there
 from serve import Handler
 
-SECONDS = 90
+SECONDS = 600
 OUTCOMES = os.path.join(os.path.dirname(os.path.abspath(__file__)), "chromium_outcomes.json")
 AUTHENTICATOR = {
     "protocol": "ctap2",

@@ -1,0 +1,89 @@
+// The first difference of a log from what the key sends: its line, the packets and what they say, side by side. It sets
+// `globalThis.hidlogDifference`.
+"use strict";
+
+(() => {
+    const isInput = (line) => line.at !== null && line.kind !== "key";
+
+    /** A packet that is sent for an input, counted from 1; where `from` is -1, before any input. */
+    const packetOf = (session, from, packet) => {
+        const next = session.lines.findIndex((line, place) => place > from && isInput(line));
+        const sent = session.lines.slice(from + 1, next < 0 ? undefined : next).filter((line) => line.kind === "key");
+        return sent[packet - 1];
+    };
+
+    /** What is told of it in a sentence without its end. */
+    const sentence = ({ has, sends, line, packet }) => {
+        const whence = line ? `for line ${line}` : "before any input";
+        if (!has) {
+            return `line ${line} differs: packet ${packet} that the key sends for it is missing`;
+        }
+        return sends
+            ? `line ${has.number} differs: it is packet ${packet} ${whence}`
+            : `line ${has.number} is one too many: the key sends ${packet - 1} packets ${whence}`;
+    };
+
+    /** Finds the packet that `check` named, and what the key sends there: inputs have the same place in a replay. */
+    const find = (recorded, replayed, { line, packet }) => {
+        const before = recorded.lines.filter((it) => isInput(it) && it.number <= line).length;
+        const inputs = replayed.lines.filter(isInput);
+        const has = packetOf(recorded, recorded.lines.findIndex((it) => it.number === line), packet);
+        const sends = packetOf(replayed, replayed.lines.indexOf(inputs[before - 1]), packet);
+        const found = { has, sends, line, packet, marked: has?.number ?? line };
+        return { ...found, says: sentence(found) };
+    };
+
+    const mark = (text) => {
+        const made = document.createElement("mark");
+        made.textContent = text;
+        return made;
+    };
+
+    /** A packet's line, with each digit marked that the other one hasn't at its place. */
+    const markedDigits = (text, other) => {
+        const isOther = (at) => text[at].toLowerCase() !== other[at]?.toLowerCase();
+        const parts = [];
+        for (let at = 0; at < text.length;) {
+            const begun = at;
+            const differs = isOther(at);
+            while (at < text.length && isOther(at) === differs) {
+                at += 1;
+            }
+            parts.push(differs ? mark(text.slice(begun, at)) : text.slice(begun, at));
+        }
+        return parts;
+    };
+
+    /** Lines, with those marked that the others haven't. */
+    const markedLines = (lines, others) =>
+        lines.flatMap((line) => [others.includes(line) ? line : mark(line), "\n"]);
+
+    // A longer line, say of bytes, is looked at below.
+    const SHORT = 70;
+
+    /** What differs at a glance: the short lines of each that the other hasn't. */
+    const glance = (own, other) => {
+        const only = (lines, others) => lines.filter((it) => !others.includes(it) && it.length < SHORT);
+        const parts = [["In the log: ", only(own, other)], ["The key:    ", only(other, own)]];
+        return parts.flatMap(([whose, lines]) => lines.flatMap((line) => [whose, mark(line.trim()), "\n"]));
+    };
+
+    const NONE = "CTAP2_ERR_NO_CREDENTIALS";
+    const HINT = "The key has no credential for this: a log that began with some needs its snapshot, dropped first.\n";
+
+    /** The difference as a page's nodes: both packets, and what their messages say. */
+    const nodes = ({ has, sends, says }, shown) => {
+        const [own, other] = [has, sends].map((line) => (line ? line.text : "nothing"));
+        const [ownSays, otherSays] = [has, sends].map((line) => (line ? shown.detail(line) : []));
+        const packets = has && sends ? [markedDigits(own, other), markedDigits(other, own)] : [[own], [other]];
+        const messages = [markedLines(ownSays, otherSays), markedLines(otherSays, ownSays)];
+        const isNone = otherSays.join().includes(NONE) && !ownSays.join().includes(NONE);
+        return [
+            `${says}\n`, isNone ? HINT : "", ...glance(ownSays, otherSays),
+            "\nThe log has:\n", ...packets[0], "\nThe key sends:\n", ...packets[1],
+            "\n\nThe log's message:\n", ...messages[0], "\nThe key's message:\n", ...messages[1],
+        ];
+    };
+
+    globalThis.hidlogDifference = { find, nodes };
+})();
