@@ -1,5 +1,6 @@
 //! What a person reads of a recorded session of a security key: each line of a log as text, and each CBOR request and
-//! answer in diagnostic notation (docs/LOG_FORMAT.md). Nothing is allocated.
+//! answer in diagnostic notation (docs/LOG_FORMAT.md). A session's summary, and the same as JSON for scripts. Nothing is
+//! allocated.
 #![tactic(auto)]
 
 mod asked;

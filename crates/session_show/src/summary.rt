@@ -102,8 +102,8 @@ pub fn summarize<S: Source, T: Target>(
 ) -> Result<(), LogFault>
     requires read { S.failed reader.old < 2 ^ 64 - 1 }
     requires write { T.failed writer.old < 2 ^ 64 - 1 }
-    // At Ok every line is a log line, and all of them were told. A line fault is that of the first faulty line, and
-    // the lines before it were told. A read that failed names its line, and the lines before it were told. At a write
+    // At Ok every line is a log line, and all of them were shown. A line fault is that of the first faulty line, and
+    // the lines before it were shown. A read that failed names its line, and the lines before it were shown. At a write
     // that failed the text of a line broke off.
     ensures shown { Shows (S.left reader.old) (S.left reader.new) (ending_of result) }
     // At a line fault at most 256 bytes were read after the lines before the faulty one.
