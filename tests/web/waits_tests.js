@@ -169,7 +169,7 @@ const replacesStatics = async () => {
 
 const FIRST = 40;
 const ROUNDS = 25;
-// A cost that grows with the log is many times the first; the machine's own work makes a third at most.
+// A cost that grows with the log is many times the first.
 const MOST = 2;
 const TRIES = 3;
 

@@ -20,6 +20,7 @@ use session_log::{
 };
 use session_show::{Summary, put_json_fault, show, show_json, summarize};
 use std::alloc::Global;
+use token_session::Session;
 
 /// Writes what clap answers: help to the output, what is wrong with the words to the faults. The status is
 /// 2 for all but help that was written.
@@ -110,7 +111,7 @@ where
         (files.old, files.new) (input.old, input.new) (output.old, output.new) (faults.old, faults.new) }
 {
     open_log(input, alloc, log, faults)?;
-    let mut place = None;
+    let mut place = Session::bare([0; 16], 0);
     let session = begin(&mut place, files, alloc, load, faults)?;
     replay_command(session, input, output, faults)?;
     match save {
@@ -145,7 +146,7 @@ where
         (files.old, files.new) (input.old, input.new) (output.old, output.new) (faults.old, faults.new) }
 {
     open_log(input, alloc, log, faults)?;
-    let mut place = None;
+    let mut place = Session::bare([0; 16], 0);
     let session = begin(&mut place, files, alloc, load, faults)?;
     look(files, alloc, save, path_in(log), faults)?;
     live_command(session, input, output, faults)?;
@@ -181,7 +182,7 @@ where
         (files.now, files.now) (input.old, input.new) (output.old, output.new) (faults.old, faults.new) }
 {
     open_log(input, alloc, log, faults)?;
-    let mut place = None;
+    let mut place = Session::bare([0; 16], 0);
     let session = begin(&mut place, files, alloc, load, faults)?;
     check_command(session, input, output, faults)
 }
@@ -211,7 +212,7 @@ where
         (files.now, files.now) (input.old, input.new) (output.old, output.new) (faults.old, faults.new) }
 {
     open_log(input, alloc, log, faults)?;
-    let mut place = None;
+    let mut place = Session::bare([0; 16], 0);
     let session = begin(&mut place, files, alloc, load, faults)?;
     quiet_command(session, input, output, faults)
 }

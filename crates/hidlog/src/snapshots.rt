@@ -1,8 +1,8 @@
 //! The session's start from a snapshot, and the snapshot of its end.
-ghost use Rattle.std.specs.Prelude.{◌≡◌, ◌<◌, ◌-◌, ◌^◌, [], List, Some, Ok, IfOk, IfErr, IsSomeAnd, MatchResult, OnOk, OnErr};
+ghost use Rattle.std.specs.Prelude.{◌≡◌, ◌<◌, ◌-◌, ◌^◌, [], List, Some, Ok, IfOk, IfErr, MatchResult, OnOk, OnErr};
 ghost use Rattle.cred_table.specs.declared.row.Row.{Row as AnyRow};
 ghost use Rattle.cred_table.specs.Snapshots.{Loads, Refuses};
-ghost use Rattle.token_session.specs.Meters.{StandsAfter};
+ghost use Rattle.token_session.specs.Meters.{StandsAfter, session_of};
 ghost use Rattle.hidlog.specs.CommandLine.{path_of};
 ghost use Rattle.hidlog.specs.Program.{IsTold, refused};
 ghost use Rattle.session_log.specs.Command.{start_with};
@@ -11,7 +11,7 @@ ghost use Rattle.hidlog.specs.Saved.{FailsToOpen, FailsToSave, Opens, Saves};
 use crate::files::Files;
 use crate::process::{no_memory, tell_why};
 use authn_core::Config;
-use cred_table::{SnapshotFault, Store, Table, load, save};
+use cred_table::{SnapshotFault, save};
 use session_log::{CAPACITY, Target};
 use std::alloc::{AllocError, Global};
 use std::io::ErrorKind;
@@ -87,61 +87,38 @@ fn read_file<D: Files, E: Target>(
     }
 }
 
-/// Returns the program's session at its start with these credentials: its AAGUID is zero, and its moment 0.
-fn session_with(rows: Store<CAPACITY>) -> Session<CAPACITY>
-    ensures { StandsAfter result (start_with (⟦<Store<CAPACITY> as Table<CAPACITY>>⟧.rows rows)) [] }
-{
-    Session::new(Config { aaguid: [0; 16] }, rows, 0)
-}
-
-// A session takes 29 kB. It is made where it stays, by a function of its own, since a value that is moved is copied and
-// its old place cleared, and what a function that is inlined keeps is on the stack as long as its caller.
-
-/// Puts the program's session at its start into its place, without credentials.
-#[inline(never)]
-fn put_bare(place: &mut Option<Session<CAPACITY>>)
-    ensures { IsSomeAnd place.new (λ session. StandsAfter session (start_with []) []) }
-{
-    *place = Some(Session::bare([0; 16], 0));
-}
-
-/// Puts the program's session at its start into its place, with the credentials of a snapshot.
-#[inline(never)]
-fn put_loaded(place: &mut Option<Session<CAPACITY>>, bytes: &[u8]) -> Result<(), SnapshotFault>
+/// Puts the credentials of a snapshot into the program's session, which begins anew: its AAGUID is zero, its moment 0.
+fn put_rows(session: &mut Session<CAPACITY>, bytes: &[u8]) -> Result<(), SnapshotFault>
     ensures { MatchResult result
-        (λ _. IsSomeAnd place.new (λ session. (rows : List AnyRow) × Loads 64 bytes.now (Ok tt) rows
-        × StandsAfter session (start_with rows) []))
+        (λ _. (rows : List AnyRow) × Loads 64 bytes.now (Ok tt) rows × StandsAfter session.new (start_with rows) [])
         (λ fault. Refuses 64 bytes.now fault) }
 {
-    let mut rows = Store::new();
-    match load(bytes, &mut rows) {
-        Ok(()) => {
-            *place = Some(session_with(rows));
-            Ok(())
-        }
+    match session.load(Config { aaguid: [0; 16] }, bytes, 0) {
+        Ok(()) => Ok(()),
         Err(fault) => Err(fault),
     }
 }
 
-/// Puts the program's session at its start into its place, with the credentials of the snapshot at the path. Where it
-/// can't be read, or is refused, that is written, and an error holds the exit status, 2.
-fn put_session<D: Files, E: Target>(
-    place: &mut Option<Session<CAPACITY>>,
+/// Puts the credentials of the snapshot at the path into the program's session. Where it can't be read, or is refused,
+/// that is written, and an error holds the exit status, 2.
+#[inline(never)]
+fn load<D: Files, E: Target>(
+    session: &mut Session<CAPACITY>,
     files: &D,
     alloc: Global,
     path: &str,
     faults: &mut E,
 ) -> Result<(), u8>
     requires { E.failed faults.old < 2 ^ 64 - 1 }
-    ensures begins { OnOk result (IsSomeAnd place.new (λ session. (rows : List AnyRow)
-        × Opens D.holds files.now (Some path.now) rows × StandsAfter session (start_with rows) [])) }
+    ensures begins { OnOk result ((rows : List AnyRow) × Opens D.holds files.now (Some path.now) rows
+        × StandsAfter session.new (start_with rows) []) }
     ensures silent { OnOk result (faults.new ≡ faults.old) }
     ensures status { IfErr result (λ code. code ≡ 2) }
     ensures told { OnErr result (FailsToOpen D.holds D.unreadable files.now (Some path.now) E.taken E.failed
         (faults.old, faults.new)) }
 {
     let bytes = read_file(files, alloc, path, faults)?;
-    match put_loaded(place, &bytes) {
+    match put_rows(session, &bytes) {
         Ok(()) => Ok(()),
         Err(fault) => {
             refuse(faults, alloc, path, fault, &bytes);
@@ -150,16 +127,17 @@ fn put_session<D: Files, E: Target>(
     }
 }
 
-/// Returns the program's session at its start, in its place, with the credentials of the snapshot at the path, or with
-/// none. Where the snapshot can't be read, or is refused, that is written, and an error holds the exit status, 2.
+/// Returns the program's session at its start, from one without credentials: with those of the snapshot at the path, or
+/// with none. Where the snapshot can't be read, or is refused, that is written, and an error holds the exit status, 2.
 pub fn begin<'a, D: Files, E: Target>(
-    place: &'a mut Option<Session<CAPACITY>>,
+    session: &'a mut Session<CAPACITY>,
     files: &D,
     alloc: Global,
     path: Option<&str>,
     faults: &mut E,
 ) -> Result<&'a mut Session<CAPACITY>, u8>
-    requires { E.failed faults.old < 2 ^ 64 - 1 }
+    requires fresh { session.old ≡ session_of (start_with []) [] }
+    requires tells { E.failed faults.old < 2 ^ 64 - 1 }
     ensures begins { IfOk result (λ session. (rows : List AnyRow) × Opens D.holds files.now (path_of path.entry) rows
         × StandsAfter session.now (start_with rows) []) }
     ensures silent { OnOk result (faults.new ≡ faults.old) }
@@ -167,14 +145,10 @@ pub fn begin<'a, D: Files, E: Target>(
     ensures told { OnErr result (FailsToOpen D.holds D.unreadable files.now (path_of path.entry) E.taken E.failed
         (faults.old, faults.new)) }
 {
-    match path {
-        Some(path) => put_session(place, files, alloc, path, faults)?,
-        None => put_bare(place),
+    if let Some(path) = path {
+        load(session, files, alloc, path, faults)?;
     }
-    match place {
-        Some(session) => Ok(session),
-        None => unreachable!(),
-    }
+    Ok(session)
 }
 
 /// Looks whether a snapshot can be written to the path. Where it can't, that is written, and an error holds the exit

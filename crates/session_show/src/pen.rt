@@ -14,7 +14,7 @@ pub struct Pen {
     /// How many bytes are still to pass over.
     before: usize,
     part: ArrayVec<u8, PART>,
-    /// Whether what is written stands in a JSON text.
+    /// Whether what is written is in a JSON text.
     is_quoted: bool,
     /// How long a piece is that is written at most once in the text, where that is known from an earlier part.
     known: Option<usize>,

@@ -1,5 +1,0 @@
-use Rattle.session_log.proofs.Histories.{begins}
-use Rattle.hidlog.proofs.snapshots.session_with.Goals as goal
-
-pub returns : goal.returns
-returns c = begins c.new.result _ c.new.ensures
