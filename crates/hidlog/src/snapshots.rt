@@ -145,10 +145,13 @@ pub fn begin<'a, D: Files, E: Target>(
     ensures told { OnErr result (FailsToOpen D.holds D.unreadable files.now (path_of path.entry) E.taken E.failed
         (faults.old, faults.new)) }
 {
-    if let Some(path) = path {
-        load(session, files, alloc, path, faults)?;
+    match path {
+        None => Ok(session),
+        Some(path) => {
+            load(session, files, alloc, path, faults)?;
+            Ok(session)
+        }
     }
-    Ok(session)
 }
 
 /// Looks whether a snapshot can be written to the path. Where it can't, that is written, and an error holds the exit

@@ -8,7 +8,7 @@ ghost use Rattle.hidlog_c.specs.Commands.{Answers, Checks, IsWritten, Lives, Qui
 
 use crate::lent::Lent;
 use crate::outcome::Outcome;
-use crate::started::begin;
+use crate::started::started;
 use session_log::{CAPACITY, LogFault, SliceIn, check, live, quiet, replay};
 use token_session::Session;
 
@@ -102,9 +102,8 @@ impl Command for Quiet {
 pub fn run<C: Command>(log: &[u8], snapshot: &[u8], out: &mut [u8]) -> Outcome
     ensures { Answers C.Does log.now snapshot.now (out.old, out.new) result }
 {
-    let mut session = Session::bare([0; 16], 0);
-    match begin(&mut session, snapshot) {
-        Ok(()) => {
+    match started(snapshot) {
+        Ok(mut session) => {
             let mut writer = Lent::new(out);
             let answer = C::play(&mut session, log, &mut writer);
             Outcome::new(answer, writer.len())

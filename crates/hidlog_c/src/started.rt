@@ -1,8 +1,8 @@
 //! The session that a log is played on, or that a key holds.
-ghost use Rattle.std.specs.Prelude.{◌≡◌, ◌≢◌, [], List, IfOk, IfErr, MatchResult};
+ghost use Rattle.std.specs.Prelude.{◌≡◌, ◌≢◌, [], List, IfOk, IfErr};
 ghost use Rattle.cred_table.specs.declared.row.Row.{Row as AnyRow};
 ghost use Rattle.cred_table.specs.Snapshots.{Refuses};
-ghost use Rattle.token_session.specs.Meters.{StandsAfter, session_of};
+ghost use Rattle.token_session.specs.Meters.{StandsAfter};
 ghost use Rattle.session_log.specs.Command.{start_with};
 ghost use Rattle.hidlog_c.specs.Begin.{Opens};
 ghost use Rattle.hidlog_c.specs.Switched.{start_of};
@@ -36,19 +36,11 @@ pub fn switched_on(
     Ok(session_with(aaguid, start, rows))
 }
 
-/// Puts the credentials of the snapshot into a session at its start, which has none; none where the snapshot is empty.
-/// Its AAGUID is zeros, and it begins at the moment 0.
-pub fn begin(session: &mut Session<CAPACITY>, snapshot: &[u8]) -> Result<(), SnapshotFault>
-    requires fresh { session.old ≡ session_of (start_with []) [] }
-    ensures { MatchResult result
-        (λ _. (rows : List AnyRow) × Opens snapshot.now rows × StandsAfter session.new (start_with rows) [])
-        (λ fault. (snapshot.now ≢ []) × Refuses 64 snapshot.now fault) }
+/// Returns such a session with an AAGUID of zeros, which begins at the moment 0.
+pub fn started(snapshot: &[u8]) -> Result<Session<CAPACITY>, SnapshotFault>
+    ensures begins { IfOk result (λ session. (rows : List AnyRow) × Opens snapshot.now rows
+        × StandsAfter session (start_with rows) []) }
+    ensures refused { IfErr result (λ fault. (snapshot.now ≢ []) × Refuses 64 snapshot.now fault) }
 {
-    if snapshot.is_empty() {
-        return Ok(());
-    }
-    match session.load(Config { aaguid: [0; 16] }, snapshot, 0) {
-        Ok(()) => Ok(()),
-        Err(fault) => Err(fault),
-    }
+    switched_on([0; 16], 0, snapshot)
 }
