@@ -11,6 +11,7 @@ from __future__ import annotations
 
 import json
 import os
+import random
 import resource
 import shutil
 import signal
@@ -20,7 +21,7 @@ import tempfile
 import time
 from concurrent.futures import ThreadPoolExecutor
 from pathlib import Path
-from typing import Callable, Optional, Sequence
+from typing import Any, Callable, Optional, Sequence
 
 TOP = Path(__file__).resolve().parents[2]
 PROGRAM = str(Path(sys.argv[1]).resolve() if len(sys.argv) > 1 else TOP / "release/hidlog")
@@ -539,6 +540,52 @@ def forms_are_shown(room: Path) -> None:
         wants(ended, 1, full)
 
 
+KINDS = {
+    "packet", "tick", "presence", "key", "signature", "comment", "request", "answer", "transaction", "fault",
+}  # fmt: skip
+
+
+def objects_of(log: bytes) -> list[dict[str, Any]]:
+    """Returns what `show --json` writes of a log. Each line is an object of a kind that the log format's page names."""
+    shown = run(["show", "--json"], log).stdout
+    objects = [json.loads(line) for line in shown.split(b"\n")[:-1]]
+    assert all(it["kind"] in KINDS for it in objects)
+    return objects
+
+
+def shows_each_packet(log: bytes) -> None:
+    """Fails unless each packet before a fault has its object, in the log's order."""
+    objects = objects_of(log)
+    fault: dict[str, Any] = next((it for it in objects if it["kind"] == "fault"), {})
+    numbers = [number for number, line in enumerate(log.split(b"\n"), 1) if line[:1] in (b">", b"<")]
+    before = [number for number in numbers if number < fault.get("line", len(log) + 1)]
+    assert [it["line"] for it in objects if it["kind"] == "packet"] == before
+
+
+def changed(log: bytes, chance: random.Random) -> bytes:
+    """Returns a log with other digits in some packets, and a comment of any bytes after each input."""
+    lines = bytearray()
+    for line in log.splitlines(keepends=True):
+        if line[:1] in (b">", b"<") and chance.random() < 0.5:
+            place = chance.randrange(len(line) - 129, len(line) - 1)
+            line = line[:place] + b"%x" % chance.randrange(16) + line[place + 1 :]
+        lines += line
+        if line[:1] == b">":
+            lines += b"# " + bytes(it for it in chance.randbytes(60) if it != 10) + b"\n"
+    return bytes(lines)
+
+
+def every_log_is_json(_: Path) -> None:
+    """`show --json` writes JSON, with an object for each packet, of every log, and of changed ones."""
+    folders = [EXAMPLES.glob("**/*.log"), (TOP / "conformance/sessions").glob("*/*.log")]
+    logs = [path.read_bytes() for folder in folders for path in sorted(folder)]
+    assert len(logs) > 700
+    chance = random.Random(49)
+    made = [changed((EXAMPLES / "sign_in.log").read_bytes(), chance) for _ in range(60)]
+    with ThreadPoolExecutor() as several:
+        list(several.map(shows_each_packet, [*logs, *made]))
+
+
 def a_full_output_ends_several(_: Path) -> None:
     """Where standard output is full or closed, no further log is compared."""
     good = str(EXAMPLES / "registration.log")
@@ -659,6 +706,7 @@ TESTS = [
     faults_of_files_say_why,
     several_are_checked,
     forms_are_shown,
+    every_log_is_json,
     a_full_output_ends_several,
     many_files_take_no_memory,
     the_named_log_is_kept,
