@@ -50,9 +50,9 @@ def run(
     if trace:
         command = ["strace", "-f", "-qq", "-o", "/dev/null", *trace, *command]
     if stdin is None:
-        return subprocess.run(command, input=log, capture_output=True, preexec_fn=before, timeout=30)
+        return subprocess.run(command, input=log, capture_output=True, preexec_fn=before, timeout=60)
     with open(stdin, "rb") as file:
-        return subprocess.run(command, stdin=file, capture_output=True, preexec_fn=before, timeout=30)
+        return subprocess.run(command, stdin=file, capture_output=True, preexec_fn=before, timeout=60)
 
 
 def wants(said: Said, status: int, faults: bytes, output: Optional[bytes] = None) -> None:
@@ -255,17 +255,23 @@ def signals_save_nothing(room: Path) -> None:
             program.stdin.flush()
             assert program.stdout.readline() == b"t 5\n"
             program.send_signal(number)
-            assert program.wait(10) == -number and program.stderr.read() == b""
+            assert program.wait(60) == -number and program.stderr.read() == b""
         assert keys.read_bytes() == b"old"
     with live(keys) as program:
-        output, faults = program.communicate(b"t 5\n", 10)
+        output, faults = program.communicate(b"t 5\n", 60)
         assert program.returncode == 0 and faults == b"" and output.endswith(COUNTS)
     assert keys.read_bytes() == bytes.fromhex("a201020280")
 
 
 def live(keys: Path) -> subprocess.Popen[bytes]:
+    """Starts `live --save`. It doesn't ignore SIGINT, as what a shell starts in the background does."""
     pipe = subprocess.PIPE
-    return subprocess.Popen([PROGRAM, "live", "--save", str(keys)], stdin=pipe, stdout=pipe, stderr=pipe)
+    command = [PROGRAM, "live", "--save", str(keys)]
+    return subprocess.Popen(command, stdin=pipe, stdout=pipe, stderr=pipe, preexec_fn=heed_interrupts)
+
+
+def heed_interrupts() -> None:
+    signal.signal(signal.SIGINT, signal.SIG_DFL)
 
 
 # ---- what is said
@@ -632,7 +638,7 @@ def at_a_terminal(words: Sequence[str], typed: bytes) -> bytes:
     with subprocess.Popen([PROGRAM, *words], stdin=end, stdout=subprocess.DEVNULL, stderr=subprocess.PIPE) as program:
         os.close(end)
         os.write(terminal, typed + b"\x04")
-        _, faults = program.communicate(timeout=30)
+        _, faults = program.communicate(timeout=60)
     os.close(terminal)
     assert program.returncode == 0
     return faults

@@ -50,7 +50,7 @@ impl Read for Stream {
 }
 
 /// How many bytes are held, of those that were read last.
-const HELD: usize = 16_384;
+const HELD: usize = 8192;
 
 /// How many of them stay where there are more. A line that is refused begins in the last 256 that were read.
 const KEPT: usize = 4096;

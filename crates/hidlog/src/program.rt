@@ -85,6 +85,8 @@ fn open_log<L: Logs, E: Target>(
     }
 }
 
+// A session takes 29 kB. Each command has one in a frame of its own, so that only one is on the stack at a time.
+
 /// Replays the log, and saves the credentials that the session has after it.
 #[inline(never)]
 fn replay_log<D, L, O, E>(
@@ -110,8 +112,8 @@ where
         O.taken O.failed E.taken E.failed (replay (path_of load.entry) (path_of save.entry) (path_of log.entry)) result
         (files.old, files.new) (input.old, input.new) (output.old, output.new) (faults.old, faults.new) }
 {
-    open_log(input, alloc, log, faults)?;
     let mut place = Session::bare([0; 16], 0);
+    open_log(input, alloc, log, faults)?;
     let session = begin(&mut place, files, alloc, load, faults)?;
     replay_command(session, input, output, faults)?;
     match save {
@@ -145,8 +147,8 @@ where
         O.taken O.failed E.taken E.failed (live (path_of load.entry) (path_of save.entry) (path_of log.entry)) result
         (files.old, files.new) (input.old, input.new) (output.old, output.new) (faults.old, faults.new) }
 {
-    open_log(input, alloc, log, faults)?;
     let mut place = Session::bare([0; 16], 0);
+    open_log(input, alloc, log, faults)?;
     let session = begin(&mut place, files, alloc, load, faults)?;
     look(files, alloc, save, path_in(log), faults)?;
     live_command(session, input, output, faults)?;
@@ -181,8 +183,8 @@ where
         (path_of load.entry) (path_of log.entry) result
         (files.now, files.now) (input.old, input.new) (output.old, output.new) (faults.old, faults.new) }
 {
-    open_log(input, alloc, log, faults)?;
     let mut place = Session::bare([0; 16], 0);
+    open_log(input, alloc, log, faults)?;
     let session = begin(&mut place, files, alloc, load, faults)?;
     check_command(session, input, output, faults)
 }
@@ -211,8 +213,8 @@ where
         O.taken O.failed E.taken E.failed (quiet (path_of load.entry) (path_of log.entry)) result
         (files.now, files.now) (input.old, input.new) (output.old, output.new) (faults.old, faults.new) }
 {
-    open_log(input, alloc, log, faults)?;
     let mut place = Session::bare([0; 16], 0);
+    open_log(input, alloc, log, faults)?;
     let session = begin(&mut place, files, alloc, load, faults)?;
     quiet_command(session, input, output, faults)
 }
