@@ -1,0 +1,50 @@
+#!/usr/bin/env python3
+"""Compares docs/EXAMPLES.md with the proofs: each computed example that the page names is there, and each one that is
+there is named. Prints how many rows have an example. Ends with 1 at a difference.
+
+    tests/examples.py
+"""
+
+from __future__ import annotations
+
+import re
+import sys
+from pathlib import Path
+
+TOP = Path(__file__).resolve().parents[1]
+FILE = re.compile(r"^\| ([A-Z]) \| (crates/\S+) \|$", re.MULTILINE)
+ROW = re.compile(r"^\| (?!---)(?!Row )(.+) \| (.+) \|$", re.MULTILINE)
+NAMED = re.compile(r"\b([A-Z]) ([a-z][\w-]*)")
+# An example is a name whose proof is computed: one `refl`, several, or a record of them.
+COMPUTED = re.compile(r"^([a-z][\w-]*) = (?:refl$|\(+refl|record \{$)", re.MULTILINE)
+
+
+def computed(path: str) -> set[str]:
+    """Returns the names of a file's examples: those that have a statement and are no abbreviation."""
+    text = (TOP / path).read_text(encoding="utf-8")
+    return {name for name in COMPUTED.findall(text) if re.search(rf"^{re.escape(name)} :", text, re.MULTILINE)}
+
+
+def main() -> int:
+    page = (TOP / "docs/EXAMPLES.md").read_text(encoding="utf-8")
+    files = dict(FILE.findall(page))
+    there = {(letter, name) for letter, path in files.items() for name in computed(path)}
+    rows = [(row, examples) for row, examples in ROW.findall(page) if row not in files and row != "Letter"]
+    named = {it for _, examples in rows for it in NAMED.findall(examples)}
+    wrong = [f"{letter} {name} is in no proof" for letter, name in sorted(named - there)]
+    wrong += [f"{letter} {name} is in no row" for letter, name in sorted(there - named)]
+    wrong += [f"this row has neither an example nor `none`: {row}" for row, it in rows if not is_told(it)]
+    for line in wrong:
+        print(f"docs/EXAMPLES.md: {line}")
+    without = sum(examples.startswith("none: ") for _, examples in rows)
+    print(f"{len(there)} examples, {len(rows)} rows, {without} without an example, {len(wrong)} faults")
+    return 1 if wrong else 0
+
+
+def is_told(examples: str) -> bool:
+    """Returns whether a row names an example, or says that it has none."""
+    return bool(NAMED.search(examples)) or examples.startswith("none: ")
+
+
+if __name__ == "__main__":
+    sys.exit(main())
