@@ -4,9 +4,11 @@ use Rattle.cred_table.specs.declared.row.Row.{Row}
 use Rattle.cred_table.specs.Waiting.{Waiting}
 use Rattle.ctap_message.specs.Requests.{read_of}
 use Rattle.authn_core.specs.declared.replies.Presence.TheVariants.{Granted, Denied, TimedOut}
+use Rattle.authn_core.specs.declared.task.Asserting.{Asserting}
 use Rattle.authn_core.specs.declared.task.Making.{Making}
-use Rattle.authn_core.specs.declared.task.Task.TheVariants.{Resets, Selects, AsksMake, WantsKey}
+use Rattle.authn_core.specs.declared.task.Task.TheVariants.{Resets, Selects, AsksMake, WantsKey, AsksAssert, SignsAssert}
 use Rattle.authn_core.specs.State.{Setup, State, Request, PresenceIs, KeyIs, SignatureIs, Cancel, Answered, Waits, Ignored}
+use Rattle.authn_core.specs.GetAssertion.{assert_begins, told}
 use Rattle.authn_core.specs.Turn.{turn}
 
 abbrev setup : Setup
@@ -136,3 +138,49 @@ not_needed = refl
 cancelled : (turn setup wants 60 Cancel).answer ≡ Answered (0x2d ∷ [])
 unfolding turn
 cancelled = refl
+
+-- a registration and a sign-in that the user denies, or doesn't answer in time
+make_denied : (turn setup (asks 3 false) 50 (PresenceIs Denied)).answer ≡ Answered (0x27 ∷ [])
+unfolding turn
+make_denied = refl
+
+make_late : (turn setup (asks 3 false) 50 (PresenceIs TimedOut)).answer ≡ Answered (0x27 ∷ [])
+unfolding turn
+make_late = refl
+
+abbrev asserting : Asserting
+asserting = record { hash = replicate 32 34; rp = replicate 32 7; id = replicate 32 0xaa; presence = true; number = None }
+
+abbrev asks_assert : State
+asks_assert = record { rows = idle.rows; pending = None; work = Some (record { cid = 1; task = AsksAssert asserting }) }
+
+assert_denied : (turn setup asks_assert 50 (PresenceIs Denied)).answer ≡ Answered (0x27 ∷ [])
+unfolding turn
+assert_denied = refl
+
+assert_late : (turn setup asks_assert 50 (PresenceIs TimedOut)).answer ≡ Answered (0x27 ∷ [])
+unfolding turn
+assert_late = refl
+
+-- no key for a registration, and no signature for a sign-in
+no_key : (turn setup wants 60 (KeyIs None)).answer ≡ Answered (0x7f ∷ [])
+unfolding turn
+no_key = refl
+
+abbrev signs_assert : State
+signs_assert = record { rows = idle.rows; pending = None; work = Some (record { cid = 1; task = SignsAssert asserting 5 (record { items = [] }) }) }
+
+no_signature : (turn setup signs_assert 60 (SignatureIs None)).answer ≡ Answered (0x7f ∷ [])
+unfolding turn
+no_signature = refl
+
+-- an RP without a credential, and an allow list that names none of the RP's
+none_found : (assert_begins idle.rows 1000 1 (replicate 32 34) (replicate 32 8) false [] true).answer ≡ Answered (0x2e ∷ [])
+none_found = refl
+
+none_allowed : (assert_begins idle.rows 1000 1 (replicate 32 34) (replicate 32 7) true (replicate 32 0xac ∷ []) true).answer ≡ Answered (0x2e ∷ [])
+none_allowed = refl
+
+-- the number of credentials: of one it is left out, and with an allow list too
+number_told : (told false 1 ≡ None) × (told false 2 ≡ Some 2) × (told true 2 ≡ None)
+number_told = (refl, refl, refl)
