@@ -20,6 +20,10 @@ GOES_ON = "a device that goes on"
 # A channel that is looked for where a session names one that wasn't given out.
 STRANGE = 0x7EAD0000
 
+# For how many seconds an answer is awaited: of a device that hasn't answered yet, since it may still be starting, of one
+# that has, and where a person is asked.
+START, ANSWER, PERSON = 30.0, 3.0, 40.0
+
 
 @dataclass
 class Outcome:
@@ -63,7 +67,8 @@ class Player:
         self.requests: Dict[int, bytes] = {}
         self.request = b""
         self.cancelled = False
-        self.patience = 3.0
+        self.patience = START
+        self.has_answered = False
 
     def play(self) -> Outcome:
         """Plays the session's steps; the first difference ends it."""
@@ -132,7 +137,7 @@ class Player:
         elif step.kind == "t":
             self.device.tick(step.at)
         elif step.kind == "p":
-            self.patience = 40.0
+            self.patience = PERSON
             self.device.presence(step.at, step.words[0])
         elif step.kind == "k":
             self.name = bytes.fromhex(step.words[0]) if step.words != ["no"] else b""
@@ -143,6 +148,7 @@ class Player:
     def switch_on_again(self, at: int) -> None:
         """Lets the device lose its power; nothing of it waits any more."""
         self.device.power_cycle(at)
+        self.has_answered = False
         self.former, self.given = self.given or self.former, []
         self.host, self.guest = hid.Collector(of_host=True), hid.Collector()
         self.sent.clear()
@@ -152,7 +158,7 @@ class Player:
 
     def send(self, step: Step) -> None:
         """Sends packets, with the device's channels and credential ids in the places of the session's."""
-        self.patience = 3.0
+        self.patience = ANSWER if self.has_answered else START
         packets = self.renamed([packet for _, packet in step.packets])
         for number, packet in enumerate(packets):
             moment = step.packets[min(number, len(step.packets) - 1)][0]
@@ -215,6 +221,7 @@ class Player:
             if self.lawful(message) and time.monotonic() < end:
                 continue
             self.last = message
+            self.has_answered = True
             self.count(message)
             hold(not message.problem, wanted, message.shown())
             return message
