@@ -1,7 +1,7 @@
 #!/usr/bin/env python3
 """Runs the gate and prints what each crate cost: seconds of processor time for its proof, its tests and its edits.
 
-    tests/times.py                  runs `rt ci`, and prints the table at its end
+    tests/times.py                  runs `tests/run --gate`, and prints the table at its end
     tests/times.py -- COMMAND ..    runs another command that calls the prover, as `rt check`
     tests/times.py --watch PID      watches a run that has begun
 
@@ -21,7 +21,7 @@ from dataclasses import dataclass, field
 from pathlib import Path
 
 TICKS = os.sysconf("SC_CLK_TCK")
-KINDS = ("proof", "tests", "first edit", "edits", "builds")
+KINDS = ("proof", "tests", "edits", "builds")
 
 
 @dataclass(frozen=True)
@@ -47,12 +47,10 @@ class Process:
 
 @dataclass
 class Check:
-    """A process of the prover: its crate, its kind, its folder, when it began, and the processor time seen last."""
+    """A process of the prover: its crate, its kind, and the processor time seen last."""
 
     crate: str
     kind: str
-    folder: str
-    began: int
     seconds: float = 0.0
 
 
@@ -99,7 +97,7 @@ def check_of(process: Process) -> Check | None:
     if "--crate-name" not in words or not words[0].endswith("/rattle"):
         return None
     crate = words[words.index("--crate-name") + 1]
-    if "/rt-edit-" in folder:
+    if "/edits-" in folder:
         kind = "edits"
     elif "--test" in words:
         kind = "tests"
@@ -107,31 +105,23 @@ def check_of(process: Process) -> Check | None:
         kind = "builds"
     else:
         kind = "proof"
-    return Check(crate, kind, folder, process.began)
+    return Check(crate, kind)
 
 
 def table_of(checks: list[Check]) -> str:
     """Returns the table: a line a crate, the dearest first, and the sums."""
     costs: dict[str, dict[str, float]] = {}
-    # Each edit is tried in a folder of its own.
-    edits: dict[str, list[str]] = {}
-    for check in sorted(checks, key=lambda it: it.began):
+    for check in checks:
         row = costs.setdefault(check.crate, dict.fromkeys(KINDS, 0.0))
-        kind = check.kind
-        if kind == "edits":
-            folders = edits.setdefault(check.crate, [])
-            if check.folder not in folders:
-                folders.append(check.folder)
-            kind = "first edit" if check.folder == folders[0] else "edits"
-        row[kind] += check.seconds
+        row[check.kind] += check.seconds
     rows = sorted(costs.items(), key=lambda it: -sum(it[1].values()))
     sums = {kind: sum(row[kind] for row in costs.values()) for kind in KINDS}
-    lines = ["| Crate | " + " | ".join(kind.capitalize() for kind in KINDS) + " | Checks of edits | All |"]
+    lines = ["| Crate | " + " | ".join(kind.capitalize() for kind in KINDS) + " | Rounds of edits | All |"]
     lines.append("|---" * (len(KINDS) + 3) + "|")
     for crate, row in [*rows, ("all", sums)]:
         figures = " | ".join(f"{row[kind]:.0f}" if row[kind] else "" for kind in KINDS)
-        number = sum(map(len, edits.values())) if crate == "all" else len(edits.get(crate, []))
-        lines.append(f"| {crate} | {figures} | {number or ''} | {sum(row.values()):.0f} |")
+        rounds = sum(it.kind == "edits" and crate in (it.crate, "all") for it in checks)
+        lines.append(f"| {crate} | {figures} | {rounds or ''} | {sum(row.values()):.0f} |")
     return "\n".join(lines)
 
 
@@ -159,7 +149,9 @@ def call(command: list[str]) -> tuple[Sampler, int]:
 def main() -> int:
     parser = argparse.ArgumentParser(description="Prints what each crate costs the gate.")
     parser.add_argument("--watch", type=int, metavar="PID", help="watch a run that has begun")
-    parser.add_argument("command", nargs="*", default=["rt", "ci"], help="the command to run (default: rt ci)")
+    parser.add_argument(
+        "command", nargs="*", default=["tests/run", "--gate"], help="the command to run (default: the gate)"
+    )
     given = parser.parse_args()
     began = time.monotonic()
     sampler, status = (watch(given.watch), 0) if given.watch else call(given.command)

@@ -89,6 +89,28 @@ static void test_small_rooms(void)
     expect(run(hidlog_replay, size, 0, size) && outcome.status == HIDLOG_DONE, "a room that is just enough");
 }
 
+/* What each command writes of one tick, as docs/LOG_FORMAT.md says. */
+static void test_tick(void)
+{
+    static const struct {
+        command *it;
+        const char *text;
+    } commands[] = {
+        { hidlog_replay, "t 5\n= held 0 rows 0 pending 0 requests 0 bytes 0 steps 0\n" },
+        { hidlog_live, "t 5\n# need nothing\n= held 0 rows 0 pending 0 requests 0 bytes 0 steps 0\n" },
+        { hidlog_check, "same 1 inputs 0 packets\n" },
+        { hidlog_quiet, "t 5\n" },
+    };
+    memcpy(log_bytes, "t 5\n", 4);
+    for (size_t at = 0; at < sizeof commands / sizeof *commands; at++) {
+        size_t size = strlen(commands[at].text);
+        expect(run(commands[at].it, 4, 0, size), "the byte after the buffer is left alone");
+        expect(is(HIDLOG_DONE, 0, 0, 0, size) && !memcmp(out, commands[at].text, size), commands[at].text);
+        expect(run(commands[at].it, 4, 0, size - 1), "the byte after the buffer is left alone");
+        expect(is(HIDLOG_FAULT, HIDLOG_WRITE, 0, 0, size - 1), "a full buffer is the write fault");
+    }
+}
+
 static void test_faults(void)
 {
     const char bad[] = "t 1\nt 2\nt x\n";
@@ -135,6 +157,7 @@ int main(int count, char **words)
     test_worked_log("sign_in_again.log", "example_com.snapshot");
     test_live();
     test_small_rooms();
+    test_tick();
     test_faults();
     test_difference();
     test_snapshots();

@@ -1,17 +1,19 @@
 #!/usr/bin/env python3
-"""Tries the must-fail edits that the gate has no time for: the prover has to refuse each of them.
+"""Tries wrong bodies: the prover has to refuse each function with its edit in place.
 
-    tests/edits/run.py [NAME ..]         tries those in tests/edits/NAME, by default of every crate that has any
-    tests/edits/run.py --all [NAME ..]   those in crates/NAME/must-fail too, which the gate tries
-    tests/edits/run.py --here [NAME ..]  takes the files as they are here, and not as they are committed
-    tests/edits/run.py --applies         proves nothing: says in a second whether each edit still fits its file
+    tests/edits/run.py [NAME ..]          tries those in tests/edits/gate, of every crate or of these: the gate calls it
+    tests/edits/run.py --all [NAME ..]    those in tests/edits/release too, as before each release
+    tests/edits/run.py --applies          proves nothing: says in a second whether each edit still fits its file
 
-It is run before each release. A crate takes one proof of it from nothing, then 10 to 40 seconds of processor time an
-edit, and one more look at the whole; all edits outside the gate take about an hour and a half at one job. Libraries
-that were built here (`out/rlib`) are taken over where their text is the same; without them it is half an hour more.
+An edit is a file with the lines `file:`, `old:` and `new:`, in a folder named for its crate. The libraries below a crate
+are taken as `rt ci` built them (crates/*/out/rlib): run that first.
 
-The edits are put in place in a scratch folder, which is removed at the end, also when the run is interrupted; nothing
-changes here. A line is printed for each edit, and at the end 'N passed, M failed'. The status is 0 only if all passed.
+A proof sees of another function its contract alone. So a crate's edits are tried together, one in a function, and the
+prover says of each function whether it is proved; a function that is refused only since it calls an edited one is tried
+in a later round. An edit outside functions is tried alone, in a check of its whole crate.
+
+The edits are put in place in a folder of the run's own, which is removed at the end; nothing changes here. A line is
+printed for each edit, and at the end 'N passed, M failed'. The status is 0 only if all passed.
 """
 
 from __future__ import annotations
@@ -24,177 +26,381 @@ import signal
 import subprocess
 import sys
 import tempfile
+import threading
+from concurrent.futures import ThreadPoolExecutor
 from dataclasses import dataclass
+from functools import cached_property
 from pathlib import Path
 from types import FrameType
 
 TOP = Path(__file__).resolve().parent.parent.parent
+PARTS = ("src", "specs", "proofs")
+FOLDERS = ("gate", "release")
 NAMES = re.compile(r"[A-Za-z0-9_-][A-Za-z0-9_.-]*\.edit")
-REFUSED = re.compile(r"(?:rt: )?must-fail (\S+): refused, as it must be")
+FUNCTION = re.compile(r"( *)(?:pub(?:\([a-z]+\))? )?(?:const )?fn (\w+)")
+OWNER = re.compile(r"(?:impl(?:<[^{]*?>)? (?:(\w+)[^{]* for )?|(?:pub )?trait )(\w+)")
+CONTRACT = re.compile(r"\b(ensures|requires|invariant|ghost)\b")
+REFUSED = re.compile(r"no proof|not proved")
+VERDICT = re.compile(r"fn (\S+): (.*)")
+PLACE = re.compile(r"(?:note: )?(?:\./)?((?:src|specs|proofs)/\S+?):(\d+):\d+: (?:error: (.*))?")
+printing = threading.Lock()
+
+
+@dataclass(frozen=True)
+class Crate:
+    """A line of crates.txt: a crate's name, whether it is a static library, and the libraries that it names."""
+
+    name: str
+    is_static: bool
+    uses: tuple[str, ...]
+
+    @property
+    def folder(self) -> Path:
+        return TOP / "crates" / self.name
+
+    @property
+    def root(self) -> str:
+        return "src/main.rt" if (self.folder / "src/main.rt").is_file() else "src/lib.rt"
+
+
+def read_crates() -> dict[str, Crate]:
+    """Returns the crates of crates.txt by name, in its order."""
+    crates = {}
+    for line in (TOP / "crates.txt").read_text(encoding="utf-8").splitlines():
+        left, _, right = line.partition(":")
+        if line.strip() and not line.startswith("#"):
+            name, *kinds = left.split()
+            crates[name] = Crate(name, "staticlib" in kinds, tuple(right.split()))
+    return crates
+
+
+CRATES = read_crates()
+
+
+def below(crate: Crate) -> list[str]:
+    """Returns the repository's libraries that a crate stands on, those of its libraries too."""
+    found: list[str] = []
+    for name in crate.uses:
+        if name in CRATES:
+            found += [it for it in [*below(CRATES[name]), name] if it not in found]
+    return found
 
 
 @dataclass(frozen=True)
 class Edit:
-    """One edit: its file, the crate that it changes, and the top of their repository."""
+    """One edit: its file, and the crate that it changes."""
 
     file: Path
     crate: str
-    top: Path
 
     @property
     def name(self) -> str:
         return f"{self.crate}/{self.file.name}"
 
-    def misfit(self) -> str | None:
-        """Returns why the edit can't be applied to the crate as it is here, if it can't. The rules are those of rt."""
-        if not NAMES.fullmatch(self.file.name):
-            return "its name is not one of letters, digits, _, - and . that ends in .edit"
-        texts: dict[str, str] = {}
-        path, old, pairs = "", "", 0
+    @cached_property
+    def pairs(self) -> list[tuple[str, str, str]]:
+        """Each text that is replaced: the path in the crate, the old text and the new one."""
+        path, old, found = "", "", []
         for line in self.file.read_text(encoding="utf-8").split("\n"):
             if line.startswith("file: "):
                 path = line.removeprefix("file: ").strip()
-                whole = self.top / "crates" / self.crate / path
-                if not path.startswith(("src/", "specs/", "proofs/")) or not whole.is_file():
-                    return f"there is no file {path} below src/, specs/ or proofs/"
-                texts.setdefault(path, whole.read_text(encoding="utf-8"))
             elif line.startswith("old: "):
                 old = line.removeprefix("old: ")
             elif line.startswith("new:"):
-                if not path or not old:
-                    return "a 'new:' line is before any 'file:' or 'old:' line"
-                found = texts[path].count(old)
-                if found != 1:
-                    return f"an 'old:' text is in {path} {found} times, and not once: {old.strip()}"
-                texts[path] = texts[path].replace(old, line.removeprefix("new:").removeprefix(" "))
-                old, pairs = "", pairs + 1
-        return None if pairs else "it has no 'old:' and 'new:' pair"
+                found.append((path, old, line.removeprefix("new:").removeprefix(" ")))
+        return found
+
+    def misfit(self) -> str | None:
+        """Returns why the edit can't be applied to the crate as it is here, if it can't."""
+        if not NAMES.fullmatch(self.file.name):
+            return "its name is not one of letters, digits, _, - and . that ends in .edit"
+        texts: dict[str, str] = {}
+        for path, old, new in self.pairs:
+            whole = TOP / "crates" / self.crate / path
+            if path.partition("/")[0] not in PARTS or not whole.is_file():
+                return f"there is no file {path} below src/, specs/ or proofs/"
+            text = texts.setdefault(path, whole.read_text(encoding="utf-8"))
+            if not old or text.count(old) != 1:
+                return f"an 'old:' text is in {path} {text.count(old)} times, and not once: {old.strip()}"
+            texts[path] = text.replace(old, new)
+        return None if self.pairs else "it has no 'old:' and 'new:' pair"
+
+    @cached_property
+    def functions(self) -> frozenset[str]:
+        """The paths of the functions that the edit changes: none where it changes something else too."""
+        found = set()
+        for path, old, new in self.pairs:
+            function = None if CONTRACT.search(old + new) else function_at(self.crate, path, old)
+            if not path.startswith("src/") or not function:
+                return frozenset()
+            found.add(function)
+        return frozenset(found)
 
 
-def edits_of(top: Path, crate: str, of_gate: bool) -> list[Edit]:
-    """Returns the crate's edits outside the gate, and the gate's own where they are asked for."""
-    folders = [top / "tests" / "edits" / crate]
-    folders += [top / "crates" / crate / "must-fail"] if of_gate else []
-    return [Edit(it, crate, top) for folder in folders if folder.is_dir() for it in sorted(folder.iterdir())]
+def function_at(crate: str, path: str, old: str) -> str | None:
+    """Returns the path of the function that a text is in, as the prover names it: its crate, module, type with its
+    trait, and name."""
+    text = (TOP / "crates" / crate / path).read_text(encoding="utf-8")
+    lines = text[: text.index(old) + len(old)].split("\n")
+    if lines[-1].startswith("}") or not lines[-1].startswith((" ", "fn ", "pub fn ")):
+        return None
+    at = next((it for it in reversed(range(len(lines))) if FUNCTION.match(lines[it])), None)
+    if at is None or any(it.startswith("}") for it in lines[at:]):
+        return None
+    indent, name = FUNCTION.match(lines[at]).groups()  # type: ignore[union-attr]
+    owner = []
+    if indent:
+        head = next(it for it in reversed(lines[:at]) if it and not it.startswith((" ", "}", "/", "w", "{")))
+        named = OWNER.match(head)
+        owner = [named[2] + (named[1] or "")] if named else []
+    modules = [
+        it for it in path.removeprefix("src/").removesuffix(".rt").split("/") if it not in ("lib", "main", "mod")
+    ]
+    return "::".join([crate, *modules, *owner, name])
 
 
-def crates() -> list[str]:
-    """Returns the crates of crates.txt that have edits in the gate or outside, in its order."""
-    lines = (TOP / "crates.txt").read_text(encoding="utf-8").splitlines()
-    named = [it.partition(":")[0].split()[0] for it in lines if it.strip() and not it.startswith("#")]
-    return [it for it in named if edits_of(TOP, it, True)]
+def edits_of(crate: str, folders: tuple[str, ...] = FOLDERS) -> list[Edit]:
+    """Returns the crate's edits in these folders."""
+    found = [TOP / "tests" / "edits" / it / crate for it in folders]
+    return [Edit(file, crate) for folder in found if folder.is_dir() for file in sorted(folder.iterdir())]
 
 
 def apply_all() -> int:
-    """Says which edits fit no more, and which crate's folder no crate has. Returns the status."""
-    known = crates()
-    strangers = [it.name for it in (TOP / "tests" / "edits").iterdir() if it.is_dir() and it.name not in known]
-    wrong = [
-        f"tests/edits/{it}: crates.txt names no such crate, or it has no edit"
-        for it in strangers
-        if it != "__pycache__"
-    ]
-    edits = [edit for crate in known for edit in edits_of(TOP, crate, True)]
+    """Says which edits fit no more, and which folder no crate has. Returns the status."""
+    folders = [folder for it in FOLDERS for folder in (TOP / "tests" / "edits" / it).iterdir()]
+    wrong = [f"{it.relative_to(TOP)}: crates.txt names no such crate" for it in folders if it.name not in CRATES]
+    edits = [edit for name in CRATES for edit in edits_of(name)]
     for edit in edits:
         why = edit.misfit()
-        if why:
-            wrong.append(f"{edit.file.relative_to(TOP)}: {why}")
-        elif sum(it.name == edit.name for it in edits) > 1:
-            wrong.append(f"{edit.file.relative_to(TOP)}: another edit of this crate has the same name")
+        if sum(it.name == edit.name for it in edits) > 1:
+            why = "another edit of this crate has the same name"
+        wrong += [f"{edit.file.relative_to(TOP)}: {why}"] if why else []
     for line in wrong:
         print(line)
     print(f"{len(edits)} edits, {len(wrong)} faults")
     return 1 if wrong else 0
 
 
-def make_scratch(scratch: Path, as_here: bool) -> None:
-    """Copies the repository, as it is committed or as it is here, with the libraries that were built here."""
-    if as_here:
-        shutil.copytree(TOP, scratch, ignore=shutil.ignore_patterns("out", ".git"))
-    else:
-        subprocess.run(["git", "clone", "--quiet", "--no-hardlinks", str(TOP), str(scratch)], check=True)
-    # rt reads such a library only where its stamp is that of the crate's text.
-    for built in (TOP / "crates").glob("*/out/rlib"):
-        crate = scratch / "crates" / built.parent.parent.name
-        if crate.is_dir():
-            shutil.copytree(built, crate / "out" / "rlib")
+class Room:
+    """A copy of a crate in a folder of its own, where edits are put and checked."""
+
+    def __init__(self, crate: Crate, folder: Path) -> None:
+        self.crate = crate
+        self.folder = folder / "crate"
+        self.kept = folder / "kept"
+        self.kit = Path(shutil.which("rt") or "rt").resolve().parent.parent
+        for part in PARTS:
+            if (crate.folder / part).is_dir():
+                shutil.copytree(crate.folder / part, self.folder / part)
+
+    def put(self, edits: list[Edit]) -> None:
+        """Puts these edits in place, and takes back those before."""
+        for part in PARTS:
+            for file in (self.crate.folder / part).rglob("*"):
+                copy = self.folder / file.relative_to(self.crate.folder)
+                if file.is_file() and copy.read_bytes() != file.read_bytes():
+                    copy.write_bytes(file.read_bytes())
+        for edit in edits:
+            for path, old, new in edit.pairs:
+                file = self.folder / path
+                file.write_text(file.read_text(encoding="utf-8").replace(old, new), encoding="utf-8")
+
+    def words(self, only: list[str]) -> list[str]:
+        """Returns the prover's command line, as the gate's."""
+        crate, kit, words = self.crate, self.kit, [str(self.kit / "bin/rattle"), "check"]
+        words += ["--crate-name", crate.name, crate.root, "-L", f"dependency={kit}/rlibs"]
+        for name in ("std", *crate.uses):
+            rlib = TOP / f"crates/{name}/out/rlib/{name}.rlib" if name in CRATES else kit / f"rlibs/{name}.rlib"
+            words += ["--extern", f"{name}={rlib}"]
+        for name in below(crate):
+            words += ["-L", f"dependency={TOP}/crates/{name}/out/rlib"]
+        words += ["--antt-project", f"{kit}/rattle/logic/antt-project.json", "--logic-built", f"{kit}/logic_built"]
+        words += ["--crate-type", "staticlib"] if crate.is_static else []
+        words += ["--incremental", str(self.kept), "--jobs", "1"]
+        return words + [it for name in only for it in ("--only", name)]
+
+    def name_at(self, path: str, line: int) -> str | None:
+        """Returns the name of the function that a line of the edited text is in."""
+        lines = (self.folder / path).read_text(encoding="utf-8").split("\n")[:line]
+        return next((it[2] for text in reversed(lines) if (it := FUNCTION.match(text))), None)
+
+    def check(self, only: list[str]) -> tuple[int, list[str]]:
+        """Checks the copy, these functions or the whole, and returns the prover's status and lines."""
+        ran = subprocess.run(
+            self.words(only),
+            cwd=self.folder,
+            stdin=subprocess.DEVNULL,
+            stdout=subprocess.PIPE,
+            stderr=subprocess.STDOUT,
+            text=True,
+            errors="replace",
+            check=False,
+        )
+        return ran.returncode, ran.stdout.rstrip("\n").split("\n")
 
 
-def put_edits(folder: Path, edits: list[Edit]) -> None:
-    """Puts these edits, and no others, into a crate's folder of edits."""
-    texts = {it.file.name: it.file.read_bytes() for it in edits}
-    shutil.rmtree(folder, ignore_errors=True)
-    folder.mkdir()
-    for name, text in texts.items():
-        (folder / name).write_bytes(text)
+def is_of(name: str, function: str) -> bool:
+    """Returns whether a name is that of a function or of a closure in it."""
+    crate, *modules = function.split("::")
+    return name == function or any(
+        name.startswith("::".join([crate, *modules[:at], "fn", *modules[at:]]) + "::") for at in range(len(modules))
+    )
 
 
-def call_rt(scratch: Path, crate: str) -> list[str]:
-    """Calls rt must-fail for one crate, and returns what it wrote. Where this is interrupted, rt and its checks end."""
-    with subprocess.Popen(
-        ["rt", "must-fail", crate],
-        cwd=scratch,
-        env={**os.environ, "TMPDIR": str(scratch.parent)},
-        stdin=subprocess.DEVNULL,
-        stdout=subprocess.PIPE,
-        stderr=subprocess.STDOUT,
-        text=True,
-        errors="replace",
-        start_new_session=True,  # so that Ctrl-C reaches it once, from here
-    ) as started:
-        try:
-            said, _ = started.communicate()
-        except BaseException:
-            started.send_signal(signal.SIGINT)
-            started.wait()
-            raise
-    return said.splitlines()
+def reason(lines: list[str], room: Room, function: str) -> str:
+    """Returns the first line that says why the prover refuses a function: of its text, or of its proof."""
+    proof = "proofs/" + "/".join(function.split("::")[1:]) + "/"
+    for line in lines:
+        place = PLACE.match(line)
+        if place and (place[1].startswith(proof) or room.name_at(place[1], int(place[2])) == function.split("::")[-1]):
+            return line[:160]
+    return ""
 
 
-def try_crate(scratch: Path, crate: str, edits: list[Edit]) -> int:
-    """Tries a crate's edits, prints a line for each, and returns how many were refused."""
-    put_edits(scratch / "crates" / crate / "must-fail", edits)
-    lines = call_rt(scratch, crate)
-    told = {line.partition("must-fail ")[2].partition(":")[0]: line for line in lines if "must-fail " in line}
-    refused = 0
+def unread(lines: list[str], files: set[str]) -> str | None:
+    """Returns the line that says that an edited text can't be read, if there is one: then no contract was tried."""
+    for line in lines:
+        place = PLACE.match(line)
+        if (
+            place
+            and place[1] in files
+            and place[3]
+            and not re.match(r"`[^`]*`: (?!.*(is not in scope|has no field))", place[3])
+        ):
+            return line[:200]
+    return None
+
+
+@dataclass
+class Answers:
+    """What came of a crate's edits: a line each."""
+
+    lines: dict[str, str]
+    refused: int = 0
+
+    def say(self, edit: Edit, refused: bool, text: str) -> None:
+        self.lines[edit.name] = f"{edit.name}: {text}"
+        self.refused += refused
+
+
+def try_round(room: Room, edits: list[Edit], answers: Answers) -> list[Edit]:
+    """Tries edits of different functions together. Returns those that a later round has to try."""
+    room.put(edits)
+    status, lines = room.check([function for it in edits for function in it.functions])
+    files = {path for it in edits for path, _, _ in it.pairs}
+    bad = unread(lines, files)
+    if status not in (0, 1) or bad or not lines[-1].startswith("only="):
+        if len(edits) > 1:
+            for edit in edits:
+                try_round(room, [edit], answers)
+        else:
+            answers.say(edits[0], False, f"BAD EDIT: the prover can't read it: {bad or lines[-1][:200]}")
+        return []
+    verdicts = {it[1]: it[2] for line in lines if (it := VERDICT.match(line))}
+    later = []
     for edit in edits:
-        line = told.get(edit.name)
-        print(line if line else f"must-fail {edit.name}: NOT TRIED", flush=True)
-        refused += bool(line and REFUSED.match(line))
-    if refused < len(edits):
-        print("\n".join(["rt wrote at its end:", *[f"    {it}" for it in lines[-12:]]]), flush=True)
-    return refused
+        told = {it: verdict for it, verdict in verdicts.items() if any(is_of(it, own) for own in edit.functions)}
+        own = [it for it, verdict in told.items() if REFUSED.match(verdict) and "it calls `" not in verdict]
+        if own:
+            why = reason(lines, room, own[0])
+            answers.say(edit, True, f"refused: {why or told[own[0]][:160]}")
+        elif not told:
+            answers.say(edit, False, f"NOT TRIED: the prover has no verdict for {', '.join(edit.functions)}")
+        elif all(it == "proved" for it in told.values()) or len(edits) == 1:
+            answers.say(edit, False, f"NOT REFUSED: {', '.join(told)} is still proved with this edit")
+        else:
+            later.append(edit)
+    if later == edits:
+        # Each is refused for what it calls, which isn't edited: alone it has its answer.
+        later = [it for edit in edits for it in try_round(room, [edit], answers)]
+    return later
+
+
+def try_whole(room: Room, edit: Edit, answers: Answers) -> None:
+    """Tries an edit that is in no function, or in several, in a check of the whole crate."""
+    room.put([edit])
+    status, lines = room.check([])
+    files = {path for path, _, _ in edit.pairs}
+    told = next((it for it in lines if PLACE.match(it) and ": error" in it or it.startswith("note: ")), "")
+    bad = unread(lines, {it for it in files if it.startswith("src/")})
+    if status == 1 and lines[-1].startswith("logic=not-proved") and not bad:
+        answers.say(edit, True, f"refused: {told[:160]}")
+    else:
+        what = "NOT REFUSED: the crate is still proved" if status == 0 else f"BAD EDIT: {bad or lines[-1][:200]}"
+        answers.say(edit, False, what)
+
+
+def first_of_each(edits: list[Edit]) -> list[Edit]:
+    """Returns edits of which no two change one function, so that each verdict is of one edit."""
+    chosen: list[Edit] = []
+    for edit in edits:
+        if not any(it.functions & edit.functions for it in chosen):
+            chosen.append(edit)
+    return chosen
+
+
+def try_crate(name: str, edits: list[Edit]) -> int:
+    """Tries edits of a crate, prints a line for each, and returns how many were refused."""
+    answers = Answers({})
+    with tempfile.TemporaryDirectory(prefix="edits-") as folder:
+        room = Room(CRATES[name], Path(folder))
+        left = [it for it in edits if it.functions]
+        while left:
+            chosen = first_of_each(left)
+            later = try_round(room, chosen, answers)
+            left = later + [it for it in left if it not in chosen]
+        for edit in edits:
+            if not edit.functions:
+                try_whole(room, edit, answers)
+    with printing:
+        for edit in edits:
+            print(answers.lines.get(edit.name, f"{edit.name}: NOT TRIED"), flush=True)
+    return answers.refused
+
+
+def lacking(names: list[str]) -> str | None:
+    """Returns why the libraries below these crates can't be taken, if they can't."""
+    for name in {it for crate in names for it in below(CRATES[crate])}:
+        rlib = TOP / "crates" / name / "out/rlib" / f"{name}.rlib"
+        if not rlib.is_dir():
+            return f"crates/{name} isn't built: run rt ci first"
+        built = (rlib / "format").stat().st_mtime
+        files = [it for part in PARTS for it in (TOP / "crates" / name / part).rglob("*") if it.is_file()]
+        if any(it.stat().st_mtime > built for it in files):
+            return f"a file of crates/{name} is newer than what was built of it: run rt ci first"
+    return None
 
 
 def end_on_signal(number: int, _: FrameType | None) -> None:
-    """Ends the run as an exception does, so that the scratch folder is removed."""
+    """Ends the run as an exception does, so that the folders are removed."""
     sys.exit(128 + number)
 
 
 def main() -> int:
     parser = argparse.ArgumentParser(description=__doc__, formatter_class=argparse.RawDescriptionHelpFormatter)
-    parser.add_argument("--all", action="store_true", help="the edits that the gate tries, too")
-    parser.add_argument("--here", action="store_true", help="the files as they are here, and not as they are committed")
+    parser.add_argument("--all", action="store_true", help="the edits of tests/edits/release too")
     parser.add_argument("--applies", action="store_true", help="only see whether each edit still fits its file")
+    parser.add_argument("--jobs", type=int, default=os.cpu_count() or 1, metavar="N", help="crates at a time")
     parser.add_argument("crates", nargs="*", metavar="NAME", help="a crate (default: all that have edits)")
     given = parser.parse_args()
     if given.applies:
         return apply_all()
-    known = crates()
+    edits = {it: found for it in CRATES if (found := edits_of(it, FOLDERS if given.all else FOLDERS[:1]))}
     for name in given.crates:
-        if name not in known:
-            parser.error(f"no crate {name} has edits; these have: {', '.join(known)}")
+        if name not in edits:
+            parser.error(f"no crate {name} has edits; these have: {', '.join(edits)}")
+    chosen = {it: edits[it] for it in given.crates or edits}
+    misfits = (f"{it.name}: {why}" for found in chosen.values() for it in found if (why := it.misfit()))
+    missing = None if shutil.which("rt") else "there is no toolchain (rt)"
+    if why := missing or lacking(list(chosen)) or next(misfits, None):
+        parser.error(why)
     for number in (signal.SIGTERM, signal.SIGINT, signal.SIGHUP):
         signal.signal(number, end_on_signal)
-    passed = tried = 0
-    with tempfile.TemporaryDirectory(prefix="edits-") as room:
-        scratch = Path(room) / "scratch"
-        make_scratch(scratch, given.here)
-        for crate in given.crates or known:
-            edits = edits_of(scratch, crate, given.all)
-            if edits:
-                passed += try_crate(scratch, crate, edits)
-            tried += len(edits)
+    with ThreadPoolExecutor(given.jobs) as pool:
+        # Those with the most rounds begin first.
+        order = sorted(chosen, key=lambda it: -len(chosen[it]))
+        passed = sum(pool.map(try_crate, order, [chosen[it] for it in order]))
+    tried = sum(map(len, chosen.values()))
     print(f"{passed} passed, {tried - passed} failed")
     return 0 if passed == tried else 1
 

@@ -3,8 +3,6 @@
 
 ghost use Rattle.std.specs.Prelude.{◌<◌, ◌-◌, ◌^◌};
 
-#[cfg(test)]
-mod cases;
 mod command_line;
 mod files;
 mod logs;
@@ -12,12 +10,8 @@ mod misfit;
 mod process;
 mod program;
 mod several;
-#[cfg(test)]
-mod snapshot_tests;
 mod snapshots;
 mod streams;
-#[cfg(test)]
-mod tests;
 
 use files::HostFiles;
 use logs::{HostLog, Logs};

@@ -60,9 +60,6 @@ pub extern "C" fn hidlog_quiet(log: &[u8], snapshot: &[u8], out: &mut [u8], outc
     *outcome = run::<Quiet>(log, snapshot, out);
 }
 
-#[cfg(test)]
-mod tests;
-
 /// Shows the log to a person. What is shown goes to the front of `out`.
 #[unsafe(no_mangle)]
 pub extern "C" fn hidlog_show(log: &[u8], out: &mut [u8], outcome: &mut Outcome)
