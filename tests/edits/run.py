@@ -29,7 +29,7 @@ import tempfile
 import threading
 from concurrent.futures import ThreadPoolExecutor
 from dataclasses import dataclass
-from functools import cached_property
+from functools import cache, cached_property
 from pathlib import Path
 from types import FrameType
 
@@ -40,6 +40,8 @@ NAMES = re.compile(r"[A-Za-z0-9_-][A-Za-z0-9_.-]*\.edit")
 FUNCTION = re.compile(r"( *)(?:pub(?:\([a-z]+\))? )?(?:const )?fn (\w+)")
 OWNER = re.compile(r"(?:impl(?:<[^{]*?>)? (?:(\w+)[^{]* for )?|(?:pub )?trait )(\w+)")
 CONTRACT = re.compile(r"\b(ensures|requires|invariant|ghost)\b")
+# A function is refused for what it calls, or for a type of its contract, and not for its own body.
+MASKED = ", which is not proved"
 REFUSED = re.compile(r"no proof|not proved")
 VERDICT = re.compile(r"fn (\S+): (.*)")
 PLACE = re.compile(r"(?:note: )?(?:\./)?((?:src|specs|proofs)/\S+?):(\d+):\d+: (?:error: (.*))?")
@@ -137,9 +139,25 @@ class Edit:
         return frozenset(found)
 
 
+def modules_of(path: str) -> list[str]:
+    """Returns the module that a file of src/ is."""
+    parts = path.removeprefix("src/").removesuffix(".rt").split("/")
+    return [it for it in parts if it not in ("lib", "main", "mod")]
+
+
+@cache
+def home_of(crate: str, type_name: str) -> list[str] | None:
+    """Returns the module that declares a type: the prover names methods by it, wherever they are written."""
+    folder = TOP / "crates" / crate
+    declared = re.compile(rf"^(?:pub(?:\([a-z]+\))? )?(?:struct|enum) {type_name}\b", re.MULTILINE)
+    for file in (folder / "src").rglob("*.rt"):
+        if declared.search(file.read_text(encoding="utf-8")):
+            return modules_of(str(file.relative_to(folder)))
+    return None
+
+
 def function_at(crate: str, path: str, old: str) -> str | None:
-    """Returns the path of the function that a text is in, as the prover names it: its crate, module, type with its
-    trait, and name."""
+    """Returns the function that a text is in, as the prover names it: by crate, module, type with trait, and name."""
     text = (TOP / "crates" / crate / path).read_text(encoding="utf-8")
     lines = text[: text.index(old) + len(old)].split("\n")
     if lines[-1].startswith("}") or not lines[-1].startswith((" ", "fn ", "pub fn ")):
@@ -148,14 +166,12 @@ def function_at(crate: str, path: str, old: str) -> str | None:
     if at is None or any(it.startswith("}") for it in lines[at:]):
         return None
     indent, name = FUNCTION.match(lines[at]).groups()  # type: ignore[union-attr]
-    owner = []
+    modules, owner = modules_of(path), []
     if indent:
         head = next(it for it in reversed(lines[:at]) if it and not it.startswith((" ", "}", "/", "w", "{")))
         named = OWNER.match(head)
-        owner = [named[2] + (named[1] or "")] if named else []
-    modules = [
-        it for it in path.removeprefix("src/").removesuffix(".rt").split("/") if it not in ("lib", "main", "mod")
-    ]
+        if named:
+            owner, modules = [named[2] + (named[1] or "")], home_of(crate, named[2]) or modules
     return "::".join([crate, *modules, *owner, name])
 
 
@@ -300,7 +316,7 @@ def try_round(room: Room, edits: list[Edit], answers: Answers) -> list[Edit]:
     later = []
     for edit in edits:
         told = {it: verdict for it, verdict in verdicts.items() if any(is_of(it, own) for own in edit.functions)}
-        own = [it for it, verdict in told.items() if REFUSED.match(verdict) and "it calls `" not in verdict]
+        own = [it for it, verdict in told.items() if REFUSED.match(verdict) and MASKED not in verdict]
         if own:
             why = reason(lines, room, own[0])
             answers.say(edit, True, f"refused: {why or told[own[0]][:160]}")
