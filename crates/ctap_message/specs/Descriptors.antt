@@ -21,13 +21,17 @@ abbrev pub is_public_key : Option (List ℕ) → Bool
 is_public_key None = false
 is_public_key (Some s) = bytes_eq s (codes "public-key")
 
+-- the type that a descriptor or a parameter says
+abbrev pub type_of : Tree → Option (List ℕ)
+type_of t = as_text (named (codes "type") (Some t))
+
 -- id and type are there
 abbrev pub has_id_and_type : Tree → Bool
-has_id_and_type t = is_some (as_bytes (named (codes "id") (Some t))) && is_some (as_text (named (codes "type") (Some t)))
+has_id_and_type t = is_some (as_bytes (named (codes "id") (Some t))) && is_some (type_of t)
 
 -- the id that a descriptor names, where its type is `public-key`; one of another type names nothing
 abbrev pub id_of : Tree → Option (List ℕ)
-id_of t = if is_public_key (as_text (named (codes "type") (Some t))) then as_bytes (named (codes "id") (Some t)) else None
+id_of t = if is_public_key (type_of t) then as_bytes (named (codes "id") (Some t)) else None
 
 -- the ids that a list names, in order
 abbrev pub ids_of : Trees → List (List ℕ)
@@ -36,7 +40,7 @@ ids_of (tree t ts) = cons_option (id_of t) (ids_of ts)
 
 -- alg and type are there
 abbrev pub has_alg_and_type : Tree → Bool
-has_alg_and_type t = is_some (as_int (named (codes "alg") (Some t))) && is_some (as_text (named (codes "type") (Some t)))
+has_alg_and_type t = is_some (as_int (named (codes "alg") (Some t))) && is_some (type_of t)
 
 -- -7; negsuc n is the integer -1 - n
 abbrev pub is_es256 : Option ℤ → Bool
@@ -45,4 +49,4 @@ is_es256 _ = false
 
 -- ES256 for public keys
 abbrev pub asks_es256 : Tree → Bool
-asks_es256 t = is_es256 (as_int (named (codes "alg") (Some t))) && is_public_key (as_text (named (codes "type") (Some t)))
+asks_es256 t = is_es256 (as_int (named (codes "alg") (Some t))) && is_public_key (type_of t)

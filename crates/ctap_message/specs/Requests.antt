@@ -10,8 +10,8 @@ use Rattle.ctap_message.specs.GetAssertion.{assertion_request}
 abbrev pub alone : List ℕ → Asked → Result Asked ℕ
 alone parameters asked = if length parameters == 0 then Ok asked else Err 0x03  -- INVALID_LENGTH
 
--- What a message asks (CTAP 2.1, section 8, "Message Encoding"): its first byte names the command (section 8.1), and the
--- command's parameters are after it. A message without a command byte has a wrong length.
+-- What a message asks (CTAP 2.1, section 8, "Message Encoding"): its first byte names the command (section 8.1), and its
+-- parameters are after it. A message without a command byte has a wrong length.
 unfoldable pub read_of : List ℕ → Result Asked ℕ
 read_of [] = Err 0x03  -- INVALID_LENGTH
 read_of (byte ∷ parameters) =
