@@ -20,7 +20,8 @@ use Rattle.authn_core.specs.Asking.{RESET_LIMIT}
 use Rattle.authn_core.specs.MakeCredential.{fits}
 use Rattle.authn_core.specs.GetAssertion.{applicable, MOST, begins, is_due, row_signs, next_signs, next_begins}
 use Rattle.ctap_message.specs.Answers.{info_answer}
-use Rattle.authn_core.specs.Turn.{CoreState, Work, as_work, working, core_after, core_answer, requested, presence_at, key_at, signature_at, presence_turn, key_turn, signature_turn, turn}
+use Rattle.authn_core.specs.Views.{as_work}
+use Rattle.authn_core.specs.Turn.{CoreState, Work, working, core_after, core_answer, requested, presence_at, key_at, signature_at, presence_turn, key_turn, signature_turn, turn}
 use Rattle.authn_core.specs.Views.{wants_presence, wants_key, wants_signature}
 use Rattle.authn_core.proofs.Readiness.{cond_case}
 

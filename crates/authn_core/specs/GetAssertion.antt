@@ -1,4 +1,5 @@
--- The turns of authenticatorGetAssertion and authenticatorGetNextAssertion (CTAP 2.1, sections 6.2.2 and 6.3).
+-- The turns of authenticatorGetAssertion and authenticatorGetNextAssertion (CTAP 2.1, sections 6.2.2 and 6.3). A
+-- refusal has its status, and beside it the status's name in section 8.2.
 use Rattle.std.specs.Prelude.{ℕ, ◌+◌, ◌==◌, nat_lt, nat_le, List, [], ◌∷◌, length, Bool, false, ◌&&◌, Option, Some, None, option_to_list, if◌then◌else◌}
 use Rattle.std.specs.List.{find}
 use Rattle.std.specs.Option.{option_or}
@@ -11,7 +12,6 @@ use Rattle.authn_core.specs.declared.replies.Presence.{Presence}
 use Rattle.authn_core.specs.declared.replies.Presence.TheVariants.{Granted}
 use Rattle.authn_core.specs.declared.task.Asserting.{Asserting}
 use Rattle.authn_core.specs.declared.task.Task.TheVariants.{AsksAssert}
-use Rattle.authn_core.specs.Statuses.{LIMIT_EXCEEDED, OPERATION_DENIED, NO_CREDENTIALS, NOT_ALLOWED, OTHER}
 use Rattle.authn_core.specs.State.{Turned, answers, refuses, waits, signs}
 
 -- the row of the first id that names one of the RP
@@ -38,12 +38,12 @@ begun rows pending cid a = if a.presence then waits rows pending cid (AsksAssert
 
 -- The first of the applicable rows signs, and the others are pending.
 abbrev pub begins : List Row → (now cid : ℕ) (hash rp : List ℕ) (presence given : Bool) → List (List ℕ) → Turned
-begins rows now cid hash rp presence given [] = refuses rows None NO_CREDENTIALS
+begins rows now cid hash rp presence given [] = refuses rows None 0x2e  -- NO_CREDENTIALS
 begins rows now cid hash rp presence given (id ∷ others) =
     if nat_lt (counter_of id rows) MOST
     then begun rows (pending_of cid hash presence now others) cid
     (record { hash = hash; rp = rp; id = id; presence = presence; number = told given (length others + 1) })
-    else refuses rows None LIMIT_EXCEEDED
+    else refuses rows None 0x15  -- LIMIT_EXCEEDED
 
 abbrev pub assert_begins : List Row → (now cid : ℕ) (hash rp : List ℕ) (given : Bool) (allow : List (List ℕ))
     (presence : Bool) → Turned
@@ -52,7 +52,7 @@ assert_begins rows now cid hash rp given allow presence =
 
 abbrev pub assert_asked : List Row → Option Waiting → (cid : ℕ) → Asserting → Presence → Turned
 assert_asked rows pending cid a Granted = signs rows pending cid a
-assert_asked rows pending cid a reply = refuses rows None OPERATION_DENIED
+assert_asked rows pending cid a reply = refuses rows None 0x27  -- OPERATION_DENIED
 
 -- the user handle of a discoverable row
 abbrev pub user_in : Option Row → Option (List ℕ)
@@ -61,7 +61,7 @@ user_in (Some row) = if row.discoverable then Some row.user.items else None
 
 -- Signed, the answer is sent, and what is pending keeps this moment.
 abbrev pub assert_signed : List Row → Option Waiting → (now : ℕ) → Asserting → (counter : ℕ) → Option (List ℕ) → Turned
-assert_signed rows pending now a counter None = refuses rows None OTHER
+assert_signed rows pending now a counter None = refuses rows None 0x7f  -- OTHER
 assert_signed rows pending now a counter (Some sig) =
     answers rows (stamped now pending)
     (assertion_answer a.id (assertion_bytes a.rp a.presence counter) sig (user_in (find (has_id a.id) rows)) a.number)
@@ -78,20 +78,20 @@ is_due now cid None = false
 is_due now cid (Some w) = w.cid == cid && nat_le now (w.moment + NEXT_LIMIT)
 
 -- The row with the id signs. Every pending id has a row.
-abbrev pub row_signs : List Row → Option Waiting → (cid : ℕ) → (hash : List ℕ) (presence : Bool) (id : List ℕ)
-    → Option Row → Turned
-row_signs rows pending cid hash presence id None = refuses rows None NOT_ALLOWED
+abbrev pub row_signs : List Row → Option Waiting → (cid : ℕ) (hash : List ℕ) → Bool → List ℕ → Option Row → Turned
+row_signs rows pending cid hash presence id None = refuses rows None 0x30  -- NOT_ALLOWED
 row_signs rows pending cid hash presence id (Some row) =
     if nat_lt (counter_of id rows) MOST
     then signs rows pending cid (record { hash = hash; rp = row.rp; id = id; presence = presence; number = None })
-    else refuses rows None LIMIT_EXCEEDED
+    else refuses rows None 0x15  -- LIMIT_EXCEEDED
 
 -- The first pending one signs, by the first request's hash and presence, and the others stay pending.
 abbrev pub next_signs : List Row → Option Waiting → (cid : ℕ) → Option (List ℕ) → Turned
-next_signs rows pending cid None = refuses rows None NOT_ALLOWED
+next_signs rows pending cid None = refuses rows None 0x30  -- NOT_ALLOWED
 next_signs rows pending cid (Some id) = row_signs rows (rest_of pending) cid (hash_of pending)
     (presence_of pending) id (find (has_id id) rows)
 
 abbrev pub next_begins : List Row → Option Waiting → (now cid : ℕ) → Turned
 next_begins rows pending now cid =
-    if is_due now cid pending then next_signs rows pending cid (first_of pending) else refuses rows None NOT_ALLOWED
+    if is_due now cid pending then next_signs rows pending cid (first_of pending)
+    else refuses rows None 0x30  -- NOT_ALLOWED

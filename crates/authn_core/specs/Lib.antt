@@ -1,4 +1,3 @@
-pub mod Statuses
 pub mod Hash
 pub mod State
 pub mod Asking

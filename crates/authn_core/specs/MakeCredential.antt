@@ -1,4 +1,5 @@
--- The turns of authenticatorMakeCredential (CTAP 2.1, section 6.1.2).
+-- The turns of authenticatorMakeCredential (CTAP 2.1, section 6.1.2). A refusal has its status, and beside it the
+-- status's name in section 8.2.
 use Rattle.std.specs.Prelude.{ℕ, nat_lt, List, length, Bool, true, false, ◌&&◌, ◌||◌, Option, Some, None, is_some, if◌then◌else◌}
 use Rattle.std.specs.List.{find, list_any}
 use Rattle.cred_table.specs.declared.row.Row.{Row}
@@ -13,7 +14,6 @@ use Rattle.authn_core.specs.declared.replies.NewKey.{NewKey}
 use Rattle.authn_core.specs.declared.task.Making.{Making}
 use Rattle.authn_core.specs.declared.task.Task.TheVariants.{AsksMake, WantsKey}
 use Rattle.authn_core.specs.Hash.{rp_hash}
-use Rattle.authn_core.specs.Statuses.{CREDENTIAL_EXCLUDED, OPERATION_DENIED, KEY_STORE_FULL, OTHER}
 use Rattle.authn_core.specs.State.{Turned, answers, refuses, waits, sealing}
 
 -- one of the ids names a row of the RP
@@ -21,15 +21,9 @@ abbrev pub names_one : (rp : List ℕ) → List Row → List (List ℕ) → Bool
 names_one rp rows ids = list_any (λ id. is_some (find (is_named rp id) rows)) ids
 
 -- what is to be made
-abbrev pub making : (hash rp_id user_id user_name : List ℕ) (discoverable : Bool) → Making
-making hash rp_id user_id user_name discoverable =
-    record {
-      hash = hash;
-      rp = rp_hash rp_id;
-      user = record { items = user_id };
-      name = cut user_name;
-      discoverable = discoverable;
-    }
+abbrev pub making : (hash rp_id user_id user_name : List ℕ) (rk : Bool) → Making
+making hash rp_id user_id name rk =
+    record { hash = hash; rp = rp_hash rp_id; user = record { items = user_id }; name = cut name; discoverable = rk }
 
 -- The user's presence is asked for, also where a credential is excluded.
 abbrev pub make_begins : List Row → (cid : ℕ) → Making → (exclude : List (List ℕ)) → Turned
@@ -40,35 +34,26 @@ abbrev pub fits : (room : ℕ) → Making → List Row → Bool
 fits room m rows = nat_lt (length rows) room || (m.discoverable && is_some (find (is_user m.rp m.user.items) rows))
 
 -- Where a credential is excluded, any reply refuses.
-abbrev pub make_asked : (room : ℕ) → List Row → Option Waiting → (cid : ℕ) → Making → (excluded : Bool) → Presence
-    → Turned
-make_asked room rows pending cid m true reply = refuses rows pending CREDENTIAL_EXCLUDED
+abbrev pub make_asked : ℕ → List Row → Option Waiting → (cid : ℕ) → Making → (excluded : Bool) → Presence → Turned
+make_asked room rows pending cid m true reply = refuses rows pending 0x19  -- CREDENTIAL_EXCLUDED
 make_asked room rows pending cid m false Granted =
-    if fits room m rows then waits rows pending cid (WantsKey m) else refuses rows pending KEY_STORE_FULL
-make_asked room rows pending cid m false reply = refuses rows pending OPERATION_DENIED
+    if fits room m rows then waits rows pending cid (WantsKey m) else refuses rows pending 0x28  -- KEY_STORE_FULL
+make_asked room rows pending cid m false reply = refuses rows pending 0x27  -- OPERATION_DENIED
 
 -- A key with a new id goes on to the signature.
 abbrev pub key_wanted : (aaguid : List ℕ) → List Row → Option Waiting → (cid : ℕ) → Making → Option NewKey → Turned
-key_wanted aaguid rows pending cid m None = refuses rows pending OTHER
+key_wanted aaguid rows pending cid m None = refuses rows pending 0x7f  -- OTHER
 key_wanted aaguid rows pending cid m (Some key) =
-    if is_some (find (has_id key.id) rows) then refuses rows pending OTHER
+    if is_some (find (has_id key.id) rows) then refuses rows pending 0x7f  -- OTHER
     else waits rows pending cid (sealing aaguid m key)
 
 abbrev pub new_row : Making → NewKey → Row
-new_row m key =
-    record {
-      rp = m.rp;
-      id = key.id;
-      x = key.x;
-      y = key.y;
-      user = m.user;
-      discoverable = m.discoverable;
-      counter = 0;
-      name = m.name;
-    }
+new_row m k =
+    let rk = m.discoverable in
+    record { rp = m.rp; id = k.id; x = k.x; y = k.y; user = m.user; discoverable = rk; counter = 0; name = m.name }
 
 -- Signed, the row is stored and the answer sent. Nothing is pending then: the request emptied it.
 abbrev pub make_signed : (aaguid : List ℕ) → List Row → Option Waiting → Making → NewKey → Option (List ℕ) → Turned
-make_signed aaguid rows pending m key None = refuses rows pending OTHER
+make_signed aaguid rows pending m key None = refuses rows pending 0x7f  -- OTHER
 make_signed aaguid rows pending m key (Some sig) =
     answers (stored (new_row m key) rows) None (created_answer (created_bytes m.rp aaguid key.id key.x key.y) sig)

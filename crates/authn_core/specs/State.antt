@@ -1,10 +1,9 @@
 -- The authenticator's state between its turns, what can happen to it, and what it answers (CTAP 2.1, section 6).
-use Rattle.std.specs.Prelude.{ℕ, ◌+◌, List, ◌++◌, Option, Some, None}
+use Rattle.std.specs.Prelude.{ℕ, ◌+◌, List, [], ◌∷◌, ◌++◌, Option, Some, None}
 use Rattle.cred_table.specs.declared.row.Row.{Row}
 use Rattle.cred_table.specs.Rows.{raised, counter_of}
 use Rattle.cred_table.specs.Waiting.{Waiting}
 use Rattle.fido_authdata.specs.AuthData.{assertion_bytes, created_bytes}
-use Rattle.ctap_message.specs.Answers.{refusal}
 use Rattle.authn_core.specs.declared.replies.Presence.{Presence}
 use Rattle.authn_core.specs.declared.replies.NewKey.{NewKey}
 use Rattle.authn_core.specs.declared.task.Making.{Making}
@@ -65,14 +64,12 @@ answers rows pending bytes =
 
 -- An answer that is a status alone: a refusal, or OK.
 abbrev pub refuses : List Row → Option Waiting → ℕ → Turned
-refuses rows pending code = answers rows pending (refusal code)
+refuses rows pending code = answers rows pending (code ∷ [])
 
 abbrev pub waits : List Row → Option Waiting → (cid : ℕ) → Task → Turned
 waits rows pending cid task =
-    record {
-      state = record { rows = rows; pending = pending; work = Some (record { cid = cid; task = task }) };
-      answer = Waits (status task);
-    }
+    let job : Job = record { cid = cid; task = task } in
+    record { state = record { rows = rows; pending = pending; work = Some job }; answer = Waits (status task) }
 
 abbrev pub ignores : State → Turned
 ignores s = record { state = s; answer = Ignored }

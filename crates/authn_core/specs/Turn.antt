@@ -1,5 +1,5 @@
 -- The authenticator's turns: what each event makes of its state, and what it answers (CTAP 2.1, section 6).
-use Rattle.std.specs.Prelude.{ℕ, List, Option, Some, None, option_map, Result, Ok, Err}
+use Rattle.std.specs.Prelude.{ℕ, List, [], Option, Some, None, option_map, Result, Ok, Err}
 use Rattle.cred_table.specs.declared.row.Row.{Row}
 use Rattle.cred_table.specs.Waiting.{Waiting}
 use Rattle.ctap_message.specs.Asked.{Asked, MakeCredential, GetAssertion, GetInfo, Reset, GetNextAssertion, Selection}
@@ -7,15 +7,14 @@ use Rattle.ctap_message.specs.Answers.{info_answer}
 use Rattle.ctap_message.specs.Members.{has_entries}
 use Rattle.ctap_message.specs.Descriptors.{ids_of}
 use Rattle.ctap_message.specs.Requests.{read_of}
-use Rattle.ctap_message.specs.Statuses.{KEEPALIVE_CANCEL}
 use Rattle.authn_core.specs.declared.replies.Presence.{Presence}
 use Rattle.authn_core.specs.declared.replies.NewKey.{NewKey}
 use Rattle.authn_core.specs.declared.task.Task.{Task}
 use Rattle.authn_core.specs.declared.task.Task.TheVariants.{Resets, Selects, AsksMake, WantsKey, SignsMake, AsksAssert, SignsAssert}
 use Rattle.authn_core.specs.declared.task.Job.{Job}
 use Rattle.authn_core.specs.Hash.{rp_hash}
-use Rattle.authn_core.specs.State.{Setup, State, Event, Request, PresenceIs, KeyIs, SignatureIs, Cancel, Drop, Answer, Nothing, Turned, answers, refuses, ignores, status}
-use Rattle.authn_core.specs.Asking.{reset_begins, reset_asked, selection_begins, selection_asked}
+use Rattle.authn_core.specs.State.{Setup, State, Event, Request, PresenceIs, KeyIs, SignatureIs, Cancel, Drop, Answer, Nothing, Turned, answers, refuses, waits, ignores, status}
+use Rattle.authn_core.specs.Asking.{reset_begins, asked_alone}
 use Rattle.authn_core.specs.MakeCredential.{making, make_begins, make_asked, key_wanted, make_signed}
 use Rattle.authn_core.specs.GetAssertion.{assert_begins, assert_asked, assert_signed, next_begins}
 
@@ -24,17 +23,18 @@ abbrev pub requested : Setup → List Row → Option Waiting → (now cid : ℕ)
 requested u rows pending now cid (Err code) = refuses rows None code
 requested u rows pending now cid (Ok GetInfo) = answers rows None (info_answer u.aaguid)
 requested u rows pending now cid (Ok Reset) = reset_begins rows u.began now cid
-requested u rows pending now cid (Ok Selection) = selection_begins rows cid
+requested u rows pending now cid (Ok Selection) = waits rows None cid Selects
 requested u rows pending now cid (Ok (MakeCredential hash rp_id user_id user_name discoverable exclude)) =
     make_begins rows cid (making hash rp_id user_id user_name discoverable) (ids_of exclude)
 requested u rows pending now cid (Ok (GetAssertion hash rp_id allow presence)) =
     assert_begins rows now cid hash (rp_hash rp_id) (has_entries allow) (ids_of allow) presence
 requested u rows pending now cid (Ok GetNextAssertion) = next_begins rows pending now cid
 
--- A reply that the work doesn't need is ignored.
+-- A reply that the work doesn't need is ignored. A reset that is granted takes all rows out, and nothing is pending
+-- then: a request emptied it.
 abbrev pub presence_at : (room : ℕ) → State → (cid : ℕ) → Task → Presence → Turned
-presence_at room s cid Resets reply = reset_asked s.rows s.pending reply
-presence_at room s cid Selects reply = selection_asked s.rows s.pending reply
+presence_at room s cid Resets reply = asked_alone (refuses [] None 0x00) s.rows s.pending reply
+presence_at room s cid Selects reply = asked_alone (refuses s.rows s.pending 0x00) s.rows s.pending reply
 presence_at room s cid (AsksMake m excluded) reply = make_asked room s.rows s.pending cid m excluded reply
 presence_at room s cid (AsksAssert a) reply = assert_asked s.rows s.pending cid a reply
 presence_at room s cid task reply = ignores s
@@ -66,7 +66,7 @@ turn u s now (Request cid bytes) = requested u s.rows s.pending now cid (read_of
 turn u s now (PresenceIs reply) = presence_turn u.room s s.work reply
 turn u s now (KeyIs key) = key_turn u.aaguid s s.work key
 turn u s now (SignatureIs sig) = signature_turn u.aaguid s now s.work sig
-turn u s now Cancel = refuses s.rows None KEEPALIVE_CANCEL
+turn u s now Cancel = refuses s.rows None 0x2d  -- KEEPALIVE_CANCEL
 turn u s now Drop = record { state = record { rows = s.rows; pending = None; work = None }; answer = Nothing }
 
 -- ---- an authenticator
@@ -104,11 +104,8 @@ pub record Work : Type 0 where
   pub cid : ℕ
   pub status : ℕ
 
-abbrev pub as_work : Job → Work
-as_work job = record { cid = job.cid; status = status job.task }
-
 abbrev pub waiting : CoreState → Option Work
-waiting core = option_map as_work core.state.work
+waiting core = option_map (λ job. record { cid = job.cid; status = status job.task }) core.state.work
 
 -- the channel of waiting work
 abbrev pub working : CoreState → Option ℕ

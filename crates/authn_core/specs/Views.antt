@@ -14,12 +14,16 @@ use Rattle.authn_core.specs.Turn.{Work, Held}
 use Rattle.authn_core.specs.declared.task.Task.{Task}
 use Rattle.authn_core.specs.declared.task.Task.TheVariants.{Resets, Selects, AsksMake, WantsKey, SignsMake, AsksAssert, SignsAssert}
 use Rattle.authn_core.specs.declared.task.Job.{Job}
-use Rattle.authn_core.specs.State.{Event, Request, PresenceIs, KeyIs, SignatureIs, Cancel, Answer, Answered, Waits, Ignored, Turned}
+use Rattle.authn_core.specs.State.{Event, Request, PresenceIs, KeyIs, SignatureIs, Cancel, Answer, Answered, Waits, Ignored, Turned, status}
 
 -- the status of waiting work, as the byte that a KEEPALIVE carries
 abbrev pub status_number : KeepaliveStatus → ℕ
 status_number Processing = 1
 status_number PresenceNeeded = 2
+
+-- waiting work as the transport sees it
+abbrev pub as_work : Job → Work
+as_work job = record { cid = job.cid; status = status job.task }
 
 abbrev pub work_of : WaitingWork → Work
 work_of w = record { cid = w.cid; status = status_number w.status }

@@ -4,8 +4,7 @@ use Rattle.cred_table.specs.declared.row.Row.{Row}
 use Rattle.cred_table.specs.declared.slot.Slot.{Slot}
 use Rattle.cred_table.specs.declared.slot.Along.TheVariants.{Next, Newer, Older}
 use Rattle.cred_table.specs.declared.chains.Chains.{Chains}
-use Rattle.cred_table.specs.Rows.{raised_by_one}
-use Rattle.cred_table.specs.Slots.{links, slot_at, chain, is_chain, has, distinct, bucket}
+use Rattle.cred_table.specs.Slots.{links, slot_at, chain, is_chain, has, distinct, bucket, raised_by_one}
 
 -- The slots that hold rows, oldest first.
 abbrev pub age : {C : ℕ} → Chains C → List ℕ

@@ -49,13 +49,9 @@ without id rows = filter (λ row. not (has_id id row)) rows
 abbrev pub stored : (new : Row) → List Row → List Row
 stored new rows = filter (λ old. not (replaces new old)) rows ++ new ∷ []
 
--- The row with its counter raised by one.
-abbrev pub raised_by_one : Row → Row
-raised_by_one row = record row { counter = row.counter + 1 }
-
--- The same, if it has the id.
+-- The row with its counter raised by one, if it has the id.
 abbrev pub raised_row : (id : List ℕ) → Row → Row
-raised_row id row = if has_id id row then raised_by_one row else row
+raised_row id row = if has_id id row then record row { counter = row.counter + 1 } else row
 
 -- The rows with the counter of one raised, each in its place (WebAuthn Level 2, section 6.3.3).
 abbrev pub raised : (id : List ℕ) → List Row → List Row

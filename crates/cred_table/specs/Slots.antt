@@ -6,7 +6,6 @@ use Rattle.cred_table.specs.declared.row.Row.{Row}
 use Rattle.cred_table.specs.declared.slot.Slot.{Slot}
 use Rattle.cred_table.specs.declared.slot.Along.{Along}
 use Rattle.cred_table.specs.declared.slot.Along.TheVariants.{Next, Newer, Older}
-use Rattle.cred_table.specs.Rows.{raised_by_one}
 
 -- The row of a slot that never held one.
 abbrev pub blank_row : Row
@@ -117,6 +116,10 @@ leads_to k slot = is_to k slot.1.next
 -- The link of a slot where all are free, in their order.
 abbrev pub next_free : (room k : ℕ) → Option ℕ
 next_free room k = if nat_lt (k + 1) room then Some (k + 1) else None
+
+-- The row with its counter raised by one.
+abbrev pub raised_by_one : Row → Row
+raised_by_one row = record row { counter = row.counter + 1 }
 
 -- The slot with the counter of its row raised by one.
 abbrev pub raised_slot : Slot → Slot

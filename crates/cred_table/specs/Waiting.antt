@@ -1,5 +1,5 @@
 -- Assertions that wait to be asked for (CTAP 2.1, section 6.3).
-use Rattle.std.specs.Prelude.{ℕ, length, drop, List, [], ◌∷◌, Bool, false, Option, Some, None}
+use Rattle.std.specs.Prelude.{ℕ, length, drop, slice_get, List, [], ◌∷◌, Bool, false, Option, Some, None}
 
 -- the channel that asked, the hash of its client data, whether the user's presence was asked for, the moment from which
 -- the time to ask for the next counts, and the credentials' ids
@@ -26,13 +26,9 @@ stamped at None = None
 stamped at (Some w) = Some (record w { moment = at })
 
 -- the first id
-abbrev pub first_among : List (List ℕ) → Option (List ℕ)
-first_among [] = None
-first_among (id ∷ ids) = Some id
-
 abbrev pub first_of : Option Waiting → Option (List ℕ)
 first_of None = None
-first_of (Some w) = first_among w.ids
+first_of (Some w) = slice_get w.ids 0
 
 -- what is pending without its first
 abbrev pub rest_of : Option Waiting → Option Waiting

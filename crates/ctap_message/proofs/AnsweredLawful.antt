@@ -3,8 +3,8 @@ use Rattle.std.proofs.Common.{ℕ, ◌≤◌, List, drop, Option, Some, None, re
 use Rattle.ctap_cbor.specs.Tree.{depth}
 use Rattle.ctap_cbor.specs.Head.{head}
 use Rattle.ctap_cbor.specs.Grammar.{IsCanonical, IsLawful}
-use Rattle.ctap_message.specs.Answers.{name, byte_string, statement, created_tree, created_answer, credential, user_of, assertion_tree, assertion_answer}
-use Rattle.ctap_message.specs.Answered.{AreShort, UserIsShort, NumberIsShort}
+use Rattle.ctap_message.specs.Answers.{name, byte_string, statement, created_tree, created_answer, credential, assertion_tree, assertion_answer}
+use Rattle.ctap_message.specs.Answered.{AreShort, UserIsShort, NumberIsShort, user_of}
 use lib.Utf8.{encode}
 
 names_lawful : IsLawful (name (codes "packed")) × IsLawful (name (codes "alg")) × IsLawful (name (codes "sig"))

@@ -2,7 +2,8 @@
 use Rattle.std.proofs.Common.{◌≡◌, ℕ, List, length, drop, refl, arith, length-append, codes}
 use Rattle.ctap_cbor.specs.Head.{AreBytes, head}
 use Rattle.ctap_cbor.specs.Grammar.{IsCanonical, IsLawful}
-use Rattle.ctap_message.specs.Answers.{name, versions, options, transports, algorithms, info_tree, info_answer}
+use Rattle.ctap_message.specs.Answered.{versions, transports, algorithms}
+use Rattle.ctap_message.specs.Answers.{name, options, info_tree, info_answer}
 use lib.Utf8.{encode}
 
 -- A text of ASCII characters is its own UTF-8, by computation.

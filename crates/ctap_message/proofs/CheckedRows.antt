@@ -1,8 +1,8 @@
 -- The types of parameters, those that have to be there, and the order of the checks, by computation: a request that is taken, and
 -- the same request with other parameters.
-use Rattle.std.proofs.Common.{◌≡◌, ℕ, true, false, Bool, List, [], ◌∷◌, Option, Some, None, Result, Ok, Err, replicate, refl}
+use Rattle.std.proofs.Common.{◌≡◌, ℕ, true, false, Bool, List, [], Option, Some, None, Result, Ok, Err, replicate, refl}
 use Rattle.std.specs.Prelude.{pos, negsuc, codes}
-use Rattle.ctap_cbor.specs.Tree.{Int, Bytes, Text, Flag, Null, Tree, Plain, Array, Map, Trees, no_trees, tree, Pairs, no_pairs, pair}
+use Rattle.ctap_cbor.specs.Tree.{Int, Bytes, Text, Flag, Null, Tree, Plain, Array, Map, no_trees, tree, Pairs, no_pairs, pair}
 use Rattle.ctap_message.specs.Asked.{Asked, MakeCredential, GetAssertion}
 use Rattle.ctap_message.specs.Members.{value_at, all_entries, some_entry, all_pairs}
 use Rattle.ctap_message.specs.MakeCredential.{make_request}

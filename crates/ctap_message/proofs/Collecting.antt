@@ -8,8 +8,9 @@ use Rattle.ctap_message.specs.declared.item.Label.{Label}
 use Rattle.ctap_message.specs.declared.item.Label.TheVariants as label
 use Rattle.ctap_message.specs.Members.{all_pairs, value_at, all_entries, some_entry, as_bytes, as_text, as_int, as_flag, map_by_name}
 use Rattle.ctap_message.specs.Labels.{label_in, head_of}
-use Rattle.ctap_message.specs.Descriptors.{Options, Parameter, parameter_types, parameter_in, Parameters, is_whole_parameter, names_es256}
-use Rattle.ctap_message.specs.MakeCredential.{User}
+use Rattle.ctap_message.specs.Descriptors.{parameter_types}
+use Rattle.ctap_message.specs.Fields.{Options, Parameter, parameter_in, Parameters, is_whole_parameter, names_es256}
+use Rattle.ctap_message.specs.Fields.{User}
 use Rattle.ctap_cbor.specs.Collecting.{InMap, InArray}
 use Rattle.ctap_message.specs.Walks.{map_told, array_told}
 use Rattle.ctap_message.specs.Collected.{rp_labels, rp_told, rp_step, user_labels, user_told, user_step, option_labels, options_told, options_step, parameter_labels, parameter_told, parameter_step, parameters_told}

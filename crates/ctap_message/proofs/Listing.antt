@@ -11,7 +11,8 @@ use Rattle.ctap_message.specs.declared.item.Label.TheVariants as label
 use Rattle.ctap_message.specs.declared.descriptor.Texts.{Texts}
 use Rattle.ctap_message.specs.Members.{is_text, array_of, all_pairs, value_at, all_entries, has_entries, as_bytes, as_text, map_by_name, entries_of}
 use Rattle.ctap_message.specs.Labels.{label_in, head_of, label_suits}
-use Rattle.ctap_message.specs.Descriptors.{Descriptor, descriptor_types, descriptor_in, is_whole_descriptor, DescriptorList}
+use Rattle.ctap_message.specs.Descriptors.{descriptor_types}
+use Rattle.ctap_message.specs.Fields.{Descriptor, descriptor_in, is_whole_descriptor, DescriptorList}
 use Rattle.ctap_cbor.specs.Collecting.{InArray}
 use Rattle.ctap_message.specs.Walks.{map_told, array_told}
 use Rattle.ctap_message.specs.CollectedLists.{descriptor_labels, plain_labels, descriptor_told, descriptor_step, listing_told, list_told}

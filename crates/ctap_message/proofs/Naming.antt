@@ -18,7 +18,9 @@ use Rattle.ctap_cbor.specs.Reading.{Reading, at_front, rest_of, Halts, Passes, T
 use Rattle.ctap_cbor.specs.Telling.{outcome_of, canonical_tree, whole_tree, items_at}
 use Rattle.ctap_cbor.specs.Views.{part_of, TakesOnly}
 use Rattle.ctap_message.specs.Members.{has_entries, entries_of}
-use Rattle.ctap_message.specs.Descriptors.{Descriptor, descriptor_in, named_id, in_front, ids_of}
+use Rattle.ctap_message.specs.Descriptors.{ids_of}
+use Rattle.ctap_message.specs.Fields.{Descriptor, descriptor_in, named_id}
+use Rattle.std.specs.List.{cons_option}
 use Rattle.ctap_message.specs.Walks.{Reads, map_told}
 use Rattle.ctap_message.specs.CollectedLists.{descriptor_told}
 use Rattle.ctap_message.specs.DescriptorWalk.{DescriptorWalk, IsWhole, list_steps, entry_steps, after_first, NextId, Left, Walks, Gives, IsList, IsWalk}
@@ -32,7 +34,7 @@ sofar_none r n = λ ts h. (ts, 0, record { left = h; same = refl; cost = omega a
 
 Onward : Reading → Reading → ℕ → Trees → Trees → Descriptor → Type 0
 Onward r s m ts us d =
-    (vs : Trees) × (more : ℕ) × Walks r s m ts vs more × (ids_of us ≡ in_front (named_id d) (ids_of vs)) × (after_first us ≡ (if is_some (named_id d) then vs else after_first vs))
+    (vs : Trees) × (more : ℕ) × Walks r s m ts vs more × (ids_of us ≡ cons_option (named_id d) (ids_of vs)) × (after_first us ≡ (if is_some (named_id d) then vs else after_first vs))
 
 onward : OneTreePasses → (r s s' : Reading) (m : ℕ) (ts us : Trees) (more : ℕ) (d : Bool × Descriptor) → Walks r s m ts us more → 0 < m → Reads (map_told descriptor_told) 3 d s s' → Onward r s' (m - 1) ts us d.1
 unfolding Onward
@@ -51,7 +53,7 @@ onward law r s s' m ts (tree u us) more d h lt k =
         cost = omega (arith, h.cost, length-append (text u) (texts us));
         steps = omega (arith, h.steps, ap (λ (r : Reading). r.steps) p.moved, len, later);
       },
-      ap (λ t. in_front (named_id (descriptor_in (Some t))) (ids_of us)) (sym only.0) ∙ ap (λ x. in_front (named_id x.1) (ids_of us)) (sym k.2),
+      ap (λ t. cons_option (named_id (descriptor_in (Some t))) (ids_of us)) (sym only.0) ∙ ap (λ x. cons_option (named_id x.1) (ids_of us)) (sym k.2),
       ap (λ t. if is_some (named_id (descriptor_in (Some t))) then us else after_first us) (sym only.0) ∙ ap (λ x. if is_some (named_id x.1) then us else after_first us) (sym k.2),
     )
 
@@ -64,7 +66,7 @@ unfolding Onward
 sofar_more law r s s' n m d h lt k e = λ ts l.
     let g = h ts l in
     let o = onward law r s s' m ts g.0 g.1 d g.2 lt k in
-    (o.0, o.1, o.2, g.3 ∙ o.3 ∙ ap (λ x. in_front x (ids_of o.0)) e, g.4 ∙ o.4 ∙ ap (λ x. if is_some x then o.0 else after_first o.0) e)
+    (o.0, o.1, o.2, g.3 ∙ o.3 ∙ ap (λ x. cons_option x (ids_of o.0)) e, g.4 ∙ o.4 ∙ ap (λ x. if is_some x then o.0 else after_first o.0) e)
 
 pub gives_some : OneTreePasses → (r s s' : Reading) (n m : ℕ) (d : Bool × Descriptor) (id : Option (List ℕ)) → Sofar r n s m → 0 < m → Reads (map_told descriptor_told) 3 d s s' → id ≡ named_id d.1 → is_some id ≡ true → Gives r n s' (m - 1) id
 unfolding Onward
@@ -74,7 +76,7 @@ gives_some law r s s' n m d id h lt k e there = λ ts l.
       o.0,
       o.1,
       o.2,
-      g.3 ∙ o.3 ∙ ap (λ x. in_front x (ids_of o.0)) (sym e),
+      g.3 ∙ o.3 ∙ ap (λ x. cons_option x (ids_of o.0)) (sym e),
       λ (none : id ≡ None). absurd (let f : true ≡ false = sym there ∙ ap is_some none in cc),
       sym (g.4 ∙ o.4 ∙ ap (λ b. if b then o.0 else after_first o.0) (ap is_some (sym e) ∙ there)),
     )
@@ -114,7 +116,7 @@ left_found law r n ts h = ap (λ m. items_at 3 m (rest_of r)) (sym h.number) ∙
 -- what looking for an id makes of a walk
 abbrev Moves : Reading → ℕ → Bool → Reading → ℕ → Option (List ℕ) → Type 0
 Moves r n given s m id =
-    IsWalk (walk_at s m) given × (entries_in s ≡ entries_in r) × (ids_of (left_at r n) ≡ in_front id (ids_of (left_at s m))) × (id ≡ None → left_at s m ≡ no_trees) × (left_at s m ≡ after_first (left_at r n))
+    IsWalk (walk_at s m) given × (entries_in s ≡ entries_in r) × (ids_of (left_at r n) ≡ cons_option id (ids_of (left_at s m))) × (id ≡ None → left_at s m ≡ no_trees) × (left_at s m ≡ after_first (left_at r n))
 
 moves : ItemsAreFound → (r s : Reading) (n m : ℕ) (given : Bool) (id : Option (List ℕ)) → IsWalk (walk_at r n) given → Gives r n s m id → Moves r n given s m id
 moves law r s n m given id w g =
@@ -132,7 +134,7 @@ moves law r s n m given id w g =
         steps_are = omega (arith, w.within, w.steps_are, k.steps, k.cost, cost, whole);
       },
       same,
-      h.3 ∙ ap (λ x. in_front id (ids_of x)) (sym found),
+      h.3 ∙ ap (λ x. cons_option id (ids_of x)) (sym found),
       λ e. found ∙ h.4 e,
       found ∙ h.5,
     )

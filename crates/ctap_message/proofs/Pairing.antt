@@ -3,7 +3,8 @@ use Rattle.std.proofs.Common.{◌≡◌, ℕ, List, [], ◌++◌, Option, Some, 
 use Rattle.ctap_cbor.specs.Tree.{Pairs, no_pairs}
 use Rattle.ctap_cbor.specs.Head.{head}
 use Rattle.ctap_cbor.specs.Grammar.{text, pair_texts}
-use Rattle.ctap_message.specs.Answers.{number, byte_string, credential, user_of, with_user, with_number, member_count, signed_text, assertion_tree}
+use Rattle.ctap_message.specs.Answered.{user_of}
+use Rattle.ctap_message.specs.Answers.{number, byte_string, credential, with_user, with_number, member_count, signed_text, assertion_tree}
 
 user_then : (user : Option (List ℕ)) (rest : Pairs) → pair_texts (with_user user no_pairs) ++ pair_texts rest ≡ pair_texts (with_user user rest)
 user_then None rest = refl

@@ -5,7 +5,8 @@ use Rattle.std.proofs.lemmas.Bool.Decides.{nat_tests}
 use Rattle.ctap_cbor.specs.Tree.{Scalar, Int, Bytes, Text, Flag, Null, Tree, Plain, Array, Map, Trees, no_trees, tree, Pairs, no_pairs, pair, push, push_pair}
 use Rattle.ctap_cbor.specs.Parts.{One}
 use Rattle.ctap_cbor.specs.Reading.{part_of_tree}
-use Rattle.ctap_message.specs.Members.{is_number, or_else, value_at, all_entries, some_entry, all_pairs, as_bytes, as_text, as_int, as_flag, is_bytes, is_text, is_int, is_flag, suits_number}
+use Rattle.std.specs.Option.{option_or}
+use Rattle.ctap_message.specs.Members.{is_number, value_at, all_entries, some_entry, all_pairs, as_bytes, as_text, as_int, as_flag, is_bytes, is_text, is_int, is_flag, suits_number}
 use Rattle.ctap_message.specs.Labels.{number_in, head_of, number_suits}
 
 pub ap2 : {A B C : Type 0} (f : A → B → C) {a c : A} {b d : B} → a ≡ c → b ≡ d → f a b ≡ f c d
@@ -17,9 +18,9 @@ ap3 f x y z = cc
 pub ap4 : {A B C D E : Type 0} (f : A → B → C → D → E) {a d : A} {b e : B} {c g : C} {h i : D} → a ≡ d → b ≡ e → c ≡ g → h ≡ i → f a b c h ≡ f d e g i
 ap4 f x y z w = cc
 
-or_else_if : (b : Bool) (u : Tree) (x y : Option Tree) → or_else (if b then Some u else x) y ≡ (if b then Some u else or_else x y)
-or_else_if true u x y = refl
-or_else_if false u x y = refl
+option_or_if : (b : Bool) (u : Tree) (x y : Option Tree) → option_or (if b then Some u else x) y ≡ (if b then Some u else option_or x y)
+option_or_if true u x y = refl
+option_or_if false u x y = refl
 
 and_assoc : (a b c : Bool) → (a && (b && c)) ≡ ((a && b) && c)
 and_assoc true b c = refl
@@ -40,7 +41,7 @@ or_false false = refl
 pub value_push : (key : Tree → Bool) (ps : Pairs) (k v : Tree) → value_at key (push_pair ps k v) ≡ (if key k then Some v else value_at key ps)
 unfolding value_at push_pair
 value_push key no_pairs k v = refl
-value_push key (pair j u ps) k v = ap (λ x. or_else x (if key j then Some u else None)) (value_push key ps k v) ∙ or_else_if (key k) v (value_at key ps) (if key j then Some u else None)
+value_push key (pair j u ps) k v = ap (λ x. option_or x (if key j then Some u else None)) (value_push key ps k v) ∙ option_or_if (key k) v (value_at key ps) (if key j then Some u else None)
 
 pub all_push : (p : Tree → Tree → Bool) (ps : Pairs) (k v : Tree) → all_pairs p (push_pair ps k v) ≡ (all_pairs p ps && p k v)
 unfolding all_pairs push_pair

@@ -9,9 +9,12 @@ use Rattle.ctap_cbor.specs.Reading.{Reading, PassesOne, Halts, part_of_tree}
 use Rattle.ctap_message.specs.declared.make.Make.{Make}
 use Rattle.ctap_message.specs.declared.assert.Assert.{Assert}
 use Rattle.ctap_message.specs.Members.{named, as_bytes, as_text, is_natural, all_pairs, value_at, all_entries, some_entry, entries_of}
-use Rattle.ctap_message.specs.Descriptors.{Parameters, parameters_in, DescriptorList, descriptors_in, Options, options_in}
-use Rattle.ctap_message.specs.MakeCredential.{User, user_in, make_types, MakeParameters}
-use Rattle.ctap_message.specs.GetAssertion.{assertion_types, AssertionParameters}
+use Rattle.ctap_message.specs.Fields.{Parameters, parameters_in, DescriptorList, descriptors_in, Options, options_in}
+use Rattle.ctap_message.specs.MakeCredential.{make_types}
+use Rattle.ctap_message.specs.Fields.{User, user_in}
+use Rattle.ctap_message.specs.Judged.{MakeParameters}
+use Rattle.ctap_message.specs.GetAssertion.{assertion_types}
+use Rattle.ctap_message.specs.Judged.{AssertionParameters}
 use Rattle.ctap_message.specs.Labels.{number_in, head_of}
 use Rattle.ctap_cbor.specs.Collecting.{Adds}
 use Rattle.ctap_message.specs.DescriptorWalk.{DescriptorWalk, list_of, left_of, IsWhole}

@@ -3,15 +3,14 @@ use Rattle.std.specs.Prelude.{ℕ, ◌+◌, pos, negsuc, Bool, true, false, List
 use Rattle.ctap_cbor.specs.Tree.{Int, Bytes, Text, Flag, Tree, Plain, Array, Map, no_trees, tree, no_pairs, pair, Pairs, count_pairs}
 use Rattle.ctap_cbor.specs.Head.{head_len}
 use Rattle.ctap_cbor.specs.Grammar.{text}
-use Rattle.ctap_message.specs.Statuses.{OK}
 
 -- a refusal is its status alone
 abbrev pub refusal : ℕ → List ℕ
 refusal status = status ∷ []
 
--- a success with a map
+-- a success, status 0x00, with a map
 abbrev pub success : Tree → List ℕ
-success map = OK ∷ text map
+success map = 0x00 ∷ text map
 
 -- an integer of at least 0, a text, a byte string, a truth value
 abbrev pub number : ℕ → Tree
@@ -26,31 +25,14 @@ byte_string bytes = Plain (Bytes bytes)
 abbrev pub flag : Bool → Tree
 flag is_set = Plain (Flag is_set)
 
--- The members of authenticatorGetInfo's answer (CTAP 2.1, section 6.4). Which it has beside versions and aaguid, and
--- the values of all but aaguid, are this project's choice.
+-- ---- authenticatorGetInfo
 
--- versions (0x01): the versions of the protocol that are supported
-abbrev pub versions : Tree
-versions = Array (tree (name (codes "FIDO_2_0")) no_trees)
-
--- aaguid (0x03): the authenticator's model
-abbrev pub aaguid_of : List ℕ → Tree
-aaguid_of aaguid = Plain (Bytes aaguid)
-
--- options (0x04): credentials can be discoverable, user presence is tested, the authenticator is no part of a platform
+-- rk: credentials can be discoverable; up: user presence is tested; plat: the authenticator is no part of a platform
 abbrev pub options : Tree
 options =
     Map (pair (name (codes "rk")) (flag true)
     (pair (name (codes "up")) (flag true)
     (pair (name (codes "plat")) (flag false) no_pairs)))
-
--- maxMsgSize (0x05): the bytes of the longest message
-abbrev pub longest_message : Tree
-longest_message = number 7609
-
--- transports (0x09): how a host reaches the authenticator
-abbrev pub transports : Tree
-transports = Array (tree (name (codes "usb")) no_trees)
 
 -- ES256, algorithm -7, with public keys; negsuc n is the integer -1 - n
 abbrev pub es256 : Tree
@@ -58,19 +40,16 @@ es256 =
     Map (pair (name (codes "alg")) (Plain (Int (negsuc 6)))
     (pair (name (codes "type")) (name (codes "public-key")) no_pairs))
 
--- algorithms (0x0A): those of new credentials
-abbrev pub algorithms : Tree
-algorithms = Array (tree es256 no_trees)
-
--- the map, which has these members in rising order of their keys
+-- The map, which has these members in rising order of their keys. Which it has beside versions and aaguid, and the
+-- values of all but aaguid, are this project's choice.
 unfoldable pub info_tree : List ℕ → Tree
 info_tree aaguid =
-    Map (pair (number 0x01) versions
-    (pair (number 0x03) (aaguid_of aaguid)
-    (pair (number 0x04) options
-    (pair (number 0x05) longest_message
-    (pair (number 0x09) transports
-    (pair (number 0x0a) algorithms no_pairs))))))
+    Map (pair (number 0x01) (Array (tree (name (codes "FIDO_2_0")) no_trees))  -- versions
+    (pair (number 0x03) (byte_string aaguid)  -- aaguid, the authenticator's model
+    (pair (number 0x04) options  -- options
+    (pair (number 0x05) (number 7609)  -- maxMsgSize
+    (pair (number 0x09) (Array (tree (name (codes "usb")) no_trees))  -- transports
+    (pair (number 0x0a) (Array (tree es256 no_trees)) no_pairs))))))  -- algorithms
 
 -- The answer of authenticatorGetInfo (CTAP 2.1, section 6.4).
 unfoldable pub info_answer : List ℕ → List ℕ
@@ -104,12 +83,9 @@ credential id =
     (pair (name (codes "type")) (name (codes "public-key")) no_pairs))
 
 -- user (0x04), where it is given: its id alone
-abbrev pub user_of : List ℕ → Tree
-user_of id = Map (pair (name (codes "id")) (byte_string id) no_pairs)
-
 abbrev pub with_user : Option (List ℕ) → Pairs → Pairs
 with_user None rest = rest
-with_user (Some id) rest = pair (number 0x04) (user_of id) rest
+with_user (Some id) rest = pair (number 0x04) (Map (pair (name (codes "id")) (byte_string id) no_pairs)) rest
 
 -- numberOfCredentials (0x05), where it is given
 abbrev pub with_number : Option ℕ → Pairs
@@ -144,7 +120,7 @@ number_len (Some n) = 1 + head_len n
 -- ---- parts, as they are written
 
 abbrev pub user_member : List ℕ → Pairs
-user_member id = pair (number 0x04) (user_of id) no_pairs
+user_member id = with_user (Some id) no_pairs
 
 abbrev pub number_member : ℕ → Pairs
 number_member n = pair (number 0x05) (number n) no_pairs

@@ -11,8 +11,10 @@ use Rattle.ctap_message.specs.declared.parameters.Parameter.{Parameter as Parame
 use Rattle.ctap_message.specs.declared.parameters.Parameters.{Parameters as ParametersFields}
 use Rattle.ctap_message.specs.Members.{named, as_bytes, as_text, as_int, as_flag, is_bytes, is_text, is_int, is_flag, all_pairs, suits_name, all_entries, map_by_name}
 use Rattle.ctap_message.specs.Labels.{label_text, same, label_suits}
-use Rattle.ctap_message.specs.Descriptors.{option_types, Options, options_in, parameter_types, Parameter, parameter_in, Parameters, parameters_in}
-use Rattle.ctap_message.specs.MakeCredential.{rp_types, user_types, User, user_in}
+use Rattle.ctap_message.specs.Descriptors.{option_types, parameter_types}
+use Rattle.ctap_message.specs.Fields.{Options, options_in, Parameter, parameter_in, Parameters, parameters_in}
+use Rattle.ctap_message.specs.MakeCredential.{rp_types, user_types}
+use Rattle.ctap_message.specs.Fields.{User, user_in}
 
 -- types by labels are types by names
 abbrev pub texts : List (Label × (Tree → Bool)) → List (List ℕ × (Tree → Bool))

@@ -10,7 +10,8 @@ use Rattle.ctap_message.specs.declared.descriptor.DescriptorList.{DescriptorList
 use Rattle.ctap_message.specs.Members.{as_bytes, as_text, is_bytes, is_text, array_of, all_pairs, suits_name, all_entries, map_by_name, has_entries, entries_of}
 use Rattle.ctap_message.specs.DescriptorWalk.{list_of, left_of}
 use Rattle.ctap_message.specs.Labels.{same, label_suits}
-use Rattle.ctap_message.specs.Descriptors.{descriptor_types, Descriptor, descriptor_in, DescriptorList, descriptors_in}
+use Rattle.ctap_message.specs.Descriptors.{descriptor_types}
+use Rattle.ctap_message.specs.Fields.{Descriptor, descriptor_in, DescriptorList, descriptors_in}
 
 abbrev pub descriptor_labels : List (Label × (Tree → Bool))
 descriptor_labels = (label.Id, is_bytes) ∷ (label.Type, is_text) ∷ (label.Transports, array_of is_text) ∷ []

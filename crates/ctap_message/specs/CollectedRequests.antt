@@ -7,9 +7,12 @@ use Rattle.ctap_cbor.specs.Reading.{Reading, Passes}
 use Rattle.ctap_message.specs.declared.make.Make.{Make}
 use Rattle.ctap_message.specs.declared.assert.Assert.{Assert}
 use Rattle.ctap_message.specs.Members.{numbered, named, as_bytes, as_text, all_pairs, suits_number, entries_of}
-use Rattle.ctap_message.specs.Descriptors.{parameters_in, descriptors_in, options_in}
-use Rattle.ctap_message.specs.MakeCredential.{make_types, user_in, MakeParameters, make_parameters}
-use Rattle.ctap_message.specs.GetAssertion.{assertion_types, AssertionParameters, assertion_parameters}
+use Rattle.ctap_message.specs.Fields.{parameters_in, descriptors_in, options_in}
+use Rattle.ctap_message.specs.MakeCredential.{make_types}
+use Rattle.ctap_message.specs.Fields.{user_in}
+use Rattle.ctap_message.specs.Judged.{MakeParameters, make_parameters}
+use Rattle.ctap_message.specs.GetAssertion.{assertion_types}
+use Rattle.ctap_message.specs.Judged.{AssertionParameters, assertion_parameters}
 use Rattle.ctap_message.specs.Labels.{number_suits}
 use Rattle.ctap_message.specs.Collected.{shown_user, shown_parameters, shown_options}
 use Rattle.ctap_message.specs.CollectedLists.{shown_list}

@@ -9,7 +9,9 @@ use Rattle.ctap_cbor.specs.Outcome.{Whole, steps, later_in_all}
 use Rattle.ctap_cbor.specs.Reading.{Reading, rest_of, counted}
 use Rattle.ctap_cbor.specs.Telling.{canonical_tree, items_at}
 use Rattle.ctap_message.specs.Members.{entries_of, has_entries}
-use Rattle.ctap_message.specs.Descriptors.{descriptor_in, named_id, ids_of, in_front}
+use Rattle.ctap_message.specs.Descriptors.{ids_of}
+use Rattle.ctap_message.specs.Fields.{descriptor_in, named_id}
+use Rattle.std.specs.List.{cons_option}
 
 -- a cursor at the next entry, and how many entries are left
 pub record DescriptorWalk : Type 0 where
@@ -74,7 +76,7 @@ pub record Walks (r s : Reading) (n : ℕ) (ts us : Trees) (more : ℕ) : Type 0
 abbrev pub Gives : Reading → ℕ → Reading → ℕ → Option (List ℕ) → Type 0
 Gives r n s m id =
     (ts : Trees) → Left r n ts → (us : Trees) × (more : ℕ) × Walks r s m ts us more
-    × (ids_of ts ≡ in_front id (ids_of us)) × (id ≡ None → us ≡ no_trees) × (us ≡ after_first ts)
+    × (ids_of ts ≡ cons_option id (ids_of us)) × (id ≡ None → us ≡ no_trees) × (us ≡ after_first ts)
 
 -- the bytes of a list with entries, as they are in a request
 pub record IsList (l : List ℕ) (ts : Trees) : Type 0 where

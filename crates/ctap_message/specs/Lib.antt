@@ -1,10 +1,11 @@
-pub mod Statuses
 pub mod Members
 pub mod Checks
 pub mod Asked
 pub mod Descriptors
+pub mod Fields
 pub mod MakeCredential
 pub mod GetAssertion
+pub mod Judged
 pub mod Walks
 pub mod Labels
 pub mod Collected
@@ -12,6 +13,7 @@ pub mod DescriptorWalk
 pub mod CollectedLists
 pub mod CollectedRequests
 pub mod Requests
+pub mod Commands
 pub mod Shown
 pub mod Answers
 pub mod Answered

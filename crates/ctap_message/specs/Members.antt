@@ -1,6 +1,7 @@
 -- How a request's parameters are found in the tree of its bytes: members of maps by number or by name, entries of
 -- arrays, and the types that they are to have.
 use Rattle.std.specs.Prelude.{ℕ, ℤ, pos, ◌==◌, Bool, true, false, ◌&&◌, ◌||◌, List, [], ◌∷◌, Option, Some, None, is_some, if◌then◌else◌}
+use Rattle.std.specs.Option.{option_or}
 use Rattle.std.specs.Str.{bytes_eq}
 use Rattle.ctap_cbor.specs.Tree.{Int, Bytes, Text, Flag, Tree, Plain, Array, Map, Trees, no_trees, tree, Pairs, no_pairs, pair, is_map, is_array}
 
@@ -8,17 +9,13 @@ use Rattle.ctap_cbor.specs.Tree.{Int, Bytes, Text, Flag, Tree, Plain, Array, Map
 
 -- the pairs of a map, none where there is no map
 abbrev pub pairs_of : Option Tree → Pairs
-pairs_of None = no_pairs
-pairs_of (Some (Plain s)) = no_pairs
-pairs_of (Some (Array ts)) = no_pairs
 pairs_of (Some (Map ps)) = ps
+pairs_of _ = no_pairs
 
 -- the entries of an array, none where there is no array
 abbrev pub entries_of : Option Tree → Trees
-entries_of None = no_trees
-entries_of (Some (Plain s)) = no_trees
 entries_of (Some (Array ts)) = ts
-entries_of (Some (Map ps)) = no_trees
+entries_of _ = no_trees
 
 -- a key is this number, or this name
 abbrev pub is_number : ℕ → Tree → Bool
@@ -29,14 +26,10 @@ abbrev pub is_name : List ℕ → Tree → Bool
 is_name name (Plain (Text s)) = bytes_eq s name
 is_name name _ = false
 
-abbrev pub or_else : Option Tree → Option Tree → Option Tree
-or_else None other = other
-or_else (Some t) other = Some t
-
 -- the value of the last pair whose key is such; no canonical map has a key twice
 unfoldable pub value_at : (Tree → Bool) → Pairs → Option Tree
 value_at key no_pairs = None
-value_at key (pair k v ps) = or_else (value_at key ps) (if key k then Some v else None)
+value_at key (pair k v ps) = option_or (value_at key ps) (if key k then Some v else None)
 
 -- the member of a map with this number, and the one with this name; none where it has none, or there is no map
 abbrev pub numbered : ℕ → Option Tree → Option Tree
@@ -112,9 +105,11 @@ abbrev pub suits_name : List (List ℕ × (Tree → Bool)) → Tree → Tree →
 suits_name [] k v = true
 suits_name (t ∷ ts) k v = if is_name t.0 k then t.1 v else suits_name ts k v
 
--- a map whose members have the types that are listed for their numbers, and one for their names
-abbrev pub map_by_number : List (ℕ × (Tree → Bool)) → Tree → Bool
-map_by_number types t = is_map t && all_pairs (suits_number types) (pairs_of (Some t))
+-- there is a map, whose members have the types that are listed for their numbers
+abbrev pub map_by_number : List (ℕ × (Tree → Bool)) → Option Tree → Bool
+map_by_number types None = false
+map_by_number types (Some t) = is_map t && all_pairs (suits_number types) (pairs_of (Some t))
 
+-- a map whose members have the types that are listed for their names
 abbrev pub map_by_name : List (List ℕ × (Tree → Bool)) → Tree → Bool
 map_by_name types t = is_map t && all_pairs (suits_name types) (pairs_of (Some t))

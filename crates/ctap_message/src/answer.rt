@@ -2,7 +2,6 @@
 
 ghost use Rattle.std.specs.Prelude.{◌≡◌, ◌∷◌, ◌≤◌, length};
 ghost use Rattle.ctap_message.specs.Answers.{refusal};
-ghost use Rattle.ctap_message.specs.Statuses.{OK};
 
 use crate::status::Status;
 use arrayvec::ArrayVec;
@@ -25,7 +24,7 @@ pub fn write_status(status: Status) -> Answer
 /// The answer of a success with the bytes of a map.
 pub(crate) fn write_success(map: &[u8]) -> Answer
     requires { length map.now ≤ LONGEST_MAP }
-    ensures { result.items ≡ OK ∷ map.now }
+    ensures { result.items ≡ 0x00 ∷ map.now }
 {
     let mut answer = write_status(Status::OK);
     answer.try_extend_from_slice(map).unwrap();

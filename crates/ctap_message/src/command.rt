@@ -1,7 +1,7 @@
 //! The commands that are served.
 
 ghost use Rattle.std.specs.Prelude.{◌≡◌};
-ghost use Rattle.ctap_message.specs.Requests.{named_command};
+ghost use Rattle.ctap_message.specs.Commands.{named_command};
 
 /// A command that is served, by the first byte of its message (CTAP 2.1, section 8.1, "Commands").
 #[derive(Clone, Copy, Debug, PartialEq, Eq)]

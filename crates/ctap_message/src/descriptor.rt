@@ -7,7 +7,7 @@ ghost use Rattle.ctap_cbor.specs.Reading.{Halts};
 ghost use Rattle.ctap_message.specs.Members.{is_text, array_of, all_entries};
 ghost use Rattle.ctap_message.specs.Walks.{Reads, map_told};
 ghost use Rattle.ctap_message.specs.Labels.{head_of};
-ghost use Rattle.ctap_message.specs.Descriptors.{named_id, is_whole_descriptor};
+ghost use Rattle.ctap_message.specs.Fields.{named_id, is_whole_descriptor};
 ghost use Rattle.ctap_message.specs.CollectedLists.{descriptor_told, shown_descriptor, descriptor_step, listing_told, shown_listing, list_told, shown_list};
 
 use crate::descriptors::Descriptors;

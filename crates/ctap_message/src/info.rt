@@ -3,6 +3,7 @@
 ghost use Rattle.std.specs.Prelude.{◌≡◌, ◌≤◌, length, take};
 ghost use Rattle.ctap_cbor.specs.Grammar.{text};
 ghost use Rattle.ctap_cbor.specs.Writing.{room_of, Appends, SameBuffer};
+ghost use Rattle.ctap_message.specs.Answered as parts;
 ghost use Rattle.ctap_message.specs.Answers as spec;
 
 use crate::answer::{Answer, LONGEST_MAP, write_success};
@@ -64,7 +65,7 @@ fn put_info(sink: &mut Sink<'_>, aaguid: &[u8; 16])
 /// Writes the list of versions.
 fn put_versions(sink: &mut Sink<'_>)
     requires { 10 ≤ room_of sink.old }
-    ensures appends { Appends sink.old sink.new (text spec.versions) 10 }
+    ensures appends { Appends sink.old sink.new (text parts.versions) 10 }
     ensures same { SameBuffer sink.old sink.new }
 {
     sink.array(1);
@@ -74,7 +75,7 @@ fn put_versions(sink: &mut Sink<'_>)
 /// Writes the AAGUID.
 fn put_aaguid(sink: &mut Sink<'_>, aaguid: &[u8; 16])
     requires { 17 ≤ room_of sink.old }
-    ensures appends { Appends sink.old sink.new (text (spec.aaguid_of aaguid.now)) 17 }
+    ensures appends { Appends sink.old sink.new (text (spec.byte_string aaguid.now)) 17 }
     ensures same { SameBuffer sink.old sink.new }
 {
     sink.bytes(aaguid);
@@ -98,7 +99,7 @@ fn put_options(sink: &mut Sink<'_>)
 /// Writes the list of transports.
 fn put_transports(sink: &mut Sink<'_>)
     requires { 5 ≤ room_of sink.old }
-    ensures appends { Appends sink.old sink.new (text spec.transports) 5 }
+    ensures appends { Appends sink.old sink.new (text parts.transports) 5 }
     ensures same { SameBuffer sink.old sink.new }
 {
     sink.array(1);
@@ -108,7 +109,7 @@ fn put_transports(sink: &mut Sink<'_>)
 /// Writes the list of algorithms, ES256 alone.
 fn put_algorithms(sink: &mut Sink<'_>)
     requires { 23 ≤ room_of sink.old }
-    ensures appends { Appends sink.old sink.new (text spec.algorithms) 23 }
+    ensures appends { Appends sink.old sink.new (text parts.algorithms) 23 }
     ensures same { SameBuffer sink.old sink.new }
 {
     sink.array(1);

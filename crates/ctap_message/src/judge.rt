@@ -1,8 +1,8 @@
 //! The checks of a request's parameters, in their order.
 
 ghost use Rattle.std.specs.Prelude.{◌≡◌, true};
-ghost use Rattle.ctap_message.specs.MakeCredential.{make_judged};
-ghost use Rattle.ctap_message.specs.GetAssertion.{assertion_judged};
+ghost use Rattle.ctap_message.specs.Judged.{make_judged};
+ghost use Rattle.ctap_message.specs.Judged.{assertion_judged};
 ghost use Rattle.ctap_message.specs.DescriptorWalk.{list_of, left_of};
 ghost use Rattle.ctap_message.specs.CollectedRequests.{shown_make, shown_assert};
 ghost use Rattle.ctap_message.specs.Shown.{shown, IsFresh, HasLengths};

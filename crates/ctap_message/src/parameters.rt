@@ -6,7 +6,8 @@ ghost use Rattle.ctap_cbor.specs.Reading.{Halts};
 ghost use Rattle.ctap_message.specs.Walks.{Reads, map_told, array_told};
 ghost use Rattle.ctap_message.specs.Labels.{head_of};
 ghost use Rattle.ctap_message.specs.Collected.{parameter_told, shown_parameter, parameter_step, parameters_told, shown_parameters};
-ghost use Rattle.ctap_message.specs.Descriptors.{is_es256, is_whole_parameter, names_es256};
+ghost use Rattle.ctap_message.specs.Descriptors.{is_es256};
+ghost use Rattle.ctap_message.specs.Fields.{is_whole_parameter, names_es256};
 
 use crate::item::{Label, both, either, int_of, is_public_key, label_of, text_of};
 use ctap_cbor::{Cursor, Entries, Fault, Item, Members, read_array, read_map};

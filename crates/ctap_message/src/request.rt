@@ -7,7 +7,8 @@ ghost use Rattle.ctap_message.specs.Walks.{Reads, map_told};
 ghost use Rattle.ctap_message.specs.CollectedRequests.{make_told, shown_make, assert_told, shown_assert};
 ghost use Rattle.ctap_message.specs.MakeCredential.{make_request};
 ghost use Rattle.ctap_message.specs.GetAssertion.{assertion_request};
-ghost use Rattle.ctap_message.specs.Requests.{read_of, steps_of, alone as alone_of, request_of, reading_steps, command_steps, LARGEST};
+ghost use Rattle.ctap_message.specs.Requests.{read_of, steps_of, alone as alone_of, reading_steps, LARGEST};
+ghost use Rattle.ctap_message.specs.Commands.{request_of, command_steps};
 ghost use Rattle.ctap_message.specs.Shown.{shown, asked, IsFresh, HasLengths};
 
 use crate::assert::{Assert, read_assert};

@@ -9,7 +9,8 @@ use Rattle.cred_table.specs.Rows.{Lawful}
 use Rattle.cred_table.specs.Waiting.{pending_count}
 use Rattle.authn_core.specs.declared.task.Job.{Job}
 use Rattle.authn_core.specs.State.{Event, Request}
-use Rattle.authn_core.specs.Turn.{Start, CoreState, Work, as_work, working, first_state}
+use Rattle.authn_core.specs.Views.{as_work}
+use Rattle.authn_core.specs.Turn.{Start, CoreState, Work, working, first_state}
 use Rattle.authn_core.specs.Ready.{Ready}
 use Rattle.authn_core.specs.Marks.{Step, Orderly, core_at, marks, rows_of, texts, all_differ}
 use Rattle.token_session.specs.declared.input.Input.{Input}

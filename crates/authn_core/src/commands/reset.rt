@@ -1,6 +1,8 @@
 //! authenticatorReset (CTAP 2.1, section 6.6).
 
-ghost use Rattle.authn_core.specs.Asking.{reset_begins, reset_asked};
+ghost use Rattle.std.specs.Prelude.{[], None};
+ghost use Rattle.authn_core.specs.State.{refuses};
+ghost use Rattle.authn_core.specs.Asking.{reset_begins, asked_alone};
 ghost use Rattle.authn_core.specs.Views.{Takes};
 
 use crate::authenticator::{Core, Turn};
@@ -32,8 +34,8 @@ impl<T: Table<C>, const C: usize> Core<T, C> {
 
     /// Takes all rows out where the user consents.
     pub(crate) fn reset(&mut self, reply: Presence) -> Turn
-        ensures { Takes self.old self.new result (reset_asked self.old.core.state.rows self.old.core.state.pending
-            reply) }
+        ensures { Takes self.old self.new result (asked_alone (refuses [] None 0x00) self.old.core.state.rows
+            self.old.core.state.pending reply) }
     {
         match reply {
             Presence::Granted => {

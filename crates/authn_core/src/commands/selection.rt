@@ -1,6 +1,9 @@
 //! authenticatorSelection (CTAP 2.1, section 6.9).
 
-ghost use Rattle.authn_core.specs.Asking.{selection_begins, selection_asked};
+ghost use Rattle.std.specs.Prelude.{None};
+ghost use Rattle.authn_core.specs.declared.task.Task.TheVariants.{Selects};
+ghost use Rattle.authn_core.specs.State.{refuses, waits};
+ghost use Rattle.authn_core.specs.Asking.{asked_alone};
 ghost use Rattle.authn_core.specs.Views.{Takes};
 
 use crate::authenticator::{Core, Turn};
@@ -15,7 +18,7 @@ use ctap_message::Status;
 impl<T: Table<C>, const C: usize> Core<T, C> {
     /// Asks for the user's presence.
     pub(crate) fn begin_selection(&mut self, cid: u32) -> Turn
-        ensures { Takes self.old self.new result (selection_begins self.old.core.state.rows cid) }
+        ensures { Takes self.old self.new result (waits self.old.core.state.rows None cid Selects) }
     {
         self.pending.clear();
         let task = Task::Selects;
@@ -25,8 +28,8 @@ impl<T: Table<C>, const C: usize> Core<T, C> {
 
     /// Answers what the user did.
     pub(crate) fn select(&mut self, reply: Presence) -> Turn
-        ensures { Takes self.old self.new result (selection_asked self.old.core.state.rows
-            self.old.core.state.pending reply) }
+        ensures { Takes self.old self.new result (asked_alone (refuses self.old.core.state.rows
+            self.old.core.state.pending 0x00) self.old.core.state.rows self.old.core.state.pending reply) }
     {
         let status = match reply {
             Presence::Granted => Status::OK,

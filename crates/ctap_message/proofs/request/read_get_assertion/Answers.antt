@@ -1,6 +1,7 @@
 use Rattle.std.proofs.Common.{true, sym, ap, ◌∙◌}
 use Rattle.ctap_message.specs.Walks.{map_told}
-use Rattle.ctap_message.specs.GetAssertion.{assertion_judged, assertion_request}
+use Rattle.ctap_message.specs.GetAssertion.{assertion_request}
+use Rattle.ctap_message.specs.Judged.{assertion_judged}
 use Rattle.ctap_message.specs.CollectedRequests.{AssertTold, assert_told, shown_assert}
 use Rattle.ctap_message.proofs.Asking.{refused, accepted, never, told}
 use Rattle.ctap_message.proofs.request.read_get_assertion.Goals as goal

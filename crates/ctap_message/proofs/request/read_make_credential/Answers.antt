@@ -1,6 +1,7 @@
 use Rattle.std.proofs.Common.{true, sym, ap, ◌∙◌}
 use Rattle.ctap_message.specs.Walks.{map_told}
-use Rattle.ctap_message.specs.MakeCredential.{make_judged, make_request}
+use Rattle.ctap_message.specs.MakeCredential.{make_request}
+use Rattle.ctap_message.specs.Judged.{make_judged}
 use Rattle.ctap_message.specs.CollectedRequests.{MakeTold, make_told, shown_make}
 use Rattle.ctap_message.proofs.Asking.{refused, accepted, never, told}
 use Rattle.ctap_message.proofs.request.read_make_credential.Goals as goal

@@ -1,0 +1,83 @@
+-- What the code keeps of descriptors, options, credential parameters and the user, by the trees that they are.
+use Rattle.std.specs.Prelude.{ℕ, ℤ, Bool, ◌&&◌, List, Option, Some, None, is_some, if◌then◌else◌, codes}
+use Rattle.ctap_cbor.specs.Tree.{Tree, Trees}
+use Rattle.ctap_message.specs.Members.{named, as_bytes, as_text, as_int, as_flag, all_entries, some_entry, entries_of}
+use Rattle.ctap_message.specs.Descriptors.{is_public_key, is_es256}
+
+-- ---- descriptors
+
+pub record Descriptor : Type 0 where
+  pub id : Option (List ℕ)
+  pub credential_type : Option (List ℕ)
+
+abbrev pub descriptor_in : Option Tree → Descriptor
+descriptor_in t = record { id = as_bytes (named (codes "id") t); credential_type = as_text (named (codes "type") t) }
+
+-- id and type are there
+abbrev pub is_whole_descriptor : Descriptor → Bool
+is_whole_descriptor d = is_some d.id && is_some d.credential_type
+
+-- the id that it names, where its type is `public-key`; one of another type names nothing
+abbrev pub named_id : Descriptor → Option (List ℕ)
+named_id d = if is_public_key d.credential_type then d.id else None
+
+-- What a list of descriptors says: whether each has id and type, and its entries. One that isn't there has none.
+pub record DescriptorList : Type 0 where
+  pub is_whole : Bool
+  pub entries : Trees
+
+abbrev pub descriptors_in : Option Tree → DescriptorList
+descriptors_in t = record {
+  is_whole = all_entries (λ t. is_whole_descriptor (descriptor_in (Some t))) (entries_of t);
+  entries = entries_of t;
+}
+
+-- ---- options
+
+pub record Options : Type 0 where
+  pub rk : Option Bool
+  pub up : Option Bool
+  pub uv : Option Bool
+
+abbrev pub options_in : Option Tree → Options
+options_in t = record {
+  rk = as_flag (named (codes "rk") t);
+  up = as_flag (named (codes "up") t);
+  uv = as_flag (named (codes "uv") t);
+}
+
+-- ---- credential parameters
+
+pub record Parameter : Type 0 where
+  pub alg : Option ℤ
+  pub credential_type : Option (List ℕ)
+
+abbrev pub parameter_in : Option Tree → Parameter
+parameter_in t = record { alg = as_int (named (codes "alg") t); credential_type = as_text (named (codes "type") t) }
+
+abbrev pub is_whole_parameter : Parameter → Bool
+is_whole_parameter p = is_some p.alg && is_some p.credential_type
+
+abbrev pub names_es256 : Parameter → Bool
+names_es256 p = is_es256 p.alg && is_public_key p.credential_type
+
+-- What pubKeyCredParams says: whether each entry has alg and type, and whether one names ES256 for public keys.
+pub record Parameters : Type 0 where
+  pub is_whole : Bool
+  pub has_es256 : Bool
+
+abbrev pub parameters_in : Option Tree → Parameters
+parameters_in t =
+    record {
+      is_whole = all_entries (λ t. is_whole_parameter (parameter_in (Some t))) (entries_of t);
+      has_es256 = some_entry (λ t. names_es256 (parameter_in (Some t))) (entries_of t);
+    }
+
+-- ---- the user
+
+pub record User : Type 0 where
+  pub id : Option (List ℕ)
+  pub name : Option (List ℕ)
+
+abbrev pub user_in : Option Tree → User
+user_in t = record { id = as_bytes (named (codes "id") t); name = as_text (named (codes "name") t) }

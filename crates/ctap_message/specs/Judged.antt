@@ -1,0 +1,83 @@
+-- What the code keeps of a request's parameters, and the same checks over it: of the tree that they are, these are the
+-- checks of MakeCredential.antt and GetAssertion.antt.
+use Rattle.std.specs.Prelude.{ℕ, ◌==◌, nat_le, Bool, true, false, not, ◌&&◌, List, [], ◌∷◌, length, Option, is_some, unwrap_or, Result, codes}
+use Rattle.ctap_cbor.specs.Tree.{Tree}
+use Rattle.ctap_message.specs.Members.{numbered, named, as_bytes, as_text}
+use Rattle.ctap_message.specs.Checks.{if_all_hold}
+use Rattle.ctap_message.specs.Asked.{Asked, MakeCredential, GetAssertion}
+use Rattle.ctap_message.specs.Fields.{DescriptorList, descriptors_in, Options, options_in, Parameters, parameters_in, User, user_in}
+
+pub record MakeParameters : Type 0 where
+  pub client_data_hash : Option (List ℕ)
+  pub rp_id : Option (List ℕ)
+  pub user : User
+  pub has_parameters : Bool
+  pub parameters : Parameters
+  pub exclude_list : DescriptorList
+  pub options : Options
+  pub has_pin_uv_auth_param : Bool
+  pub has_enterprise_attestation : Bool
+
+abbrev pub make_parameters : Option Tree → MakeParameters
+make_parameters t =
+    record {
+      client_data_hash = as_bytes (numbered 0x01 t);
+      rp_id = as_text (named (codes "id") (numbered 0x02 t));
+      user = user_in (numbered 0x03 t);
+      has_parameters = is_some (numbered 0x04 t);
+      parameters = parameters_in (numbered 0x04 t);
+      exclude_list = descriptors_in (numbered 0x05 t);
+      options = options_in (numbered 0x07 t);
+      has_pin_uv_auth_param = is_some (numbered 0x08 t);
+      has_enterprise_attestation = is_some (numbered 0x0a t);
+    }
+
+abbrev pub make_judged : Bool → Bool → MakeParameters → Result Asked ℕ
+make_judged is_canonical is_typed m =
+    if_all_hold
+    ((is_canonical, 0x12)
+    ∷ (is_typed, 0x11)
+    ∷ (
+      is_some m.client_data_hash && is_some m.rp_id && is_some m.user.id && m.has_parameters && m.parameters.is_whole
+          && m.exclude_list.is_whole,
+      0x14,
+    )
+    ∷ (length (unwrap_or m.client_data_hash []) == 32 && nat_le (length (unwrap_or m.user.id [])) 64, 0x03)
+    ∷ (not m.has_pin_uv_auth_param, 0x02)
+    ∷ (m.parameters.has_es256, 0x26)
+    ∷ (not (unwrap_or m.options.uv false) && unwrap_or m.options.up true, 0x2c)
+    ∷ (not m.has_enterprise_attestation, 0x02)
+    ∷ [])
+    (MakeCredential (unwrap_or m.client_data_hash []) (unwrap_or m.rp_id []) (unwrap_or m.user.id [])
+    (unwrap_or m.user.name []) (unwrap_or m.options.rk false) m.exclude_list.entries)
+
+pub record AssertionParameters : Type 0 where
+  pub rp_id : Option (List ℕ)
+  pub client_data_hash : Option (List ℕ)
+  pub allow_list : DescriptorList
+  pub options : Options
+  pub has_pin_uv_auth_param : Bool
+
+abbrev pub assertion_parameters : Option Tree → AssertionParameters
+assertion_parameters t =
+    record {
+      rp_id = as_text (numbered 0x01 t);
+      client_data_hash = as_bytes (numbered 0x02 t);
+      allow_list = descriptors_in (numbered 0x03 t);
+      options = options_in (numbered 0x05 t);
+      has_pin_uv_auth_param = is_some (numbered 0x06 t);
+    }
+
+abbrev pub assertion_judged : Bool → Bool → AssertionParameters → Result Asked ℕ
+assertion_judged is_canonical is_typed a =
+    if_all_hold
+    ((is_canonical, 0x12)
+    ∷ (is_typed, 0x11)
+    ∷ (is_some a.rp_id && is_some a.client_data_hash && a.allow_list.is_whole, 0x14)
+    ∷ (length (unwrap_or a.client_data_hash []) == 32, 0x03)
+    ∷ (not a.has_pin_uv_auth_param, 0x02)
+    ∷ (not (unwrap_or a.options.uv false), 0x2c)
+    ∷ (not (is_some a.options.rk), 0x2b)
+    ∷ [])
+    (GetAssertion (unwrap_or a.client_data_hash []) (unwrap_or a.rp_id []) a.allow_list.entries
+    (unwrap_or a.options.up true))
