@@ -93,7 +93,7 @@ fn lines_are_taken(rt: HostRuntime) -> Result<(), AllocError> {
     assert!(rt; taken && !bad && refused == Err(LogFault::BadLine(2)));
     assert!(rt; writer.written().is_empty());
     let put = reader.put(2, log.as_bytes().get(133..265).unwrap_or(b""), &mut writer);
-    let text = b"2 > 0 00000001 +0\n2   request 05 fault 9 at 1\n";
+    let text = b"2 > 0 00000001 +0\n2   request 05 fault 9 at 1  Trailing: bytes after the item\n";
     assert!(rt; put.is_ok() && writer.written() == text.as_slice());
     Ok(())
 }

@@ -146,6 +146,46 @@ show
 -> 0 00000001900000..
 +1 > 0 00000001 CBOR 0";
 
+/// Requests that are refused since another one is served: of one packet, and of two, whose second one comes after the
+/// refusal. The answer's members have the names of the command that was accepted. A busy channel leaves the request on
+/// another one as it is.
+const BUSY: &str = "\
+show
+-> 0 0000000190000104..
+-> 1 0000000190000101..
+-< 00000001bf000106..
+-> 2 0000000190003d02..
+-< 00000001bf000106..
+-> 3 0000000100..
+-> 4 0000000190000108..
+-< 00000002bf000106..
+-< 00000001bf000106..
+-> 5 000000028100016100..
+-< 00000001bf000106..
+-t 6
+-< 00000001bf000106..
+-< 0000000190000400a10501..
++1 > 0 00000001 CBOR 1
++1   request 04  authenticatorGetInfo
++2 > 1 00000001 CBOR 1
++2   request 01  authenticatorMakeCredential
++3 < 00000001 ERROR 1 06  ERR_CHANNEL_BUSY
++4 > 2 00000001 CBOR 61
++5 < 00000001 ERROR 1 06  ERR_CHANNEL_BUSY
++6 > 3 00000001 +0
++6   request 02 fault 9 at 1  authenticatorGetAssertion  Trailing: bytes after the item
++7 > 4 00000001 CBOR 1
++7   request 08  authenticatorGetNextAssertion
++8 < 00000002 ERROR 1 06  ERR_CHANNEL_BUSY
++9 < 00000001 ERROR 1 06  ERR_CHANNEL_BUSY
++10 > 5 00000002 PING 1
++11 < 00000001 ERROR 1 06  ERR_CHANNEL_BUSY
++12 t 6
++13 < 00000001 ERROR 1 06  ERR_CHANNEL_BUSY
++14 < 00000001 CBOR 4
++14   answer 00 {5: 1}  CTAP2_OK
++14     5 maxMsgSize: 1";
+
 /// Faults leave the texts of the lines before.
 const FAULTS: &str = "\
 show: line 3: not a log line
@@ -209,13 +249,15 @@ const REQUESTS: &str = "\
 2d 2d
 01 01  authenticatorMakeCredential
 0500 05 0
-050000 05 fault 9 at 1
-02a202000100 02 fault 6 at 3  authenticatorGetAssertion
-05a1f500 05 fault 5 at 1
-05818181818100 05 fault 4 at 4
-0562c3 05 fault 1 at 0
-ff1805 ff fault 3 at 0
-05f90000 05 fault 8 at 0";
+050000 05 fault 9 at 1  Trailing: bytes after the item
+02a202000100 02 fault 6 at 3  authenticatorGetAssertion  KeyOrder: a map's key that isn't above the one before it
+05a1f500 05 fault 5 at 1  KeyType: a map's key that is no integer, byte string or text
+05818181818100 05 fault 4 at 4  TooDeep: an array or a map within four others
+0562c3 05 fault 1 at 0  Truncated: the item ends early
+ff1805 ff fault 3 at 0  NotShortest: a number or a length that has a shorter encoding
+05f90000 05 fault 8 at 0  Unsupported: a tag, a float or a simple value
+051c 05 fault 2 at 0  Reserved: a length that is reserved or indefinite
+0561ff 05 fault 7 at 0  NotUtf8: a text that isn't UTF-8";
 
 #[test]
 fn logs_are_shown(rt: HostRuntime) -> Result<(), AllocError> {
@@ -224,6 +266,7 @@ fn logs_are_shown(rt: HostRuntime) -> Result<(), AllocError> {
     assert_case(&rt, alloc, info.as_str())?;
     assert_cases(&rt, alloc, LINES)?;
     assert_cases(&rt, alloc, MESSAGES)?;
+    assert_cases(&rt, alloc, BUSY)?;
     assert_cases(&rt, alloc, FAULTS)
 }
 

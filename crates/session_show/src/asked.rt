@@ -56,6 +56,11 @@ impl Lately {
         });
     }
 
+    /// Drops the last request.
+    pub fn drop_last(&mut self) {
+        let _ = self.asked.pop();
+    }
+
     /// Returns the last request on a channel.
     pub fn on(&self, cid: u32) -> Option<&Asked> {
         let mut last = None;

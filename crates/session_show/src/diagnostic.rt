@@ -14,10 +14,15 @@ pub struct Diagnostic<'a>(pub &'a [u8]);
 
 impl Written for Diagnostic<'_> {
     fn write(&self, pen: &mut Pen) {
-        match check(self.0).result {
-            Ok(()) => write_value(pen, &mut Cursor::new(self.0), 1),
-            Err(fault) => write_fault(pen, &fault),
-        }
+        write_checked(pen, self.0, &check(self.0).result);
+    }
+}
+
+/// Writes bytes that were checked, as an item or as why they are none.
+pub fn write_checked(pen: &mut Pen, item: &[u8], checked: &Result<(), Fault>) {
+    match checked {
+        Ok(()) => write_value(pen, &mut Cursor::new(item), 1),
+        Err(fault) => write_fault(pen, fault),
     }
 }
 

@@ -1,7 +1,7 @@
 //! The text for a line of a log.
 
 use crate::asked::Asked;
-use crate::diagnostic::Diagnostic;
+use crate::diagnostic::write_checked;
 use crate::escape::write_line;
 use crate::member_names::Map;
 use crate::members::write_members;
@@ -9,8 +9,10 @@ use crate::packet_line::write_packet;
 use crate::pen::Pen;
 use crate::putting::Written;
 use crate::rp_id::RpId;
-use crate::words::{command_name, status_name, write_name};
+use crate::words::{command_name, fault_name, status_name, write_name};
 use authn_core::Presence;
+use ctap_cbor::{Fault, check};
+use hid_packet::Packet;
 use session_log::Line;
 use token_session::{Input, Timed};
 
@@ -32,6 +34,30 @@ pub struct Entry<'a> {
     /// What the line says.
     pub said: Line,
     pub message: Option<Message<'a>>,
+}
+
+/// A packet alone.
+#[derive(Clone, Copy)]
+pub struct PacketLine<'a>(pub &'a Packet);
+
+impl Written for PacketLine<'_> {
+    /// Writes a line.
+    fn write(&self, pen: &mut Pen) {
+        pen.text("< ");
+        write_packet(pen, self.0);
+        pen.text("\n");
+    }
+}
+
+/// The lines of a message alone, with the number of the line that it ends at.
+#[derive(Clone, Copy)]
+pub struct MessageLines<'a>(pub u64, pub Message<'a>);
+
+impl Written for MessageLines<'_> {
+    /// Writes lines that end with a line feed.
+    fn write(&self, pen: &mut Pen) {
+        write_message(pen, self.0, self.1);
+    }
 }
 
 impl Written for Entry<'_> {
@@ -121,26 +147,44 @@ fn write_request(pen: &mut Pen, number: u64, message: &[u8]) {
     let Some((command, item)) = message.split_first() else {
         return;
     };
-    write_front(pen, number, "   request ", *command, item);
-    write_name(pen, command_name(*command));
-    pen.text("\n");
-    write_members(pen, number, Map::Request(*command), item, &RpId::none());
+    let checked = checked(item);
+    write_front(pen, number, "   request ", *command, (item, &checked));
+    write_end(pen, command_name(*command), &checked);
+    if checked.is_ok() {
+        write_members(pen, number, Map::Request(*command), item, &RpId::none());
+    }
 }
 
 fn write_answer(pen: &mut Pen, number: u64, asked: Option<&Asked>, message: &[u8]) {
     let Some((status, item)) = message.split_first() else {
         return;
     };
-    write_front(pen, number, "   answer ", *status, item);
-    write_name(pen, status_name(*status));
-    pen.text("\n");
-    if let Some(asked) = asked {
+    let checked = checked(item);
+    write_front(pen, number, "   answer ", *status, (item, &checked));
+    write_end(pen, status_name(*status), &checked);
+    if let Some(asked) = asked
+        && checked.is_ok()
+    {
         write_members(pen, number, Map::Answer(asked.command), item, &asked.rp_id);
     }
 }
 
+/// Returns why the bytes after a message's first one are no item, where there are some.
+fn checked(item: &[u8]) -> Result<(), Fault> {
+    if item.is_empty() {
+        return Ok(());
+    }
+    check(item).result
+}
+
 /// Writes the front of a message's line: its command or status, and the item after it.
-fn write_front(pen: &mut Pen, number: u64, kind: &str, first: u8, item: &[u8]) {
+fn write_front(
+    pen: &mut Pen,
+    number: u64,
+    kind: &str,
+    first: u8,
+    (item, checked): (&[u8], &Result<(), Fault>),
+) {
     pen.decimal(number);
     pen.text(kind);
     pen.hex(&[first]);
@@ -151,7 +195,16 @@ fn write_front(pen: &mut Pen, number: u64, kind: &str, first: u8, item: &[u8]) {
     // An item may be long, so it isn't written again for the parts after it.
     if !pen.pass_known() {
         let before = pen.before();
-        Diagnostic(item).write(pen);
+        write_checked(pen, item, checked);
         pen.know(before);
     }
+}
+
+/// Writes the end of a message's line: the name of its command or status, and what the item's fault means.
+fn write_end(pen: &mut Pen, name: Option<&str>, checked: &Result<(), Fault>) {
+    write_name(pen, name);
+    if let Err(fault) = checked {
+        write_name(pen, Some(fault_name(fault.kind)));
+    }
+    pen.text("\n");
 }

@@ -9,6 +9,7 @@ mod cose;
 mod counts;
 mod der;
 mod diagnostic;
+mod difference;
 mod entry;
 mod escape;
 mod json;
@@ -31,6 +32,7 @@ mod transcript;
 mod words;
 
 pub use diagnostic::show_item;
+pub use difference::{Comparison, Difference};
 pub use json_showing::{put_json_fault, show_json};
 pub use reader::{Reader, put_transaction};
 pub use showing::show;

@@ -9,11 +9,11 @@ use crate::pen::Pen;
 use crate::putting::Written;
 use crate::rp_id::RpId;
 use crate::words::write_name;
-use ctap_cbor::{Cursor, Item, check};
+use ctap_cbor::{Cursor, Item};
 
-/// Writes a line for each member of a map whose members have names, where the bytes are one.
+/// Writes a line for each member of a map whose members have names, where the item is one. Its bytes were checked.
 pub fn write_members(pen: &mut Pen, number: u64, map: Map, item: &[u8], rp_id: &RpId) {
-    if !map.is_named() || check(item).result.is_err() {
+    if !map.is_named() || item.is_empty() {
         return;
     }
     let mut cursor = Cursor::new(item);

@@ -51,6 +51,11 @@ impl Collector {
         }
     }
 
+    /// Returns whether a message is collected whose last packet has yet to come.
+    pub fn is_open(&self) -> bool {
+        self.unfinished.is_some()
+    }
+
     /// Adds a packet, and returns the message whose last packet it is, if that is a CBOR message that isn't empty.
     ///
     /// An initialization packet begins anew. The continuation packet that comes next on the message's channel

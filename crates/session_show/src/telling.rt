@@ -24,7 +24,7 @@ pub trait Telling {
         ensures grown { Grows (T.taken writer.old) (T.taken writer.new) };
 }
 
-/// Tells all lines that a reader holds. The text for a line is handed to the target before more is asked of the source.
+/// Says all lines that a reader holds. The text for a line is handed to the target before more is asked of the source.
 pub fn tell_all<L: Telling, S: Source, T: Target>(
     telling: &mut L,
     reader: &mut S,

@@ -4,9 +4,24 @@ use crate::asked::Lately;
 use crate::entry::{Entry, Message};
 use crate::message::Collector;
 use crate::transactions::channel_of;
-use hid_packet::Packet;
+use hid_packet::command::ERROR;
+use hid_packet::{Packet, View};
 use session_log::Line;
 use token_session::{Input, Timed};
+
+/// The code of an ERROR that refuses a message since another one is served.
+const CHANNEL_BUSY: u8 = 0x06;
+
+/// What the last input was to the requests.
+#[derive(Clone, Copy)]
+enum Latest {
+    /// The last packet of a request on this channel.
+    Whole(u32),
+    /// Another packet on this channel.
+    Part(u32),
+    /// No packet.
+    Other,
+}
 
 /// The messages that the lines so far began.
 #[derive(Drop)]
@@ -14,6 +29,9 @@ pub struct Transcript {
     requests: Collector,
     answers: Collector,
     lately: Lately,
+    latest: Latest,
+    /// Whether the request that is collected was refused.
+    is_refused: bool,
 }
 
 impl Transcript {
@@ -23,6 +41,8 @@ impl Transcript {
             requests: Collector::new(),
             answers: Collector::new(),
             lately: Lately::new(),
+            latest: Latest::Other,
+            is_refused: false,
         }
     }
 
@@ -32,6 +52,8 @@ impl Transcript {
             requests: self.requests.copy(),
             answers: self.answers.copy(),
             lately: self.lately.copy(),
+            latest: self.latest,
+            is_refused: self.is_refused,
         }
     }
 
@@ -45,7 +67,11 @@ impl Transcript {
                 },
             ) => self.take_request(&packet),
             Line::Sent(packet) => self.take_answer(&packet),
-            Line::Input(_) | Line::Comment | Line::Count => None,
+            Line::Input(_) => {
+                self.latest = Latest::Other;
+                None
+            }
+            Line::Comment | Line::Count => None,
         };
         Entry {
             number,
@@ -55,18 +81,57 @@ impl Transcript {
         }
     }
 
+    /// Returns whether packets of an answer are still to come.
+    pub fn awaits_answer(&self) -> bool {
+        self.answers.is_open()
+    }
+
     /// Takes a packet from a host.
     fn take_request(&mut self, packet: &Packet) -> Option<Message<'_>> {
+        let channel = channel_of(packet);
+        self.latest = Latest::Part(channel);
+        if matches!(packet.view(), View::Start { .. }) {
+            self.is_refused = false;
+        }
         let message = self.requests.add(packet)?;
-        if let [command, item @ ..] = message {
-            self.lately.add(channel_of(packet), *command, item);
+        if let [command, item @ ..] = message
+            && !self.is_refused
+        {
+            self.lately.add(channel, *command, item);
+            self.latest = Latest::Whole(channel);
         }
         Some(Message::Request(message))
     }
 
     /// Takes a packet that was sent.
     fn take_answer(&mut self, packet: &Packet) -> Option<Message<'_>> {
+        let channel = channel_of(packet);
+        if is_busy(packet) {
+            self.refuse(channel);
+        }
         let message = self.answers.add(packet)?;
-        Some(Message::Answer(self.lately.on(channel_of(packet)), message))
+        Some(Message::Answer(self.lately.on(channel), message))
+    }
+
+    /// Drops the request of which the last input was a packet, where it was on this channel: it isn't served.
+    fn refuse(&mut self, channel: u32) {
+        match self.latest {
+            Latest::Whole(asked) if asked == channel => self.lately.drop_last(),
+            Latest::Part(asked) if asked == channel => self.is_refused = true,
+            _ => return,
+        }
+        self.latest = Latest::Other;
+    }
+}
+
+/// Whether a packet says that another message is served.
+fn is_busy(packet: &Packet) -> bool {
+    match packet.view() {
+        View::Start {
+            cmd: ERROR,
+            part,
+            ..
+        } => part.first() == Some(&CHANNEL_BUSY),
+        _ => false,
     }
 }

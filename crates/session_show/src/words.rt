@@ -1,12 +1,29 @@
 //! The names that CTAP 2.1 has for numbers. What has no name is shown by its number alone.
 
 use crate::pen::Pen;
+use ctap_cbor::Kind;
 
 /// Writes two spaces and a name, where there is one.
 pub fn write_name(pen: &mut Pen, name: Option<&str>) {
     if let Some(name) = name {
         pen.text("  ");
         pen.text(name);
+    }
+}
+
+/// Returns what the kind of a fault means.
+pub fn fault_name(kind: Kind) -> &'static str {
+    match kind {
+        Kind::Truncated => "Truncated: the item ends early",
+        Kind::Reserved => "Reserved: a length that is reserved or indefinite",
+        Kind::NotShortest => "NotShortest: a number or a length that has a shorter encoding",
+        Kind::TooDeep => "TooDeep: an array or a map within four others",
+        Kind::KeyType => "KeyType: a map's key that is no integer, byte string or text",
+        Kind::KeyOrder => "KeyOrder: a map's key that isn't above the one before it",
+        Kind::NotUtf8 => "NotUtf8: a text that isn't UTF-8",
+        Kind::Unsupported => "Unsupported: a tag, a float or a simple value",
+        Kind::Trailing => "Trailing: bytes after the item",
+        Kind::Memory => "Memory: no memory",
     }
 }
 
