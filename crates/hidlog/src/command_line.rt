@@ -315,6 +315,7 @@ fn alone<'a>(alloc: Global, words: &[&str]) -> Option<Task<'a>>
 
 /// What the words ask for, the first of them being the program's name; or clap's answer, which is help or
 /// says what is wrong with them.
+#[inline(never)]
 pub fn task_of<'a>(alloc: Global, words: &'a [&'a str]) -> Result<Task<'a>, Error>
     ensures task { IfOk result (λ task. asked_by (texts_of words.now) ≡ Some (asks task)) }
     ensures answer { IfErr result (λ error. HasKind (answers_to (texts_of words.now)) error) }

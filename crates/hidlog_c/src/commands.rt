@@ -2,13 +2,13 @@
 ghost use Rattle.session_log.specs.Command.{start_with};
 ghost use Rattle.std.specs.Prelude.{◌≡◌, [], List, ℕ, take, Option};
 ghost use Rattle.cred_table.specs.declared.row.Row.{Row as AnyRow};
-ghost use Rattle.token_session.specs.Meters.{StandsAfter};
+ghost use Rattle.token_session.specs.Meters.{StandsAfter, session_of};
 ghost use Rattle.session_log.specs.Ending.{Ending};
 ghost use Rattle.hidlog_c.specs.Commands.{Answers, Checks, IsWritten, Lives, Quiets, Replays};
 
 use crate::lent::Lent;
 use crate::outcome::Outcome;
-use crate::started::started;
+use crate::started::{fresh, open};
 use session_log::{CAPACITY, LogFault, SliceIn, check, live, quiet, replay};
 use token_session::Session;
 
@@ -97,17 +97,33 @@ impl Command for Quiet {
     }
 }
 
+/// Plays the log on a session with the credentials of the snapshot, or with none where the snapshot is empty. What is
+/// written goes to the front of `out`.
+// It isn't inlined, so that what it takes of the stack isn't taken while the session is made.
+#[inline(never)]
+fn play_on<C: Command>(
+    session: &mut Session<CAPACITY>,
+    log: &[u8],
+    snapshot: &[u8],
+    out: &mut [u8],
+) -> Outcome
+    requires fresh { session.old ≡ session_of (start_with []) [] }
+    ensures { Answers C.Does log.now snapshot.now (out.old, out.new) result }
+{
+    match open(session, snapshot) {
+        Ok(()) => {
+            let mut writer = Lent::new(out);
+            let answer = C::play(session, log, &mut writer);
+            Outcome::new(answer, writer.len())
+        }
+        Err(fault) => Outcome::refused(fault),
+    }
+}
+
 /// Runs a command on a session with the credentials of the snapshot, or with none where the snapshot is empty.
 /// What it writes goes to the front of `out`.
 pub fn run<C: Command>(log: &[u8], snapshot: &[u8], out: &mut [u8]) -> Outcome
     ensures { Answers C.Does log.now snapshot.now (out.old, out.new) result }
 {
-    match started(snapshot) {
-        Ok(mut session) => {
-            let mut writer = Lent::new(out);
-            let answer = C::play(&mut session, log, &mut writer);
-            Outcome::new(answer, writer.len())
-        }
-        Err(fault) => Outcome::refused(fault),
-    }
+    play_on::<C>(&mut fresh(), log, snapshot, out)
 }

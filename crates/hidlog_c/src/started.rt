@@ -1,8 +1,8 @@
 //! The session that a log is played on, or that a key holds.
-ghost use Rattle.std.specs.Prelude.{◌≡◌, ◌≢◌, [], List, IfOk, IfErr};
+ghost use Rattle.std.specs.Prelude.{◌≡◌, ◌≢◌, [], List, IfOk, IfErr, OnOk};
 ghost use Rattle.cred_table.specs.declared.row.Row.{Row as AnyRow};
 ghost use Rattle.cred_table.specs.Snapshots.{Refuses};
-ghost use Rattle.token_session.specs.Meters.{StandsAfter};
+ghost use Rattle.token_session.specs.Meters.{StandsAfter, session_of};
 ghost use Rattle.session_log.specs.Command.{start_with};
 ghost use Rattle.hidlog_c.specs.Begin.{Opens};
 ghost use Rattle.hidlog_c.specs.Switched.{start_of};
@@ -36,11 +36,26 @@ pub fn switched_on(
     Ok(session_with(aaguid, start, rows))
 }
 
-/// Returns such a session with an AAGUID of zeros, which begins at the moment 0.
-pub fn started(snapshot: &[u8]) -> Result<Session<CAPACITY>, SnapshotFault>
-    ensures begins { IfOk result (λ session. (rows : List AnyRow) × Opens snapshot.now rows
-        × StandsAfter session (start_with rows) []) }
+/// Returns a session without credentials, with an AAGUID of zeros, which begins at the moment 0.
+// By this function it is made where its caller keeps it. Of a call of `Session::bare` in its place there is a copy.
+pub fn fresh() -> Session<CAPACITY>
+    ensures { result ≡ session_of (start_with []) [] }
+{
+    Session::bare([0; 16], 0)
+}
+
+/// Puts the credentials of the snapshot into such a session, or none where the snapshot is empty.
+pub fn open(session: &mut Session<CAPACITY>, snapshot: &[u8]) -> Result<(), SnapshotFault>
+    requires fresh { session.old ≡ session_of (start_with []) [] }
+    ensures begins { OnOk result ((rows : List AnyRow) × Opens snapshot.now rows
+        × StandsAfter session.new (start_with rows) []) }
     ensures refused { IfErr result (λ fault. (snapshot.now ≢ []) × Refuses 64 snapshot.now fault) }
 {
-    switched_on([0; 16], 0, snapshot)
+    if snapshot.is_empty() {
+        return Ok(());
+    }
+    match session.load(Config { aaguid: [0; 16] }, snapshot, 0) {
+        Ok(()) => Ok(()),
+        Err(fault) => Err(fault),
+    }
 }
