@@ -12,12 +12,12 @@ use Rattle.token_session.specs.declared.input.Input.{Input}
 use Rattle.token_session.specs.declared.input.Input.TheVariants.{Packet}
 use Rattle.token_session.specs.declared.input.Timed.{Timed}
 use Rattle.token_session.specs.History.{admits, core, judge, judged}
-use Rattle.token_session.specs.Inputs.{Judged, end, given, is_own, is_own_packet, is_packet, own, packet}
+use Rattle.token_session.specs.Inputs.{Judged, end, given, is_own, is_packet, own, packet}
 use Rattle.token_session.specs.Law.{onto}
 use Rattle.token_session.specs.Messages.{begun_by, finished, finished_at, finished_long, goes_on, is_last, is_long, is_next, is_open, open_among, open_at, packets_of}
 use Rattle.token_session.proofs.Answering.{is_served, on_given}
 use Rattle.token_session.proofs.Follows.{good_judged}
-use Rattle.token_session.proofs.Opens.{From, both_true, from_earlier, goes_on_prefix, not_true, own-append, own_from}
+use Rattle.token_session.proofs.Opens.{is_own_packet, From, both_true, from_earlier, goes_on_prefix, not_true, own-append, own_from}
 
 -- ---- the moments
 

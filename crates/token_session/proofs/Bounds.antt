@@ -1,5 +1,6 @@
 -- At most one message is open, and how much is held of it.
 use Rattle.std.proofs.Common.{◌≡◌, ℕ, ◌+◌, ◌-◌, ◌*◌, ◌≤◌, ◌<◌, min, sum_by, Bool, true, false, cond, ◌&&◌, List, [], ◌∷◌, length, Option, Some, None, option_to_list, refl, ap, arith, nat_lt}
+use Rattle.std.specs.Prelude.{unwrap_or, option_map}
 use Rattle.std.proofs.lemmas.Bool.Decides.{nat_tests}
 use Rattle.std.proofs.lemmas.List.Sums.{sum_by-cons}
 use Rattle.authn_core.specs.Turn.{Start}
@@ -72,7 +73,7 @@ pub held_few : (start : Start) (h : List Judged) → held start h ≤ 7550
 unfolding held open_at
 held_few start h = go (open_among [] h (end start h)) (few_own h [] (end start h))
   where
-    go : (o : Option Begun) → FewOwn o → (elim o [ None ↦ 0 | Some b ↦ 57 + 59 * length b.own ]) ≤ 7550
+    go : (o : Option Begun) → FewOwn o → (unwrap_or (option_map (λ (b : Begun). 57 + 59 * length b.own) o) 0) ≤ 7550
     go None f = omega arith
     go (Some b) f = f
 

@@ -6,13 +6,13 @@ use Rattle.authn_core.specs.Turn.{Start}
 use Rattle.token_session.proofs.Bounds.{goes_on_below}
 use Rattle.std.proofs.lemmas.Option.{same_Some}
 use Rattle.token_session.specs.Carried.{Are64, IsWhole, AreWhole, ArriveWhole, carriers, long_carriers, carriers_at}
-use Rattle.token_session.proofs.Opens.{and_true}
+use Rattle.token_session.proofs.Opens.{is_own_packet, and_true}
 use Rattle.token_session.proofs.Serve.{is_eq, not_is, all_four, long_says, is_le, says_admitted}
 use Rattle.hid_assemble.specs.Assembly.{Message}
 use Rattle.hid_packet.specs.Carries.{Carries, CarriesMessage, Continue, joined}
 use Rattle.hid_packet.specs.Commands.{CANCEL}
 use Rattle.hid_packet.specs.Packet.{channel, command, continuation_data, initialization_data, is_command, is_initialization, message_length, sequence}
-use Rattle.token_session.specs.Inputs.{Judged, end, is_own, is_own_packet, is_packet, own, packet}
+use Rattle.token_session.specs.Inputs.{Judged, end, is_own, is_packet, own, packet}
 use Rattle.token_session.specs.Messages.{finished_at, Begun, finished, finished_long, goes_on, is_last, is_long, is_next, is_open, message, open_among, open_at, packets_of}
 use Rattle.token_session.specs.History.{admits, judge, judged}
 use Rattle.token_session.specs.declared.input.Input.{Input}

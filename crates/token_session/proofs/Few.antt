@@ -15,7 +15,7 @@ use Rattle.hid_packet.specs.Message.{continuation_packets, written}
 use Rattle.hid_packet.specs.Packet.{Fields, channel_of, data_of, fields}
 use Rattle.token_session.specs.Machine.{State, Turn, event_after, overdue_packets, time_passed, served, turn}
 use Rattle.token_session.specs.Events.{reply_in, event_keeps_alive, event_packets, keepalive_due, keepalive_packets}
-use Rattle.token_session.specs.Replies.{answer_keeps_alive, answer_packets, asker, greeting, is_status, ping_packets, request_event, row_packets, status_of}
+use Rattle.token_session.specs.Replies.{answer_keeps_alive, answer_packets, asker, greeting, ping_packets, request_event, row_packets, status_of}
 use Rattle.token_session.specs.declared.input.Input.{Input}
 use Rattle.token_session.specs.declared.input.Input.TheVariants.{Packet}
 use Rattle.token_session.specs.declared.input.Timed.{Timed}
@@ -32,7 +32,7 @@ answer_few : (c s : Option ℕ) (a : Answer) → length (answer_packets c s a) �
 unfolding answer_packets
 answer_few None s a = omega arith
 answer_few (Some c) s (Answered b) = few_written c CBOR b
-answer_few (Some c) s (Waits n) = cond_case (λ (v : List (List ℕ)). length v ≤ 129) (is_status s n) _ _ (λ _. omega arith) (λ _. few_written c KEEPALIVE (n ∷ []))
+answer_few (Some c) s (Waits n) = cond_case (λ (v : List (List ℕ)). length v ≤ 129) (is_on s n) _ _ (λ _. omega arith) (λ _. few_written c KEEPALIVE (n ∷ []))
 answer_few (Some c) s Ignored = omega arith
 answer_few (Some c) s Nothing = omega arith
 

@@ -15,7 +15,8 @@ use Rattle.token_session.specs.Inputs.{Judged}
 use Rattle.token_session.specs.History.{judged, sent}
 use Rattle.token_session.specs.Law.{event_at, numbered, onto, sent_from, sent_now, turns_send}
 use Rattle.token_session.specs.Machine.{machine}
-use Rattle.token_session.specs.Meters.{as_list, requests, meters_of, session_of, SessionState, StandsAfter}
+use Rattle.std.specs.List.{cons_option}
+use Rattle.token_session.specs.Meters.{requests, meters_of, session_of, SessionState, StandsAfter}
 use Rattle.token_session.specs.Headline.{AllCarried, IsAnswered}
 use Rattle.token_session.proofs.Carrying.{finished_is_carried}
 use Rattle.token_session.proofs.Follows.{machine_follows}
@@ -34,7 +35,7 @@ all_carried start [] w = tt
 all_carried start (x ∷ h) w = (λ m fin. finished_is_carried start h x m w fin, all_carried start h w.1)
 
 one_few : (each : (m : List ℕ) → steps_of m ≤ 4 * (length m - 1) + 2) (o : Option (List ℕ)) (ms : List (List ℕ)) → AllByRecursion (λ m. steps_of m ≤ 4 * (length m - 1) + 2) ms
-    → AllByRecursion (λ m. steps_of m ≤ 4 * (length m - 1) + 2) (as_list o ++ ms)
+    → AllByRecursion (λ m. steps_of m ≤ 4 * (length m - 1) + 2) (cons_option o ms)
 one_few each None ms h = h
 one_few each (Some m) ms h = (each m, h)
 

@@ -1,5 +1,6 @@
 -- The meters that a history names go on by one input.
 use Rattle.std.proofs.Common.{◌≡◌, ℕ, ◌+◌, ◌-◌, ◌*◌, ◌≤◌, List, [], ◌∷◌, ◌++◌, length, max, min, sum_by, Option, Some, None, option_map, refl, sym, ◌∙◌, ap, subst, arith}
+use Rattle.std.specs.Prelude.{unwrap_or}
 use Rattle.std.proofs.lemmas.List.Sums.{sum_by-cons}
 use Rattle.hid_assemble.specs.Assembly.{held_bytes}
 use Rattle.ctap_message.specs.Requests.{steps_of, LARGEST}
@@ -17,7 +18,8 @@ use Rattle.token_session.specs.Machine.{State, Turn, turn, start_state}
 use Rattle.token_session.specs.Messages.{as_open}
 use Rattle.token_session.specs.Law.{named, event_at, IsAfter}
 use Rattle.cred_table.specs.Waiting.{pending_count}
-use Rattle.token_session.specs.Meters.{AreBounded, peak_rows, peak_pending, metered_by, as_list, requests, peak_held, meters_of, one_more, bytes_in, steps_in, metered, SessionState, StandsAfter, stepped, session_of}
+use Rattle.std.specs.List.{cons_option}
+use Rattle.token_session.specs.Meters.{AreBounded, peak_rows, peak_pending, metered_by, requests, peak_held, meters_of, one_more, bytes_in, steps_in, metered, SessionState, StandsAfter, stepped, session_of}
 use Rattle.token_session.proofs.Runs.{turn_after}
 
 -- the bytes held are those that the history names
@@ -25,24 +27,24 @@ pub held_named : (start : Start) (h : List Judged) → held_bytes (named start h
 unfolding named held
 held_named start h = go (open_at h (end start h))
   where
-    go : (o : Option Begun) → held_bytes (option_map as_open o) ≡ (elim o [ None ↦ 0 | Some b ↦ 57 + 59 * length b.own ])
+    go : (o : Option Begun) → held_bytes (option_map as_open o) ≡ (unwrap_or (option_map (λ (b : Begun). 57 + 59 * length b.own) o) 0)
     go None = refl
     go (Some b) = refl
 
 capped : (n k m : ℕ) → m ≡ k + n → min m LARGEST ≡ min (min n LARGEST + k) LARGEST
 capped n k m e = omega arith
 
-count_more : (e : Option Event) (rs : List (List ℕ)) → length (as_list (request_in e) ++ rs) ≡ one_more (request_in e) + length rs
+count_more : (e : Option Event) (rs : List (List ℕ)) → length (cons_option (request_in e) rs) ≡ one_more (request_in e) + length rs
 count_more None rs = omega arith
 count_more (Some (Request cid bytes)) rs = omega arith
 count_more (Some other) rs = omega arith
 
-sum_more : (e : Option Event) (rs : List (List ℕ)) → sum_by (λ bytes. length bytes - 1) (as_list (request_in e) ++ rs) ≡ bytes_in (request_in e) + sum_by (λ bytes. length bytes - 1) rs
+sum_more : (e : Option Event) (rs : List (List ℕ)) → sum_by (λ bytes. length bytes - 1) (cons_option (request_in e) rs) ≡ bytes_in (request_in e) + sum_by (λ bytes. length bytes - 1) rs
 sum_more None rs = omega arith
 sum_more (Some (Request cid bytes)) rs = sum_by-cons (λ (b : List ℕ). length b - 1) bytes rs
 sum_more (Some other) rs = omega arith
 
-steps_more : (e : Option Event) (rs : List (List ℕ)) → sum_by steps_of (as_list (request_in e) ++ rs) ≡ steps_in (request_in e) + sum_by steps_of rs
+steps_more : (e : Option Event) (rs : List (List ℕ)) → sum_by steps_of (cons_option (request_in e) rs) ≡ steps_in (request_in e) + sum_by steps_of rs
 steps_more None rs = omega arith
 steps_more (Some (Request cid bytes)) rs = sum_by-cons steps_of bytes rs
 steps_more (Some other) rs = omega arith

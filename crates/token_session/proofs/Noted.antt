@@ -4,7 +4,7 @@ use Rattle.std.proofs.lemmas.Bool.Decides.{nat_tests}
 use Rattle.std.proofs.lemmas.List.Folds.{list_any-append}
 use Rattle.authn_core.specs.State.{Event, Answer, Answered, Waits, Ignored, Nothing}
 use Rattle.authn_core.specs.Turn.{Start, Work, CoreState, working, waiting}
-use Rattle.hid_assemble.specs.Table.{Begins, Continues, Ruling, ruling_of}
+use Rattle.hid_assemble.specs.Table.{Begins, Continues, Ruling, ruling_of, is_on}
 use Rattle.hid_assemble.specs.Assembly.{Message}
 use Rattle.hid_assemble.specs.declared.table.Row.TheVariants.{BadLength, BrokenOff, BusyElsewhere, BusyHere, CancelsNothing, CancelsWork, InitAgain, InitFull, InitLength, InitNew, Long, NoSuchChannel, NoSuchCommand, Short}
 use Rattle.hid_assemble.specs.declared.table.Continuation.TheVariants.{Kept, Stray, Whole, WrongNumber}
@@ -16,7 +16,7 @@ use Rattle.token_session.specs.Inputs.{Judged, end, given}
 use Rattle.token_session.specs.Messages.{Begun, finished_at, open_at, as_open}
 use Rattle.token_session.specs.History.{core, cut_packets, event_to, is_cut, last_keepalive, sent_at, service_packets, table_packets, time_packets}
 use Rattle.token_session.specs.Law.{keeps_alive}
-use Rattle.token_session.specs.Replies.{answer_keeps_alive, answer_packets, greeting, is_status, ping_packets, row_packets}
+use Rattle.token_session.specs.Replies.{answer_keeps_alive, answer_packets, greeting, ping_packets, row_packets}
 use Rattle.token_session.specs.declared.input.Input.{Input}
 use Rattle.token_session.specs.declared.input.Input.TheVariants.{Packet}
 
@@ -106,7 +106,7 @@ answer_noted : (to before : Option ℕ) (a : Answer) → keeps_alive (answer_pac
 unfolding answer_packets answer_keeps_alive
 answer_noted None before a = refl
 answer_noted (Some cid) before (Answered bytes) = of_written cid CBOR bytes
-answer_noted (Some cid) before (Waits status) = go (is_status before status)
+answer_noted (Some cid) before (Waits status) = go (is_on before status)
   where
     go : (b : Bool) → keeps_alive (cond b [] (written cid KEEPALIVE (status ∷ []))) ≡ not b
     go true = refl

@@ -34,14 +34,14 @@ drive_number (Full done) = 1
 abbrev pub both_number : BothFault → ℕ
 both_number (BothFull first second) = 1
 
--- how many inputs were stepped where a drive stopped
-abbrev pub done_in : DriveFault → ℕ
-done_in (Full done) = done
-
--- how many of so many inputs were stepped
+-- how many of so many inputs were stepped: all, but where the drive stopped
 abbrev pub done_of : {A : Type 0} → ℕ → Result A DriveFault → ℕ
 done_of n (Ok x) = n
-done_of n (Err e) = done_in e
+done_of n (Err (Full done)) = done
+
+-- the same of a fault alone
+abbrev pub done_in : DriveFault → ℕ
+done_in (Full done) = done
 
 abbrev pub first_done : {A : Type 0} → ℕ → Result A BothFault → ℕ
 first_done n (Ok x) = n

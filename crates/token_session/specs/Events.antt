@@ -38,14 +38,12 @@ event_core core at None = core
 event_core core at (Some e) = core_after core at e
 
 abbrev pub event_packets : CoreState → ℕ → Option Event → List (List ℕ)
-event_packets core at None = []
-event_packets core at (Some e) = answer_packets (asker (waiting core) e) (status_of (waiting core))
-    (core_answer core at e)
+event_packets k at None = []
+event_packets k at (Some e) = answer_packets (asker (waiting k) e) (status_of (waiting k)) (core_answer k at e)
 
 abbrev pub event_keeps_alive : CoreState → ℕ → Option Event → Bool
-event_keeps_alive core at None = false
-event_keeps_alive core at (Some e) = answer_keeps_alive (asker (waiting core) e) (status_of (waiting core))
-    (core_answer core at e)
+event_keeps_alive k at None = false
+event_keeps_alive k at (Some e) = answer_keeps_alive (asker (waiting k) e) (status_of (waiting k)) (core_answer k at e)
 
 -- A KEEPALIVE is due 100 ms after the last, where work waits (CTAP 2.1, section 11.2.9.1.7).
 unfoldable pub keepalive_due : Option Work → ℕ → ℕ → Bool

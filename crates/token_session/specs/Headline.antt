@@ -20,13 +20,11 @@ abbrev pub start_of : (aaguid : List ℕ) → (moment capacity : ℕ) → List R
 start_of aaguid moment capacity rows = record { aaguid = aaguid; moment = moment; room = capacity; rows = rows }
 
 -- Each message that an input finished was carried by its channel's packets.
-abbrev pub WasCarried : Judged → List Judged → Type 0
-WasCarried e past = (m : Message) → finished_at e past ≡ Some m
-    → CarriesMessage (carriers_at e past) m.cid m.cmd m.bytes
-
 abbrev pub AllCarried : List Judged → Type 0
 AllCarried [] = Unit {0}
-AllCarried (e ∷ past) = WasCarried e past × AllCarried past
+AllCarried (e ∷ past) =
+    ((m : Message) → finished_at e past ≡ Some m → CarriesMessage (carriers_at e past) m.cid m.cmd m.bytes)
+    × AllCarried past
 
 -- After a history, newest first, in which these packets were sent: they are exactly those that its definition names;
 -- each finished message is the bytes that its packets carried; the unfinished message holds at most 7609 bytes; there

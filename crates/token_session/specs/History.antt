@@ -1,7 +1,8 @@
 -- What a history says, by its inputs alone: positions, filters and lists, and no state. Each input is judged, the
 -- authenticator takes its turns over the events, and packets are sent.
-use Rattle.std.specs.Prelude.{ℕ, Bool, not, ◌&&◌, ◌||◌, ◌==◌, nat_le, List, [], ◌∷◌, ◌++◌, max, Option, Some, None, option_map, is_some, is_none, if◌then◌else◌}
+use Rattle.std.specs.Prelude.{ℕ, Bool, not, ◌&&◌, ◌||◌, ◌==◌, nat_le, List, [], ◌∷◌, ◌++◌, max, Option, Some, None, option_map, is_some, is_none, if◌then◌else◌, length, unwrap_or}
 use Rattle.hid_packet.specs.Commands.{PING, INIT, CBOR, CANCEL}
+use Rattle.hid_packet.specs.Limits.{data_room}
 use Rattle.hid_packet.specs.Packet.{fields, channel, is_initialization, command, message_length, is_command}
 use Rattle.hid_assemble.specs.Table.{is_given, is_on, ruling_of}
 use Rattle.hid_assemble.specs.Assembly.{Message}
@@ -11,7 +12,7 @@ use Rattle.token_session.specs.declared.input.Input.{Input}
 use Rattle.token_session.specs.declared.input.Input.TheVariants.{Packet}
 use Rattle.token_session.specs.declared.input.Timed.{Timed}
 use Rattle.token_session.specs.Inputs.{Judged, end, is_packet, given}
-use Rattle.token_session.specs.Messages.{Begun, open_at, as_open, finished, finished_at, held_of}
+use Rattle.token_session.specs.Messages.{Begun, open_at, as_open, finished, finished_at}
 use Rattle.token_session.specs.Replies.{error, row_packets, ping_packets, request_event}
 use Rattle.token_session.specs.Events.{reply_in, event_core, event_packets, event_keeps_alive, keepalive_packets, keepalive_due}
 
@@ -46,12 +47,8 @@ admits given o work p =
 unfoldable pub judge : Start → Timed → List Judged → Judged
 judge start x past =
     let t = max (end start past) x.at in
-    record {
-      at = t;
-      input = x.input;
-      admitted = is_packet
-          (admits (given past) (open_at past t) (working (core start past))) x.input;
-    }
+    let admitted = is_packet (admits (given past) (open_at past t) (working (core start past))) x.input in
+    record { at = t; input = x.input; admitted = admitted }
 
 unfoldable pub judged : Start → List Timed → List Judged
 judged start [] = []
@@ -77,16 +74,15 @@ last_keepalive start (e ∷ past) =
 
 unfoldable pub time_packets : Start → List Judged → ℕ → List (List ℕ)
 time_packets start past t =
-    if is_cut (open_at past (end start past)) (open_at past t) then cut_packets (open_at past (end start past))
-    else if keepalive_due (waiting (core start past)) (last_keepalive start past) t
-    then keepalive_packets (waiting (core start past))
-    else []
+    let before = open_at past (end start past) in
+    let work = waiting (core start past) in
+    if is_cut before (open_at past t) then cut_packets before
+    else if keepalive_due work (last_keepalive start past) t then keepalive_packets work else []
 
 -- The packets of service: those of the reply table's row, the answer to a finished PING, and those of the event.
 abbrev pub table_packets : ℕ → Option Begun → Option ℕ → Input → List (List ℕ)
-table_packets given o work (Packet p) = row_packets given (fields p.0)
-    (ruling_of given (option_map as_open o) work (fields p.0))
-table_packets given o work other = []
+table_packets g o work (Packet p) = let f = fields p.0 in row_packets g f (ruling_of g (option_map as_open o) work f)
+table_packets g o work other = []
 
 unfoldable pub service_packets : Start → Judged → List Judged → List (List ℕ)
 service_packets start e past =
@@ -105,5 +101,6 @@ unfoldable pub sent : Start → List Judged → List (List ℕ)
 sent start [] = []
 sent start (e ∷ past) = sent start past ++ sent_at start e past
 
+-- the data bytes that are held of the open message
 unfoldable pub held : Start → List Judged → ℕ
-held start h = held_of (open_at h (end start h))
+held start h = unwrap_or (option_map (λ b. data_room (length b.own)) (open_at h (end start h))) 0

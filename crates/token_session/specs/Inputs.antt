@@ -40,11 +40,8 @@ unfoldable pub given : List Judged → ℕ
 given h = min (count_by (λ e. is_packet asks_channel e.input) h) LAST_CHANNEL
 
 -- A channel's own packets: those on it, except for CANCEL.
-abbrev pub is_own_packet : ℕ → List ℕ → Bool
-is_own_packet cid p = (cid == channel p) && not (is_command CANCEL p)
-
 unfoldable pub is_own : ℕ → Judged → Bool
-is_own cid e = is_packet (is_own_packet cid) e.input
+is_own cid e = is_packet (λ p. (cid == channel p) && not (is_command CANCEL p)) e.input
 
 unfoldable pub own : ℕ → List Judged → List Judged
 own cid later = filter (is_own cid) later

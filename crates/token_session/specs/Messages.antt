@@ -63,21 +63,16 @@ last_at t (e ∷ es) = last_at e.at es
 
 -- the open message, with its joined data
 abbrev pub as_open : Begun → Open
-as_open b = record {
-  cid = channel b.packet;
-  cmd = command b.packet;
-  len = message_length b.packet;
-  bytes = joined b.packet (packets_of b.own);
-  kept = length b.own;
-  last = last_at b.at b.own;
-}
+as_open b =
+    let p = b.packet in
+    let bytes = joined p (packets_of b.own) in
+    let last = last_at b.at b.own in
+    record { cid = channel p; cmd = command p; len = message_length p; bytes = bytes; kept = length b.own; last = last }
 
 abbrev pub message : List ℕ → List (List ℕ) → Message
-message first others = record {
-  cid = channel first;
-  cmd = command first;
-  bytes = take (message_length first) (joined first others);
-}
+message first others =
+    let bytes = take (message_length first) (joined first others) in
+    record { cid = channel first; cmd = command first; bytes = bytes }
 
 unfoldable pub is_last : Begun → List ℕ → Bool
 is_last b p =
@@ -96,8 +91,3 @@ finished o admitted other = None
 -- the message that an input finishes after a history
 abbrev pub finished_at : Judged → List Judged → Option Message
 finished_at e past = finished (open_at past e.at) e.admitted e.input
-
--- the data bytes that are held of the open message
-abbrev pub held_of : Option Begun → ℕ
-held_of None = 0
-held_of (Some b) = data_room (length b.own)

@@ -4,7 +4,7 @@ use Rattle.byteorder.specs.Endian.{big_bytes}
 use Rattle.hid_packet.specs.Commands.{PING, INIT, CBOR, KEEPALIVE, ERROR, BROADCAST}
 use Rattle.hid_packet.specs.Packet.{Fields, channel_of, data_of}
 use Rattle.hid_packet.specs.Message.{written}
-use Rattle.hid_assemble.specs.Table.{Begins, Continues, Ruling}
+use Rattle.hid_assemble.specs.Table.{is_on, Begins, Continues, Ruling}
 use Rattle.hid_assemble.specs.Assembly.{Message}
 use Rattle.hid_assemble.specs.declared.table.Row.TheVariants.{NoSuchChannel, InitLength, InitFull, InitNew, InitAgain, BusyElsewhere, BusyHere, BrokenOff, NoSuchCommand, BadLength}
 use Rattle.hid_assemble.specs.declared.table.Continuation.TheVariants.{WrongNumber}
@@ -53,31 +53,18 @@ request_event (Some m) = if m.cmd == CBOR then Some (Request m.cid m.bytes) else
 abbrev pub status_of : Option Work → Option ℕ
 status_of work = option_map (λ w. w.status) work
 
--- its channel
-abbrev pub work_channel : Option Work → Option ℕ
-work_channel work = option_map (λ w. w.cid) work
-
 -- the channel to which an event's answer goes: the request's own, or that of the waiting work
 abbrev pub asker : Option Work → Event → Option ℕ
 asker work (Request cid bytes) = Some cid
-asker work e = work_channel work
-
-abbrev pub is_status : Option ℕ → ℕ → Bool
-is_status None status = false
-is_status (Some before) status = before == status
+asker work e = option_map (λ w. w.cid) work
 
 -- An answer goes out as a CBOR message; work that begins, or whose status changes, sends a KEEPALIVE.
 unfoldable pub answer_packets : Option ℕ → Option ℕ → Answer → List (List ℕ)
-answer_packets None before answer = []
 answer_packets (Some cid) before (Answered bytes) = written cid CBOR bytes
-answer_packets (Some cid) before (Waits status) = if is_status before status then [] else keepalive cid status
-answer_packets (Some cid) before Ignored = []
-answer_packets (Some cid) before Nothing = []
+answer_packets (Some cid) before (Waits status) = if is_on before status then [] else keepalive cid status
+answer_packets _ before _ = []
 
 -- does the answer send a KEEPALIVE?
 unfoldable pub answer_keeps_alive : Option ℕ → Option ℕ → Answer → Bool
-answer_keeps_alive None before answer = false
-answer_keeps_alive (Some cid) before (Answered bytes) = false
-answer_keeps_alive (Some cid) before (Waits status) = not (is_status before status)
-answer_keeps_alive (Some cid) before Ignored = false
-answer_keeps_alive (Some cid) before Nothing = false
+answer_keeps_alive (Some cid) before (Waits status) = not (is_on before status)
+answer_keeps_alive _ before _ = false
