@@ -6,6 +6,7 @@ ghost use Rattle.std.specs.Prelude.{◌<◌, ◌-◌, ◌^◌};
 #[cfg(test)]
 mod cases;
 mod command_line;
+mod commands;
 mod files;
 mod logs;
 mod misfit;

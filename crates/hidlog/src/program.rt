@@ -1,23 +1,22 @@
 //! The program over any source and targets.
 ghost use Rattle.std.specs.Prelude.{◌≡◌, ◌<◌, ◌-◌, ◌^◌, ◌⊎◌, ◌∷◌, [], None, Some, Result, IfErr, IsSomeAnd, MatchOption, OnOk, OnErr, codes, option_and_then};
 ghost use Rattle.clap.specs.Words.{kind_of};
-ghost use Rattle.session_log.specs.Command.{status_of};
+ghost use Rattle.session_log.specs.Command.{start_with, status_of};
 ghost use Rattle.session_log.specs.Streams.{IsAllRead};
+ghost use Rattle.token_session.specs.Meters.{session_of};
 ghost use Rattle.hidlog.specs.CommandLine.{check, live, named, quiet, replay, show as shown, path_of, texts_of};
 ghost use Rattle.hidlog.specs.Program.{Explains, IsTold, cannot_read_log};
 ghost use Rattle.hidlog.specs.Commands.{Answers, Compares, Does};
 
 use crate::command_line::{Form, Task, task_of};
+use crate::commands::{check_on, live_on, quiet_on, replay_on};
 use crate::files::Files;
 use crate::logs::Logs;
 use crate::process::{log_fault, no_memory, tell, tell_why};
 use crate::several::check_each;
-use crate::snapshots::{begin, look, save_rows};
 use clap::Error;
 use clap::error::ErrorKind;
-use session_log::{
-    LogFault, Target, check_command, live_command, put_all, quiet_command, replay_command,
-};
+use session_log::{CAPACITY, LogFault, Target, put_all};
 use session_show::{Summary, put_json_fault, show, show_json, summarize};
 use std::alloc::Global;
 use token_session::Session;
@@ -47,7 +46,7 @@ fn explain<O: Target, E: Target>(
 }
 
 /// Returns the path of the log, where it isn't on standard input.
-fn path_in(log: Option<&str>) -> Option<&str>
+pub fn path_in(log: Option<&str>) -> Option<&str>
     ensures { path_of result ≡ named (path_of log.entry) }
 {
     match log {
@@ -57,7 +56,7 @@ fn path_in(log: Option<&str>) -> Option<&str>
 }
 
 /// Begins at the front of the log. Where it can't be opened, that is written, and an error holds the exit status, 1.
-fn open_log<L: Logs, E: Target>(
+pub fn open_log<L: Logs, E: Target>(
     input: &mut L,
     alloc: Global,
     log: Option<&str>,
@@ -85,7 +84,16 @@ fn open_log<L: Logs, E: Target>(
     }
 }
 
-// A session takes 29 kB. Each command has one in a frame of its own, so that only one is on the stack at a time.
+// A session takes 29 kB. Each command makes one in a frame of its own, and does nothing else there, so that only one is
+// on the stack at a time, and it isn't copied.
+
+/// Returns the program's session at its start, without credentials.
+// By this function it is made where its caller keeps it. Of a call of `Session::bare` in its place there is a copy.
+fn fresh() -> Session<CAPACITY>
+    ensures { result ≡ session_of (start_with []) [] }
+{
+    Session::bare([0; 16], 0)
+}
 
 /// Replays the log, and saves the credentials that the session has after it.
 #[inline(never)]
@@ -112,14 +120,17 @@ where
         O.taken O.failed E.taken E.failed (replay (path_of load.entry) (path_of save.entry) (path_of log.entry)) result
         (files.old, files.new) (input.old, input.new) (output.old, output.new) (faults.old, faults.new) }
 {
-    let mut place = Session::bare([0; 16], 0);
-    open_log(input, alloc, log, faults)?;
-    let session = begin(&mut place, files, alloc, load, faults)?;
-    replay_command(session, input, output, faults)?;
-    match save {
-        Some(path) => save_rows(files, alloc, path, path_in(log), session, faults),
-        None => Ok(()),
-    }
+    replay_on(
+        &mut fresh(),
+        files,
+        alloc,
+        load,
+        save,
+        log,
+        input,
+        output,
+        faults,
+    )
 }
 
 /// Replays the log and says what the key needs, and saves the credentials that the session has after it.
@@ -147,15 +158,17 @@ where
         O.taken O.failed E.taken E.failed (live (path_of load.entry) (path_of save.entry) (path_of log.entry)) result
         (files.old, files.new) (input.old, input.new) (output.old, output.new) (faults.old, faults.new) }
 {
-    let mut place = Session::bare([0; 16], 0);
-    open_log(input, alloc, log, faults)?;
-    let session = begin(&mut place, files, alloc, load, faults)?;
-    look(files, alloc, save, path_in(log), faults)?;
-    live_command(session, input, output, faults)?;
-    match save {
-        Some(path) => save_rows(files, alloc, path, path_in(log), session, faults),
-        None => Ok(()),
-    }
+    live_on(
+        &mut fresh(),
+        files,
+        alloc,
+        load,
+        save,
+        log,
+        input,
+        output,
+        faults,
+    )
 }
 
 /// Compares the log with what the session sends.
@@ -183,10 +196,7 @@ where
         (path_of load.entry) (path_of log.entry) result
         (files.now, files.now) (input.old, input.new) (output.old, output.new) (faults.old, faults.new) }
 {
-    let mut place = Session::bare([0; 16], 0);
-    open_log(input, alloc, log, faults)?;
-    let session = begin(&mut place, files, alloc, load, faults)?;
-    check_command(session, input, output, faults)
+    check_on(&mut fresh(), files, alloc, load, log, input, output, faults)
 }
 
 /// Makes the log quiet.
@@ -213,10 +223,7 @@ where
         O.taken O.failed E.taken E.failed (quiet (path_of load.entry) (path_of log.entry)) result
         (files.now, files.now) (input.old, input.new) (output.old, output.new) (faults.old, faults.new) }
 {
-    let mut place = Session::bare([0; 16], 0);
-    open_log(input, alloc, log, faults)?;
-    let session = begin(&mut place, files, alloc, load, faults)?;
-    quiet_command(session, input, output, faults)
+    quiet_on(&mut fresh(), files, alloc, load, log, input, output, faults)
 }
 
 /// Writes a summary of the log, also of one with a fault, up to there.

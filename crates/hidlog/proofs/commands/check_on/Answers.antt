@@ -1,7 +1,7 @@
 use Rattle.session_log.specs.Command.{start_with}
 use Rattle.std.proofs.Common.{inr, refl, sym, [], ◌∙◌, inl, rules}
 use Rattle.hidlog.proofs.Statuses.{is_status}
-use Rattle.hidlog.proofs.program.check_log.Goals as goal
+use Rattle.hidlog.proofs.commands.check_on.Goals as goal
 
 pub returns-clause-status : goal.returns-clause-status
 returns-clause-status g c =

@@ -1,6 +1,6 @@
 use Rattle.session_log.specs.Command.{start_with}
 use Rattle.std.proofs.Common.{◌≡◌, ◌∙◌, inr, refl, rules, sym, Ok, Err, [], inl}
-use Rattle.hidlog.proofs.program.replay_log.Goals as goal
+use Rattle.hidlog.proofs.commands.replay_on.Goals as goal
 
 pub returns-in_err-replay_command-clause-does : goal.returns-in_err-replay_command-clause-does
 returns-in_err-replay_command-clause-does g c =
