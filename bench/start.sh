@@ -25,10 +25,14 @@ for words in replay live check quiet show --help --version "replay --load exampl
 done
 echo "the least stack in kB, for whole sessions:"
 python3 - "$program" <<'PYTHON'
+import ctypes
 import resource
 import subprocess
 import sys
 
+# Without it the system begins a stack at a random place in its last 8 kB.
+ADDR_NO_RANDOMIZE = 0x0040000
+SYSTEM = ctypes.CDLL(None)
 SNAPSHOT = ["--load", "examples/example_com.snapshot"]
 RUNS = [(it, "sign_in") for it in (["replay"], ["live"], ["check"], ["quiet"], ["show"], ["--help"])]
 RUNS.append((["replay", *SNAPSHOT], "sign_in_again"))
@@ -36,6 +40,7 @@ RUNS.append((["replay", *SNAPSHOT], "sign_in_again"))
 
 def runs(words, log, kilobytes):
     def limit():
+        SYSTEM.personality(ADDR_NO_RANDOMIZE)
         resource.setrlimit(resource.RLIMIT_STACK, (kilobytes * 1024, resource.RLIM_INFINITY))
 
     with open(f"examples/{log}.log") as file:
