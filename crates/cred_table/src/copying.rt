@@ -17,7 +17,7 @@ fn copy_handle(user: &ArrayVec<u8, 64>) -> ArrayVec<u8, 64>
 }
 
 /// Returns the same row.
-fn copy_row(row: &Row) -> Row
+pub(crate) fn copy_row(row: &Row) -> Row
     ensures { result ≡ row.now }
 {
     Row {

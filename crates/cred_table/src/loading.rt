@@ -5,6 +5,7 @@ ghost use Rattle.cred_table.specs.Rows.{Lawful};
 ghost use Rattle.cred_table.specs.Snapshots.{Loads, clashes};
 ghost use Rattle.cred_table.specs.Parsing.{ReadsEntry, ReadsRows};
 
+use crate::copying::copy_row;
 use crate::fault::SnapshotFault;
 use crate::listed::Listed;
 use crate::parsing::{read_heads, read_row};
@@ -91,13 +92,13 @@ fn read_snapshot<const C: usize>(bytes: &[u8], rows: &mut Listed<C>) -> Result<(
     }
 }
 
-/// Puts the rows into an empty table.
-fn put_all<T: Table<C>, const C: usize>(rows: Listed<C>, table: &mut T)
+/// Puts the rows into an empty table. They are copied from where they lie, so that the list isn't on the stack twice.
+fn put_all<T: Table<C>, const C: usize>(rows: &Listed<C>, table: &mut T)
     requires { T.rows table.old ≡ [] }
-    ensures { T.rows table.new ≡ rows.entry.list.items }
+    ensures { T.rows table.new ≡ rows.now.list.items }
 {
-    for row in rows.list {
-        table.put(row);
+    for row in rows.iter() {
+        table.put(copy_row(row));
     }
 }
 
@@ -113,6 +114,6 @@ pub fn load<T: Table<C>, const C: usize>(bytes: &[u8], table: &mut T) -> Result<
     let mut rows = Listed::new();
     read_snapshot(bytes, &mut rows)?;
     table.clear();
-    put_all(rows, table);
+    put_all(&rows, table);
     Ok(())
 }
