@@ -1,4 +1,6 @@
-use Rattle.std.proofs.Common.{◌≡◌, refl, List, ℕ, [], ◌∷◌}
+use Rattle.std.proofs.Common.{◌≡◌, refl, ap, sym, List, ℕ, [], ◌∷◌, length}
+use Rattle.std.proofs.lemmas.Bool.{eqb-true, eqb-false}
+use Rattle.std.proofs.lemmas.List.{nil_from_length}
 use Rattle.std.specs.Prelude.{◌≢◌, Ok}
 use Rattle.cred_table.specs.declared.row.Row.{Row}
 use Rattle.cred_table.specs.Snapshots.{Loads}
@@ -15,9 +17,13 @@ opens [] rows some l = absurd (some refl)
 opens (x ∷ s) rows some l = l
 
 pub returns-then-is_empty-clause-begins : goal.returns-then-is_empty-clause-begins
-returns-then-is_empty-clause-begins c = ([], opens_none c.args.snapshot.now (c.if-is_empty.ensures.0 refl), begins c.args.session.now _ c.requires.fresh)
+returns-then-is_empty-clause-begins c =
+    let s : List ℕ = c.args.snapshot.now in
+    let none : s ≡ [] = nil_from_length s (eqb-true (length s) 0 (sym c.if-is_empty.ensures)) in
+    ([], opens_none s none, begins c.args.session.now _ c.requires.fresh)
 
 pub returns-in-Ok-clause-begins : goal.returns-in-Ok-clause-begins
 returns-in-Ok-clause-begins c =
+    let s : List ℕ = c.args.snapshot.now in
     let e = c.in-Ok.ensures in
-    (e.0, opens c.args.snapshot.now e.0 (λ n. cc (c.if-is_empty.ensures.1 n)) e.1, begins c.load.new.self _ e.2)
+    (e.0, opens s e.0 (λ n. eqb-false (length s) 0 (sym c.if-is_empty.ensures) (ap length n)) e.1, begins c.load.new.self _ e.2)
