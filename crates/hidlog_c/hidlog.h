@@ -81,8 +81,8 @@ void hidlog_show(const uint8_t *log, size_t log_len, uint8_t *out, size_t room, 
  * A call returns a number of its own (>= 0) or a fault (< 0), and a call that returns a fault leaves the key as it
  * was. No pointer may be null. Moments are milliseconds; one that is earlier than the latest counts as the latest.
  *
- * hidlog_key_make takes 165 kB of the stack, hidlog_key_add 105 kB, _remove 85 kB, _clear 45 kB, _lines 40 kB, each
- * other call on a key under 20 kB (x86-64); hidlog_show takes 35 kB, each other function on a whole log 185 kB. */
+ * hidlog_key_make takes 95 kB of the stack, hidlog_key_add 80 kB, _remove 60 kB, _clear 20 kB, _lines 45 kB, each
+ * other call on a key under 20 kB (x86-64); hidlog_show takes 35 kB, each other function on a whole log 85 kB. */
 
 struct hidlog_key {
     void *memory;      /* hidlog_key_size() bytes, aligned to 16 */
