@@ -62,7 +62,7 @@ class Case:
 
 
 def expanded(line: str) -> str:
-    """Returns a line with the zeros that its two dots stand for."""
+    """Returns a line with the zeros that its two dots mean."""
     front, dots, _ = line.partition("..")
     return front + "0" * (128 - len(front.rpartition(" ")[2])) if dots else line
 
