@@ -4,9 +4,11 @@
     tests/edits/run.py [NAME ..]          tries those in tests/edits/gate, of every crate or of these: the gate calls it
     tests/edits/run.py --all [NAME ..]    those in tests/edits/release too, as before each release
     tests/edits/run.py --applies          proves nothing: says in a second whether each edit still fits its file
+    tests/edits/run.py --beside FILE      runs beside an `rt ci`, of which FILE is what it printed so far
 
 An edit is a file with the lines `file:`, `old:` and `new:`, in a folder named for its crate. The libraries below a crate
-are taken as `rt ci` built them (crates/*/out/rlib): run that first.
+are taken as `rt ci` built them (crates/*/out/rlib): run that first, or beside this, where a crate waits until those below
+it are proved.
 
 A proof sees of another function its contract alone. So a crate's edits are tried together, one in a function, and the
 prover says of each function whether it is proved; a function that is refused only since it calls an edited one is tried
@@ -27,6 +29,7 @@ import subprocess
 import sys
 import tempfile
 import threading
+import time
 from concurrent.futures import ThreadPoolExecutor
 from dataclasses import dataclass
 from functools import cache, cached_property
@@ -44,8 +47,14 @@ CONTRACT = re.compile(r"\b(ensures|requires|invariant|ghost)\b")
 MASKED = ", which is not proved"
 REFUSED = re.compile(r"no proof|not proved")
 VERDICT = re.compile(r"fn (\S+): (.*)")
+# What `rt ci` prints of a library that it has built, or has from an earlier run, and what it prints last.
+BUILT = re.compile(r"rt: (\w+)(?: proved$| is kept: )", re.MULTILINE)
+ENDED = re.compile(r"^\d+ passed, \d+ failed", re.MULTILINE)
 PLACE = re.compile(r"(?:note: )?(?:\./)?((?:src|specs|proofs)/\S+?):(\d+):\d+: (?:error: (.*))?")
 printing = threading.Lock()
+# The prover's processes, and the folder of this run's copies.
+running: set[subprocess.Popen[str]] = set()
+copies = Path(tempfile.gettempdir()) / f"edits-{os.getpid()}"
 
 
 @dataclass(frozen=True)
@@ -197,6 +206,19 @@ def apply_all() -> int:
     return 1 if wrong else 0
 
 
+def rlib_of(name: str) -> Path:
+    """Returns where `rt ci` builds a library of this repository."""
+    return TOP / "crates" / name / "out/rlib" / f"{name}.rlib"
+
+
+def link_or_copy(source: str, copy: str) -> None:
+    """Copies a file by a link to it, or whole onto another file system."""
+    try:
+        os.link(source, copy)
+    except OSError:
+        shutil.copyfile(source, copy)
+
+
 class Room:
     """A copy of a crate in a folder of its own, where edits are put and checked."""
 
@@ -204,6 +226,10 @@ class Room:
         self.crate = crate
         self.folder = folder / "crate"
         self.kept = folder / "kept"
+        self.libraries = folder / "libraries"
+        for name in below(crate):
+            # A copy, since `rt ci` puts at its end what was there before.
+            shutil.copytree(rlib_of(name), self.libraries / rlib_of(name).name, copy_function=link_or_copy)
         self.kit = Path(shutil.which("rt") or "rt").resolve().parent.parent
         for part in PARTS:
             if (crate.folder / part).is_dir():
@@ -226,10 +252,9 @@ class Room:
         crate, kit, words = self.crate, self.kit, [str(self.kit / "bin/rattle"), "check"]
         words += ["--crate-name", crate.name, crate.root, "-L", f"dependency={kit}/rlibs"]
         for name in ("std", *crate.uses):
-            rlib = TOP / f"crates/{name}/out/rlib/{name}.rlib" if name in CRATES else kit / f"rlibs/{name}.rlib"
+            rlib = (self.libraries if name in CRATES else kit / "rlibs") / f"{name}.rlib"
             words += ["--extern", f"{name}={rlib}"]
-        for name in below(crate):
-            words += ["-L", f"dependency={TOP}/crates/{name}/out/rlib"]
+        words += ["-L", f"dependency={self.libraries}"]
         words += ["--antt-project", f"{kit}/rattle/logic/antt-project.json", "--logic-built", f"{kit}/logic_built"]
         words += ["--crate-type", "staticlib"] if crate.is_static else []
         words += ["--incremental", str(self.kept), "--jobs", "1"]
@@ -242,7 +267,7 @@ class Room:
 
     def check(self, only: list[str]) -> tuple[int, list[str]]:
         """Checks the copy, these functions or the whole, and returns the prover's status and lines."""
-        ran = subprocess.run(
+        with subprocess.Popen(
             self.words(only),
             cwd=self.folder,
             stdin=subprocess.DEVNULL,
@@ -250,9 +275,11 @@ class Room:
             stderr=subprocess.STDOUT,
             text=True,
             errors="replace",
-            check=False,
-        )
-        return ran.returncode, ran.stdout.rstrip("\n").split("\n")
+        ) as checking:
+            running.add(checking)
+            said = checking.communicate()[0]
+            running.discard(checking)
+        return checking.returncode, said.rstrip("\n").split("\n")
 
 
 def is_of(name: str, function: str) -> bool:
@@ -358,16 +385,15 @@ def first_of_each(edits: list[Edit]) -> list[Edit]:
 def try_crate(name: str, edits: list[Edit]) -> int:
     """Tries edits of a crate, prints a line for each, and returns how many were refused."""
     answers = Answers({})
-    with tempfile.TemporaryDirectory(prefix="edits-") as folder:
-        room = Room(CRATES[name], Path(folder))
-        left = [it for it in edits if it.functions]
-        while left:
-            chosen = first_of_each(left)
-            later = try_round(room, chosen, answers)
-            left = later + [it for it in left if it not in chosen]
-        for edit in edits:
-            if not edit.functions:
-                try_whole(room, edit, answers)
+    room = Room(CRATES[name], copies / name)
+    left = [it for it in edits if it.functions]
+    while left:
+        chosen = first_of_each(left)
+        later = try_round(room, chosen, answers)
+        left = later + [it for it in left if it not in chosen]
+    for edit in edits:
+        if not edit.functions:
+            try_whole(room, edit, answers)
     with printing:
         for edit in edits:
             print(answers.lines.get(edit.name, f"{edit.name}: NOT TRIED"), flush=True)
@@ -377,7 +403,7 @@ def try_crate(name: str, edits: list[Edit]) -> int:
 def lacking(names: list[str]) -> str | None:
     """Returns why the libraries below these crates can't be taken, if they can't."""
     for name in {it for crate in names for it in below(CRATES[crate])}:
-        rlib = TOP / "crates" / name / "out/rlib" / f"{name}.rlib"
+        rlib = rlib_of(name)
         if not rlib.is_dir():
             return f"crates/{name} isn't built: run rt ci first"
         built = (rlib / "format").stat().st_mtime
@@ -387,16 +413,48 @@ def lacking(names: list[str]) -> str | None:
     return None
 
 
+@dataclass(frozen=True)
+class Beside:
+    """A running `rt ci`, by the file to which its output goes."""
+
+    said: Path
+
+    def await_libraries(self, name: str) -> str | None:
+        """Waits until those below a crate are proved. Returns why they never will be, if so."""
+        while True:
+            text = self.said.read_text(encoding="utf-8", errors="replace") if self.said.is_file() else ""
+            left = set(below(CRATES[name])) - set(BUILT.findall(text))
+            if not left:
+                return None
+            if ENDED.search(text):
+                return f"NOT TRIED: rt ci ended without {', '.join(sorted(left))}"
+            time.sleep(1)
+
+
+def try_in_turn(name: str, edits: list[Edit], beside: Beside | None, turns: threading.Semaphore) -> int:
+    """Tries edits of a crate once its libraries are there and a processor is free."""
+    if why := beside and beside.await_libraries(name):
+        with printing:
+            print("\n".join(f"{it.name}: {why}" for it in edits), flush=True)
+        return 0
+    with turns:
+        return try_crate(name, edits)
+
+
 def end_on_signal(number: int, _: FrameType | None) -> None:
-    """Ends the run as an exception does, so that the folders are removed."""
-    sys.exit(128 + number)
+    """Ends the run at once, with the prover's processes, and removes its folder."""
+    for checking in list(running):
+        checking.kill()
+    shutil.rmtree(copies, ignore_errors=True)
+    os._exit(128 + number)
 
 
 def main() -> int:
     parser = argparse.ArgumentParser(description=__doc__, formatter_class=argparse.RawDescriptionHelpFormatter)
     parser.add_argument("--all", action="store_true", help="the edits of tests/edits/release too")
     parser.add_argument("--applies", action="store_true", help="only see whether each edit still fits its file")
-    parser.add_argument("--jobs", type=int, default=os.cpu_count() or 1, metavar="N", help="crates at a time")
+    parser.add_argument("--beside", type=Path, metavar="FILE", help="run beside an rt ci, whose output goes to FILE")
+    parser.add_argument("--jobs", type=int, metavar="N", help="crates at a time (default: one for each processor)")
     parser.add_argument("crates", nargs="*", metavar="NAME", help="a crate (default: all that have edits)")
     given = parser.parse_args()
     if given.applies:
@@ -408,14 +466,25 @@ def main() -> int:
     chosen = {it: edits[it] for it in given.crates or edits}
     misfits = (f"{it.name}: {why}" for found in chosen.values() for it in found if (why := it.misfit()))
     missing = None if shutil.which("rt") else "there is no toolchain (rt)"
-    if why := missing or lacking(list(chosen)) or next(misfits, None):
+    beside = Beside(given.beside) if given.beside else None
+    if why := missing or (None if beside else lacking(list(chosen))) or next(misfits, None):
         parser.error(why)
     for number in (signal.SIGTERM, signal.SIGINT, signal.SIGHUP):
         signal.signal(number, end_on_signal)
-    with ThreadPoolExecutor(given.jobs) as pool:
-        # Those with the most rounds begin first.
-        order = sorted(chosen, key=lambda it: -len(chosen[it]))
-        passed = sum(pool.map(try_crate, order, [chosen[it] for it in order]))
+    jobs = given.jobs or os.cpu_count() or 1
+    if beside:
+        # The proofs go first, since each waits for another, and need half of the memory.
+        os.nice(10)
+        jobs = given.jobs or max(1, jobs // 2)
+    # Those with the most rounds begin first.
+    order = sorted(chosen, key=lambda it: -len(chosen[it]))
+    turns = threading.Semaphore(jobs)
+    copies.mkdir()
+    try:
+        with ThreadPoolExecutor(len(order)) as pool:
+            passed = sum(pool.map(lambda it: try_in_turn(it, chosen[it], beside, turns), order))
+    finally:
+        shutil.rmtree(copies, ignore_errors=True)
     tried = sum(map(len, chosen.values()))
     print(f"{passed} passed, {tried - passed} failed")
     return 0 if passed == tried else 1
