@@ -1,7 +1,7 @@
-"""The index of definitions by section of the public standards, docs/DEFINITIONS.md. tests/reading.py writes and compares it.
+"""The index of definitions by section of the public standards, docs/DEFINITIONS.md, which tests/reading.py writes.
 
 A definition is listed under a section where the comment above it names the section. A file is, where the comment at its
-top does, or what docs/READING.md says of the file.
+top does.
 """
 
 from __future__ import annotations
@@ -13,17 +13,16 @@ from pathlib import Path
 
 TOP = Path(__file__).resolve().parent.parent
 INDEX = TOP / "docs" / "DEFINITIONS.md"
-STANDARDS = ("CTAP 2.1", "WebAuthn Level 2", "RFC 8949")
+STANDARDS = ("CTAP 2.1", "WebAuthn Level 2", "RFC 8949", "RFC 8152")
 NUMBER = r"\d+(?:\.\d+)*"
 CITES = re.compile(rf"({'|'.join(map(re.escape, STANDARDS))}), sections? ({NUMBER}(?:(?:, | and |, and ){NUMBER})*)")
 ENCODING = re.compile(r"CTAP 2\.1, \"Message Encoding\"")
-HEADING = re.compile(r"^### (\w+), (\w+)\.antt\n\n(.*?)\n\n", re.MULTILINE | re.DOTALL)
 INTRO = """# Definitions by section of the standard
 
 Where you read a section of a standard and ask what this repository makes of it, look here. A file alone is about the
-section as a whole; names are the definitions that state it. [READING.md](READING.md) has those that the headline needs,
-in the order to read them, each with its sentence. `tests/reading.py --write` writes this page from the comments above the
-definitions, and fails where it differs.
+section as a whole; names are the definitions that state it. [READING.md](READING.md) has those that the headline needs
+in an order to read. `tests/reading.py --write` writes this page from the comments above the definitions, and
+`tests/reading.py` fails where it differs.
 """
 
 
@@ -55,21 +54,11 @@ def top_comment(text: str) -> str:
     return " ".join(lines)
 
 
-def said_of_files() -> dict[Path, str]:
-    """Returns what docs/READING.md says of each file."""
-    page = (TOP / "docs" / "READING.md").read_text(encoding="utf-8")
-    return {
-        TOP / "crates" / it[1] / "specs" / f"{it[2]}.antt": it[3].split("*Ask:*")[0] for it in HEADING.finditer(page)
-    }
-
-
 def index(comments: dict[Path, dict[str, str]]) -> Index:
     """Returns the files and definitions of each section. `comments` has those of a file's definitions by name."""
     found: Index = defaultdict(lambda: defaultdict(Entry))
-    said = said_of_files()
     for path, names in sorted(comments.items()):
-        text = top_comment(path.read_text(encoding="utf-8")) + " " + said.get(path, "")
-        for section in sections_in(text):
+        for section in sections_in(top_comment(path.read_text(encoding="utf-8"))):
             found[section][path].whole = True
         for name, comment in names.items():
             for section in sections_in(comment):

@@ -1,13 +1,28 @@
 #!/usr/bin/env python3
-"""Compares docs/READING.md with the definitions that the headline theorem needs, and the index docs/DEFINITIONS.md.
+"""Compares docs/READING.md and docs/READING_MORE.md with the definitions that the headline theorem needs, and the index
+docs/DEFINITIONS.md.
 
-    tests/reading.py            ends with 1 where the page misses a definition, names one that isn't needed, where the
-                                counts that it says aren't those of today, or where the index isn't that of today
-    tests/reading.py --write    writes the lists of definitions, the counts and the index anew
+    tests/reading.py            ends with 1 where the pages miss a definition, show one that isn't needed, or twice,
+                                where a text, a count or the index isn't that of today, where a definition names a type
+                                or a constant of the code that isn't public, where a law doesn't speak of what it
+                                replaces, or where the prose doesn't name a library's word or a small constructor
+    tests/reading.py --write    writes the definitions, the declarations, the counts and the index anew
+    tests/reading.py --list     prints what is needed, by files
 
 From the headline, the clause `answered` of `drive_new`, it follows each name that a definition uses, through the `use`
-lines, to the definition itself. What the page says of a file stands above its list and is written by hand; a definition's
-sentence is the comment above it. It needs no toolchain.
+lines, to the definition itself. Two things shorten the way:
+
+- LAWS: in the place of a definition that computes, the reader reads the statement of a law that says what it is.
+- APART: what is needed only by such a field of the headline is in a section of its own of READING_MORE.md, and is
+  counted apart. No packet depends on it.
+
+The pages' prose is written by hand. A comment `<!-- KIND: FILE: NAMES -->`, with the names in backquotes, is followed by
+
+- definitions: these definitions, each below its comment;
+- code: the declarations of types and constants of the code that definitions name; quoted: others;
+- clauses: clauses of the contract of the function that is named first, and its signature where that is named.
+
+It needs no toolchain.
 """
 
 from __future__ import annotations
@@ -15,21 +30,53 @@ from __future__ import annotations
 import re
 import sys
 import textwrap
+from collections.abc import Iterator
 from dataclasses import dataclass, field
+from functools import cache
 from pathlib import Path
 
 import definitions
 
 TOP = Path(__file__).resolve().parent.parent
 PAGE = TOP / "docs" / "READING.md"
+MORE_PAGE = TOP / "docs" / "READING_MORE.md"
 HEADLINE = TOP / "crates" / "token_session" / "src" / "driving.rt"
+RECORD = "IsAnswered"
+# Fields of the headline's record, in the order of their sections.
+APART = ("carried", "steps")
+# A definition, and the law that is read in its place: a function of src/laws.rt in the definition's crate.
+LAWS = {"canonical_tree": "trees_are_told", "outcome_of": "bytes_tell"}
+# Those that the first page needs. The last section of the second needs the others.
+PAGE_LAWS = {"canonical_tree"}
 CLAUSE = re.compile(r"pub fn drive_new<.*?ensures answered \{(.*?)\n    (?://|ensures)", re.DOTALL)
 USE = re.compile(r"use ([\w.]+)\.\{(.*)\}")
+MODIFIERS = re.compile(r"(?:(?:unfoldable|abbrev|pub) )+")
 DECLARES = re.compile(r"(?:(?:unfoldable|abbrev|pub|record|data) )*(\S+)")
 TOKEN = re.compile(r"[^\s(){}\[\],.;:]+")
-LIST = re.compile(r"<!-- definitions: (\S+) -->\n(.*?)<!-- end -->", re.DOTALL)
-CODE = re.compile(r"<!-- types of the code -->\n.*?<!-- end -->", re.DOTALL)
-COUNTS = re.compile(r"\*\*(\d+) definitions, ([\d,]+) lines, (\d+) files\*\*")
+# The names of fields: `.field`, where a record is declared, and where one is made.
+FIELDS = re.compile(r"(?<=[\w)])\.[a-z]\w*|^ +pub \w+ :|(?<=[{;])\s*[a-z]\w* =(?= )", re.MULTILINE)
+# (a b : T), λ x., let x =
+BINDERS = re.compile(r"\(([a-z][\w ]*) :|λ \(?([a-z][\w ]*?)[.:]|let (\w+) ")
+BLOCK = re.compile(r"<!-- (definitions|code|quoted|clauses): (\S+): `([^`]*)` -->\n(.*?)<!-- end -->", re.DOTALL)
+SECTION = re.compile(r"^(?=## Only for )", re.MULTILINE)
+COUNTS = re.compile(r"\*\*\d+\s+definitions,\s+[\d,]+\s+lines,\s+\d+\s+files\*\*")
+MORE = re.compile(r"\*\*\d+\s+more\s+definitions\*\*\s+\(`(\w+)`\)")
+DECLARED = re.compile(r"Rattle\.(\w+)\.specs\.declared\.([\w.]+?)(\.The\w+)?")
+LINKED = re.compile(r"\[(`[^`]*`)\]\([^)]*\)")
+# Between the texts of the two pages, where they are looked at as one.
+END = "\f"
+EXPORTED = r"^pub use {}::(?:\{{[^}}]*\b{}\b[^}}]*\}}|{});|^pub mod {};"
+
+
+@dataclass(frozen=True, order=True)
+class Name:
+    """A definition's name, or that of a type or a constant of the code, with its file."""
+
+    path: Path
+    name: str
+
+    def __str__(self) -> str:
+        return f"{self.path.relative_to(TOP)}: {self.name}"
 
 
 @dataclass
@@ -40,20 +87,42 @@ class Definition:
     comment: str
     lines: list[str] = field(default_factory=list)
 
-    def words(self) -> set[str]:
-        return {word for line in self.lines for word in TOKEN.findall(line.split(" -- ")[0])}
+    def code(self) -> list[str]:
+        """Returns the lines that are neither blank nor a comment."""
+        return [line for line in self.lines if line.strip() and not line.strip().startswith("--")]
+
+    def words(self, without: tuple[str, ...] = ()) -> set[str]:
+        """Returns the words by which it may name something else, without those of these fields."""
+        dropped = tuple(f"pub {it} :" for it in without)
+        kept = (line for line in self.code() if not line.strip().startswith(dropped))
+        text = FIELDS.sub(" ", "\n".join(line.split(" -- ")[0] for line in kept))
+        equations = re.split(rf"^(?= *{re.escape(self.name)}(?: |$))", text, flags=re.MULTILINE)
+        return {word for it in equations for word in free_words(it)}
 
     def makes(self) -> set[str]:
         """Returns the constructors of a data type."""
         if not re.match(r"\s*(pub )?data ", self.lines[0]):
             return set()
-        found = (re.match(r"\s+(?:pub )?(\S+) :", line) for line in self.lines[1:])
+        found = (re.match(r"\s+(?:pub )?(\S+) :", line) for line in self.code()[1:])
         return {it.group(1) for it in found if it}
 
-    def sentence(self) -> str:
-        """Returns the comment's first sentence."""
-        first = re.split(r"(?<=[a-z)\]0-9\"])\. ", self.comment)[0].strip().rstrip(".:;")
-        return first[:1].upper() + first[1:]
+    def shown(self) -> list[str]:
+        """Returns the definition as the page has it: its comment, and its lines without the words for the prover."""
+        end = "" if self.comment.endswith((".", "?")) else "."
+        lines = textwrap.wrap(self.comment[:1].upper() + self.comment[1:] + end, 113) if self.comment else []
+        indent = len(self.lines[0]) - len(self.lines[0].lstrip())
+        code = (re.sub(rf"^( *){MODIFIERS.pattern}", r"\1", line[indent:]) for line in self.lines)
+        return [f"-- {line}" for line in lines] + [line.rstrip() for line in code]
+
+
+def free_words(equation: str) -> set[str]:
+    """Returns the words of an equation or a type, without those that are bound here: the parameters in small letters,
+    and what `λ` and `let` name."""
+    left = equation.partition(" =")[0] if not re.match(r" *(?:\w+ )*\S+ :", equation) else ""
+    bound = {it for it in TOKEN.findall(left) if not it[0].isupper()}
+    for group in BINDERS.findall(equation):
+        bound |= set(TOKEN.findall("".join(group)))
+    return set(TOKEN.findall(equation)) - bound
 
 
 @dataclass
@@ -81,6 +150,7 @@ def take_uses(found: File, line: str) -> bool:
     return True
 
 
+@cache
 def read(path: Path) -> File:
     """Returns what a file defines. In a `mutual` block definitions are indented."""
     found, comment, current, indent = File(), list[str](), None, ""
@@ -88,19 +158,24 @@ def read(path: Path) -> File:
         text = line.strip()
         if not text:
             comment, current = [], None
-        elif text.startswith("--"):
+        elif text.startswith("--") and not (current and line.startswith(indent + " ")):
             comment.append(text[2:].strip())
         elif re.fullmatch(r"(\w+ )?mutual", line):
             indent = "  "
         elif not take_uses(found, line):
             indent = indent if line.startswith(" ") else ""
-            if not line.startswith(indent + " "):
+            if not line.startswith((indent + " ", indent + "}")):
                 name = DECLARES.match(text).group(1)  # type: ignore[union-attr]
                 current = found.definitions.setdefault(name, Definition(name, " ".join(comment)))
                 comment = []
             if current:
                 current.lines.append(line)
     return found
+
+
+def held(it: Name) -> Definition:
+    """Returns the definition with this name."""
+    return read(it.path).definitions[it.name]
 
 
 def path_of(module: str) -> Path | None:
@@ -112,99 +187,227 @@ def path_of(module: str) -> Path | None:
     return path if path.is_file() else None
 
 
-def headline() -> list[tuple[Path, str]]:
-    """Returns the definitions that the headline's clause names, each with its file."""
-    code, uses = HEADLINE.read_text(encoding="utf-8"), File()
+def declared(module: str, name: str) -> Name | None:
+    """Returns what a `use` of this name in this module takes from the code: that of a constructor is its type."""
+    found = DECLARED.fullmatch(module)
+    if found is None:
+        return None
+    inside, _, kind = (found[2], "", name) if found[3] == ".TheConstants" else found[2].rpartition(".")
+    path = TOP / "crates" / found[1] / "src" / f"{inside.replace('.', '/')}.rt"
+    return Name(path, kind) if path.is_file() else None
+
+
+def statement(path: Path, clause: re.Pattern[str], what: str) -> list[Name]:
+    """Returns the definitions that a clause of the code names."""
+    code, uses = path.read_text(encoding="utf-8"), File()
     for line in code.splitlines():
         take_uses(uses, line.removeprefix("ghost "))
-    clause = CLAUSE.search(code)
-    if clause is None:
-        raise SystemExit(f"tests/reading.py: {HEADLINE.relative_to(TOP)} has no clause `answered` of `drive_new`")
-    named = (
-        (path_of(uses.uses[word][0]), uses.uses[word][1]) for word in TOKEN.findall(clause[1]) if word in uses.uses
-    )
-    return [(path, name) for path, name in named if path]
+    found = clause.search(code)
+    if found is None:
+        raise SystemExit(f"tests/reading.py: {path.relative_to(TOP)} has no {what}")
+    named = ((path_of(uses.uses[word][0]), uses.uses[word][1]) for word in TOKEN.findall(found[1]) if word in uses.uses)
+    return [Name(there, name) for there, name in named if there]
 
 
 class Walk:
-    """The definitions that the headline needs, by their files."""
+    """What the headline needs: definitions, types and constants of the code, and words of libraries.
+
+    Without what only the fields `without` need; with `laws` in the place of what they replace."""
+
+    def __init__(self, without: tuple[str, ...], laws: dict[str, str]) -> None:
+        self.without, self.laws = without, laws
+        self.needed: set[Name] = set()
+        self.declared: set[Name] = set()
+        self.library: set[str] = set()
+        self.faults: list[str] = []
+        for it in statement(HEADLINE, CLAUSE, "clause `answered` of `drive_new`"):
+            self.visit(it)
+
+    def visit(self, it: Name) -> None:
+        """Takes a definition and all that it uses."""
+        if it.name in self.laws:
+            self.visit_law(it)
+            return
+        here = read(it.path)
+        definition = here.holding(it.name)
+        if definition is None:
+            raise SystemExit(f"tests/reading.py: {it.path.relative_to(TOP)} doesn't define {it.name}")
+        found = Name(it.path, definition.name)
+        if found in self.needed:
+            return
+        self.needed.add(found)
+        for word in sorted(definition.words(self.without if found.name == RECORD else ())):
+            self.visit_word(it.path, word)
+
+    def visit_word(self, path: Path, word: str) -> None:
+        """Takes what a word of a definition in this file names, if anything."""
+        here = read(path)
+        if here.holding(word):
+            self.visit(Name(path, word))
+        elif word in here.uses:
+            module, other = here.uses[word]
+            there, code = path_of(module), declared(module, other)
+            if there:
+                self.visit(Name(there, other))
+            elif code:
+                self.declared.add(code)
+            else:
+                self.library.add(word)
+
+    def visit_law(self, it: Name) -> None:
+        """Takes the statement of the law that is read in the place of a definition."""
+        law = self.laws[it.name]
+        path = it.path.parent.parent / "src" / "laws.rt"
+        clause = re.compile(rf"pub fn {law}\(\)\s+ensures \{{(.*?)\}}", re.DOTALL)
+        named = statement(path, clause, f"law {law}")
+        said = {word for of in named for word in held(of).words()}
+        if it.name not in said:
+            self.faults.append(f"{path.relative_to(TOP)}: {law} doesn't speak of {it.name}")
+        for of in named:
+            self.visit(of)
+
+
+@dataclass
+class Part:
+    """What a part of the pages shows: the first page, or a section of the second, with what it needs of the code."""
+
+    title: str
+    definitions: set[Name]
+    code: set[Name]
+
+
+class Needs:
+    """The parts of the pages, the first page first, and how many more definitions a law replaces."""
 
     def __init__(self) -> None:
-        self.files: dict[Path, File] = {}
-        self.needed: dict[Path, set[str]] = {}
-        self.declared: set[str] = set()
-        for path, name in headline():
-            self.visit(path, name)
-
-    def file(self, path: Path) -> File:
-        if path not in self.files:
-            self.files[path] = read(path) if path.is_file() else File()
-        return self.files[path]
-
-    def visit(self, path: Path, name: str) -> None:
-        """Takes a definition and all that it uses."""
-        here = self.file(path)
-        definition = here.holding(name)
-        if definition is None:
-            raise SystemExit(f"tests/reading.py: {path.relative_to(TOP)} doesn't define {name}")
-        if definition.name in self.needed.setdefault(path, set()):
-            return
-        self.needed[path].add(definition.name)
-        for word in sorted(definition.words()):
-            if here.holding(word):
-                self.visit(path, word)
-            elif word in here.uses:
-                module, other = here.uses[word]
-                there = path_of(module)
-                if there:
-                    self.visit(there, other)
-                elif ".specs.declared." in module and ".The" not in module:
-                    self.declared.add(f"{module.split('.')[1]}: `{other}`")
-
-    def listed(self, path: Path) -> list[Definition]:
-        return [it for name, it in self.file(path).definitions.items() if name in self.needed.get(path, set())]
-
-    def text(self, path: Path) -> str:
-        """Returns a file's list as the page has it."""
-        lines = (f"- `{it.name}`" + (f": {it.sentence()}." if it.comment else "") for it in self.listed(path))
-        return "".join(f"{textwrap.fill(line, 120, subsequent_indent='  ')}\n" for line in lines)
-
-    def counts(self) -> tuple[int, int, int]:
-        every = [it for path in self.needed for it in self.listed(path)]
-        return len(every), sum(len([line for line in it.lines if line.strip()]) for it in every), len(self.needed)
+        walks = [Walk(APART[place:], LAWS) for place in range(len(APART) + 1)]
+        main, whole = walks[0], walks[-1]
+        self.parts = [Part("on the page", main.needed, main.declared)]
+        for name, before, walk in zip(APART, walks, walks[1:]):
+            title = f"in the section of `{name}`"
+            self.parts.append(Part(title, walk.needed - before.needed, walk.declared - before.declared))
+        self.faults, self.library = whole.faults, whole.library
+        # The first page without laws; all of it without the last section's own law.
+        read_anew = {it: law for it, law in LAWS.items() if it in PAGE_LAWS}
+        self.more = {LAWS[it]: len(Walk(APART, {}).needed - main.needed) for it in PAGE_LAWS}
+        self.more |= {
+            law: len(Walk((), read_anew).needed - whole.needed) for it, law in LAWS.items() if it not in PAGE_LAWS
+        }
 
 
-def code_types(walk: Walk) -> str:
-    """Returns the list of types that the code declares and a definition names, as the page has it."""
-    return "".join(f"- {it}\n" for it in sorted(walk.declared))
+def shown(kind: str, path: Path, names: list[str]) -> str:
+    """Returns the text of a block: what it has, and the file above it."""
+    if kind == "definitions":
+        found = read(path).definitions
+        parts = [found[name].shown() if name in found else [f"({name} isn't defined)"] for name in names]
+        blocks = joined(parts)
+    elif kind == "clauses":
+        blocks = clauses(path, names[0], names[1:])
+    else:
+        blocks = joined([declaration(path, name) for name in names])
+    mark = "--" if kind == "definitions" else "//"
+    lines = [f"{mark} {path.relative_to(TOP)}", *blocks]
+    return "\n" + "".join(f"    {line}\n" if line else "\n" for line in lines) + "\n"
 
 
-def said(walk: Walk) -> str:
-    definitions, lines, files = walk.counts()
-    return f"**{definitions} definitions, {lines:,} lines, {files} files**"
+def joined(parts: list[list[str]]) -> list[str]:
+    """Returns the lines of the parts, with a blank line between two, unless both are short and without a comment."""
+    found, is_short = list[str](), True
+    for part in parts:
+        was_short, is_short = is_short, len(part) <= 2 and not part[0].startswith("--")
+        found += part if not found or (was_short and is_short) else ["", *part]
+    return found
 
 
-def write(walk: Walk, page: str) -> None:
-    """Writes the lists and the counts."""
-    page = LIST.sub(lambda it: f"<!-- definitions: {it.group(1)} -->\n{walk.text(TOP / it.group(1))}<!-- end -->", page)
-    page = CODE.sub(f"<!-- types of the code -->\n{code_types(walk)}<!-- end -->", page)
-    PAGE.write_text(COUNTS.sub(said(walk), page), encoding="utf-8")
+def declaration(path: Path, name: str) -> list[str]:
+    """Returns the declaration of a type or a constant of the code, without attributes and links."""
+    code = path.read_text(encoding="utf-8")
+    kinds = rf"const {name}: [^;]*;|(?:enum|struct) {name}\b(?:\(.*?\);|[^{{;(]*\{{.*?^\}})"
+    found = re.search(rf"^pub (?:{kinds})", code, re.MULTILINE | re.DOTALL)
+    if found is None:
+        return [f"({name} isn't declared)"]
+    plain = LINKED.sub(r"\1", found[0])
+    return [line for line in plain.splitlines() if not line.strip().startswith("#[")]
 
 
-def faults(walk: Walk, page: str) -> list[str]:
-    """Returns what the page has wrong."""
-    lists = {
-        TOP / it.group(1): set(re.findall(r"^- `([^`]+)`", it.group(2), re.MULTILINE)) for it in LIST.finditer(page)
-    }
-    found = []
-    for path in sorted({*lists, *walk.needed}):
-        has, needs, name = lists.get(path, set()), walk.needed.get(path, set()), path.relative_to(TOP)
-        found += [f"{name}: {it} is needed and isn't on the page" for it in sorted(needs - has)]
-        found += [f"{name}: {it} is on the page and isn't needed" for it in sorted(has - needs)]
-    if f"<!-- types of the code -->\n{code_types(walk)}<!-- end -->" not in page:
-        found.append("the types of the code on the page aren't those that the definitions name")
-    if said(walk) not in page:
-        found.append(f"the page doesn't say {said(walk)}")
+def clauses(path: Path, function: str, names: list[str]) -> list[str]:
+    """Returns clauses of a function's contract."""
+    code = path.read_text(encoding="utf-8")
+    found = re.search(rf"^( *)pub fn {function}\b(?:.|\n)*?\n\1\{{", code, re.MULTILINE)
+    if found is None:
+        return [f"({function} isn't there)"]
+    lines = list[str]()
+    signature, *parts = re.split(r"\n +(?=ensures|requires|// )", found[0].removesuffix(f"\n{found[1]}{{"))
+    for name in names:
+        part = signature if name == "signature" else next((it for it in parts if it.startswith(f"ensures {name} ")), "")
+        kept = part or f"({name} isn't a clause of {function})"
+        lines += textwrap.dedent(kept if name == "signature" else f"    {kept}").splitlines()
+    return lines
+
+
+def is_public(it: Name) -> bool:
+    """Returns whether users of the crate can name it: its module is public, or the crate exports it."""
+    module = it.path.stem
+    root = it.path.with_name("lib.rt").read_text(encoding="utf-8")
+    return bool(re.search(EXPORTED.format(module, it.name, it.name, module), root, re.M))
+
+
+def count(names: set[Name]) -> str:
+    lines = sum(len(held(it).code()) for it in names)
+    return f"**{len(names)} definitions, {lines:,} lines, {len({it.path for it in names})} files**"
+
+
+def written(needs: Needs, page: str) -> str:
+    """Returns the text of both pages with the texts and the counts of today."""
+    page = BLOCK.sub(
+        lambda it: f"<!-- {it[1]}: {it[2]}: `{it[3]}` -->\n{shown(it[1], TOP / it[2], it[3].split())}<!-- end -->", page
+    )
+    counts = iter([count(it.definitions) for it in needs.parts])
+    page = COUNTS.sub(lambda it: with_numbers(it[0], next(counts, it[0])), page)
+    return MORE.sub(lambda it: re.sub(r"\d+", str(needs.more.get(it[1], 0)), str(it[0]), count=1), page)
+
+
+def with_numbers(text: str, counted: str) -> str:
+    """Returns the text with the numbers of the other one, and its own line breaks."""
+    numbers: Iterator[str] = iter(re.findall(r"[\d,]*\d", counted))
+    return re.sub(r"[\d,]*\d", lambda it: next(numbers), text)
+
+
+def names_on(page: str, kind: str) -> list[Name]:
+    return [Name(TOP / it[2], name) for it in BLOCK.finditer(page) if it[1] == kind for name in it[3].split()]
+
+
+def differences(where: str, has: list[Name], needs: set[Name]) -> list[str]:
+    """Returns what is missing, not needed, or there twice."""
+    found = [f"{it} is needed and isn't {where}" for it in sorted(needs - set(has))]
+    found += [f"{it} is {where} and isn't needed" for it in sorted(set(has) - needs)]
+    return found + [f"{it} is {where} twice" for it in sorted({it for it in has if has.count(it) > 1})]
+
+
+def unsaid(needs: Needs, page: str) -> list[str]:
+    """Returns which constructors in small letters the notation doesn't name, and which library words no prose does."""
+    made = {it for part in needs.parts for name in part.definitions for it in held(name).makes() if it[0].islower()}
+    notation = set(TOKEN.findall(page.partition("## Notation")[2].partition("\n## ")[0]))
+    prose = set(TOKEN.findall(BLOCK.sub("", page).replace("`", " ")))
+    found = [f"the notation doesn't name the constructor {it}" for it in sorted(made - notation)]
+    return found + [f"the library's {it} isn't explained" for it in sorted(needs.library - prose)]
+
+
+def faults(needs: Needs, page: str) -> list[str]:
+    """Returns what is wrong in the text of both pages."""
+    found, texts = [*needs.faults], SECTION.split(page)
+    if len(texts) != len(needs.parts):
+        return [*found, f"there are {len(texts) - 1} sections, and the headline has {len(APART)} fields for one"]
+    for part, text in zip(needs.parts, texts):
+        found += differences(part.title, names_on(text, "definitions"), part.definitions)
+        found += differences(part.title, names_on(text, "code"), part.code)
+    code = sorted(it for part in needs.parts for it in part.code)
+    found += [f"{it} is named by a definition and isn't public" for it in code if not is_public(it)]
+    found += unsaid(needs, page)
+    if len(COUNTS.findall(page)) != len(needs.parts) or {it[1] for it in MORE.finditer(page)} != set(LAWS.values()):
+        found.append("the pages don't say each count once")
+    if written(needs, page) != page:
+        found.append("a text or a count on a page isn't that of today: tests/reading.py --write")
     return found
 
 
@@ -214,18 +417,35 @@ def comments() -> dict[Path, dict[str, str]]:
     return {path: {it.name: it.comment for it in file.definitions.values()} for path, file in files.items()}
 
 
+def listing(needs: Needs) -> str:
+    """Returns what is needed, by parts and files: the definitions in their order, and what the code declares."""
+    lines = list[str]()
+    for part in needs.parts:
+        for path in sorted({it.path for it in part.definitions}):
+            kept = [name for name in read(path).definitions if Name(path, name) in part.definitions]
+            lines.append(f"{part.title}: {path.relative_to(TOP)}: {' '.join(kept)}")
+        lines += [f"{part.title}: {it}" for it in sorted(part.code)]
+    return "\n".join([*lines, *(count(it.definitions) for it in needs.parts), str(needs.more)])
+
+
 def main() -> int:
-    walk, page = Walk(), PAGE.read_text(encoding="utf-8")
+    pages = (PAGE, MORE_PAGE)
+    texts = [it.read_text(encoding="utf-8") for it in pages]
+    needs, page = Needs(), END.join(texts)
+    if sys.argv[1:] == ["--list"]:
+        print(listing(needs))
+        return 0
     if sys.argv[1:] == ["--write"]:
-        write(walk, page)
+        for path, text in zip(pages, written(needs, page).split(END)):
+            path.write_text(text, encoding="utf-8")
         definitions.INDEX.write_text(definitions.page(comments()), encoding="utf-8")
         return 0
-    found = faults(walk, page)
+    found = faults(needs, page)
     if definitions.INDEX.read_text(encoding="utf-8") != definitions.page(comments()):
         found.append("docs/DEFINITIONS.md isn't what the comments of the definitions say: tests/reading.py --write")
     for line in found:
         print(line)
-    print(f"docs/READING.md: {said(walk).strip('*')}, {len(found)} faults")
+    print(f"docs/READING.md: {count(needs.parts[0].definitions).strip('*')}, {len(found)} faults")
     return 1 if found else 0
 
 

@@ -1,14 +1,12 @@
 -- Turns by computation.
 use Rattle.std.proofs.Common.{◌≡◌, ℕ, List, [], ◌∷◌, Bool, true, false, Option, Some, None, replicate, refl}
 use Rattle.cred_table.specs.declared.row.Row.{Row}
+use Rattle.cred_table.specs.Rows.{ids}
 use Rattle.cred_table.specs.Waiting.{Waiting}
 use Rattle.ctap_message.specs.Requests.{read_of}
 use Rattle.authn_core.specs.declared.replies.Presence.TheVariants.{Granted, Denied, TimedOut}
-use Rattle.authn_core.specs.declared.task.Asserting.{Asserting}
-use Rattle.authn_core.specs.declared.task.Making.{Making}
-use Rattle.authn_core.specs.declared.task.Task.TheVariants.{Resets, Selects, AsksMake, WantsKey, AsksAssert, SignsAssert}
-use Rattle.authn_core.specs.State.{Setup, State, Request, PresenceIs, KeyIs, SignatureIs, Cancel, Answered, Waits, Ignored}
-use Rattle.authn_core.specs.GetAssertion.{assert_begins, told}
+use Rattle.authn_core.specs.State.{Setup, Making, Asserting, Resets, Selects, AsksMake, WantsKey, AsksAssert, SignsAssert, State, Request, PresenceIs, KeyIs, SignatureIs, Cancel, Answer, Answered, Waits, Ignored}
+use Rattle.authn_core.specs.GetAssertion.{applicable, begins, told}
 use Rattle.authn_core.specs.Turn.{turn}
 
 abbrev setup : Setup
@@ -105,7 +103,7 @@ next_spent = refl
 
 -- a full table: a new user finds no room, a known one does
 abbrev making_of : (user : ℕ) → Making
-making_of user = record { hash = replicate 32 17; rp = replicate 32 7; user = record { items = user ∷ [] }; name = []; discoverable = true }
+making_of user = record { hash = replicate 32 17; rp = replicate 32 7; user = user ∷ []; name = []; discoverable = true }
 
 abbrev asks : (user : ℕ) → (excluded : Bool) → State
 asks user excluded = record { rows = idle.rows; pending = None; work = Some (record { cid = 1; task = AsksMake (making_of user) excluded }) }
@@ -168,17 +166,20 @@ unfolding turn
 no_key = refl
 
 abbrev signs_assert : State
-signs_assert = record { rows = idle.rows; pending = None; work = Some (record { cid = 1; task = SignsAssert asserting 5 (record { items = [] }) }) }
+signs_assert = record { rows = idle.rows; pending = None; work = Some (record { cid = 1; task = SignsAssert asserting 5 [] }) }
 
 no_signature : (turn setup signs_assert 60 (SignatureIs None)).answer ≡ Answered (0x7f ∷ [])
 unfolding turn
 no_signature = refl
 
 -- an RP without a credential, and an allow list that names none of the RP's
-none_found : (assert_begins idle.rows 1000 1 (replicate 32 34) (replicate 32 8) false [] true).answer ≡ Answered (0x2e ∷ [])
+abbrev asks_for : (rp : ℕ) → Bool → List (List ℕ) → Answer
+asks_for rp given allow = (begins idle.rows 1000 1 (replicate 32 34) (replicate 32 rp) true given (ids (applicable idle.rows (replicate 32 rp) given allow))).answer
+
+none_found : asks_for 8 false [] ≡ Answered (0x2e ∷ [])
 none_found = refl
 
-none_allowed : (assert_begins idle.rows 1000 1 (replicate 32 34) (replicate 32 7) true (replicate 32 0xac ∷ []) true).answer ≡ Answered (0x2e ∷ [])
+none_allowed : asks_for 7 true (replicate 32 0xac ∷ []) ≡ Answered (0x2e ∷ [])
 none_allowed = refl
 
 -- the number of credentials: of one it is left out, and with an allow list too

@@ -1,39 +1,21 @@
 -- Each turn changes the rows as its mark says.
-use Rattle.std.proofs.Common.{◌≡◌, ℕ, ◌+◌, nat_lt, List, [], ◌∷◌, ◌++◌, append-nil, length, flat_map, Bool, true, false, cond, ◌||◌, not, Option, Some, None, is_some, Result, Ok, Err, refl, sym, ◌∙◌, ap, subst, filter, add-zero}
+use Rattle.std.proofs.Common.{◌≡◌, ℕ, ◌+◌, List, [], ◌∷◌, ◌++◌, append-nil, length, flat_map, Bool, true, false, cond, ◌||◌, not, Option, Some, None, is_some, Result, refl, sym, ◌∙◌, ap, subst, filter, add-zero}
 use Rattle.std.specs.List.{find}
-use Rattle.std.specs.Str.{bytes_eq}
-use Rattle.std.proofs.lemmas.Slice.Eq.{bytes_eq-Decides}
 use Rattle.cred_table.specs.declared.row.Row.{Row}
-use Rattle.cred_table.specs.Rows.{has_id, counter_of, ids, replaces, stored, raised, raised_row}
-use Rattle.cred_table.specs.Waiting.{Waiting, first_of, rest_of, hash_of, presence_of}
-use Rattle.ctap_message.specs.Asked.{Asked, MakeCredential, GetAssertion, GetInfo, Reset, GetNextAssertion, Selection}
-use Rattle.ctap_message.specs.Members.{has_entries}
-use Rattle.ctap_message.specs.Descriptors.{ids_of}
+use Rattle.cred_table.specs.Rows.{has_id, replaces, stored, raised, raised_row}
+use Rattle.cred_table.specs.Waiting.{Waiting}
+use Rattle.ctap_message.specs.Asked.{Asked}
 use Rattle.ctap_message.specs.Requests.{read_of}
-use Rattle.authn_core.specs.declared.replies.Presence.{Presence}
 use Rattle.authn_core.specs.declared.replies.Presence.TheVariants.{Granted, Denied, TimedOut}
-use Rattle.authn_core.specs.declared.replies.NewKey.{NewKey}
-use Rattle.authn_core.specs.declared.task.Task.{Task}
-use Rattle.authn_core.specs.declared.task.Task.TheVariants.{Resets, Selects, AsksMake, WantsKey, SignsMake, AsksAssert, SignsAssert}
-use Rattle.authn_core.specs.declared.task.Asserting.{Asserting}
-use Rattle.authn_core.specs.declared.task.Job.{Job}
-use Rattle.authn_core.specs.Hash.{rp_hash}
-use Rattle.authn_core.specs.State.{Setup, State, Event, Request, PresenceIs, KeyIs, SignatureIs, Cancel, Drop, Turned, ignores}
-use Rattle.authn_core.specs.Asking.{RESET_LIMIT}
+use Rattle.authn_core.specs.State.{Setup, Asserting, Task, Resets, Selects, AsksMake, WantsKey, SignsMake, AsksAssert, SignsAssert, Job, State, Event, Request, PresenceIs, KeyIs, SignatureIs, Cancel, Drop, Turned, ignores}
 use Rattle.authn_core.specs.MakeCredential.{fits, new_row}
-use Rattle.authn_core.specs.GetAssertion.{MOST, applicable, begins, begun, is_due, next_begins, next_signs, row_signs}
-use Rattle.authn_core.specs.Turn.{CoreState, core_after, turn, requested, presence_turn, key_turn, signature_turn, presence_at, key_at, signature_at}
-use Rattle.authn_core.specs.Marks.{Mark, mark, marked, left, Comes, Step, core_at, marks, Orderly, folded, rows_of, raised_by, made_by, is_reset, task_resets}
+use Rattle.authn_core.specs.GetAssertion.{begun}
+use Rattle.authn_core.specs.Turn.{CoreState, core_after, turn, requested, replied, reply_turn}
+use Rattle.authn_core.specs.Marks.{Mark, mark, marked, left, Comes, Step, core_at, marks, Orderly, folded, rows_of, raised_by, made_by, is_reset}
 use Rattle.authn_core.proofs.Filtered.{filtered}
-use Rattle.authn_core.proofs.Readiness.{cond_case}
-
-pub same_bytes : (xs : List ℕ) → bytes_eq xs xs ≡ true
-same_bytes xs = (bytes_eq-Decides xs xs).1 refl
+use Rattle.authn_core.proofs.Readiness.{same_bytes, cond_case, requested_case}
 
 -- the four things that a mark does
-keeps_mark : Mark
-keeps_mark = record { made = None; raises = None; resets = false }
-
 pub mark_keeps : (rows : List Row) → marked (record { made = None; raises = None; resets = false }) rows ≡ rows
 mark_keeps rows = append-nil _ ∙ go rows
   where
@@ -92,34 +74,10 @@ begun_follows : (rows : List Row) (p : Option Waiting) (cid c : ℕ) (bytes : Li
 begun_follows rows p cid c bytes a =
     cond_case (Follows rows None (Request c bytes)) a.presence _ _ (λ _. sym (mark_keeps rows)) (λ _. sym (mark_raises a.id rows))
 
-begins_follows : (rows : List Row) (t cid c : ℕ) (bytes : List ℕ) (hash rp : List ℕ) (up given : Bool) (found : List (List ℕ)) → Follows rows None (Request c bytes) (begins rows t cid hash rp up given found)
-begins_follows rows t cid c bytes hash rp up given [] = sym (mark_keeps rows)
-begins_follows rows t cid c bytes hash rp up given (id ∷ others) =
-    cond_case (Follows rows None (Request c bytes)) (nat_lt (counter_of id rows) MOST) _ _ (λ _. begun_follows rows _ cid c bytes _) (λ _. sym (mark_keeps rows))
-
-next_follows : (rows : List Row) (p : Option Waiting) (t cid c : ℕ) (bytes : List ℕ) → Follows rows None (Request c bytes) (next_begins rows p t cid)
-next_follows rows p t cid c bytes =
-    cond_case (Follows rows None (Request c bytes)) (is_due t cid p) _ _ (λ _. go (first_of p)) (λ _. sym (mark_keeps rows))
-  where
-    at : (id : List ℕ) (r : Option Row) → Follows rows None (Request c bytes) (row_signs rows (rest_of p) cid (hash_of p) (presence_of p) id r)
-    at id None = sym (mark_keeps rows)
-    at id (Some r) =
-        cond_case (Follows rows None (Request c bytes)) (nat_lt (counter_of id rows) MOST) _ _ (λ _. sym (mark_raises id rows)) (λ _. sym (mark_keeps rows))
-
-    go : (l : Option (List ℕ)) → Follows rows None (Request c bytes) (next_signs rows p cid l)
-    go None = sym (mark_keeps rows)
-    go (Some id) = at id (find (has_id id) rows)
-
 requested_follows : (u : Setup) (rows : List Row) (p : Option Waiting) (t cid : ℕ) (bytes : List ℕ) (read : Result Asked ℕ) → Follows rows None (Request cid bytes) (requested u rows p t cid read)
-requested_follows u rows p t cid bytes (Err code) = sym (mark_keeps rows)
-requested_follows u rows p t cid bytes (Ok GetInfo) = sym (mark_keeps rows)
-requested_follows u rows p t cid bytes (Ok Reset) =
-    cond_case (Follows rows None (Request cid bytes)) (nat_lt (u.began + RESET_LIMIT) t) _ _ (λ _. sym (mark_keeps rows)) (λ _. sym (mark_keeps rows))
-requested_follows u rows p t cid bytes (Ok Selection) = sym (mark_keeps rows)
-requested_follows u rows p t cid bytes (Ok (MakeCredential hash rp_id user_id user_name discoverable exclude)) = sym (mark_keeps rows)
-requested_follows u rows p t cid bytes (Ok (GetAssertion hash rp_id allow up)) =
-    begins_follows rows t cid cid bytes hash (rp_hash rp_id) up (has_entries allow) (ids (applicable rows (rp_hash rp_id) (has_entries allow) (ids_of allow)))
-requested_follows u rows p t cid bytes (Ok GetNextAssertion) = next_follows rows p t cid cid bytes
+requested_follows u rows p t cid bytes read =
+    requested_case (Follows rows None (Request cid bytes)) u rows p t cid read (λ _. sym (mark_keeps rows)) (λ k a. rw (a.raises None) (sym (mark_keeps rows)))
+    (λ hash rp up given allow id others _ _. begun_follows rows _ cid cid bytes _) (λ id _ _. sym (mark_raises id rows))
 
 -- what is ignored leaves the work
 pub raises_none : (w : Option Job) → raised_by w w ≡ None
@@ -134,63 +92,42 @@ ignored_follows : (s : State) (v : Option Job) (e : Event) → s.work ≡ v → 
 ignored_follows s v e w m r =
     subst (λ (x : Option Job). s.rows ≡ marked (mark v e x) s.rows) (sym w) (rw (m, r, raises_none v) (sym (mark_keeps s.rows)))
 
-no_reset : (p : Presence) (k : Task) (cid : ℕ) → task_resets k ≡ false → is_reset (Some (record { cid = cid; task = k })) (PresenceIs p) ≡ false
-no_reset Granted k cid h = h
-no_reset Denied k cid h = refl
-no_reset TimedOut k cid h = refl
-
-presence_follows : (u : Setup) (s : State) (cid : ℕ) (k : Task) (p : Presence) → s.work ≡ Some (record { cid = cid; task = k }) → Follows s.rows (Some (record { cid = cid; task = k })) (PresenceIs p) (presence_at u.room s cid k p)
-presence_follows u s cid Resets Granted w = sym (mark_resets s.rows)
-presence_follows u s cid Resets Denied w = sym (mark_keeps s.rows)
-presence_follows u s cid Resets TimedOut w = sym (mark_keeps s.rows)
-presence_follows u s cid Selects Granted w = sym (mark_keeps s.rows)
-presence_follows u s cid Selects Denied w = sym (mark_keeps s.rows)
-presence_follows u s cid Selects TimedOut w = sym (mark_keeps s.rows)
-presence_follows u s cid (AsksMake m true) Granted w = sym (mark_keeps s.rows)
-presence_follows u s cid (AsksMake m true) p w = sym (mark_keeps s.rows)
-presence_follows u s cid (AsksMake m false) Granted w =
+replied_follows : (u : Setup) (s : State) (t cid : ℕ) (k : Task) (e : Event) → s.work ≡ Some (record { cid = cid; task = k }) → Follows s.rows (Some (record { cid = cid; task = k })) e (replied u s t cid k e)
+replied_follows u s t cid Resets (PresenceIs Granted) w = sym (mark_resets s.rows)
+replied_follows u s t cid Resets (PresenceIs Denied) w = sym (mark_keeps s.rows)
+replied_follows u s t cid Resets (PresenceIs TimedOut) w = sym (mark_keeps s.rows)
+replied_follows u s t cid Selects (PresenceIs Granted) w = sym (mark_keeps s.rows)
+replied_follows u s t cid Selects (PresenceIs Denied) w = sym (mark_keeps s.rows)
+replied_follows u s t cid Selects (PresenceIs TimedOut) w = sym (mark_keeps s.rows)
+replied_follows u s t cid (AsksMake m true) (PresenceIs Granted) w = sym (mark_keeps s.rows)
+replied_follows u s t cid (AsksMake m true) (PresenceIs p) w = sym (mark_keeps s.rows)
+replied_follows u s t cid (AsksMake m false) (PresenceIs Granted) w =
     cond_case (Follows s.rows (Some (record { cid = cid; task = AsksMake m false })) (PresenceIs Granted)) (fits u.room m s.rows) _ _ (λ _. sym (mark_keeps s.rows)) (λ _. sym (mark_keeps s.rows))
-presence_follows u s cid (AsksMake m false) p w = sym (mark_keeps s.rows)
-presence_follows u s cid (AsksAssert a) Granted w = sym (mark_raises a.id s.rows)
-presence_follows u s cid (AsksAssert a) p w = sym (mark_keeps s.rows)
-presence_follows u s cid (WantsKey m) p w = ignored_follows s _ (PresenceIs p) w refl (no_reset p (WantsKey m) cid refl)
-presence_follows u s cid (SignsMake m key d) p w = ignored_follows s _ (PresenceIs p) w refl (no_reset p (SignsMake m key d) cid refl)
-presence_follows u s cid (SignsAssert a n d) p w = ignored_follows s _ (PresenceIs p) w refl (no_reset p (SignsAssert a n d) cid refl)
-
-key_follows : (u : Setup) (s : State) (cid : ℕ) (k : Task) (key : Option NewKey) → s.work ≡ Some (record { cid = cid; task = k }) → Follows s.rows (Some (record { cid = cid; task = k })) (KeyIs key) (key_at u.aaguid s cid k key)
-key_follows u s cid (WantsKey m) None w = sym (mark_keeps s.rows)
-key_follows u s cid (WantsKey m) (Some key) w =
+replied_follows u s t cid (AsksMake m false) (PresenceIs p) w = sym (mark_keeps s.rows)
+replied_follows u s t cid (WantsKey m) (KeyIs None) w = sym (mark_keeps s.rows)
+replied_follows u s t cid (WantsKey m) (KeyIs (Some key)) w =
     cond_case (Follows s.rows (Some (record { cid = cid; task = WantsKey m })) (KeyIs (Some key))) (is_some (find (has_id key.id) s.rows)) _ _ (λ _. sym (mark_keeps s.rows)) (λ _. sym (mark_keeps s.rows))
-key_follows u s cid k key w = ignored_follows s _ (KeyIs key) w refl refl
+replied_follows u s t cid (SignsMake m key d) (SignatureIs None) w = sym (mark_keeps s.rows)
+replied_follows u s t cid (SignsMake m key d) (SignatureIs (Some sig)) w = sym (mark_makes (new_row m key) s.rows)
+replied_follows u s t cid (AsksAssert a) (PresenceIs Granted) w = sym (mark_raises a.id s.rows)
+replied_follows u s t cid (AsksAssert a) (PresenceIs p) w = sym (mark_keeps s.rows)
+replied_follows u s t cid (SignsAssert a n d) (SignatureIs None) w = sym (mark_keeps s.rows)
+replied_follows u s t cid (SignsAssert a n d) (SignatureIs (Some sig)) w = sym (mark_keeps s.rows)
+replied_follows u s t cid k (SignatureIs None) w = ignored_follows s _ (SignatureIs None) w refl refl
+replied_follows u s t cid k (SignatureIs (Some sig)) w = ignored_follows s _ (SignatureIs (Some sig)) w refl refl
+replied_follows u s t cid k (PresenceIs Granted) w = ignored_follows s _ (PresenceIs Granted) w refl refl
+replied_follows u s t cid k (PresenceIs p) w = ignored_follows s _ (PresenceIs p) w refl refl
+replied_follows u s t cid k e w = ignored_follows s _ e w refl refl
 
-signature_follows : (u : Setup) (s : State) (t cid : ℕ) (k : Task) (sig : Option (List ℕ)) → s.work ≡ Some (record { cid = cid; task = k }) → Follows s.rows (Some (record { cid = cid; task = k })) (SignatureIs sig) (signature_at u.aaguid s t k sig)
-signature_follows u s t cid (SignsMake m key d) None w = sym (mark_keeps s.rows)
-signature_follows u s t cid (SignsMake m key d) (Some sig) w = sym (mark_makes (new_row m key) s.rows)
-signature_follows u s t cid (SignsAssert a n d) None w = sym (mark_keeps s.rows)
-signature_follows u s t cid (SignsAssert a n d) (Some sig) w = sym (mark_keeps s.rows)
-signature_follows u s t cid k None w = ignored_follows s _ (SignatureIs None) w refl refl
-signature_follows u s t cid k (Some sig) w = ignored_follows s _ (SignatureIs (Some sig)) w refl refl
+reply_follows : (u : Setup) (s : State) (t : ℕ) (e : Event) (v : Option Job) → s.work ≡ v → Follows s.rows v e (reply_turn u s t v e)
+reply_follows u s t e None w = ignored_follows s None e w refl refl
+reply_follows u s t e (Some v) w = replied_follows u s t v.cid v.task e w
 
 -- Every turn does to the rows what its mark says.
 pub turn_marked : (u : Setup) (s : State) (t : ℕ) (e : Event) → Comes s.work e → (turn u s t e).state.rows ≡ marked (mark s.work e (turn u s t e).state.work) s.rows
 unfolding turn
 turn_marked u s t (Request cid bytes) c =
     subst (λ (v : Option Job). Follows s.rows v (Request cid bytes) (requested u s.rows s.pending t cid (read_of bytes))) (sym c) (requested_follows u s.rows s.pending t cid bytes (read_of bytes))
-turn_marked u s t (PresenceIs p) c = go s.work refl
-  where
-    go : (v : Option Job) → s.work ≡ v → Follows s.rows v (PresenceIs p) (presence_turn u.room s v p)
-    go None w = ignored_follows s None (PresenceIs p) w refl refl
-    go (Some v) w = presence_follows u s v.cid v.task p w
-turn_marked u s t (KeyIs key) c = go s.work refl
-  where
-    go : (v : Option Job) → s.work ≡ v → Follows s.rows v (KeyIs key) (key_turn u.aaguid s v key)
-    go None w = ignored_follows s None (KeyIs key) w refl refl
-    go (Some v) w = key_follows u s v.cid v.task key w
-turn_marked u s t (SignatureIs sig) c = go s.work refl
-  where
-    go : (v : Option Job) → s.work ≡ v → Follows s.rows v (SignatureIs sig) (signature_turn u.aaguid s t v sig)
-    go None w = ignored_follows s None (SignatureIs sig) w refl refl
-    go (Some v) w = signature_follows u s t v.cid v.task sig w
 turn_marked u s t Cancel c = go s.work refl
   where
     go : (v : Option Job) → s.work ≡ v → s.rows ≡ marked (mark v Cancel None) s.rows
@@ -201,6 +138,7 @@ turn_marked u s t Drop c = go s.work refl
     go : (v : Option Job) → s.work ≡ v → s.rows ≡ marked (mark v Drop None) s.rows
     go None w = sym (mark_keeps s.rows)
     go (Some v) w = sym (mark_keeps s.rows)
+turn_marked u s t reply c = reply_follows u s t reply s.work refl
 
 rows_folded : (start : CoreState) (h : List Step) → Orderly start h → (core_at start h).state.rows ≡ folded start.state.rows (marks start h)
 unfolding core_at marks Orderly folded

@@ -1,5 +1,6 @@
 -- The counters of a credential's signatures rise, and each is its row's.
 use Rattle.std.proofs.Common.{◌≡◌, ℕ, ◌+◌, ◌<◌, ◌==◌, nat_lt, List, [], ◌∷◌, ◌++◌, length, Bool, true, false, cond, ◌&&◌, ◌||◌, not, Option, Some, None, option_to_list, is_some, refl, sym, ◌∙◌, ap, subst, arith}
+use Rattle.std.proofs.lemmas.Bool.{and_from}
 use Rattle.std.proofs.lemmas.Bool.Decides.{nat_tests}
 use Rattle.std.proofs.lemmas.Option.{same_Some}
 use Rattle.std.proofs.lemmas.Slice.Eq.{bytes_eq-Decides}
@@ -7,18 +8,12 @@ use Rattle.std.specs.List.{find}
 use Rattle.std.specs.Str.{bytes_eq}
 use Rattle.cred_table.specs.declared.row.Row.{Row}
 use Rattle.cred_table.specs.Rows.{Lawful, has_id, counter_of}
-use Rattle.arrayvec.specs.ArrayVec.{ArrayVec}
-use Rattle.authn_core.specs.declared.task.Asserting.{Asserting}
-use Rattle.authn_core.specs.declared.task.Task.{Task}
-use Rattle.authn_core.specs.declared.task.Task.TheVariants.{Resets, Selects, AsksMake, WantsKey, SignsMake, AsksAssert, SignsAssert}
-use Rattle.authn_core.specs.declared.task.Job.{Job}
-use Rattle.authn_core.specs.State.{Setup, State, Event, Request, PresenceIs, KeyIs, SignatureIs, Cancel, Drop}
-use Rattle.authn_core.specs.Turn.{CoreState, core_after, turn, presence_at, key_at, signature_at, presence_turn, key_turn, signature_turn}
+use Rattle.authn_core.specs.State.{Setup, Task, SignsAssert, Job, State, Event, Request, SignatureIs, Cancel, Drop}
+use Rattle.authn_core.specs.Turn.{CoreState, core_after, turn, replied, reply_turn}
 use Rattle.authn_core.specs.Ready.{Ready}
 use Rattle.authn_core.specs.Marks.{Step, Comes, Orderly, Mark, Text, core_at, makings, marks, raised_by, signs_by, task_counter, task_raises, text_of, texts}
 use Rattle.authn_core.specs.Views.{needs, sign}
 use Rattle.authn_core.specs.Rising.{by_one_row, above_all, all_rise, IsTextOf, IsNewest}
-use Rattle.authn_core.proofs.Readiness.{and_is}
 use Rattle.authn_core.proofs.Rises.{RisesTo, turn_rises}
 use Rattle.authn_core.proofs.Signed.{counter_raised}
 use Rattle.authn_core.proofs.Texts.{AllBounded, core_sound, new_differs, texts_bounded}
@@ -28,7 +23,7 @@ new_above : (h : List Mark) (rows : List Row) (id : List ℕ) (ts : List Text) �
     → above_all (record { id = id; making = makings id h; counter = counter_of id rows + 1 }) ts ≡ true
 new_above h rows id [] e b = refl
 new_above h rows id (t ∷ ts) e b =
-    and_is (not (by_one_row (record { id = id; making = makings id h; counter = counter_of id rows + 1 }) t) || nat_lt t.counter (counter_of id rows + 1))
+    and_from (not (by_one_row (record { id = id; making = makings id h; counter = counter_of id rows + 1 }) t) || nat_lt t.counter (counter_of id rows + 1))
     (above_all (record { id = id; making = makings id h; counter = counter_of id rows + 1 }) ts)
     (go (bytes_eq id t.id) (makings id h == t.making) refl refl) (new_above h rows id ts e b.1)
   where
@@ -51,7 +46,7 @@ one_rises h rows rows' before (Some w) ts r b d = go (task_raises before w.task)
     go (Some id) f =
         let i = r id f in
         let P : ℕ → Type 0 = λ n. all_rise (record { id = id; making = makings id h; counter = n } ∷ ts) ≡ true in
-        subst P (sym i.counter) (and_is _ _ (new_above h rows id ts i.there b) d)
+        subst P (sym i.counter) (and_from _ _ (new_above h rows id ts i.there b) d)
 
 pub texts_rise : (start : CoreState) (h : List Step) → Ready (start.setup).room start.state → Lawful (start.setup).room (start.state).rows → Orderly start h → all_rise (texts start h) ≡ true
 unfolding core_at texts Orderly
@@ -66,15 +61,10 @@ texts_rise start (x ∷ past) r l o =
 raises_signs : (before : Option Job) (k : Task) (cid : ℕ) (id : List ℕ) → task_raises before k ≡ Some id → (signed : List ℕ) × (needs (Some (record { cid = cid; task = k })) ≡ sign id signed)
 raises_signs before (SignsAssert a n d) cid id e = go (signs_by a.id before) e
   where
-    go : (b : Bool) → cond b None (Some a.id) ≡ Some id → (signed : List ℕ) × (sign a.id d.items ≡ sign id signed)
+    go : (b : Bool) → cond b None (Some a.id) ≡ Some id → (signed : List ℕ) × (sign a.id d ≡ sign id signed)
     go true e = cc
-    go false e = (d.items, ap (λ (i : List ℕ). sign i d.items) (same_Some a.id id e))
-raises_signs before Resets cid id e = cc
-raises_signs before Selects cid id e = cc
-raises_signs before (AsksMake m excluded) cid id e = cc
-raises_signs before (WantsKey m) cid id e = cc
-raises_signs before (SignsMake m key d) cid id e = cc
-raises_signs before (AsksAssert a) cid id e = cc
+    go false e = (d, ap (λ (i : List ℕ). sign i d) (same_Some a.id id e))
+raises_signs before other cid id e = cc
 
 told_of : (h : List Mark) (rows : List Row) (before : Option Job) (s : State) (w : Job) (id : List ℕ) → RisesTo rows before s.rows (Some w) → s.work ≡ Some w → task_raises before w.task ≡ Some id
     → IsTextOf (record { id = id; making = makings id h; counter = task_counter w.task }) s
@@ -116,42 +106,23 @@ no_signs id None n e = cc
 no_signs id (Some w) n e = cc
 
 -- no reply but a signature changes a state that waits for one
-stays_task : (id : List ℕ) (cid : ℕ) (k : Task) → signs_by id (Some (record { cid = cid; task = k })) ≡ true → (a : Asserting) × (n : ℕ) × (d : ArrayVec ℕ) × (k ≡ SignsAssert a n d)
-stays_task id cid (SignsAssert a n d) e = (a, n, d, refl)
-stays_task id cid Resets e = cc
-stays_task id cid Selects e = cc
-stays_task id cid (AsksMake m excluded) e = cc
-stays_task id cid (WantsKey m) e = cc
-stays_task id cid (SignsMake m key d) e = cc
-stays_task id cid (AsksAssert a) e = cc
+replied_stays : (u : Setup) (s : State) (t cid : ℕ) (k : Task) (e : Event) (id other : List ℕ) → signs_by id (Some (record { cid = cid; task = k })) ≡ true → signs_by other (replied u s t cid k e).state.work ≡ true
+    → (replied u s t cid k e).state ≡ s
+replied_stays u s t cid (SignsAssert a n d) (SignatureIs None) id other b o = cc
+replied_stays u s t cid (SignsAssert a n d) (SignatureIs (Some sig)) id other b o = cc
+replied_stays u s t cid (SignsAssert a n d) e id other b o = refl
+replied_stays u s t cid k e id other b o = cc
+
+reply_stays : (u : Setup) (s : State) (t : ℕ) (e : Event) (id other : List ℕ) (v : Option Job) → signs_by id v ≡ true → signs_by other (reply_turn u s t v e).state.work ≡ true → (reply_turn u s t v e).state ≡ s
+reply_stays u s t e id other None b o = cc
+reply_stays u s t e id other (Some v) b o = replied_stays u s t v.cid v.task e id other b o
 
 signing_stays : (u : Setup) (s : State) (t : ℕ) (e : Event) (id other : List ℕ) → Comes s.work e → signs_by id s.work ≡ true → signs_by other (turn u s t e).state.work ≡ true → (turn u s t e).state ≡ s
 unfolding turn
 signing_stays u s t (Request cid bytes) id other c b n = absurd (no_signs id s.work c b)
-signing_stays u s t (PresenceIs p) id other c b n = go s.work b
-  where
-    go : (v : Option Job) → signs_by id v ≡ true → (presence_turn u.room s v p).state ≡ s
-    go None b = cc
-    go (Some v) b = let k = stays_task id v.cid v.task b in ap (λ (x : Task). (presence_at u.room s v.cid x p).state) k.3
-signing_stays u s t (KeyIs key) id other c b n = go s.work b
-  where
-    go : (v : Option Job) → signs_by id v ≡ true → (key_turn u.aaguid s v key).state ≡ s
-    go None b = cc
-    go (Some v) b = let k = stays_task id v.cid v.task b in ap (λ (x : Task). (key_at u.aaguid s v.cid x key).state) k.3
-signing_stays u s t (SignatureIs sig) id other c b n = go s.work b n
-  where
-    ends : (a : Asserting) (m : ℕ) (d : ArrayVec ℕ) (sig : Option (List ℕ)) → signs_by other (signature_at u.aaguid s t (SignsAssert a m d) sig).state.work ≡ true → (signature_at u.aaguid s t (SignsAssert a m d) sig).state ≡ s
-    ends a m d None n = cc
-    ends a m d (Some sig) n = cc
-
-    go : (v : Option Job) → signs_by id v ≡ true → signs_by other (signature_turn u.aaguid s t v sig).state.work ≡ true → (signature_turn u.aaguid s t v sig).state ≡ s
-    go None b n = cc
-    go (Some v) b n =
-        let k = stays_task id v.cid v.task b in
-        let P : Task → Type 0 = λ x. (signs_by other (signature_at u.aaguid s t x sig).state.work ≡ true → (signature_at u.aaguid s t x sig).state ≡ s) in
-        subst P (sym k.3) (ends k.0 k.1 k.2 sig) n
 signing_stays u s t Cancel id other c b n = cc
 signing_stays u s t Drop id other c b n = cc
+signing_stays u s t reply id other c b n = reply_stays u s t reply id other s.work b n
 
 kept_signs : (before : Option Job) (cid : ℕ) (k : Task) (id : List ℕ) → signs_by id (Some (record { cid = cid; task = k })) ≡ true → task_raises before k ≡ None → signs_by id before ≡ true
 kept_signs before cid (SignsAssert a n d) id e f = go (signs_by a.id before) refl f
@@ -159,12 +130,7 @@ kept_signs before cid (SignsAssert a n d) id e f = go (signs_by a.id before) ref
     go : (b : Bool) → signs_by a.id before ≡ b → cond b None (Some a.id) ≡ None → signs_by id before ≡ true
     go true k f = let P : List ℕ → Type 0 = λ x. signs_by x before ≡ true in subst P ((bytes_eq-Decides a.id id).0 e) k
     go false k f = cc
-kept_signs before cid Resets id e f = cc
-kept_signs before cid Selects id e f = cc
-kept_signs before cid (AsksMake m excluded) id e f = cc
-kept_signs before cid (WantsKey m) id e f = cc
-kept_signs before cid (SignsMake m key d) id e f = cc
-kept_signs before cid (AsksAssert a) id e f = cc
+kept_signs before cid other id e f = cc
 
 one_newest : (h : List Mark) (rows : List Row) (before : Option Job) (s : State) (ts : List Text) (id : List ℕ) → RisesTo rows before s.rows s.work → signs_by id s.work ≡ true
     → (signs_by id before ≡ true → IsNewest ts s) → IsNewest (option_to_list (text_of h (raised_by before s.work) s.work) ++ ts) s

@@ -1,13 +1,11 @@
 -- Every turn keeps what is to be signed that of the newest request, and a signature is answered with what was signed.
-use Rattle.std.proofs.Common.{◌≡◌, ℕ, ◌+◌, nat_lt, List, [], ◌∷◌, ◌++◌, length, reverse, Bool, true, false, cond, not, Option, Some, None, option_map, option_to_list, is_some, Result, Ok, Err, refl, sym, ◌∙◌, ap, subst, inl, inr, filter}
+use Rattle.std.proofs.Common.{◌≡◌, ℕ, ◌+◌, nat_lt, List, [], ◌∷◌, ◌++◌, length, Bool, true, false, cond, not, Option, Some, None, option_map, option_to_list, is_some, Result, Ok, Err, refl, sym, ◌∙◌, ap, subst, inl, inr, filter}
 use Rattle.std.proofs.lemmas.Bool.{and_parts, or_parts, not-true}
-use Rattle.std.proofs.lemmas.List.{reverse-append, map-append}
 use Rattle.std.proofs.lemmas.Option.{same_Some}
 use Rattle.std.proofs.lemmas.Slice.Eq.{bytes_eq-Decides}
 use Rattle.std.specs.List.{find, list_any}
 use Rattle.std.specs.Option.{option_or}
 use Rattle.std.specs.Str.{bytes_eq}
-use Rattle.arrayvec.specs.ArrayVec.{ArrayVec}
 use Rattle.cred_table.specs.declared.row.Row.{Row}
 use Rattle.cred_table.specs.Rows.{Lawful, has_id, is_named, is_listed, same_id, no_two, listed, ids, raised, counter_of, counter_in}
 use Rattle.cred_table.specs.Waiting.{Waiting, pending_of, stamped, first_of}
@@ -19,22 +17,16 @@ use Rattle.ctap_message.specs.Descriptors.{ids_of}
 use Rattle.ctap_message.specs.Requests.{read_of}
 use Rattle.authn_core.specs.declared.replies.Presence.TheVariants.{Granted, Denied, TimedOut}
 use Rattle.authn_core.specs.declared.replies.NewKey.{NewKey}
-use Rattle.authn_core.specs.declared.task.Making.{Making}
-use Rattle.authn_core.specs.declared.task.Asserting.{Asserting}
-use Rattle.authn_core.specs.declared.task.Task.{Task}
-use Rattle.authn_core.specs.declared.task.Task.TheVariants.{Resets, Selects, AsksMake, WantsKey, SignsMake, AsksAssert, SignsAssert}
-use Rattle.authn_core.specs.declared.task.Job.{Job}
 use Rattle.authn_core.specs.Hash.{rp_hash}
-use Rattle.authn_core.specs.State.{Setup, State, Event, Request, PresenceIs, KeyIs, SignatureIs, Cancel, Drop, Answer, Answered, Turned, signs}
+use Rattle.authn_core.specs.State.{Setup, Making, Asserting, Task, Resets, Selects, AsksMake, WantsKey, SignsMake, AsksAssert, SignsAssert, Job, State, Event, Request, PresenceIs, KeyIs, SignatureIs, Cancel, Drop, Answer, Answered, Turned, signs}
 use Rattle.authn_core.specs.Asking.{RESET_LIMIT}
 use Rattle.authn_core.specs.MakeCredential.{fits, new_row}
 use Rattle.authn_core.specs.GetAssertion.{find_named, applicable, MOST, told, begins, is_due, next_begins, next_signs, row_signs, user_in}
-use Rattle.authn_core.specs.Turn.{Start, core_answer, first_state, requested, presence_at, key_at, signature_at, presence_turn, key_turn, signature_turn, turn}
+use Rattle.authn_core.specs.Turn.{Start, core_answer, first_state, requested, replied, reply_turn, turn}
 use Rattle.authn_core.specs.Views.{Needed, needs, sign}
 use Rattle.authn_core.specs.Marks.{Step, Comes, Orderly, core_at}
 use Rattle.authn_core.specs.Signed.{Heard, newer, hears, heard, IsAmong, rp_of, IsToSign, IsNeeded, IsSigned, Claim, assertion_asked, creation_asked, AssertsFor, TaskSigns, WorkSigns, AllOf, PendingFor, IsGranted, TaskGranted, WorkGranted, Signs}
-use Rattle.authn_core.proofs.Readiness.{cond_case}
-use Rattle.authn_core.proofs.Marked.{same_bytes}
+use Rattle.authn_core.proofs.Readiness.{all_reversed, cond_case, same_bytes}
 use Rattle.authn_core.proofs.Texts.{rows_lawful, setup_stays}
 
 -- ---- rows
@@ -100,19 +92,6 @@ listed_of rp (r ∷ rows) d =
     go true k ih = let self : find (has_id r.id) (r ∷ rows) ≡ Some r = rw (same_bytes r.id) refl in (of_rp rp r.id (r ∷ rows) r self (and_parts r.discoverable (bytes_eq r.rp rp) k).1, ih)
     go false k ih = ih
 
-all_joined : (rp : List ℕ) (rows : List Row) (a b : List (List ℕ)) → AllOf rp rows a → AllOf rp rows b → AllOf rp rows (a ++ b)
-all_joined rp rows [] b p q = q
-all_joined rp rows (id ∷ a) b p q = (p.0, all_joined rp rows a b p.1 q)
-
-reversed_of : (rp : List ℕ) (rows l : List Row) → AllOf rp rows (ids l) → AllOf rp rows (ids (reverse l))
-reversed_of rp rows [] h = tt
-reversed_of rp rows (r ∷ l) h =
-    let e = reverse-append (r ∷ []) l in
-    let f = map-append (λ (r : Row). r.id) (reverse l) (r ∷ []) in
-    let g = all_joined rp rows (ids (reverse l)) (r.id ∷ []) (reversed_of rp rows l h.1) (h.0, tt) in
-    let P : List (List ℕ) → Type 0 = λ x. AllOf rp rows x in
-    subst P (sym (ap ids e ∙ f)) g
-
 named_of : (rp : List ℕ) (rows : List Row) (l : List (List ℕ)) (r : Row) → no_two same_id rows ≡ true → find_named rp rows l ≡ Some r → rp_of r.id rows ≡ Some rp
 named_of rp rows [] r d h = cc
 named_of rp rows (id ∷ l) r d h = go (named_of rp rows l r d) (find (is_named rp id) rows) refl h
@@ -133,7 +112,7 @@ applicable_of rows rp given allow d = go given
 
     go : (b : Bool) → AllOf rp rows (ids (cond b (option_to_list (find_named rp rows allow)) (listed rp rows)))
     go true = named (find_named rp rows allow) refl
-    go false = reversed_of rp rows (filter (is_listed rp) rows) (listed_of rp rows d)
+    go false = all_reversed (λ id. rp_of id rows ≡ Some rp) (filter (is_listed rp) rows) (listed_of rp rows d)
 
 -- Raising changes no RP, and raises the counter.
 rp_raised : (q id : List ℕ) (rows : List Row) → rp_of q (raised id rows) ≡ rp_of q rows
@@ -256,17 +235,6 @@ all_granted : (p : Option Waiting) → IsGranted true p
 all_granted None = tt
 all_granted (Some w) = λ _. refl
 
-granted_signs : (room : ℕ) (aaguid : List ℕ) (h : Heard) (s : State) (cid : ℕ) (k : Task) → Signs aaguid (record h { granted = true }) s → TaskSigns aaguid (record h { granted = true }) s.rows k
-    → Signs aaguid (record h { granted = true }) (presence_at room s cid k Granted).state
-granted_signs room aaguid h s cid Resets g w = record { pending = tt; granted = tt; work = tt }
-granted_signs room aaguid h s cid Selects g w = ended aaguid (record h { granted = true }) s.rows s.pending g.pending (all_granted s.pending)
-granted_signs room aaguid h s cid (AsksMake m true) g w = ended aaguid (record h { granted = true }) s.rows s.pending g.pending (all_granted s.pending)
-granted_signs room aaguid h s cid (AsksMake m false) g w =
-    cond_case (λ (v : Turned). Signs aaguid (record h { granted = true }) v.state) (fits room m s.rows) _ _ (λ _. record { pending = g.pending; granted = all_granted s.pending; work = (w, refl) })
-    (λ _. ended aaguid (record h { granted = true }) s.rows s.pending g.pending (all_granted s.pending))
-granted_signs room aaguid h s cid (AsksAssert a) g w = signs_signs aaguid (record h { granted = true }) s.rows s.pending cid a g.pending (all_granted s.pending) w (λ _. refl)
-granted_signs room aaguid h s cid k g w = g
-
 more_granted : (aaguid : List ℕ) (h : Heard) (s : State) → Signs aaguid h s → Signs aaguid (record h { granted = true }) s
 more_granted aaguid h s g = record { pending = g.pending; granted = free s.work; work = work s.work g.work }
   where
@@ -291,29 +259,6 @@ more_granted aaguid h s g = record { pending = g.pending; granted = free s.work;
         at Resets w = tt
         at Selects w = tt
 
-refused_signs : (room : ℕ) (aaguid : List ℕ) (h : Heard) (s : State) (cid : ℕ) (k : Task) (late : Bool) → Signs aaguid h s → TaskGranted h.granted s.pending k → Signs aaguid h (presence_at room s cid k (cond late TimedOut Denied)).state
-refused_signs room aaguid h s cid Resets false g q = ended aaguid h s.rows s.pending g.pending q
-refused_signs room aaguid h s cid Resets true g q = ended aaguid h s.rows s.pending g.pending q
-refused_signs room aaguid h s cid Selects false g q = ended aaguid h s.rows s.pending g.pending q
-refused_signs room aaguid h s cid Selects true g q = ended aaguid h s.rows s.pending g.pending q
-refused_signs room aaguid h s cid (AsksMake m true) late g q = ended aaguid h s.rows s.pending g.pending q
-refused_signs room aaguid h s cid (AsksMake m false) false g q = ended aaguid h s.rows s.pending g.pending q
-refused_signs room aaguid h s cid (AsksMake m false) true g q = ended aaguid h s.rows s.pending g.pending q
-refused_signs room aaguid h s cid (AsksAssert a) false g q = ended aaguid h s.rows None tt tt
-refused_signs room aaguid h s cid (AsksAssert a) true g q = ended aaguid h s.rows None tt tt
-refused_signs room aaguid h s cid k late g q = g
-
-key_signs : (aaguid : List ℕ) (h : Heard) (s : State) (cid : ℕ) (k : Task) (key : NewKey) → Signs aaguid (record h { keys = key ∷ h.keys }) s → TaskSigns aaguid (record h { keys = key ∷ h.keys }) s.rows k → TaskGranted h.granted s.pending k
-    → Signs aaguid (record h { keys = key ∷ h.keys }) (key_at aaguid s cid k (Some key)).state
-key_signs aaguid h s cid (WantsKey m) key g w q =
-    cond_case (λ (v : Turned). Signs aaguid (record h { keys = key ∷ h.keys }) v.state) (is_some (find (has_id key.id) s.rows)) _ _
-    (λ _. ended aaguid (record h { keys = key ∷ h.keys }) s.rows s.pending g.pending q) (λ _. record { pending = g.pending; granted = q; work = (w.0, inl refl, refl, w.1) })
-key_signs aaguid h s cid k key g w q = g
-
-refused_key : (aaguid : List ℕ) (h : Heard) (s : State) (cid : ℕ) (k : Task) → Signs aaguid h s → TaskGranted h.granted s.pending k → Signs aaguid h (key_at aaguid s cid k None).state
-refused_key aaguid h s cid (WantsKey m) g q = ended aaguid h s.rows s.pending g.pending q
-refused_key aaguid h s cid k g q = g
-
 -- one more key that was handed in
 more_work : (aaguid : List ℕ) (h : Heard) (rows : List Row) (key : NewKey) (v : Option Job) → WorkSigns aaguid h rows v → WorkSigns aaguid (record h { keys = key ∷ h.keys }) rows v
 more_work aaguid h rows key None w = tt
@@ -331,50 +276,61 @@ more_work aaguid h rows key (Some job) w = go job.task w
 more_keys : (aaguid : List ℕ) (h : Heard) (s : State) (key : NewKey) → Signs aaguid h s → Signs aaguid (record h { keys = key ∷ h.keys }) s
 more_keys aaguid h s key g = record { pending = g.pending; granted = g.granted; work = more_work aaguid h s.rows key s.work g.work }
 
-signature_signs : (aaguid : List ℕ) (h : Heard) (s : State) (t : ℕ) (k : Task) (sig : Option (List ℕ)) → Signs aaguid h s → TaskGranted h.granted s.pending k → Signs aaguid h (signature_at aaguid s t k sig).state
-signature_signs aaguid h s t (SignsMake m key d) None g q = ended aaguid h s.rows s.pending g.pending q
-signature_signs aaguid h s t (SignsMake m key d) (Some sig) g q = record { pending = tt; granted = tt; work = tt }
-signature_signs aaguid h s t (SignsAssert a n d) None g q = ended aaguid h s.rows None tt tt
-signature_signs aaguid h s t (SignsAssert a n d) (Some sig) g q =
-    ended aaguid h s.rows (stamped t s.pending) (pending_stamped h.asked s.rows t s.pending g.pending) (granted_stamped h.granted t s.pending q)
-signature_signs aaguid h s t k sig g q = g
+-- What a reply makes of the work keeps the invariant, which holds of what was heard.
+replied_signs : (u : Setup) (s : State) (t cid : ℕ) (k : Task) (e : Event) (h : Heard) → Signs u.aaguid (hears e h) s → TaskSigns u.aaguid (hears e h) s.rows k → TaskGranted (hears e h).granted s.pending k
+    → Signs u.aaguid (hears e h) (replied u s t cid k e).state
+replied_signs u s t cid Resets (PresenceIs Granted) h g w q = record { pending = tt; granted = tt; work = tt }
+replied_signs u s t cid Resets (PresenceIs Denied) h g w q = ended u.aaguid h s.rows s.pending g.pending q
+replied_signs u s t cid Resets (PresenceIs TimedOut) h g w q = ended u.aaguid h s.rows s.pending g.pending q
+replied_signs u s t cid Selects (PresenceIs Granted) h g w q = ended u.aaguid (hears (PresenceIs Granted) h) s.rows s.pending g.pending q
+replied_signs u s t cid Selects (PresenceIs Denied) h g w q = ended u.aaguid h s.rows s.pending g.pending q
+replied_signs u s t cid Selects (PresenceIs TimedOut) h g w q = ended u.aaguid h s.rows s.pending g.pending q
+replied_signs u s t cid (AsksMake m true) (PresenceIs Granted) h g w q = ended u.aaguid (hears (PresenceIs Granted) h) s.rows s.pending g.pending q
+replied_signs u s t cid (AsksMake m true) (PresenceIs p) h g w q = ended u.aaguid h s.rows s.pending g.pending q
+replied_signs u s t cid (AsksMake m false) (PresenceIs Granted) h g w q =
+    cond_case (λ (v : Turned). Signs u.aaguid (hears (PresenceIs Granted) h) v.state) (fits u.room m s.rows) _ _ (λ _. record { pending = g.pending; granted = q; work = (w, refl) })
+    (λ _. ended u.aaguid (hears (PresenceIs Granted) h) s.rows s.pending g.pending q)
+replied_signs u s t cid (AsksMake m false) (PresenceIs p) h g w q = ended u.aaguid h s.rows s.pending g.pending q
+replied_signs u s t cid (AsksAssert a) (PresenceIs Granted) h g w q = signs_signs u.aaguid (hears (PresenceIs Granted) h) s.rows s.pending cid a g.pending (all_granted s.pending) w (λ _. refl)
+replied_signs u s t cid (AsksAssert a) (PresenceIs p) h g w q = ended u.aaguid h s.rows None tt tt
+replied_signs u s t cid (WantsKey m) (KeyIs None) h g w q = ended u.aaguid h s.rows s.pending g.pending q
+replied_signs u s t cid (WantsKey m) (KeyIs (Some key)) h g w q =
+    cond_case (λ (v : Turned). Signs u.aaguid (hears (KeyIs (Some key)) h) v.state) (is_some (find (has_id key.id) s.rows)) _ _
+    (λ _. ended u.aaguid (hears (KeyIs (Some key)) h) s.rows s.pending g.pending q) (λ _. record { pending = g.pending; granted = q; work = (w.0, inl refl, refl, w.1) })
+replied_signs u s t cid (SignsMake m key d) (SignatureIs None) h g w q = ended u.aaguid h s.rows s.pending g.pending q
+replied_signs u s t cid (SignsMake m key d) (SignatureIs (Some sig)) h g w q = record { pending = tt; granted = tt; work = tt }
+replied_signs u s t cid (SignsAssert a n d) (SignatureIs None) h g w q = ended u.aaguid h s.rows None tt tt
+replied_signs u s t cid (SignsAssert a n d) (SignatureIs (Some sig)) h g w q =
+    ended u.aaguid h s.rows (stamped t s.pending) (pending_stamped h.asked s.rows t s.pending g.pending) (granted_stamped h.granted t s.pending q)
+replied_signs u s t cid k e h g w q = g
+
+reply_signs : (u : Setup) (s : State) (t : ℕ) (e : Event) (h : Heard) (v : Option Job) → Signs u.aaguid (hears e h) s → WorkSigns u.aaguid (hears e h) s.rows v → WorkGranted (hears e h).granted s.pending v
+    → Signs u.aaguid (hears e h) (reply_turn u s t v e).state
+reply_signs u s t e h None g w q = g
+reply_signs u s t e h (Some v) g w q = replied_signs u s t v.cid v.task e h g w q
+
+-- what is heard of a reply keeps it
+abbrev IsReply : Event → Type 0
+IsReply (PresenceIs p) = Unit {0}
+IsReply (KeyIs key) = Unit {0}
+IsReply (SignatureIs sig) = Unit {0}
+IsReply e = ⊥
+
+heard_signs : (aaguid : List ℕ) (e : Event) (h : Heard) (s : State) → IsReply e → Signs aaguid h s → Signs aaguid (hears e h) s
+heard_signs aaguid (PresenceIs Granted) h s i g = more_granted aaguid h s g
+heard_signs aaguid (KeyIs (Some key)) h s i g = more_keys aaguid h s key g
+heard_signs aaguid (Request cid bytes) h s i g = absurd i
+heard_signs aaguid other h s i g = g
 
 -- Every turn keeps the invariant, where a request comes only while no work waits.
 pub turn_signs : (u : Setup) (s : State) (t : ℕ) (e : Event) (h : Heard) → Comes s.work e → Lawful u.room s.rows → Signs u.aaguid h s → Signs u.aaguid (hears e h) (turn u s t e).state
 unfolding turn
 turn_signs u s t (Request cid bytes) h c l g = requested_signs u h s.rows s.pending t cid (read_of bytes) l.distinct g.pending (subst (WorkGranted h.granted s.pending) c g.granted)
-turn_signs u s t (PresenceIs Granted) h c l g = go s.work (more_granted u.aaguid h s g).work
-  where
-    go : (v : Option Job) → WorkSigns u.aaguid (record h { granted = true }) s.rows v → Signs u.aaguid (record h { granted = true }) (presence_turn u.room s v Granted).state
-    go None w = more_granted u.aaguid h s g
-    go (Some v) w = granted_signs u.room u.aaguid h s v.cid v.task (more_granted u.aaguid h s g) w
-turn_signs u s t (PresenceIs Denied) h c l g = go s.work g.granted
-  where
-    go : (v : Option Job) → WorkGranted h.granted s.pending v → Signs u.aaguid h (presence_turn u.room s v Denied).state
-    go None q = g
-    go (Some v) q = refused_signs u.room u.aaguid h s v.cid v.task false g q
-turn_signs u s t (PresenceIs TimedOut) h c l g = go s.work g.granted
-  where
-    go : (v : Option Job) → WorkGranted h.granted s.pending v → Signs u.aaguid h (presence_turn u.room s v TimedOut).state
-    go None q = g
-    go (Some v) q = refused_signs u.room u.aaguid h s v.cid v.task true g q
-turn_signs u s t (KeyIs (Some key)) h c l g = go s.work (more_keys u.aaguid h s key g).work g.granted
-  where
-    go : (v : Option Job) → WorkSigns u.aaguid (record h { keys = key ∷ h.keys }) s.rows v → WorkGranted h.granted s.pending v → Signs u.aaguid (record h { keys = key ∷ h.keys }) (key_turn u.aaguid s v (Some key)).state
-    go None w q = more_keys u.aaguid h s key g
-    go (Some v) w q = key_signs u.aaguid h s v.cid v.task key (more_keys u.aaguid h s key g) w q
-turn_signs u s t (KeyIs None) h c l g = go s.work g.granted
-  where
-    go : (v : Option Job) → WorkGranted h.granted s.pending v → Signs u.aaguid h (key_turn u.aaguid s v None).state
-    go None q = g
-    go (Some v) q = refused_key u.aaguid h s v.cid v.task g q
-turn_signs u s t (SignatureIs sig) h c l g = go s.work g.granted
-  where
-    go : (v : Option Job) → WorkGranted h.granted s.pending v → Signs u.aaguid h (signature_turn u.aaguid s t v sig).state
-    go None q = g
-    go (Some v) q = signature_signs u.aaguid h s t v.task sig g q
 turn_signs u s t Cancel h c l g = record { pending = tt; granted = tt; work = tt }
 turn_signs u s t Drop h c l g = record { pending = tt; granted = tt; work = tt }
+turn_signs u s t (PresenceIs p) h c l g = let n = heard_signs u.aaguid (PresenceIs p) h s tt g in reply_signs u s t (PresenceIs p) h s.work n n.work n.granted
+turn_signs u s t (KeyIs key) h c l g = let n = heard_signs u.aaguid (KeyIs key) h s tt g in reply_signs u s t (KeyIs key) h s.work n n.work n.granted
+turn_signs u s t (SignatureIs sig) h c l g = reply_signs u s t (SignatureIs sig) h s.work g g.work g.granted
 
 -- ---- histories
 
@@ -395,39 +351,25 @@ to_sign_assertion : (aaguid : List ℕ) (h : Heard) (rows : List Row) (id signed
 to_sign_assertion aaguid h rows id signed v (Some (GetAssertion hash rp_id allow up)) c r e present =
     let s = same_Some (record { rp = rp_hash rp_id; presence = up; hash = hash }) v c in
     (e ∙ sym (ap (λ (w : Claim). assertion_bytes w.rp w.presence (counter_of id rows) ++ w.hash) s), r ∙ sym (ap (λ (w : Claim). Some w.rp) s), λ k. present (sym (ap (λ (w : Claim). w.presence) s) ∙ k))
-to_sign_assertion aaguid h rows id signed v (Some (MakeCredential hash rp_id user_id user_name discoverable exclude)) c r e present = cc
-to_sign_assertion aaguid h rows id signed v (Some GetInfo) c r e present = cc
-to_sign_assertion aaguid h rows id signed v (Some Reset) c r e present = cc
-to_sign_assertion aaguid h rows id signed v (Some GetNextAssertion) c r e present = cc
-to_sign_assertion aaguid h rows id signed v (Some Selection) c r e present = cc
-to_sign_assertion aaguid h rows id signed v None c r e present = cc
+to_sign_assertion aaguid h rows id signed v other c r e present = cc
 
 to_sign_creation : (aaguid : List ℕ) (h : Heard) (rows : List Row) (key : NewKey) (signed rp hash : List ℕ) (asked : Option Asked) → creation_asked asked ≡ Some (rp, hash) → IsAmong key h.keys
     → signed ≡ created_bytes rp aaguid key.id key.x key.y ++ hash → h.granted ≡ true → IsToSign aaguid h rows key.id signed asked
 to_sign_creation aaguid h rows key signed rp hash (Some (MakeCredential asked_hash rp_id user_id user_name discoverable exclude)) c k e present =
     let s = same_Some (rp_hash rp_id, asked_hash) (rp, hash) c in
     (key, k, refl, e ∙ sym (ap (λ (w : List ℕ × List ℕ). created_bytes w.0 aaguid key.id key.x key.y ++ w.1) s), present)
-to_sign_creation aaguid h rows key signed rp hash (Some (GetAssertion asked_hash rp_id allow up)) c k e present = cc
-to_sign_creation aaguid h rows key signed rp hash (Some GetInfo) c k e present = cc
-to_sign_creation aaguid h rows key signed rp hash (Some Reset) c k e present = cc
-to_sign_creation aaguid h rows key signed rp hash (Some GetNextAssertion) c k e present = cc
-to_sign_creation aaguid h rows key signed rp hash (Some Selection) c k e present = cc
-to_sign_creation aaguid h rows key signed rp hash None c k e present = cc
+to_sign_creation aaguid h rows key signed rp hash other c k e present = cc
 
 needed_is : (aaguid : List ℕ) (h : Heard) (rows : List Row) (work : Option Job) → WorkSigns aaguid h rows work → IsNeeded aaguid h rows (needs work)
 needed_is aaguid h rows None w = tt
 needed_is aaguid h rows (Some job) w = task job.task w
   where
     task : (k : Task) → TaskSigns aaguid h rows k → IsNeeded aaguid h rows (needs (Some (record { cid = job.cid; task = k })))
-    task Resets w = tt
-    task Selects w = tt
-    task (AsksMake m excluded) w = tt
-    task (WantsKey m) w = tt
-    task (AsksAssert a) w = tt
     task (SignsAssert a n d) w =
-        to_sign_assertion aaguid h rows a.id d.items (record { rp = a.rp; presence = a.presence; hash = a.hash }) h.asked w.0.0 w.0.1
+        to_sign_assertion aaguid h rows a.id d (record { rp = a.rp; presence = a.presence; hash = a.hash }) h.asked w.0.0 w.0.1
         (w.2 ∙ ap (λ n. assertion_bytes a.rp a.presence n ++ a.hash) w.1) w.3
-    task (SignsMake m key d) w = to_sign_creation aaguid h rows key d.items m.rp m.hash h.asked w.0 w.1 w.2 w.3
+    task (SignsMake m key d) w = to_sign_creation aaguid h rows key d m.rp m.hash h.asked w.0 w.1 w.2 w.3
+    task other w = tt
 
 pub need_is_signed : (start : Start) (h : List Step) → Lawful start.room start.rows → Orderly (first_state start) h → IsNeeded start.aaguid (heard h) (core_at (first_state start) h).state.rows (needs (core_at (first_state start) h).state.work)
 need_is_signed start h l o =
@@ -440,25 +382,15 @@ answered_assertion : (aaguid : List ℕ) (work : Option Job) (sig : List ℕ) (a
 answered_assertion aaguid work sig a n signed user (Some (GetAssertion hash rp_id allow up)) c e =
     let s = same_Some (record { rp = rp_hash rp_id; presence = up; hash = hash }) (record { rp = a.rp; presence = a.presence; hash = a.hash }) c in
     (assertion_bytes a.rp a.presence n, user, a.number, refl, ap (λ (w : Claim). assertion_bytes a.rp a.presence n ++ w.hash) s ∙ sym e)
-answered_assertion aaguid work sig a n signed user (Some (MakeCredential hash rp_id user_id user_name discoverable exclude)) c e = cc
-answered_assertion aaguid work sig a n signed user (Some GetInfo) c e = cc
-answered_assertion aaguid work sig a n signed user (Some Reset) c e = cc
-answered_assertion aaguid work sig a n signed user (Some GetNextAssertion) c e = cc
-answered_assertion aaguid work sig a n signed user (Some Selection) c e = cc
-answered_assertion aaguid work sig a n signed user None c e = cc
+answered_assertion aaguid work sig a n signed user other c e = cc
 
-answered_creation : (aaguid : List ℕ) (cid : ℕ) (sig : List ℕ) (m : Making) (key : NewKey) (d : ArrayVec ℕ) (asked : Option Asked)
-    → creation_asked asked ≡ Some (m.rp, m.hash) → d.items ≡ created_bytes m.rp aaguid key.id key.x key.y ++ m.hash
-    → IsSigned aaguid (Some (record { cid = cid; task = SignsMake m key d })) key.id d.items sig (Answered (created_answer (created_bytes m.rp aaguid key.id key.x key.y) sig)) asked
+answered_creation : (aaguid : List ℕ) (cid : ℕ) (sig : List ℕ) (m : Making) (key : NewKey) (d : List ℕ) (asked : Option Asked)
+    → creation_asked asked ≡ Some (m.rp, m.hash) → d ≡ created_bytes m.rp aaguid key.id key.x key.y ++ m.hash
+    → IsSigned aaguid (Some (record { cid = cid; task = SignsMake m key d })) key.id d sig (Answered (created_answer (created_bytes m.rp aaguid key.id key.x key.y) sig)) asked
 answered_creation aaguid cid sig m key d (Some (MakeCredential hash rp_id user_id user_name discoverable exclude)) c e =
     let s = same_Some (rp_hash rp_id, hash) (m.rp, m.hash) c in
     (new_row m key, refl, refl, refl, ap (λ (w : List ℕ × List ℕ). created_bytes m.rp aaguid key.id key.x key.y ++ w.1) s ∙ sym e)
-answered_creation aaguid cid sig m key d (Some (GetAssertion hash rp_id allow up)) c e = cc
-answered_creation aaguid cid sig m key d (Some GetInfo) c e = cc
-answered_creation aaguid cid sig m key d (Some Reset) c e = cc
-answered_creation aaguid cid sig m key d (Some GetNextAssertion) c e = cc
-answered_creation aaguid cid sig m key d (Some Selection) c e = cc
-answered_creation aaguid cid sig m key d None c e = cc
+answered_creation aaguid cid sig m key d other c e = cc
 
 abbrev IsSignedAs : (aaguid : List ℕ) → Option Job → Needed → (sig : List ℕ) → Answer → Option Asked → Type 0
 IsSignedAs aaguid work (sign id signed) sig answer asked = IsSigned aaguid work id signed sig answer asked
@@ -470,20 +402,16 @@ unfolding turn
 turn_answers u s t h id signed sig g e = go s.work g.work e
   where
     task : (cid : ℕ) (k : Task) → TaskSigns u.aaguid h s.rows k → needs (Some (record { cid = cid; task = k })) ≡ sign id signed
-        → IsSigned u.aaguid (Some (record { cid = cid; task = k })) id signed sig (signature_at u.aaguid s t k (Some sig)).answer h.asked
+        → IsSigned u.aaguid (Some (record { cid = cid; task = k })) id signed sig (replied u s t cid k (SignatureIs (Some sig))).answer h.asked
     task cid (SignsAssert a n d) w e =
-        let P : Needed → Type 0 = λ v. IsSignedAs u.aaguid (Some (record { cid = cid; task = SignsAssert a n d })) v sig (signature_at u.aaguid s t (SignsAssert a n d) (Some sig)).answer h.asked in
-        subst P e (answered_assertion u.aaguid (Some (record { cid = cid; task = SignsAssert a n d })) sig a n d.items (user_in (find (has_id a.id) s.rows)) h.asked w.0.0 w.2)
+        let P : Needed → Type 0 = λ v. IsSignedAs u.aaguid (Some (record { cid = cid; task = SignsAssert a n d })) v sig (replied u s t cid (SignsAssert a n d) (SignatureIs (Some sig))).answer h.asked in
+        subst P e (answered_assertion u.aaguid (Some (record { cid = cid; task = SignsAssert a n d })) sig a n d (user_in (find (has_id a.id) s.rows)) h.asked w.0.0 w.2)
     task cid (SignsMake m key d) w e =
-        let P : Needed → Type 0 = λ v. IsSignedAs u.aaguid (Some (record { cid = cid; task = SignsMake m key d })) v sig (signature_at u.aaguid s t (SignsMake m key d) (Some sig)).answer h.asked in
+        let P : Needed → Type 0 = λ v. IsSignedAs u.aaguid (Some (record { cid = cid; task = SignsMake m key d })) v sig (replied u s t cid (SignsMake m key d) (SignatureIs (Some sig))).answer h.asked in
         subst P e (answered_creation u.aaguid cid sig m key d h.asked w.0 w.2)
-    task cid Resets w e = cc
-    task cid Selects w e = cc
-    task cid (AsksMake m excluded) w e = cc
-    task cid (WantsKey m) w e = cc
-    task cid (AsksAssert a) w e = cc
+    task cid other w e = cc
 
-    go : (v : Option Job) → WorkSigns u.aaguid h s.rows v → needs v ≡ sign id signed → IsSigned u.aaguid v id signed sig (signature_turn u.aaguid s t v (Some sig)).answer h.asked
+    go : (v : Option Job) → WorkSigns u.aaguid h s.rows v → needs v ≡ sign id signed → IsSigned u.aaguid v id signed sig (reply_turn u s t v (SignatureIs (Some sig))).answer h.asked
     go None w e = cc
     go (Some v) w e = task v.cid v.task w e
 

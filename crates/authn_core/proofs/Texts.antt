@@ -1,34 +1,22 @@
 -- No two texts to sign of assertions by one row hold the same counter.
-use Rattle.std.proofs.Common.{◌≡◌, ℕ, ◌+◌, ◌≤◌, ◌<◌, ◌==◌, List, [], ◌∷◌, ◌++◌, length, flat_map, Bool, true, false, cond, ◌&&◌, ◌||◌, not, Option, Some, None, option_to_list, is_some, refl, sym, ◌∙◌, ap, subst, arith, filter}
+use Rattle.std.proofs.Common.{◌≡◌, ℕ, ◌+◌, ◌≤◌, ◌<◌, ◌==◌, List, [], ◌∷◌, ◌++◌, length, flat_map, Bool, true, false, cond, ◌&&◌, not, Option, Some, None, option_to_list, is_some, refl, sym, ◌∙◌, ap, subst, arith, filter}
+use Rattle.std.proofs.lemmas.Bool.{and_parts, and_from, or_parts, or_from, not-true}
 use Rattle.std.specs.List.{find, list_any}
 use Rattle.std.specs.Str.{bytes_eq}
 use Rattle.cred_table.specs.declared.row.Row.{Row}
 use Rattle.cred_table.specs.Rows.{Lawful, has_id, same_id, no_two, raised, counter_of, counter_in}
-use Rattle.authn_core.specs.declared.task.Job.{Job}
 use Rattle.authn_core.specs.Turn.{CoreState, core_after}
 use Rattle.authn_core.specs.Ready.{Ready}
-use Rattle.authn_core.specs.State.{Setup}
+use Rattle.authn_core.specs.State.{Setup, Job}
 use Rattle.cred_table.specs.Waiting.{pending_count}
 use Rattle.authn_core.proofs.PendingFew.{turn_few}
 use Rattle.authn_core.specs.Marks.{Step, Orderly, core_at, marks, mark, texts, text_of, same_text, all_differ, raised_by, task_raises, Mark, marked, left, stays, counted, makes_id, row_has_id, makings, Text}
 use Rattle.authn_core.proofs.Rises.{RisesTo, turn_rises}
-use Rattle.authn_core.proofs.Readiness.{and_both, and_is, turn_ready}
+use Rattle.authn_core.proofs.Readiness.{turn_ready}
 use Rattle.authn_core.proofs.Lawfulness.{turn_lawful}
 use Rattle.authn_core.proofs.Marked.{turn_marked}
 use Rattle.std.proofs.lemmas.Bool.Decides.{nat_tests}
 use Rattle.std.proofs.lemmas.Slice.Eq.{bytes_eq-Decides}
-
-or_both : (a b : Bool) → (a || b) ≡ false → (a ≡ false) × (b ≡ false)
-or_both true b h = cc
-or_both false b h = (refl, h)
-
-or_is : (a b : Bool) → a ≡ false → b ≡ false → (a || b) ≡ false
-or_is true b h k = cc
-or_is false b h k = k
-
-not_is : (a : Bool) → not a ≡ true → a ≡ false
-not_is true h = cc
-not_is false h = refl
 
 -- every row with the id has a counter of at least n
 abbrev pub all_above : List ℕ → ℕ → List Row → Type 0
@@ -60,7 +48,7 @@ above_marked id n m rows e h = above_append id n (flat_map (left (m ∷ [])) row
 none_more : (q : List ℕ) (r : Row) (n : ℕ) (rows : List Row) → has_id q r ≡ true → list_any (same_id r) rows ≡ false → all_above q n rows
 none_more q r n [] e h = tt
 none_more q r n (s ∷ rows) e h =
-    let p = or_both (same_id r s) (list_any (same_id r) rows) h in
+    let p = or_parts (same_id r s) (list_any (same_id r) rows) h in
     ((λ k. absurd (clashes k p.0)), none_more q r n rows e p.1)
   where
     clashes : has_id q s ≡ true → same_id r s ≡ false → ⊥
@@ -72,8 +60,8 @@ none_more q r n (s ∷ rows) e h =
 pub raised_above : (id : List ℕ) (rows : List Row) → no_two same_id rows ≡ true → all_above id (counter_of id rows) rows
 raised_above id [] h = tt
 raised_above id (r ∷ rows) h =
-    let p = and_both (not (list_any (same_id r) rows)) (no_two same_id rows) h in
-    go (has_id id r) refl (not_is (list_any (same_id r) rows) p.0) (raised_above id rows p.1)
+    let p = and_parts (not (list_any (same_id r) rows)) (no_two same_id rows) h in
+    go (has_id id r) refl (not-true (list_any (same_id r) rows) p.0) (raised_above id rows p.1)
   where
     go : (b : Bool) → has_id id r ≡ b → list_any (same_id r) rows ≡ false → all_above id (counter_of id rows) rows →
         (has_id id r ≡ true → counter_in (cond b (Some r) (find (has_id id) rows)) ≤ r.counter) × all_above id (counter_in (cond b (Some r) (find (has_id id) rows))) rows
@@ -136,7 +124,7 @@ all_new : (h : List Mark) (rows : List Row) (id : List ℕ) (ts : List Text) →
     list_any (same_text (record { id = id; making = makings id h; counter = counter_of id rows + 1 })) ts ≡ false
 all_new h rows id [] e b = refl
 all_new h rows id (t ∷ ts) e b =
-    or_is (same_text (record { id = id; making = makings id h; counter = counter_of id rows + 1 }) t)
+    or_from (same_text (record { id = id; making = makings id h; counter = counter_of id rows + 1 }) t)
     (list_any (same_text (record { id = id; making = makings id h; counter = counter_of id rows + 1 })) ts)
     (go (bytes_eq id t.id) (makings id h == t.making) (counter_of id rows + 1 == t.counter) refl refl refl) (all_new h rows id ts e b.1)
   where
@@ -172,7 +160,7 @@ one_text h rows rows' m before (Some w) ts e l r b d = go (task_raises before w.
         × ((not (list_any (same_text (record { id = id; making = makings id h; counter = n })) ts) && all_differ ts) ≡ true) in
         let new : Bounded (m ∷ h) rows' (record { id = id; making = makings id h; counter = counter_of id rows + 1 }) =
         record { earlier = makings_grow id m h; above = λ k. subst P (sym i.raises) (above_raised id (counter_of id rows) rows (raised_above id rows l)) } in
-        subst Q (sym i.counter) ((new, old), and_is (not (list_any (same_text (record { id = id; making = makings id h; counter = counter_of id rows + 1 })) ts)) (all_differ ts) (ap not (all_new h rows id ts i.there b)) d)
+        subst Q (sym i.counter) ((new, old), and_from (not (list_any (same_text (record { id = id; making = makings id h; counter = counter_of id rows + 1 })) ts)) (all_differ ts) (ap not (all_new h rows id ts i.there b)) d)
 
 -- what holds of the authenticator after every history
 pub record Sound (k : CoreState) : Type 0 where

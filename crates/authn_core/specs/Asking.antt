@@ -1,17 +1,17 @@
--- Presence alone: authenticatorReset (CTAP 2.1, section 6.6) and authenticatorSelection (section 6.9). A refusal has
+-- Presence alone: authenticatorReset and authenticatorSelection (CTAP 2.1, sections 6.6, 6.9 and 8.2). A refusal has
 -- its status, and beside it the status's name in section 8.2.
 use Rattle.std.specs.Prelude.{ℕ, ◌+◌, nat_lt, List, Option, None, if◌then◌else◌}
 use Rattle.cred_table.specs.declared.row.Row.{Row}
 use Rattle.cred_table.specs.Waiting.{Waiting}
 use Rattle.authn_core.specs.declared.replies.Presence.{Presence}
 use Rattle.authn_core.specs.declared.replies.Presence.TheVariants.{Granted, Denied, TimedOut}
-use Rattle.authn_core.specs.declared.task.Task.TheVariants.{Resets}
-use Rattle.authn_core.specs.State.{Turned, refuses, waits}
+use Rattle.authn_core.specs.State.{Resets, Turned, refuses, waits}
 
 -- a reset may be asked for within so many milliseconds of the start
 abbrev pub RESET_LIMIT : ℕ
 RESET_LIMIT = 10000
 
+-- A reset asks for the user's presence, or comes too late.
 abbrev pub reset_begins : List Row → (began now cid : ℕ) → Turned
 reset_begins rows began now cid =
     if nat_lt (began + RESET_LIMIT) now then refuses rows None 0x30 else waits rows None cid Resets  -- NOT_ALLOWED

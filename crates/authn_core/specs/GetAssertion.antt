@@ -1,18 +1,16 @@
--- The turns of authenticatorGetAssertion and authenticatorGetNextAssertion (CTAP 2.1, sections 6.2.2 and 6.3). A
--- refusal has its status, and beside it the status's name in section 8.2.
+-- The turns of authenticatorGetAssertion and authenticatorGetNextAssertion (CTAP 2.1, sections 6.2.2, 6.3 and
+-- 8.2). A refusal has its status, and beside it the status's name in section 8.2.
 use Rattle.std.specs.Prelude.{ℕ, ◌+◌, ◌==◌, nat_lt, nat_le, List, [], ◌∷◌, length, Bool, false, ◌&&◌, Option, Some, None, option_to_list, if◌then◌else◌}
 use Rattle.std.specs.List.{find}
 use Rattle.std.specs.Option.{option_or}
 use Rattle.cred_table.specs.declared.row.Row.{Row}
-use Rattle.cred_table.specs.Rows.{has_id, is_named, listed, ids, counter_of}
+use Rattle.cred_table.specs.Rows.{has_id, is_named, listed, counter_of}
 use Rattle.cred_table.specs.Waiting.{Waiting, pending_of, stamped, first_of, rest_of, hash_of, presence_of}
 use Rattle.fido_authdata.specs.AuthData.{assertion_bytes}
 use Rattle.ctap_message.specs.Answers.{assertion_answer}
 use Rattle.authn_core.specs.declared.replies.Presence.{Presence}
 use Rattle.authn_core.specs.declared.replies.Presence.TheVariants.{Granted}
-use Rattle.authn_core.specs.declared.task.Asserting.{Asserting}
-use Rattle.authn_core.specs.declared.task.Task.TheVariants.{AsksAssert}
-use Rattle.authn_core.specs.State.{Turned, answers, refuses, waits, signs}
+use Rattle.authn_core.specs.State.{Asserting, AsksAssert, Turned, answers, refuses, waits, signs}
 
 -- the row of the first id that names one of the RP
 abbrev pub find_named : (rp : List ℕ) → List Row → List (List ℕ) → Option Row
@@ -36,7 +34,7 @@ MOST = 4294967295
 abbrev pub begun : List Row → Option Waiting → (cid : ℕ) → Asserting → Turned
 begun rows pending cid a = if a.presence then waits rows pending cid (AsksAssert a) else signs rows pending cid a
 
--- The first of the applicable rows signs, and the others are pending.
+-- The first of the applicable rows, by their ids, signs, and the others are pending.
 abbrev pub begins : List Row → (now cid : ℕ) (hash rp : List ℕ) (presence given : Bool) → List (List ℕ) → Turned
 begins rows now cid hash rp presence given [] = refuses rows None 0x2e  -- NO_CREDENTIALS
 begins rows now cid hash rp presence given (id ∷ others) =
@@ -45,11 +43,7 @@ begins rows now cid hash rp presence given (id ∷ others) =
     (record { hash = hash; rp = rp; id = id; presence = presence; number = told given (length others + 1) })
     else refuses rows None 0x15  -- LIMIT_EXCEEDED
 
-abbrev pub assert_begins : List Row → (now cid : ℕ) (hash rp : List ℕ) (given : Bool) (allow : List (List ℕ))
-    (presence : Bool) → Turned
-assert_begins rows now cid hash rp given allow presence =
-    begins rows now cid hash rp presence given (ids (applicable rows rp given allow))
-
+-- Where the user consents the assertion goes on, any other reply refuses.
 abbrev pub assert_asked : List Row → Option Waiting → (cid : ℕ) → Asserting → Presence → Turned
 assert_asked rows pending cid a Granted = signs rows pending cid a
 assert_asked rows pending cid a reply = refuses rows None 0x27  -- OPERATION_DENIED
@@ -91,6 +85,7 @@ next_signs rows pending cid None = refuses rows None 0x30  -- NOT_ALLOWED
 next_signs rows pending cid (Some id) = row_signs rows (rest_of pending) cid (hash_of pending)
     (presence_of pending) id (find (has_id id) rows)
 
+-- getNextAssertion, where something is pending and in time
 abbrev pub next_begins : List Row → Option Waiting → (now cid : ℕ) → Turned
 next_begins rows pending now cid =
     if is_due now cid pending then next_signs rows pending cid (first_of pending)

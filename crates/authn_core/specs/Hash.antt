@@ -2,5 +2,6 @@
 use Rattle.std.specs.Prelude.{ℕ, List}
 use Rattle.sha2.specs.Sha256.{sha256}
 
+-- the hash of an RP id
 unfoldable pub rp_hash : List ℕ → List ℕ
 rp_hash id = sha256 id

@@ -1,7 +1,8 @@
--- The turns of authenticatorMakeCredential (CTAP 2.1, section 6.1.2). A refusal has its status, and beside it the
--- status's name in section 8.2.
-use Rattle.std.specs.Prelude.{ℕ, nat_lt, List, length, Bool, true, false, ◌&&◌, ◌||◌, Option, Some, None, is_some, if◌then◌else◌}
+-- The turns of authenticatorMakeCredential (CTAP 2.1, sections 6.1.2 and 8.2). A refusal has its status, and beside it
+-- the status's name in section 8.2.
+use Rattle.std.specs.Prelude.{ℕ, nat_lt, List, ◌++◌, length, Bool, true, false, ◌&&◌, ◌||◌, Option, Some, None, is_some, if◌then◌else◌}
 use Rattle.std.specs.List.{find, list_any}
+use Rattle.arrayvec.specs.ArrayVec.{ArrayVec}
 use Rattle.cred_table.specs.declared.row.Row.{Row}
 use Rattle.cred_table.specs.Rows.{has_id, is_named, is_user, stored}
 use Rattle.cred_table.specs.Names.{cut}
@@ -11,10 +12,8 @@ use Rattle.ctap_message.specs.Answers.{created_answer}
 use Rattle.authn_core.specs.declared.replies.Presence.{Presence}
 use Rattle.authn_core.specs.declared.replies.Presence.TheVariants.{Granted}
 use Rattle.authn_core.specs.declared.replies.NewKey.{NewKey}
-use Rattle.authn_core.specs.declared.task.Making.{Making}
-use Rattle.authn_core.specs.declared.task.Task.TheVariants.{AsksMake, WantsKey}
 use Rattle.authn_core.specs.Hash.{rp_hash}
-use Rattle.authn_core.specs.State.{Turned, answers, refuses, waits, sealing}
+use Rattle.authn_core.specs.State.{Making, AsksMake, WantsKey, SignsMake, Turned, answers, refuses, waits}
 
 -- one of the ids names a row of the RP
 abbrev pub names_one : (rp : List ℕ) → List Row → List (List ℕ) → Bool
@@ -23,7 +22,7 @@ names_one rp rows ids = list_any (λ id. is_some (find (is_named rp id) rows)) i
 -- what is to be made
 abbrev pub making : (hash rp_id user_id user_name : List ℕ) (rk : Bool) → Making
 making hash rp_id user_id name rk =
-    record { hash = hash; rp = rp_hash rp_id; user = record { items = user_id }; name = cut name; discoverable = rk }
+    record { hash = hash; rp = rp_hash rp_id; user = user_id; name = cut name; discoverable = rk }
 
 -- The user's presence is asked for, also where a credential is excluded.
 abbrev pub make_begins : List Row → (cid : ℕ) → Making → (exclude : List (List ℕ)) → Turned
@@ -31,7 +30,7 @@ make_begins rows cid m exclude = waits rows None cid (AsksMake m (names_one m.rp
 
 -- there is capacity for the new row, or it replaces one
 abbrev pub fits : (room : ℕ) → Making → List Row → Bool
-fits room m rows = nat_lt (length rows) room || (m.discoverable && is_some (find (is_user m.rp m.user.items) rows))
+fits room m rows = nat_lt (length rows) room || (m.discoverable && is_some (find (is_user m.rp m.user) rows))
 
 -- Where a credential is excluded, any reply refuses.
 abbrev pub make_asked : ℕ → List Row → Option Waiting → (cid : ℕ) → Making → (excluded : Bool) → Presence → Turned
@@ -40,17 +39,19 @@ make_asked room rows pending cid m false Granted =
     if fits room m rows then waits rows pending cid (WantsKey m) else refuses rows pending 0x28  -- KEY_STORE_FULL
 make_asked room rows pending cid m false reply = refuses rows pending 0x27  -- OPERATION_DENIED
 
--- A key with a new id goes on to the signature.
+-- A key with a new id goes on to the signature, of authenticator data and the hash of the client data (WebAuthn Level
+-- 2, section 8.2).
 abbrev pub key_wanted : (aaguid : List ℕ) → List Row → Option Waiting → (cid : ℕ) → Making → Option NewKey → Turned
 key_wanted aaguid rows pending cid m None = refuses rows pending 0x7f  -- OTHER
 key_wanted aaguid rows pending cid m (Some key) =
     if is_some (find (has_id key.id) rows) then refuses rows pending 0x7f  -- OTHER
-    else waits rows pending cid (sealing aaguid m key)
+    else waits rows pending cid (SignsMake m key (created_bytes m.rp aaguid key.id key.x key.y ++ m.hash))
 
+-- the row that is made, with the counter 0
 abbrev pub new_row : Making → NewKey → Row
 new_row m k =
-    let rk = m.discoverable in
-    record { rp = m.rp; id = k.id; x = k.x; y = k.y; user = m.user; discoverable = rk; counter = 0; name = m.name }
+    let user : ArrayVec ℕ = record { items = m.user } in let rk = m.discoverable in
+    record { rp = m.rp; id = k.id; x = k.x; y = k.y; user = user; discoverable = rk; counter = 0; name = m.name }
 
 -- Signed, the row is stored and the answer sent. Nothing is pending then: the request emptied it.
 abbrev pub make_signed : (aaguid : List ℕ) → List Row → Option Waiting → Making → NewKey → Option (List ℕ) → Turned

@@ -6,11 +6,8 @@ use Rattle.std.specs.Str.{bytes_eq}
 use Rattle.cred_table.specs.declared.row.Row.{Row}
 use Rattle.cred_table.specs.Rows.{has_id, replaces}
 use Rattle.authn_core.specs.declared.replies.Presence.TheVariants.{Granted}
-use Rattle.authn_core.specs.declared.task.Task.{Task}
-use Rattle.authn_core.specs.declared.task.Task.TheVariants.{Resets, SignsMake, SignsAssert}
-use Rattle.authn_core.specs.declared.task.Job.{Job}
 use Rattle.authn_core.specs.MakeCredential.{new_row}
-use Rattle.authn_core.specs.State.{Event, Request, PresenceIs, SignatureIs}
+use Rattle.authn_core.specs.State.{Task, Resets, SignsMake, SignsAssert, Job, Event, Request, PresenceIs, SignatureIs}
 use Rattle.authn_core.specs.Turn.{CoreState, core_after}
 
 -- what an input does to the rows: it makes one, it raises one's counter, or it is a granted reset

@@ -1,13 +1,10 @@
 -- What work can count on between turns.
-use Rattle.std.specs.Prelude.{ℕ, ◌≡◌, ◌<◌, ◌-◌, ◌^◌, List, [], ◌∷◌, ◌&&◌, Bool, true, false, Option, Some, None, is_some}
-use Rattle.std.specs.List.{find}
+use Rattle.std.specs.Prelude.{ℕ, ◌≡◌, ◌<◌, ◌-◌, ◌^◌, List, true, false, Option, Some, None, is_some}
+use Rattle.std.specs.List.{AllByRecursion, find}
 use Rattle.cred_table.specs.declared.row.Row.{Row}
 use Rattle.cred_table.specs.Rows.{has_id, counter_of}
 use Rattle.cred_table.specs.Waiting.{Waiting}
-use Rattle.authn_core.specs.declared.task.Task.{Task}
-use Rattle.authn_core.specs.declared.task.Task.TheVariants.{WantsKey, SignsMake, AsksAssert, SignsAssert}
-use Rattle.authn_core.specs.declared.task.Job.{Job}
-use Rattle.authn_core.specs.State.{State}
+use Rattle.authn_core.specs.State.{Task, WantsKey, SignsMake, AsksAssert, SignsAssert, Job, State}
 use Rattle.authn_core.specs.MakeCredential.{fits}
 
 abbrev pub TaskReady : (room : ℕ) → List Row → Task → Type 0
@@ -22,12 +19,8 @@ WorkReady room rows None = Unit {0}
 WorkReady room rows (Some job) = TaskReady room rows job.task
 
 -- all ids name rows
-abbrev pub all_there : List Row → List (List ℕ) → Bool
-all_there rows [] = true
-all_there rows (id ∷ ids) = is_some (find (has_id id) rows) && all_there rows ids
-
 abbrev pub AllThere : List Row → List (List ℕ) → Type 0
-AllThere rows ids = all_there rows ids ≡ true
+AllThere rows ids = AllByRecursion (λ id. is_some (find (has_id id) rows) ≡ true) ids
 
 abbrev pub PendingReady : List Row → Option Waiting → Type 0
 PendingReady rows None = Unit {0}

@@ -1,7 +1,7 @@
 -- What is signed: the authenticator data and the hash of the client data, of an assertion (WebAuthn Level 2, section
 -- 6.3.3) and of a new credential (sections 6.3.2 and 8.2). It is read of the requests and keys that came.
 use Rattle.std.specs.Prelude.{ℕ, ◌≡◌, ◌⊎◌, List, [], ◌∷◌, ◌++◌, Bool, true, false, Option, Some, None, option_map, Result, Ok, Err}
-use Rattle.std.specs.List.{find}
+use Rattle.std.specs.List.{AllByRecursion, find}
 use Rattle.cred_table.specs.declared.row.Row.{Row}
 use Rattle.cred_table.specs.Rows.{has_id, counter_of}
 use Rattle.cred_table.specs.Waiting.{Waiting}
@@ -11,14 +11,9 @@ use Rattle.ctap_message.specs.Answers.{created_answer, assertion_answer}
 use Rattle.ctap_message.specs.Requests.{read_of}
 use Rattle.authn_core.specs.declared.replies.Presence.TheVariants.{Granted}
 use Rattle.authn_core.specs.declared.replies.NewKey.{NewKey}
-use Rattle.authn_core.specs.declared.task.Making.{Making}
-use Rattle.authn_core.specs.declared.task.Asserting.{Asserting}
-use Rattle.authn_core.specs.declared.task.Task.{Task}
-use Rattle.authn_core.specs.declared.task.Task.TheVariants.{AsksMake, WantsKey, SignsMake, AsksAssert, SignsAssert}
-use Rattle.authn_core.specs.declared.task.Job.{Job}
 use Rattle.authn_core.specs.Hash.{rp_hash}
 use Rattle.authn_core.specs.Marks.{Step, made_by}
-use Rattle.authn_core.specs.State.{State, Event, Request, PresenceIs, KeyIs, SignatureIs, Answer, Answered}
+use Rattle.authn_core.specs.State.{Making, Asserting, Task, AsksMake, WantsKey, SignsMake, AsksAssert, SignsAssert, Job, State, Event, Request, PresenceIs, KeyIs, SignatureIs, Answer, Answered}
 use Rattle.authn_core.specs.Views.{Needed, sign}
 
 -- ---- what came
@@ -113,10 +108,10 @@ abbrev pub TaskSigns : (aaguid : List ℕ) → Heard → List Row → Task → T
 TaskSigns aaguid h rows (AsksMake m excluded) = MakesFor h.asked m
 TaskSigns aaguid h rows (WantsKey m) = MakesFor h.asked m × (h.granted ≡ true)
 TaskSigns aaguid h rows (SignsMake m key signed) = MakesFor h.asked m × IsAmong key h.keys
-    × (signed.items ≡ created_bytes m.rp aaguid key.id key.x key.y ++ m.hash) × (h.granted ≡ true)
+    × (signed ≡ created_bytes m.rp aaguid key.id key.x key.y ++ m.hash) × (h.granted ≡ true)
 TaskSigns aaguid h rows (AsksAssert a) = AssertsFor h.asked rows a
 TaskSigns aaguid h rows (SignsAssert a counter signed) = AssertsFor h.asked rows a × (counter ≡ counter_of a.id rows)
-    × (signed.items ≡ assertion_bytes a.rp a.presence counter ++ a.hash) × (a.presence ≡ true → h.granted ≡ true)
+    × (signed ≡ assertion_bytes a.rp a.presence counter ++ a.hash) × (a.presence ≡ true → h.granted ≡ true)
 TaskSigns aaguid h rows task = Unit {0}
 
 abbrev pub WorkSigns : (aaguid : List ℕ) → Heard → List Row → Option Job → Type 0
@@ -125,8 +120,7 @@ WorkSigns aaguid h rows (Some job) = TaskSigns aaguid h rows job.task
 
 -- all ids name rows of the RP
 abbrev pub AllOf : (rp : List ℕ) → List Row → List (List ℕ) → Type 0
-AllOf rp rows [] = Unit {0}
-AllOf rp rows (id ∷ ids) = (rp_of id rows ≡ Some rp) × AllOf rp rows ids
+AllOf rp rows ids = AllByRecursion (λ id. rp_of id rows ≡ Some rp) ids
 
 abbrev pub PendingFor : Option Asked → List Row → Option Waiting → Type 0
 PendingFor asked rows None = Unit {0}

@@ -1,22 +1,53 @@
 -- The authenticator's state between its turns, what can happen to it, and what it answers (CTAP 2.1, section 6).
-use Rattle.std.specs.Prelude.{ℕ, ◌+◌, List, [], ◌∷◌, ◌++◌, Option, Some, None}
+use Rattle.std.specs.Prelude.{ℕ, ◌+◌, List, [], ◌∷◌, ◌++◌, Bool, Option, Some, None}
 use Rattle.cred_table.specs.declared.row.Row.{Row}
 use Rattle.cred_table.specs.Rows.{raised, counter_of}
 use Rattle.cred_table.specs.Waiting.{Waiting}
-use Rattle.fido_authdata.specs.AuthData.{assertion_bytes, created_bytes}
+use Rattle.fido_authdata.specs.AuthData.{assertion_bytes}
 use Rattle.authn_core.specs.declared.replies.Presence.{Presence}
 use Rattle.authn_core.specs.declared.replies.NewKey.{NewKey}
-use Rattle.authn_core.specs.declared.task.Making.{Making}
-use Rattle.authn_core.specs.declared.task.Asserting.{Asserting}
-use Rattle.authn_core.specs.declared.task.Task.{Task}
-use Rattle.authn_core.specs.declared.task.Task.TheVariants.{Resets, Selects, AsksMake, WantsKey, SignsMake, AsksAssert, SignsAssert}
-use Rattle.authn_core.specs.declared.task.Job.{Job}
 
 -- What stays: the AAGUID, the moment of the start in milliseconds, and how many rows there is capacity for.
 pub record Setup : Type 0 where
   pub aaguid : List ℕ
   pub began : ℕ
   pub room : ℕ
+
+-- A credential that is to be made: the hash of the client data, the hash of the RP id, the user handle, the user's name
+-- as it is kept, and whether it is discoverable.
+pub record Making : Type 0 where
+  pub hash : List ℕ
+  pub rp : List ℕ
+  pub user : List ℕ
+  pub name : List ℕ
+  pub discoverable : Bool
+
+-- An assertion that is to be signed: the hash of the client data, the hash of the RP id, the id of the credential,
+-- whether the user's presence is asked for, and the number of credentials where the answer has it.
+pub record Asserting : Type 0 where
+  pub hash : List ℕ
+  pub rp : List ℕ
+  pub id : List ℕ
+  pub presence : Bool
+  pub number : Option ℕ
+
+-- What waits: a reset (`Resets`) or a selection (`Selects`) for the user's presence; a registration for presence
+-- (`AsksMake`), for a key (`WantsKey`) or for its signature (`SignsMake`); a sign-in for presence (`AsksAssert`) or for
+-- its signature (`SignsAssert`). An excluded registration is refused after the user's answer; `signed` are the bytes to
+-- sign.
+pub data Task : Type 0 where
+  Resets : Task
+  Selects : Task
+  AsksMake : Making → (excluded : Bool) → Task
+  WantsKey : Making → Task
+  SignsMake : Making → NewKey → (signed : List ℕ) → Task
+  AsksAssert : Asserting → Task
+  SignsAssert : Asserting → (counter : ℕ) → (signed : List ℕ) → Task
+
+-- Waiting work: what waits, and the channel that asked.
+pub record Job : Type 0 where
+  pub cid : ℕ
+  pub task : Task
 
 -- The rows in order of making, the assertions that can still be asked for, and the work that waits.
 pub record State : Type 0 where
@@ -41,19 +72,17 @@ pub data Answer : Type 0 where
   Ignored : Answer
   Nothing : Answer
 
+-- What a turn leads to: the state after it, and what is answered.
 pub record Turned : Type 0 where
   pub state : State
   pub answer : Answer
 
--- 2 while the user's presence is needed, 1 while a key or a signature is (CTAP 2.1, section 11.2.9.1.7)
+-- 1 while a key or a signature is needed, 2 while the user's presence is (CTAP 2.1, section 11.2.9.1.7)
 abbrev pub status : Task → ℕ
-status Resets = 2
-status Selects = 2
-status (AsksMake m excluded) = 2
 status (WantsKey m) = 1
 status (SignsMake m key signed) = 1
-status (AsksAssert a) = 2
 status (SignsAssert a counter signed) = 1
+status task = 2
 
 -- ---- the words of all turns
 
@@ -66,21 +95,19 @@ answers rows pending bytes =
 abbrev pub refuses : List Row → Option Waiting → ℕ → Turned
 refuses rows pending code = answers rows pending (code ∷ [])
 
+-- Work begins or goes on, and waits.
 abbrev pub waits : List Row → Option Waiting → (cid : ℕ) → Task → Turned
 waits rows pending cid task =
     let job : Job = record { cid = cid; task = task } in
     record { state = record { rows = rows; pending = pending; work = Some job }; answer = Waits (status task) }
 
+-- Nothing changes.
 abbrev pub ignores : State → Turned
 ignores s = record { state = s; answer = Ignored }
 
--- ---- what is signed: authenticator data and the hash of the client data (WebAuthn Level 2, sections 6.3.3 and 8.2)
-
+-- what an assertion signs: authenticator data and the hash of the client data (WebAuthn Level 2, section 6.3.3)
 abbrev pub signing : Asserting → (counter : ℕ) → Task
-signing a counter = SignsAssert a counter (record { items = assertion_bytes a.rp a.presence counter ++ a.hash })
-
-abbrev pub sealing : (aaguid : List ℕ) → Making → NewKey → Task
-sealing aaguid m key = SignsMake m key (record { items = created_bytes m.rp aaguid key.id key.x key.y ++ m.hash })
+signing a counter = SignsAssert a counter (assertion_bytes a.rp a.presence counter ++ a.hash)
 
 -- An assertion goes on: its row's counter is raised, and it waits for the signature.
 abbrev pub signs : List Row → Option Waiting → (cid : ℕ) → Asserting → Turned

@@ -1,22 +1,18 @@
 -- The authenticator's turns: what each event makes of its state, and what it answers (CTAP 2.1, section 6).
 use Rattle.std.specs.Prelude.{ℕ, List, [], Option, Some, None, option_map, Result, Ok, Err}
 use Rattle.cred_table.specs.declared.row.Row.{Row}
+use Rattle.cred_table.specs.Rows.{ids}
 use Rattle.cred_table.specs.Waiting.{Waiting}
 use Rattle.ctap_message.specs.Asked.{Asked, MakeCredential, GetAssertion, GetInfo, Reset, GetNextAssertion, Selection}
 use Rattle.ctap_message.specs.Answers.{info_answer}
 use Rattle.ctap_message.specs.Members.{has_entries}
 use Rattle.ctap_message.specs.Descriptors.{ids_of}
 use Rattle.ctap_message.specs.Requests.{read_of}
-use Rattle.authn_core.specs.declared.replies.Presence.{Presence}
-use Rattle.authn_core.specs.declared.replies.NewKey.{NewKey}
-use Rattle.authn_core.specs.declared.task.Task.{Task}
-use Rattle.authn_core.specs.declared.task.Task.TheVariants.{Resets, Selects, AsksMake, WantsKey, SignsMake, AsksAssert, SignsAssert}
-use Rattle.authn_core.specs.declared.task.Job.{Job}
 use Rattle.authn_core.specs.Hash.{rp_hash}
-use Rattle.authn_core.specs.State.{Setup, State, Event, Request, PresenceIs, KeyIs, SignatureIs, Cancel, Drop, Answer, Nothing, Turned, answers, refuses, waits, ignores, status}
+use Rattle.authn_core.specs.State.{Setup, Task, Resets, Selects, AsksMake, WantsKey, SignsMake, AsksAssert, SignsAssert, Job, State, Event, Request, PresenceIs, KeyIs, SignatureIs, Cancel, Drop, Answer, Nothing, Turned, status, answers, refuses, waits, ignores}
 use Rattle.authn_core.specs.Asking.{reset_begins, asked_alone}
 use Rattle.authn_core.specs.MakeCredential.{making, make_begins, make_asked, key_wanted, make_signed}
-use Rattle.authn_core.specs.GetAssertion.{assert_begins, assert_asked, assert_signed, next_begins}
+use Rattle.authn_core.specs.GetAssertion.{applicable, begins, assert_asked, assert_signed, next_begins}
 
 -- Every request empties pending first, but a getNextAssertion that begins work.
 abbrev pub requested : Setup → List Row → Option Waiting → (now cid : ℕ) → Result Asked ℕ → Turned
@@ -27,47 +23,33 @@ requested u rows pending now cid (Ok Selection) = waits rows None cid Selects
 requested u rows pending now cid (Ok (MakeCredential hash rp_id user_id user_name discoverable exclude)) =
     make_begins rows cid (making hash rp_id user_id user_name discoverable) (ids_of exclude)
 requested u rows pending now cid (Ok (GetAssertion hash rp_id allow presence)) =
-    assert_begins rows now cid hash (rp_hash rp_id) (has_entries allow) (ids_of allow) presence
+    let rp = rp_hash rp_id in let given = has_entries allow in
+    begins rows now cid hash rp presence given (ids (applicable rows rp given (ids_of allow)))
 requested u rows pending now cid (Ok GetNextAssertion) = next_begins rows pending now cid
 
--- A reply that the work doesn't need is ignored. A reset that is granted takes all rows out, and nothing is pending
--- then: a request emptied it.
-abbrev pub presence_at : (room : ℕ) → State → (cid : ℕ) → Task → Presence → Turned
-presence_at room s cid Resets reply = asked_alone (refuses [] None 0x00) s.rows s.pending reply
-presence_at room s cid Selects reply = asked_alone (refuses s.rows s.pending 0x00) s.rows s.pending reply
-presence_at room s cid (AsksMake m excluded) reply = make_asked room s.rows s.pending cid m excluded reply
-presence_at room s cid (AsksAssert a) reply = assert_asked s.rows s.pending cid a reply
-presence_at room s cid task reply = ignores s
+-- A reply, by what waits: one that isn't needed is ignored. A reset that is granted takes all rows out, and nothing is
+-- pending then: a request emptied it.
+abbrev pub replied : Setup → State → (now cid : ℕ) → Task → Event → Turned
+replied u s now cid Resets (PresenceIs reply) = asked_alone (refuses [] None 0x00) s.rows s.pending reply
+replied u s now cid Selects (PresenceIs reply) = asked_alone (refuses s.rows s.pending 0x00) s.rows s.pending reply
+replied u s now cid (AsksMake m excluded) (PresenceIs reply) = make_asked u.room s.rows s.pending cid m excluded reply
+replied u s now cid (WantsKey m) (KeyIs key) = key_wanted u.aaguid s.rows s.pending cid m key
+replied u s now cid (SignsMake m key signed) (SignatureIs sig) = make_signed u.aaguid s.rows s.pending m key sig
+replied u s now cid (AsksAssert a) (PresenceIs reply) = assert_asked s.rows s.pending cid a reply
+replied u s now cid (SignsAssert a counter signed) (SignatureIs sig) = assert_signed s.rows s.pending now a counter sig
+replied u s now cid task other = ignores s
 
-abbrev pub key_at : (aaguid : List ℕ) → State → (cid : ℕ) → Task → Option NewKey → Turned
-key_at aaguid s cid (WantsKey m) key = key_wanted aaguid s.rows s.pending cid m key
-key_at aaguid s cid task key = ignores s
-
-abbrev pub signature_at : (aaguid : List ℕ) → State → (now : ℕ) → Task → Option (List ℕ) → Turned
-signature_at aaguid s now (SignsMake m key signed) sig = make_signed aaguid s.rows s.pending m key sig
-signature_at aaguid s now (SignsAssert a counter signed) sig = assert_signed s.rows s.pending now a counter sig
-signature_at aaguid s now task sig = ignores s
-
-abbrev pub presence_turn : (room : ℕ) → State → Option Job → Presence → Turned
-presence_turn room s None reply = ignores s
-presence_turn room s (Some job) reply = presence_at room s job.cid job.task reply
-
-abbrev pub key_turn : (aaguid : List ℕ) → State → Option Job → Option NewKey → Turned
-key_turn aaguid s None key = ignores s
-key_turn aaguid s (Some job) key = key_at aaguid s job.cid job.task key
-
-abbrev pub signature_turn : (aaguid : List ℕ) → State → (now : ℕ) → Option Job → Option (List ℕ) → Turned
-signature_turn aaguid s now None sig = ignores s
-signature_turn aaguid s now (Some job) sig = signature_at aaguid s now job.task sig
+-- the same where nothing may wait
+abbrev pub reply_turn : Setup → State → (now : ℕ) → Option Job → Event → Turned
+reply_turn u s now None reply = ignores s
+reply_turn u s now (Some job) reply = replied u s now job.cid job.task reply
 
 -- the turn at a moment
 unfoldable pub turn : Setup → State → (now : ℕ) → Event → Turned
 turn u s now (Request cid bytes) = requested u s.rows s.pending now cid (read_of bytes)
-turn u s now (PresenceIs reply) = presence_turn u.room s s.work reply
-turn u s now (KeyIs key) = key_turn u.aaguid s s.work key
-turn u s now (SignatureIs sig) = signature_turn u.aaguid s now s.work sig
 turn u s now Cancel = refuses s.rows None 0x2d  -- KEEPALIVE_CANCEL
 turn u s now Drop = record { state = record { rows = s.rows; pending = None; work = None }; answer = Nothing }
+turn u s now reply = reply_turn u s now s.work reply
 
 -- ---- an authenticator
 
@@ -91,10 +73,11 @@ first_state start = record {
   state = record { rows = start.rows; pending = None; work = None };
 }
 
--- the same after an event at this moment, and what it answers
+-- the same after an event at this moment
 abbrev pub core_after : CoreState → (now : ℕ) → Event → CoreState
 core_after core now e = record { setup = core.setup; state = (turn core.setup core.state now e).state }
 
+-- what it answers
 abbrev pub core_answer : CoreState → (now : ℕ) → Event → Answer
 core_answer core now e = (turn core.setup core.state now e).answer
 
@@ -104,6 +87,7 @@ pub record Work : Type 0 where
   pub cid : ℕ
   pub status : ℕ
 
+-- the waiting work of an authenticator
 abbrev pub waiting : CoreState → Option Work
 waiting core = option_map (λ job. record { cid = job.cid; status = status job.task }) core.state.work
 

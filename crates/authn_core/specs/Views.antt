@@ -1,5 +1,6 @@
 -- What the code's values say, in the words of the turns.
-use Rattle.std.specs.Prelude.{◌≡◌, ℕ, min, List, Bool, true, false, Option, Some, None}
+use Rattle.std.specs.Prelude.{◌≡◌, ℕ, max, min, List, Bool, true, false, Option, Some, None}
+use Rattle.cred_table.specs.declared.row.Row.{Row}
 use Rattle.authn_core.specs.declared.authenticator.Turn.{Turn}
 use Rattle.authn_core.specs.declared.authenticator.Turn.TheVariants as turns
 use Rattle.authn_core.specs.declared.authenticator.Need.{Need}
@@ -10,16 +11,37 @@ use Rattle.authn_core.specs.declared.work.Work.{Work as WaitingWork}
 use Rattle.authn_core.specs.declared.event.Event.{Event as Happening}
 use Rattle.authn_core.specs.declared.event.Event.TheVariants as happening
 use Rattle.ctap_message.specs.Requests.{steps_of, LARGEST}
-use Rattle.authn_core.specs.Turn.{Work, Held}
-use Rattle.authn_core.specs.declared.task.Task.{Task}
-use Rattle.authn_core.specs.declared.task.Task.TheVariants.{Resets, Selects, AsksMake, WantsKey, SignsMake, AsksAssert, SignsAssert}
-use Rattle.authn_core.specs.declared.task.Job.{Job}
-use Rattle.authn_core.specs.State.{Event, Request, PresenceIs, KeyIs, SignatureIs, Cancel, Answer, Answered, Waits, Ignored, Turned, status}
+use Rattle.authn_core.specs.Turn.{Work, Held, Start, core_after, core_answer, first_state}
+use Rattle.authn_core.specs.declared.task.Making.{Making as MakingKept}
+use Rattle.authn_core.specs.declared.task.Asserting.{Asserting as AssertingKept}
+use Rattle.authn_core.specs.declared.task.Task.{Task as TaskKept}
+use Rattle.authn_core.specs.declared.task.Task.TheVariants as kept
+use Rattle.authn_core.specs.declared.task.Job.{Job as JobKept}
+use Rattle.authn_core.specs.State.{Making, Asserting, Task, Resets, Selects, AsksMake, WantsKey, SignsMake, AsksAssert, SignsAssert, Job, Event, Request, PresenceIs, KeyIs, SignatureIs, Cancel, Drop, Answer, Answered, Waits, Ignored, Nothing, Turned, status}
 
 -- the status of waiting work, as the byte that a KEEPALIVE carries
 abbrev pub status_number : KeepaliveStatus → ℕ
 status_number Processing = 1
 status_number PresenceNeeded = 2
+
+-- what waits, as the code keeps it
+abbrev pub making_of : MakingKept → Making
+making_of m = record { hash = m.hash; rp = m.rp; user = m.user.items; name = m.name; discoverable = m.discoverable }
+
+abbrev pub asserting_of : AssertingKept → Asserting
+asserting_of a = record { hash = a.hash; rp = a.rp; id = a.id; presence = a.presence; number = a.number }
+
+abbrev pub task_of : TaskKept → Task
+task_of kept.Resets = Resets
+task_of kept.Selects = Selects
+task_of (kept.AsksMake m excluded) = AsksMake (making_of m) excluded
+task_of (kept.WantsKey m) = WantsKey (making_of m)
+task_of (kept.SignsMake m k signed) = SignsMake (making_of m) k signed.items
+task_of (kept.AsksAssert a) = AsksAssert (asserting_of a)
+task_of (kept.SignsAssert a counter signed) = SignsAssert (asserting_of a) counter signed.items
+
+abbrev pub job_of : JobKept → Job
+job_of w = record { cid = w.cid; task = task_of w.task }
 
 -- waiting work as the transport sees it
 abbrev pub as_work : Job → Work
@@ -32,6 +54,7 @@ abbrev pub answer_of : Turn → Answer
 answer_of (turns.Answer bytes) = Answered bytes.items
 answer_of (turns.Waits status) = Waits (status_number status)
 answer_of turns.Ignored = Ignored
+answer_of turns.Nothing = Nothing
 
 abbrev pub event_of : Happening → Event
 event_of (happening.Request cid message) = Request cid message.now
@@ -39,11 +62,27 @@ event_of (happening.Presence reply) = PresenceIs reply
 event_of (happening.Key key) = KeyIs key.now
 event_of (happening.Signature signature) = SignatureIs signature.now
 event_of happening.Cancel = Cancel
+event_of happening.Drop = Drop
 
 -- the steps of the last request, after an event
 abbrev pub steps_after : ℕ → Event → ℕ
 steps_after steps (Request cid bytes) = min (steps_of bytes) LARGEST
 steps_after steps e = steps
+
+-- An event that came at a moment was taken: the state and the answer are those of its turn at the latest moment.
+pub record IsTurn (old new : Held) (said : Answer) (at : ℕ) (e : Event) : Type 0 where
+  pub core : new.core ≡ core_after old.core (max old.latest at) e
+  pub answer : said ≡ core_answer old.core (max old.latest at) e
+  pub latest : new.latest ≡ max old.latest at
+  pub steps : new.last_steps ≡ steps_after old.last_steps e
+
+-- what a drop makes
+abbrev pub drops : List Row → Turned
+drops rows = record { state = record { rows = rows; pending = None; work = None }; answer = Nothing }
+
+-- an authenticator at its start
+abbrev pub first_held : Start → Held
+first_held start = record { core = first_state start; latest = start.moment; last_steps = 0 }
 
 -- the same authenticator at another moment, with the steps of another request
 abbrev pub moved : Held → (latest last_steps : ℕ) → Held
@@ -75,8 +114,8 @@ task_needs Selects = presence
 task_needs (AsksMake m excluded) = presence
 task_needs (AsksAssert a) = presence
 task_needs (WantsKey m) = key
-task_needs (SignsMake m k signed) = sign k.id signed.items
-task_needs (SignsAssert a counter signed) = sign a.id signed.items
+task_needs (SignsMake m k signed) = sign k.id signed
+task_needs (SignsAssert a counter signed) = sign a.id signed
 
 abbrev pub needs : Option Job → Needed
 needs None = nothing

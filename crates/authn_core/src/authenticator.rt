@@ -1,14 +1,13 @@
 //! The authenticator.
 
-ghost use Rattle.std.specs.Prelude.{◌≡◌, ◌≤◌, ℕ, max, min, option_map, length, List, Ok, MatchResult};
+ghost use Rattle.std.specs.Prelude.{◌≡◌, ◌≤◌, option_map, length, List, Ok, MatchResult};
 ghost use Rattle.cred_table.specs.declared.row.Row.{Row as AnyRow};
 ghost use Rattle.cred_table.specs.Snapshots.{Loads, Refuses};
 ghost use Rattle.cred_table.specs.Waiting.{pending_count};
-ghost use Rattle.ctap_message.specs.Requests.{steps_of, LARGEST};
-ghost use Rattle.authn_core.specs.State.{Request as Asks, PresenceIs, KeyIs, SignatureIs, Cancel, Drop as DropWork};
-ghost use Rattle.authn_core.specs.Turn.{first_state, core_after, core_answer, waiting};
+ghost use Rattle.authn_core.specs.State.{Request as Asks, PresenceIs, KeyIs, SignatureIs, Cancel, Drop as DropWork, Nothing};
+ghost use Rattle.authn_core.specs.Turn.{waiting};
 ghost use Rattle.authn_core.specs.Needs.{IsNeed};
-ghost use Rattle.authn_core.specs.Views.{answer_of, event_of, steps_after, needs, needed, is_presence, is_key, is_sign, work_of};
+ghost use Rattle.authn_core.specs.Views.{IsTurn, answer_of, first_held, event_of, needs, needed, is_presence, is_key, is_sign, work_of};
 
 use crate::event::Event;
 use crate::replies::{NewKey, Presence, Signature};
@@ -29,6 +28,8 @@ pub enum Turn {
     Waits(KeepaliveStatus),
     /// The reply wasn't needed.
     Ignored,
+    /// The work was dropped: nothing is answered.
+    Nothing,
 }
 
 /// What the authenticator needs of its caller before its work goes on.
@@ -94,36 +95,30 @@ pub struct Core<T: Table<C>, const C: usize> {
 
 // Clauses see the authenticator's state, and the steps of the last request.
 impl<T: Table<C>, const C: usize> Model for Core<T, C> {
-    ghost use Rattle.std.specs.Prelude.{◌≤◌};
+    ghost use Rattle.std.specs.Prelude.{◌≤◌, option_map};
     ghost use Rattle.authn_core.specs.State.{State};
     ghost use Rattle.authn_core.specs.Turn.{Held};
     ghost use Rattle.authn_core.specs.Ready.{Ready};
+    ghost use Rattle.authn_core.specs.Views.{job_of};
 
     ghost Value = { Held };
 
     ghost view = { λ s. record {
       core = record {
         setup = record { aaguid = s.config.aaguid; began = s.began; room = C };
-        state = record { rows = T.rows s.table; pending = s.pending; work = s.work };
+        state = record { rows = T.rows s.table; pending = s.pending; work = option_map job_of s.work };
       };
       latest = s.latest;
       last_steps = s.last_steps;
     } };
 
-    ghost invariant = { λ s. (s.began ≤ s.latest) × Ready C (record { rows = T.rows s.table; pending = s.pending; work = s.work }) };
+    ghost invariant = { λ s. (s.began ≤ s.latest) × Ready C (record { rows = T.rows s.table; pending = s.pending; work = option_map job_of s.work }) };
 }
 
 impl<T: Table<C>, const C: usize> Core<T, C> {
     /// An authenticator that begins at the moment `start`, in milliseconds, with these rows and no waiting work.
     pub fn new(config: Config, table: T, start: u64) -> Self
-        ensures core { result.core ≡ first_state (record {
-          aaguid = config.aaguid;
-          moment = start;
-          room = C;
-          rows = T.rows table;
-        }) }
-        ensures latest { result.latest ≡ start }
-        ensures steps { result.last_steps ≡ 0 }
+        ensures { result ≡ first_held (record { aaguid = config.aaguid; moment = start; room = C; rows = T.rows table }) }
     {
         Core {
             config,
@@ -141,8 +136,7 @@ impl<T: Table<C>, const C: usize> Core<T, C> {
     pub fn load(&mut self, config: Config, snapshot: &[u8], start: u64) -> Result<(), SnapshotFault>
         ensures { MatchResult result
             (λ _. (rows : List AnyRow) × Loads C snapshot.now (Ok tt) rows
-            × (self.new.core ≡ first_state (record { aaguid = config.aaguid; moment = start; room = C; rows = rows }))
-            × (self.new.latest ≡ start))
+            × (self.new ≡ first_held (record { aaguid = config.aaguid; moment = start; room = C; rows = rows })))
             (λ fault. Refuses C snapshot.now fault × (self.new ≡ self.old)) }
     {
         load(snapshot, &mut self.table)?;
@@ -158,72 +152,49 @@ impl<T: Table<C>, const C: usize> Core<T, C> {
     /// The turn of a request that came at `at` on the channel `cid`: `message` is its command byte and what follows.
     /// Work that waits ends with no answer of its own.
     pub fn request(&mut self, at: u64, cid: u32, message: &[u8]) -> Turn
-        ensures core { self.new.core ≡ core_after self.old.core (max self.old.latest at) (Asks cid message.now) }
-        ensures answer { answer_of result ≡ core_answer self.old.core (max self.old.latest at) (Asks cid message.now) }
-        ensures latest { self.new.latest ≡ max self.old.latest at }
-        ensures steps { self.new.last_steps ≡ min (steps_of message.now) LARGEST }
+        ensures { IsTurn self.old self.new (answer_of result) at (Asks cid message.now) }
     {
-        self.turn(at, &Event::Request { cid, message })
+        self.take(at, &Event::Request { cid, message })
     }
 
     /// The turn of the reply of a test of user presence.
     pub fn presence(&mut self, at: u64, reply: Presence) -> Turn
-        ensures core { self.new.core ≡ core_after self.old.core (max self.old.latest at) (PresenceIs reply) }
-        ensures answer { answer_of result ≡ core_answer self.old.core (max self.old.latest at) (PresenceIs reply) }
-        ensures latest { self.new.latest ≡ max self.old.latest at }
-        ensures steps { self.new.last_steps ≡ self.old.last_steps }
+        ensures { IsTurn self.old self.new (answer_of result) at (PresenceIs reply) }
     {
-        self.turn(at, &Event::Presence(reply))
+        self.take(at, &Event::Presence(reply))
     }
 
     /// The turn of a new key; `None` refuses one.
     pub fn key(&mut self, at: u64, key: Option<NewKey>) -> Turn
-        ensures core { self.new.core ≡ core_after self.old.core (max self.old.latest at) (KeyIs key) }
-        ensures answer { answer_of result ≡ core_answer self.old.core (max self.old.latest at) (KeyIs key) }
-        ensures latest { self.new.latest ≡ max self.old.latest at }
-        ensures steps { self.new.last_steps ≡ self.old.last_steps }
+        ensures { IsTurn self.old self.new (answer_of result) at (KeyIs key) }
     {
-        self.turn(at, &Event::Key(&key))
+        self.take(at, &Event::Key(&key))
     }
 
     /// The turn of a signature; `None` refuses one.
     pub fn signature(&mut self, at: u64, signature: Option<Signature>) -> Turn
-        ensures core { self.new.core ≡ core_after self.old.core (max self.old.latest at) (SignatureIs signature) }
-        ensures answer { answer_of result ≡ core_answer self.old.core (max self.old.latest at) (SignatureIs signature) }
-        ensures latest { self.new.latest ≡ max self.old.latest at }
-        ensures steps { self.new.last_steps ≡ self.old.last_steps }
+        ensures { IsTurn self.old self.new (answer_of result) at (SignatureIs signature) }
     {
-        self.turn(at, &Event::Signature(&signature))
+        self.take(at, &Event::Signature(&signature))
     }
 
-    /// The turn of a CANCEL of the waiting work.
-    #[tactic(auto, unfolding(crate::specs::Turn::turn))]
+    /// The turn of a CANCEL of the waiting work, the same at every moment.
     pub fn cancel(&mut self) -> Turn
-        ensures core { (now : ℕ) → self.new.core ≡ core_after self.old.core now Cancel }
-        ensures answer { (now : ℕ) → answer_of result ≡ core_answer self.old.core now Cancel }
-        ensures latest { self.new.latest ≡ self.old.latest }
-        ensures steps { self.new.last_steps ≡ self.old.last_steps }
+        ensures { IsTurn self.old self.new (answer_of result) 0 Cancel }
     {
-        self.turn(0, &Event::Cancel)
+        self.take(0, &Event::Cancel)
     }
 
     /// Ends the waiting work with no answer.
-    #[tactic(auto, unfolding(crate::specs::Turn::turn))]
     pub fn drop_work(&mut self)
-        ensures core { (now : ℕ) → self.new.core ≡ core_after self.old.core now DropWork }
-        ensures latest { self.new.latest ≡ self.old.latest }
-        ensures steps { self.new.last_steps ≡ self.old.last_steps }
+        ensures { IsTurn self.old self.new Nothing 0 DropWork }
     {
-        self.pending.clear();
-        self.work = None;
+        self.take(0, &Event::Drop);
     }
 
     /// Takes the turn of an event that came at `at`.
-    fn turn(&mut self, at: u64, event: &Event<'_>) -> Turn
-        ensures core { self.new.core ≡ core_after self.old.core (max self.old.latest at) (event_of event.now) }
-        ensures answer { answer_of result ≡ core_answer self.old.core (max self.old.latest at) (event_of event.now) }
-        ensures latest { self.new.latest ≡ max self.old.latest at }
-        ensures steps { self.new.last_steps ≡ steps_after self.old.last_steps (event_of event.now) }
+    pub fn take(&mut self, at: u64, event: &Event<'_>) -> Turn
+        ensures { IsTurn self.old self.new (answer_of result) at (event_of event.now) }
     {
         self.reach(at);
         match event {
@@ -236,6 +207,7 @@ impl<T: Table<C>, const C: usize> Core<T, C> {
             Event::Key(key) => self.take_key(key),
             Event::Signature(signature) => self.take_signature(signature),
             Event::Cancel => self.refuse_all(Status::KEEPALIVE_CANCEL),
+            Event::Drop => self.drop_all(),
         }
     }
 

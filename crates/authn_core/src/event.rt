@@ -1,11 +1,11 @@
-//! What can happen to the authenticator.
+//! What happens to the authenticator.
 
 use crate::replies::{NewKey, Presence, Signature};
 
-/// What can happen and is answered. A drop of the waiting work isn't.
+/// What happens to the authenticator.
 #[derive(Clone, Copy)]
-pub(crate) enum Event<'a> {
-    /// A request, with its channel and message, the command byte first.
+pub enum Event<'a> {
+    /// A request came on the channel `cid`: its command byte and what follows.
     Request { cid: u32, message: &'a [u8] },
     /// The reply of a test of user presence.
     Presence(Presence),
@@ -13,6 +13,8 @@ pub(crate) enum Event<'a> {
     Key(&'a Option<NewKey>),
     /// A signature; `None` refuses one.
     Signature(&'a Option<Signature>),
-    /// A CANCEL of the waiting work.
+    /// The waiting work is cancelled.
     Cancel,
+    /// The waiting work is dropped, with no answer.
+    Drop,
 }

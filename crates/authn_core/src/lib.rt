@@ -29,5 +29,6 @@ mod turns;
 mod work;
 
 pub use authenticator::{Config, Core, Need, Turn};
+pub use event::Event;
 pub use replies::{NewKey, Presence, Signature};
 pub use work::{KeepaliveStatus, Work};

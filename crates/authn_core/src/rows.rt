@@ -6,6 +6,7 @@ ghost use Rattle.std.specs.Option.{ForSome, option_copied};
 ghost use Rattle.cred_table.specs.Rows.{has_id, is_user, stored, counter_of};
 ghost use Rattle.authn_core.specs.MakeCredential.{fits, new_row};
 ghost use Rattle.authn_core.specs.GetAssertion.{user_in};
+ghost use Rattle.authn_core.specs.Views.{making_of};
 
 use crate::replies::NewKey;
 use crate::task::Making;
@@ -49,7 +50,7 @@ fn handle_of(row: &Row) -> Option<&[u8]>
 
 /// Whether there is capacity for the new row, or it takes the place of one.
 pub(crate) fn fits<T: Table<C>, const C: usize>(table: &T, making: &Making) -> bool
-    ensures { result ≡ fits C making.now (T.rows table.now) }
+    ensures { result ≡ fits C (making_of making.now) (T.rows table.now) }
 {
     table.len() < C
         || making.discoverable
@@ -60,7 +61,7 @@ pub(crate) fn fits<T: Table<C>, const C: usize>(table: &T, making: &Making) -> b
 
 /// Returns the row that is made.
 fn row_of(making: Making, key: NewKey) -> Row
-    ensures { result ≡ new_row making key }
+    ensures { result ≡ new_row (making_of making) key }
 {
     let Making {
         hash: _,
@@ -84,9 +85,9 @@ fn row_of(making: Making, key: NewKey) -> Row
 
 /// Stores the new row.
 pub(crate) fn store<T: Table<C>, const C: usize>(table: &mut T, making: Making, key: NewKey)
-    requires room { fits C making (T.rows table.old) ≡ true }
+    requires room { fits C (making_of making) (T.rows table.old) ≡ true }
     requires fresh { is_some (find (has_id key.id) (T.rows table.old)) ≡ false }
-    ensures { T.rows table.new ≡ stored (new_row making key) (T.rows table.old) }
+    ensures { T.rows table.new ≡ stored (new_row (making_of making) key) (T.rows table.old) }
 {
     let row = row_of(making, key);
     put(table, row);

@@ -1,13 +1,13 @@
 //! What becomes of the work, in the words of all commands.
 
-ghost use Rattle.std.specs.Prelude.{◌≡◌, ◌<◌, ◌+◌, ◌-◌, ◌^◌, ◌++◌, Some, None, true, is_some};
+ghost use Rattle.std.specs.Prelude.{◌≡◌, ◌<◌, ◌+◌, ◌-◌, ◌^◌, ◌++◌, Some, None, true, is_some, option_map};
 ghost use Rattle.std.specs.List.{find};
 ghost use Rattle.cred_table.specs.Rows.{has_id, raised, counter_of};
 ghost use Rattle.fido_authdata.specs.AuthData.{assertion_bytes};
 ghost use Rattle.ctap_message.specs.Answers.{refusal};
 ghost use Rattle.authn_core.specs.State.{Answered, Waits, status, signing};
 ghost use Rattle.authn_core.specs.Needs.{IsNeed};
-ghost use Rattle.authn_core.specs.Views.{answer_of, status_number, needs, needed, sign as needs_sign};
+ghost use Rattle.authn_core.specs.Views.{answer_of, asserting_of, job_of, status_number, needs, needed, sign as needs_sign, task_of};
 
 use crate::authenticator::{Need, Turn};
 use crate::task::{Asserting, Job, Task};
@@ -19,7 +19,7 @@ use fido_authdata::{AuthData, to_sign};
 
 /// Returns what a task waits for.
 pub(crate) fn status_of(task: &Task) -> KeepaliveStatus
-    ensures { status_number result ≡ status task.now }
+    ensures { status_number result ≡ status (task_of task.now) }
 {
     match task {
         Task::Resets | Task::Selects | Task::AsksMake(..) | Task::AsksAssert(_) => {
@@ -59,8 +59,12 @@ pub(crate) fn sign<T: Table<C>, const C: usize>(
     requires there { is_some (find (has_id a.now.id) (T.rows table.old)) ≡ true }
     requires below { counter_of a.now.id (T.rows table.old) < 2 ^ 32 - 1 }
     ensures rows { T.rows table.new ≡ raised a.now.id (T.rows table.old) }
-    ensures work { work.new ≡ Some (record { cid = cid; task = signing a.now (counter_of a.now.id (T.rows table.old) + 1) }) }
-    ensures answer { answer_of result ≡ Waits (status (signing a.now (counter_of a.now.id (T.rows table.old) + 1))) }
+    ensures work { option_map job_of work.new ≡ Some (record {
+      cid = cid;
+      task = signing (asserting_of a.now) (counter_of a.now.id (T.rows table.old) + 1);
+    }) }
+    ensures answer { answer_of result ≡ Waits (status (signing (asserting_of a.now)
+        (counter_of a.now.id (T.rows table.old) + 1))) }
 {
     let counter = table.raise(&a.id);
     let task = Task::SignsAssert(*a, counter, assertion_to_sign(a, counter));
@@ -89,7 +93,7 @@ fn signature_need<'a>(id: &'a [u8; 32], signed: &'a ArrayVec<u8, 196>) -> Need<'
 
 /// Returns what the caller has to hand in.
 pub(crate) fn need_of(work: &Option<Job>) -> Need<'_>
-    ensures value { needed result ≡ needs work.now }
+    ensures value { needed result ≡ needs (option_map job_of work.now) }
     ensures sized { IsNeed (needed result) }
 {
     match work {

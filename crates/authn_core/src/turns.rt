@@ -2,14 +2,14 @@
 
 ghost use Rattle.std.specs.Prelude.{◌≡◌, max, None};
 ghost use Rattle.ctap_message.specs.Shown.{shown, IsFresh, HasLengths};
-ghost use Rattle.authn_core.specs.State.{refuses};
-ghost use Rattle.authn_core.specs.Turn.{requested, presence_turn, key_turn, signature_turn};
-ghost use Rattle.authn_core.specs.Views.{Takes, moved};
+ghost use Rattle.authn_core.specs.State.{PresenceIs, KeyIs, SignatureIs, refuses};
+ghost use Rattle.authn_core.specs.Turn.{requested, reply_turn};
+ghost use Rattle.authn_core.specs.Views.{Takes, drops, moved};
 
 use crate::authenticator::{Core, Turn};
-use crate::commands::make_credential::making_of;
+use crate::commands::make_credential::making_from;
 use crate::replies::{NewKey, Presence, Signature};
-use crate::steps::refuse;
+use crate::steps::{end, refuse};
 use crate::task::{Job, Task};
 use cred_table::Table;
 use ctap_message::{Request, Status};
@@ -41,7 +41,7 @@ impl<T: Table<C>, const C: usize> Core<T, C> {
                     exclude,
                 },
             ) => {
-                let making = making_of(hash, rp_id, user_id, user_name, discoverable);
+                let making = making_from(hash, rp_id, user_id, user_name, discoverable);
                 self.begin_make(cid, making, exclude)
             }
             Ok(
@@ -67,10 +67,19 @@ impl<T: Table<C>, const C: usize> Core<T, C> {
         refuse(&mut self.work, status)
     }
 
+    /// Ends the work with no answer, and nothing is pending.
+    pub(crate) fn drop_all(&mut self) -> Turn
+        ensures { Takes self.old self.new result (drops self.old.core.state.rows) }
+    {
+        self.pending.clear();
+        end(&mut self.work);
+        Turn::Nothing
+    }
+
     /// Goes on by the reply of a test of user presence.
     pub(crate) fn take_presence(&mut self, reply: Presence) -> Turn
-        ensures { Takes self.old self.new result (presence_turn self.old.core.setup.room self.old.core.state
-            self.old.core.state.work reply) }
+        ensures { Takes self.old self.new result (reply_turn self.old.core.setup self.old.core.state self.old.latest
+            self.old.core.state.work (PresenceIs reply)) }
     {
         match self.work.take() {
             Some(
@@ -106,8 +115,8 @@ impl<T: Table<C>, const C: usize> Core<T, C> {
 
     /// Goes on by a key.
     pub(crate) fn take_key(&mut self, key: &Option<NewKey>) -> Turn
-        ensures { Takes self.old self.new result (key_turn self.old.core.setup.aaguid self.old.core.state
-            self.old.core.state.work key.now) }
+        ensures { Takes self.old self.new result (reply_turn self.old.core.setup self.old.core.state self.old.latest
+            self.old.core.state.work (KeyIs key.now)) }
     {
         match self.work.take() {
             Some(
@@ -125,8 +134,8 @@ impl<T: Table<C>, const C: usize> Core<T, C> {
 
     /// Goes on by a signature.
     pub(crate) fn take_signature(&mut self, signature: &Option<Signature>) -> Turn
-        ensures { Takes self.old self.new result (signature_turn self.old.core.setup.aaguid self.old.core.state
-            self.old.latest self.old.core.state.work signature.now) }
+        ensures { Takes self.old self.new result (reply_turn self.old.core.setup self.old.core.state self.old.latest
+            self.old.core.state.work (SignatureIs signature.now)) }
     {
         match self.work.take() {
             Some(

@@ -20,9 +20,6 @@ pub record Copied (id : List ℕ) (rows left to : List Row) : Type 0 where
   pub all : done ++ left ≡ rows
   pub copied : to ≡ without id done
 
-pub none_copied : (id : List ℕ) (rows left to : List Row) → to ≡ [] → left ≡ rows → Copied id rows left to
-none_copied id rows left to none same = record { done = []; all = same; copied = none }
-
 joined : (rows left rest done : List Row) (row : Row) → left ≡ row ∷ rest → done ++ left ≡ rows → (done ++ row ∷ []) ++ rest ≡ rows
 joined rows left rest done row first all = append_assoc done (row ∷ []) rest ∙ ap (λ l. done ++ l) (sym first) ∙ all
 
@@ -39,9 +36,6 @@ one_left_out id rows left rest row to first is w = record {
   all = joined rows left rest w.done row first w.all;
   copied = w.copied ∙ sym (append-nil (without id w.done)) ∙ ap (λ b. without id w.done ++ cond b (row ∷ []) []) (sym is) ∙ sym (filter-append (λ r. not (has_id id r)) w.done (row ∷ []));
 }
-
-pub all_copied : (id : List ℕ) (rows left to : List Row) → left ≡ [] → Copied id rows left to → to ≡ without id rows
-all_copied id rows left to end w = w.copied ∙ ap (without id) (sym (append-nil w.done) ∙ ap (λ l. w.done ++ l) (sym end) ∙ w.all)
 
 -- What a table has capacity for, and what clashes with nothing, of rows that are kept in one.
 pub record MayBePut (room : ℕ) (row : Row) (to : List Row) : Type 0 where

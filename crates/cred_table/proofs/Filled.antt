@@ -185,8 +185,3 @@ pub fill_code : {C : ℕ} (chains : Chains C) (k : ℕ) (row : Row) (b place : �
     start ≡ begun chains.newest (Some k) chains.oldest →
     record { slots = slots; heads = set chains.heads b (Some k); free = chains.free; oldest = start; newest = Some k } ≡ filled chains k row
 fill_code chains k row b place slots start l e bound p s o = rw (s, o, p, e) refl
-
-pub filled_named : {C : ℕ} (chains : Chains C) (k : ℕ) (place : ℕ) (slot : Slot) → Linked (k ∷ []) chains → within chains.newest (set chains.slots place slot) ≡ true
-filled_named chains k place slot l =
-    let h = opened (k ∷ []) chains l in
-    within_newest chains.slots place slot (age chains) chains.newest (ends_newest (links Older chains.slots) chains.newest (age chains) h.back) (λ j i. h.inside j (rw i (or-true (nat_eq j k))))

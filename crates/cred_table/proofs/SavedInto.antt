@@ -1,10 +1,9 @@
 -- A snapshot that is written into a sink.
-use Rattle.std.proofs.Common.{◌≡◌, ℕ, ◌+◌, ◌*◌, ◌≤◌, true, List, [], ◌∷◌, ◌++◌, length, take, drop, take-append-drop, length-take-le, Some, refl, arith, sym, ap, subst, ◌∙◌, append_assoc, length-append}
+use Rattle.std.proofs.Common.{◌≡◌, ℕ, ◌+◌, ◌*◌, ◌≤◌, true, List, [], ◌∷◌, ◌++◌, length, take, drop, take-append-drop, length-take-le, Some, arith, sym, ap, subst, ◌∙◌, append_assoc, length-append}
 use Rattle.std.proofs.lemmas.List.{append-nil}
 use Rattle.std.specs.List.{AllByRecursion}
 use Rattle.ctap_cbor.specs.declared.sink.Sink.{Sink}
 use Rattle.ctap_cbor.specs.Grammar.{text}
-use Rattle.ctap_cbor.specs.Writing.{room_of}
 use Rattle.cred_table.specs.declared.row.Row.{Row}
 use Rattle.cred_table.specs.Rows.{Lawful}
 use Rattle.cred_table.specs.Snapshots.{IsRow, snapshot}
@@ -21,14 +20,6 @@ pub record Put (rows left : List Row) (old new : Sink) : Type 0 where
   pub typed : AllByRecursion (IsRow true) done
   pub appends : AppendsUpTo old new (heads_text (true, length rows) ++ rows_text true done) (13 + 283 * length done)
 
-pub none_put : (rows : List Row) (old new : Sink) → AppendsUpTo old new (heads_text (true, length rows)) 13 → Put rows rows old new
-none_put rows old new p = record {
-  done = [];
-  all = refl;
-  typed = tt;
-  appends = respelled (sym (append-nil (heads_text (true, length rows)))) p;
-}
-
 pub one_put : (rows left rest : List Row) (row : Row) (old between new : Sink) → left ≡ row ∷ rest → IsRow true row → Put rows left old between → AppendsUpTo between new (row_text true row) 283 → Put rows rest old new
 one_put rows left rest row old between new first is w p =
     let front : List ℕ = heads_text (true, length rows) in
@@ -39,15 +30,6 @@ one_put rows left rest row old between new first is w p =
       typed = all_more (IsRow true) w.done row w.typed is;
       appends = at_most (omega (arith, more)) (respelled (append_assoc front (rows_text true w.done) (row_text true row) ∙ ap (λ x. front ++ x) (sym (rows_text_more true w.done row))) (up_to w.appends p));
     }
-
--- there is space for one row more
-pub space_left : (room : ℕ) (rows left rest : List Row) (row : Row) (old new : Sink) → Lawful room rows → left ≡ row ∷ rest → Put rows left old new → longest room ≤ room_of old → 283 ≤ room_of new
-space_left room rows left rest row old new lawful first w space =
-    let all = ap length (sym w.all ∙ ap (λ l. w.done ++ l) first) ∙ length-append w.done (row ∷ rest) in
-    let most = w.appends.1 in
-    let is = w.appends.2.room_is in
-    let few = lawful.few in
-    omega (arith, all, most, is, few, space)
 
 -- all are put once none is left
 whole : (rows left : List Row) (old new : Sink) → left ≡ [] → (w : Put rows left old new) → w.done ≡ rows

@@ -65,14 +65,6 @@ pub record Written (rows left : List Row) (old new : List ℕ) : Type 0 where
   pub typed : AllByRecursion (IsRow true) done
   pub spelled : new ≡ old ++ (heads_text (true, length rows) ++ rows_text true done)
 
-pub none_written : (rows : List Row) (old new : List ℕ) → new ≡ old ++ heads_text (true, length rows) → Written rows rows old new
-none_written rows old new e = record {
-  done = [];
-  all = refl;
-  typed = tt;
-  spelled = e ∙ ap (λ x. old ++ x) (sym (append-nil (heads_text (true, length rows))));
-}
-
 pub one_written : (rows left rest : List Row) (row : Row) (old between new : List ℕ) → left ≡ row ∷ rest → IsRow true row → Written rows left old between → new ≡ between ++ row_text true row → Written rows rest old new
 one_written rows left rest row old between new first is w e =
     let front : List ℕ = heads_text (true, length rows) in

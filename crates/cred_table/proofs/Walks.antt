@@ -1,9 +1,9 @@
 -- One step of a walk.
-use Rattle.std.proofs.Common.{◌≡◌, ℕ, zero, suc, ◌<◌, List, [], ◌∷◌, length, true, Option, Some, None, refl, sym, ◌∙◌, ap, subst, arith, get_or}
+use Rattle.std.proofs.Common.{◌≡◌, ℕ, ◌<◌, List, [], ◌∷◌, length, true, Option, Some, None, refl, sym, ◌∙◌, ap, subst, arith, get_or}
 use Rattle.std.proofs.lemmas.List.{get_or-map, get_or_default, length-map}
 use Rattle.cred_table.specs.declared.slot.Slot.{Slot}
 use Rattle.cred_table.specs.declared.slot.Along.{Along}
-use Rattle.cred_table.specs.Slots.{walk, chain, is_chain, numbered, links, link_of, slot_at, blank}
+use Rattle.cred_table.specs.Slots.{chain, is_chain, numbered, links, link_of, slot_at, blank}
 use Rattle.cred_table.proofs.Chain.{Leads, walked, chain_is}
 
 -- a link that leads to a slot goes on from there
@@ -36,10 +36,3 @@ walk_step slots along at k place slot next h a p t n =
     let there : slot_at slots k ≡ slot = get_or_default slots k blank slot within ∙ sym s in
     let here : chain to at ≡ k ∷ chain to next = ap (chain to) a ∙ (step.2 ∙ ap (λ (o : Option ℕ). k ∷ chain to o) link) in
     (subst P link step.1, ap (numbered slots) here ∙ ap (λ (x : Slot). (k, x) ∷ numbered slots (chain to next)) there)
-
-pub walk_over : (slots : List Slot) (along : Along) (at : Option ℕ) → at ≡ None → numbered slots (chain (links along slots) at) ≡ []
-walk_over slots along at a = ap (λ (o : Option ℕ). numbered slots (chain (links along slots) o)) a ∙ ap (numbered slots) (none (length (links along slots)) (links along slots))
-  where
-    none : (n : ℕ) (to : List (Option ℕ)) → walk n to None ≡ []
-    none zero to = refl
-    none (suc n) to = refl

@@ -1,4 +1,4 @@
--- Names as rows keep them.
+-- Names as rows keep them (WebAuthn Level 2, section 6.4.1, "String Truncation"). No answer has them.
 use Rattle.std.specs.Prelude.{◌≡◌, ℕ, zero, suc, ◌≤◌, nat_le, nat_lt, Bool, ◌&&◌, ◌||◌, if◌then◌else◌, List, length, take, slice_index}
 use Rattle.std.specs.Str.{IsCharBoundary}
 

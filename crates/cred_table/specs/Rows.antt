@@ -65,10 +65,11 @@ listed rp rows = reverse (filter (is_listed rp) rows)
 abbrev pub ids : List Row → List (List ℕ)
 ids rows = map (λ row. row.id) rows
 
--- The counter of the row with the id, 0 where there is none.
+-- The counter of a row, 0 where there is none.
 abbrev pub counter_in : Option Row → ℕ
 counter_in None = 0
 counter_in (Some row) = row.counter
 
+-- The counter of the row with the id, 0 where there is none.
 abbrev pub counter_of : (id : List ℕ) → List Row → ℕ
 counter_of id rows = counter_in (find (has_id id) rows)

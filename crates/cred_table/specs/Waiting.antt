@@ -1,8 +1,8 @@
 -- Assertions that wait to be asked for (CTAP 2.1, section 6.3).
 use Rattle.std.specs.Prelude.{ℕ, length, drop, slice_get, List, [], ◌∷◌, Bool, false, Option, Some, None}
 
--- the channel that asked, the hash of its client data, whether the user's presence was asked for, the moment from which
--- the time to ask for the next counts, and the credentials' ids
+-- What is pending: the channel that asked, the hash of its client data, whether the user's presence was asked for, the
+-- credentials' ids, and a moment. The next one may be asked for until a fixed time after this moment.
 pub record Waiting : Type 0 where
   pub cid : ℕ
   pub hash : List ℕ
@@ -10,22 +10,23 @@ pub record Waiting : Type 0 where
   pub moment : ℕ
   pub ids : List (List ℕ)
 
--- an empty list counts as none
+-- the same with these ids, or nothing where there are none
 abbrev pub pending_of : (cid : ℕ) (hash : List ℕ) (presence : Bool) (moment : ℕ) → List (List ℕ) → Option Waiting
 pending_of cid hash presence moment [] = None
 pending_of cid hash presence moment (id ∷ ids) =
     Some (record { cid = cid; hash = hash; presence = presence; moment = moment; ids = id ∷ ids })
 
+-- how many ids are pending
 abbrev pub pending_count : Option Waiting → ℕ
 pending_count None = 0
 pending_count (Some w) = length w.ids
 
--- the moment is renewed
+-- the same with this moment in the place of its own
 abbrev pub stamped : ℕ → Option Waiting → Option Waiting
 stamped at None = None
 stamped at (Some w) = Some (record w { moment = at })
 
--- the first id
+-- the first id that is pending
 abbrev pub first_of : Option Waiting → Option (List ℕ)
 first_of None = None
 first_of (Some w) = slice_get w.ids 0
@@ -40,10 +41,12 @@ abbrev pub cid_of : Option Waiting → ℕ
 cid_of None = 0
 cid_of (Some w) = w.cid
 
+-- the hash of the client data
 abbrev pub hash_of : Option Waiting → List ℕ
 hash_of None = []
 hash_of (Some w) = w.hash
 
+-- whether the user's presence was asked for
 abbrev pub presence_of : Option Waiting → Bool
 presence_of None = false
 presence_of (Some w) = w.presence

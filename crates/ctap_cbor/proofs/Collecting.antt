@@ -7,7 +7,7 @@ use Rattle.ctap_cbor.specs.Parts.{Part, OpensArray, OpensMap}
 use Rattle.ctap_cbor.specs.declared.item.Item.{Item}
 use Rattle.ctap_cbor.specs.declared.item.Item.TheVariants as item
 use Rattle.ctap_cbor.specs.Views.{part_of}
-use Rattle.ctap_cbor.specs.Reading.{part_of_tree, Reading, Takes, PassesAs, Halts, HaltsInAll, HaltsInPairs, Refuses, GivesKey}
+use Rattle.ctap_cbor.specs.Reading.{part_of_tree, Reading, Takes, Halts, HaltsInAll, HaltsInPairs, Refuses, GivesKey}
 use Rattle.ctap_cbor.proofs.Moves.{passes_none, passes_more, pairs_none}
 use Rattle.ctap_cbor.proofs.Skipping.{given_more, key_stops, value_stops, item_stops, map_then, array_then}
 use Rattle.ctap_cbor.specs.Collecting.{InMap, InArray, Adds, AddsEntry, AddsPairs, AddsAll, ReadsMap, ReadsArray}
@@ -74,9 +74,3 @@ opens_array (item.Bytes m) h n e = cc
 opens_array (item.Text m) h n e = cc
 opens_array (item.Bool m) h n e = cc
 opens_array item.Null h n e = cc
-
-pub other_map : {M : Type 0} (H : M → Pairs → Type 0) (room : ℕ) (m : M) (a c : Reading) (i : Item) → ((n : ℕ) → i ≡ item.Map n → ⊥) → PassesAs room (part_of i) a c → ReadsMap H room false m m a c
-other_map H room m a c i none p = let h = not_map H (part_of i) m p.0 (opens_map i none) p.2 in (p.0, p.1, h.0, h.1)
-
-pub other_array : {M : Type 0} (H : M → Trees → Type 0) (room : ℕ) (m : M) (a c : Reading) (i : Item) → ((n : ℕ) → i ≡ item.Array n → ⊥) → PassesAs room (part_of i) a c → ReadsArray H room false m m a c
-other_array H room m a c i none p = let h = not_array H (part_of i) m p.0 (opens_array i none) p.2 in (p.0, p.1, h.0, h.1)

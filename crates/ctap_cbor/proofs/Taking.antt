@@ -34,12 +34,6 @@ item_taken_at room old new i n fits e le moved =
       moved = moved ∙ ap (λ x. advance old x (n + 0)) len ∙ ap (advance old (length (item_text i))) same;
     }
 
--- no item is out of order
-last_false : (ts : List (Bool × Kind)) (k kind : Kind) → first_of (ts ++ (false, k) ∷ []) ≡ Some kind → first_of ts ≡ Some kind
-last_false [] k kind e = e
-last_false ((true, j) ∷ ts) k kind e = e
-last_false ((false, j) ∷ ts) k kind e = last_false ts k kind e
-
 abbrev pub InOrder : Kind → Type 0
 InOrder KeyOrder = ⊥
 InOrder _ = Unit {0}

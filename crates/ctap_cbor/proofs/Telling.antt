@@ -1,18 +1,18 @@
 -- What bytes are, as a function of them.
-use Rattle.std.proofs.Common.{◌≡◌, ℕ, ◌+◌, ◌*◌, ◌<◌, ◌≤◌, Bool, true, false, List, [], ◌∷◌, ◌++◌, length, refl, arith, sym, ap, ◌∙◌}
+use Rattle.std.proofs.Common.{◌≡◌, ℕ, ◌+◌, ◌*◌, ◌<◌, ◌≤◌, Bool, true, false, List, [], ◌∷◌, ◌++◌, length, Some, refl, arith, sym, ap, subst, ◌∙◌}
 use Rattle.std.specs.Prelude.{◌&&◌, if◌then◌else◌, nat_lt}
 use Rattle.std.proofs.lemmas.Bool.{and_parts, ltb-true}
 use Rattle.std.proofs.lemmas.Bool.Decides.{nat_tests}
 use Rattle.std.proofs.lemmas.List.{append-nil}
 use Rattle.ctap_cbor.specs.declared.fault.Kind.TheVariants.{Reserved}
-use Rattle.ctap_cbor.specs.Tree.{count}
+use Rattle.ctap_cbor.specs.Tree.{Tree, count}
 use Rattle.ctap_cbor.specs.Head.{AreBytes}
-use Rattle.ctap_cbor.specs.Grammar.{texts}
+use Rattle.ctap_cbor.specs.Grammar.{texts, IsCanonical}
 use Rattle.ctap_cbor.specs.Faults.{passed, fault_steps}
-use Rattle.ctap_cbor.specs.Outcome.{Stopped, IsOutcome, steps}
+use Rattle.ctap_cbor.specs.Outcome.{Outcome, Whole, Longer, Stopped, IsOutcome, steps}
 use Rattle.ctap_cbor.specs.Parse.{items, parse, outcome_by, ran_by}
-use Rattle.ctap_cbor.specs.Telling.{are_bytes, outcome_of, items_at}
-use Rattle.ctap_cbor.specs.Laws.{BytesTell, CheckStepsAreBounded, ItemsAreFound}
+use Rattle.ctap_cbor.specs.Telling.{are_bytes, outcome_of, whole_tree, items_at}
+use Rattle.ctap_cbor.specs.Laws.{BytesTell, TreesAreTold, CheckStepsAreBounded, ItemsAreFound}
 use Rattle.ctap_cbor.proofs.Again.{items_again, all_ran}
 use Rattle.ctap_cbor.proofs.Sound.{parse_sound}
 use Rattle.ctap_cbor.proofs.Uniqueness.{outcome_sound, outcome_only}
@@ -40,6 +40,17 @@ told b fits = rw (outcome_parsed b fits) (outcome_sound b (parse 4 b) (parse_sou
 
 pub bytes_tell : BytesTell
 bytes_tell = record { told = told; only = λ b o fits is. outcome_parsed b fits ∙ outcome_only b o is }
+
+some_same : (t u : Tree) → Some t ≡ Some u → t ≡ u
+some_same t u e = cc
+
+tree_of : (b : List ℕ) (t : Tree) (o : Outcome) → IsOutcome b o → whole_tree o ≡ Some t → IsCanonical t b
+tree_of b t (Whole u) is e = subst (λ x. IsCanonical x b) (some_same u t e) is
+tree_of b t (Longer u) is e = absurd cc
+tree_of b t (Stopped os kind) is e = absurd cc
+
+pub trees_are_told : TreesAreTold
+trees_are_told b t fits = (λ e. tree_of b t (outcome_of b) (told b fits) e, λ c. ap whole_tree (bytes_tell.only b (Whole t) fits c))
 
 -- a list with a number that is no byte
 no_bytes : (b : List ℕ) → steps b (Stopped [] Reserved) ≤ 2 * length b + 1

@@ -8,7 +8,7 @@ use Rattle.ctap_cbor.specs.declared.item.Item.{Item}
 use Rattle.ctap_cbor.specs.declared.item.Item.TheVariants as item
 use Rattle.ctap_cbor.specs.declared.value.Value.{Value}
 use Rattle.ctap_cbor.specs.Tree.{push, push_pair, Tree, Trees, Pairs, Plain, Scalar}
-use Rattle.ctap_cbor.specs.Faults.{Due, AnItem, first_faults, body_faults, faults, fault}
+use Rattle.ctap_cbor.specs.Faults.{Due, first_faults, body_faults, faults, fault}
 use Rattle.ctap_cbor.specs.Outcome.{Outcome, IsOutcome, result_of}
 use Rattle.ctap_cbor.specs.Parts.{Part}
 use Rattle.ctap_cbor.specs.Reading.{Reading, Takes, Refuses, Passes, PassesAll, PassesPairs, GivesKey, Halts, GoesOn}
@@ -16,7 +16,6 @@ use Rattle.ctap_cbor.specs.Views.{part_of}
 use Rattle.ctap_cbor.specs.Values.{trees, pairs, tree_of, pair_of, trees_of, pairs_of, IsScalarOf, UnlessMemory}
 use Rattle.ctap_cbor.proofs.Finding.{kind_of}
 use Rattle.ctap_cbor.proofs.Answering.{start, found_stopped, found_longer}
-use Rattle.ctap_cbor.proofs.Bounds.{halts_fault}
 use Rattle.ctap_cbor.proofs.Moves.{passes_more}
 use Rattle.ctap_cbor.proofs.Skipping.{given_more, one_passes}
 
@@ -62,11 +61,6 @@ fault_not_memory room due [] kind e = let same : Truncated ≡ kind = cc in subs
 fault_not_memory room due (first ∷ rest) kind e =
     kind_of (λ k. k ≢ Memory) (faults room due first rest) kind
     ((λ f. cc), ((λ f. cc), ((λ f. cc), ((λ f. cc), ((λ f. cc), ((λ f. cc), ((λ f. cc), ((λ f. cc), ((λ f. cc), tt))))))))) e
-
-pub halts_not_memory : (room : ℕ) (a b : Reading) (at : ℕ) (kind : Kind) → Halts room a b at kind → kind ≢ Memory
-halts_not_memory room a b at kind h =
-    let f = halts_fault h.os room AnItem kind h.tail h.halts in
-    fault_not_memory f.0 f.1 h.tail kind f.2
 
 pub refuses_not_memory : (room : ℕ) (due : Due) (a b : Reading) (at : ℕ) (kind : Kind) → Refuses room due a b at kind → kind ≢ Memory
 refuses_not_memory room due a b at kind h = fault_not_memory room due _ kind h.is

@@ -9,7 +9,7 @@ use Rattle.ctap_cbor.specs.declared.encoding.Span.{Span}
 use Rattle.ctap_cbor.specs.declared.fault.Kind.{Kind}
 use Rattle.ctap_cbor.specs.declared.fault.Kind.TheVariants.{TooDeep, KeyOrder, Memory}
 use Rattle.ctap_cbor.specs.declared.value.Value.{Value}
-use Rattle.ctap_cbor.specs.Tree.{Tree, Array, Map, Trees, no_trees, tree, Pairs, no_pairs, pair, depth_all, depth_pairs, count, count_pairs}
+use Rattle.ctap_cbor.specs.Tree.{Tree, Array, Map, Trees, tree, Pairs, pair, depth_all, depth_pairs, count, count_pairs}
 use Rattle.ctap_cbor.specs.Head.{head}
 use Rattle.ctap_cbor.specs.Grammar.{text, texts, pair_texts, Rises, AreLawful, AreLawfulPairs}
 use Rattle.ctap_cbor.specs.Faults.{AKey, is_above}
@@ -38,21 +38,6 @@ pub record ItemsLeft (room : ℕ) (all rest : Trees) (start now : List ℕ) : Ty
   pub flat : depth_all rest ≤ room → depth_all all ≤ room
   pub extends : Extends start now
 
-pub items_start : (room : ℕ) (all : Trees) (start : List ℕ) → ItemsLeft room all all start start
-items_start room all start = record { spelled = refl; refused = refl; lawful = λ h. h; flat = λ h. h; extends = stays start }
-
-pub items_next : (room : ℕ) (all rest : Trees) (t : Tree) (start a b : List ℕ) → ItemsLeft room all (tree t rest) start a → Writes room t a b → ItemsLeft room all rest start b
-items_next room all rest t start a b h w = record {
-  spelled = ap (λ x. x ++ texts rest) w.appended ∙ append_assoc a (text t) (texts rest) ∙ h.spelled;
-  refused = ap (λ x. or_else x (refusal_all room rest)) (sym w.accepted) ∙ h.refused;
-  lawful = λ k. h.lawful (w.lawful, k);
-  flat = λ k. h.flat (omega (arith, w.flat));
-  extends = goes_on start a b h.extends (text t, w.appended);
-}
-
-pub items_end : (room : ℕ) (all : Trees) (start now : List ℕ) → ItemsLeft room all no_trees start now → WritesAll room all start now
-items_end room all start now h = record { accepted = sym h.refused; lawful = h.lawful tt; flat = h.flat (omega arith); appended = sym (append-nil now) ∙ h.spelled }
-
 pub item_gives_up : (room : ℕ) (all rest : Trees) (t : Tree) (start a b : List ℕ) (kind : Kind) → ItemsLeft room all (tree t rest) start a → FailsWith kind (refusal room t) a b → FailsWith kind (refusal_all room all) start b
 item_gives_up room all rest t start a b kind h g = (λ no. sym h.refused ∙ ap (λ x. or_else x (refusal_all room rest)) (g.0 no), goes_on start a b h.extends g.1)
 
@@ -66,9 +51,6 @@ pub record PairsLeft (room : ℕ) (all rest : Pairs) (last : Option (List ℕ)) 
   pub lawful : AreLawfulPairs rest → AreLawfulPairs all
   pub flat : depth_pairs rest ≤ room → depth_pairs all ≤ room
   pub extends : Extends start now
-
-pub pairs_start : (room : ℕ) (all : Pairs) (start : List ℕ) → PairsLeft room all all None start start
-pairs_start room all start = record { spelled = refl; refused = refl; rises = λ h. h; lawful = λ h. h; flat = λ h. h; extends = stays start }
 
 abbrev after_key : ℕ → Option (List ℕ) → Tree → Tree → Pairs → Option Kind
 after_key room last k v rest = or_else (order_refusal last (text k)) (or_else (refusal room v) (refusal_pairs room (Some (text k)) rest))
@@ -89,9 +71,6 @@ pairs_next room all rest k v last start a b c h w above u = record {
   flat = λ d. h.flat (omega (arith, w.flat, u.flat));
   extends = goes_on start b c (goes_on start a b h.extends (text k, w.appended)) (text v, u.appended);
 }
-
-pub pairs_end : (room : ℕ) (all : Pairs) (last : Option (List ℕ)) (start now : List ℕ) → PairsLeft room all no_pairs last start now → WritesPairs room all start now
-pairs_end room all last start now h = record { accepted = sym h.refused; rises = h.rises tt; lawful = h.lawful tt; flat = h.flat (omega arith); appended = sym (append-nil now) ∙ h.spelled }
 
 pub key_gives_up : (room : ℕ) (all rest : Pairs) (k v : Tree) (last : Option (List ℕ)) (start a b : List ℕ) (kind : Kind) → PairsLeft room all (pair k v rest) last start a → FailsWith kind (own_refusal k) a b → FailsWith kind (refusal_pairs room None all) start b
 key_gives_up room all rest k v last start a b kind h g = (λ no. sym h.refused ∙ ap (λ x. or_else x (after_key room last k v rest)) (g.0 no), goes_on start a b h.extends g.1)

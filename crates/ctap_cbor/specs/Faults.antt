@@ -25,6 +25,7 @@ pub data Due : Type 0 where
   AnItem : Due
   AKey : Option (List ℕ) → Due
 
+-- whether a key is due
 abbrev pub is_key : Due → Bool
 is_key AnItem = false
 is_key (AKey before) = true
@@ -72,11 +73,12 @@ body_faults first rest =
     ∷ (nat_eq (major first) 3 && not (is_utf8 (take (string_len first rest) content)), NotUtf8)
     ∷ []
 
--- and the fault of a key's order
+-- these, and the fault of a key's order
 abbrev pub later_faults : Due → ℕ → List ℕ → List (Bool × Kind)
 later_faults due first rest = body_faults first rest ++
     (not (is_above due (take (item_len first rest) (first ∷ rest))), KeyOrder) ∷ []
 
+-- all of these, in their order
 abbrev pub faults : ℕ → Due → ℕ → List ℕ → List (Bool × Kind)
 faults room due first rest = first_faults room due first ++ later_faults due first rest
 

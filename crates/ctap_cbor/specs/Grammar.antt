@@ -41,7 +41,7 @@ Fits (Text s) = (length s < 2 ^ 64) × IsUtf8 s
 Fits (Flag b) = Unit {0}
 Fits Null = Unit {0}
 
--- integers, byte strings and texts
+-- a key: an integer, a byte string or a text
 abbrev pub IsKey : Tree → Type 0
 IsKey (Plain (Int i)) = Unit {0}
 IsKey (Plain (Bytes s)) = Unit {0}
@@ -73,12 +73,12 @@ abbrev mutual
   AreLawfulPairs no_pairs = Unit {0}
   AreLawfulPairs (pair k v ps) = IsLawful k × IsLawful v × AreLawfulPairs ps
 
--- b is the encoding of t
+-- The text is the encoding of the tree.
 pub record IsEncoding (t : Tree) (b : List ℕ) : Type 0 where
   pub lawful : IsLawful t
   pub spelled : b ≡ text t
 
--- and t has at most four levels
+-- The text is the canonical encoding of the tree, which has at most four levels (CTAP 2.1, section 8).
 pub record IsCanonical (t : Tree) (b : List ℕ) : Type 0 where
   pub enc : IsEncoding t b
   pub flat : depth t ≤ 4

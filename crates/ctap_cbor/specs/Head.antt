@@ -4,6 +4,7 @@ use Rattle.std.specs.Prelude.{ℕ, ◌+◌, ◌-◌, ◌*◌, ◌/◌, ◌%◌, 
 use Rattle.std.specs.List.{AllByRecursion}
 use Rattle.std.specs.Int.{w16 as two_bytes, w32 as four_bytes, w64 as eight_bytes, to_be_bytes}
 
+-- each of the numbers is a byte
 abbrev pub AreBytes : List ℕ → Type 0
 AreBytes bs = AllByRecursion (λ b. b < 256) bs
 
@@ -21,10 +22,11 @@ abbrev pub head_len : ℕ → ℕ
 head_len n = if nat_lt n 24 then 1 else if nat_lt n 0x100 then 2 else if nat_lt n 0x1_0000 then 3
     else if nat_lt n 0x1_0000_0000 then 5 else 9
 
--- the fields of a head's first byte: the major type, and the additional information
+-- the major type, of a head's first byte
 abbrev pub major : ℕ → ℕ
 major first = first / 32
 
+-- the additional information, of a head's first byte
 abbrev pub info : ℕ → ℕ
 info first = first % 32
 

@@ -1,5 +1,5 @@
 -- What holds of the encoding and of reading it, over the definitions alone.
-use Rattle.std.specs.Prelude.{◌≡◌, ℕ, ◌+◌, ◌*◌, ◌≤◌, List, ◌++◌, length, Some, None}
+use Rattle.std.specs.Prelude.{◌≡◌, ◌↔◌, ℕ, ◌+◌, ◌*◌, ◌≤◌, List, ◌++◌, length, Some, None}
 use Rattle.ctap_cbor.specs.declared.fault.Kind.{Kind}
 use Rattle.ctap_cbor.specs.Tree.{Tree, Trees, depth, depth_all, count}
 use Rattle.ctap_cbor.specs.Head.{AreBytes}
@@ -56,6 +56,11 @@ RefusedHasNoText = (t : Tree) (kind : Kind) → refusal 4 t ≡ Some kind → (b
 pub record BytesTell : Type 0 where
   pub told : (b : List ℕ) → AreBytes b → IsOutcome b (outcome_of b)
   pub only : (b : List ℕ) (o : Outcome) → AreBytes b → IsOutcome b o → outcome_of b ≡ o
+
+-- The tree that `canonical_tree` names for bytes is the one of which they are the canonical encoding; so it names one
+-- exactly where they are one's (CTAP 2.1, section 8).
+abbrev pub TreesAreTold : Type 0
+TreesAreTold = (b : List ℕ) (t : Tree) → AreBytes b → (canonical_tree b ≡ Some t) ↔ IsCanonical t b
 
 -- A cursor with so many steps after it passed a tree from the first of these bytes up to their end: it is theirs.
 pub record TellsTree (b : List ℕ) (s : ℕ) (t : Tree) (new : Reading) : Type 0 where

@@ -20,6 +20,7 @@ front (InArray total done) = head 4 total ++ texts done
 front (AtKey total done) = head 5 total ++ pair_texts done
 front (AtValue total done key) = head 5 total ++ (pair_texts done ++ text key)
 
+-- the same of those that are open, each in the one before
 abbrev pub fronts : List Open → List ℕ
 fronts [] = []
 fronts (o ∷ os) = front o ++ fronts os
@@ -64,6 +65,7 @@ pub data Outcome : Type 0 where
   -- an item after these open arrays and maps has a fault
   Stopped : List Open → Kind → Outcome
 
+-- what it is that a text has this outcome
 abbrev pub IsOutcome : List ℕ → Outcome → Type 0
 IsOutcome b (Whole t) = IsCanonical t b
 IsOutcome b (Longer t) = (whole rest : List ℕ) × IsCanonical t whole × (0 < length rest) × (b ≡ whole ++ rest)
@@ -93,6 +95,7 @@ abbrev pub later_key : Pairs → Tree → ℕ
 later_key no_pairs key = 0
 later_key (pair k v ps) key = length (text key)
 
+-- the same of what is open
 abbrev pub later_in : Open → ℕ
 later_in (InArray total done) = later_in_all done
 later_in (AtKey total done) = later_in_map done

@@ -1,5 +1,5 @@
--- Reading a whole item, with all that is inside, as a function: the tree, or where it stops. What the text is says
--- Outcome.antt; that this function returns it is a law.
+-- Reading a whole item, with all that is inside, as a function (RFC 8949, section 3): the tree, or where it stops. What
+-- the text is says Outcome.antt; that this function returns it is a law.
 use Rattle.std.proofs.Common.{ℕ, zero, suc, List, [], ◌∷◌, Option, Some, None, Result, Ok, Err}
 use Rattle.ctap_cbor.specs.declared.fault.Kind.{Kind}
 use Rattle.ctap_cbor.specs.Tree.{Null, Tree, Plain, Array, Map, Trees, no_trees, tree, Pairs, no_pairs, pair}

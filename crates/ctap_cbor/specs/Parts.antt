@@ -1,4 +1,5 @@
--- One item: its head, and the bytes of a string. Reading it returns its fault, or the item and what follows.
+-- One item: its head, and the bytes of a string (RFC 8949, section 3). Reading it returns its fault, or the item and
+-- what follows.
 use Rattle.std.specs.Prelude.{ℕ, zero, suc, ◌<◌, ◌^◌, pos, negsuc, true, false, List, [], ◌∷◌, take, drop, Option, Some, None, Result, Ok, Err, if◌then◌else◌, nat_eq}
 use Rattle.ctap_cbor.specs.declared.fault.Kind.{Kind}
 use Rattle.ctap_cbor.specs.declared.fault.Kind.TheVariants.{Truncated}

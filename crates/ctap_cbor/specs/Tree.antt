@@ -9,6 +9,7 @@ pub data Scalar : Type 0 where
   Flag : Bool → Scalar
   Null : Scalar
 
+-- a scalar, an array of trees, or a map of pairs: a key and a value
 mutual
   pub data Tree : Type 0 where
     Plain : Scalar → Tree
@@ -23,6 +24,7 @@ mutual
     no_pairs : Pairs
     pair : Tree → Tree → Pairs → Pairs
 
+-- how many arrays and maps are in one another
 abbrev mutual
   pub depth : Tree → ℕ
   depth (Plain s) = 0
@@ -37,20 +39,22 @@ abbrev mutual
   depth_pairs no_pairs = 0
   depth_pairs (pair k v ps) = max (max (depth k) (depth v)) (depth_pairs ps)
 
--- what a tree is
+-- whether it is a map
 abbrev pub is_map : Tree → Bool
 is_map (Map ps) = true
 is_map _ = false
 
+-- whether it is an array
 abbrev pub is_array : Tree → Bool
 is_array (Array ts) = true
 is_array _ = false
 
--- how many items or pairs it holds
+-- how many items there are
 abbrev pub count : Trees → ℕ
 count no_trees = 0
 count (tree t ts) = count ts + 1
 
+-- how many pairs there are
 abbrev pub count_pairs : Pairs → ℕ
 count_pairs no_pairs = 0
 count_pairs (pair k v ps) = count_pairs ps + 1

@@ -2,7 +2,7 @@
 //! law, and a caller has it by calling.
 
 ghost use Rattle.ctap_cbor.specs.Head.{AreBytes};
-ghost use Rattle.ctap_cbor.specs.Laws.{EachTextIsOne, NoneBeginsAnother, NoItemBeginsAnother, StepsAreBounded, WrittenIsReadAgain, OneTreePasses, NothingHalts, EncodedIsDecoded, RefusedHasNoText, BytesTell, WholeReadings, CheckStepsAreBounded, ItemsAreFound};
+ghost use Rattle.ctap_cbor.specs.Laws.{EachTextIsOne, NoneBeginsAnother, NoItemBeginsAnother, StepsAreBounded, WrittenIsReadAgain, OneTreePasses, NothingHalts, EncodedIsDecoded, RefusedHasNoText, BytesTell, TreesAreTold, WholeReadings, CheckStepsAreBounded, ItemsAreFound};
 
 /// Each text is the encoding of one tree, or that and bytes after it, or has one first fault, with one way to
 /// be there.
@@ -34,6 +34,11 @@ pub fn steps_are_bounded()
 /// What `outcome_of` of `specs/Telling.antt` names for bytes is what they are, and nothing else is.
 pub fn bytes_tell()
     ensures { BytesTell }
+{}
+
+/// What `canonical_tree` of `specs/Telling.antt` names for bytes is the tree of which they are the canonical encoding.
+pub fn trees_are_told()
+    ensures { TreesAreTold }
 {}
 
 /// Reading these bytes whole, by calls of a cursor, returns what they are and takes the steps of checking them.

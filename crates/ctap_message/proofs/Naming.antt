@@ -29,9 +29,6 @@ use Rattle.ctap_message.specs.DescriptorWalk.{DescriptorWalk, IsWhole, list_step
 abbrev pub Sofar : Reading → ℕ → Reading → ℕ → Type 0
 Sofar r n s m = (ts : Trees) → Left r n ts → (us : Trees) × (more : ℕ) × Walks r s m ts us more × (ids_of ts ≡ ids_of us) × (after_first ts ≡ after_first us)
 
-pub sofar_none : (r : Reading) (n : ℕ) → Sofar r n r n
-sofar_none r n = λ ts h. (ts, 0, record { left = h; same = refl; cost = omega arith; steps = omega arith }, refl, refl)
-
 Onward : Reading → Reading → ℕ → Trees → Trees → Descriptor → Type 0
 Onward r s m ts us d =
     (vs : Trees) × (more : ℕ) × Walks r s m ts vs more × (ids_of us ≡ cons_option (named_id d) (ids_of vs)) × (after_first us ≡ (if is_some (named_id d) then vs else after_first vs))
@@ -141,9 +138,6 @@ moves law r s n m given id w g =
 
 pub still_walk : ItemsAreFound → (r s : Reading) (n m : ℕ) (given : Bool) (id : Option (List ℕ)) → IsWalk (walk_at r n) given → Gives r n s m id → IsWalk (walk_at s m) given
 still_walk law r s n m given id w g = (moves law r s n m given id w g).0
-
-empty_ids : (ts : Trees) (us : Trees) → ids_of ts ≡ ids_of us → us ≡ no_trees → ids_of ts ≡ []
-empty_ids ts us e h = e ∙ ap ids_of h
 
 pub next_gives : ItemsAreFound → (r s : Reading) (n m : ℕ) (given : Bool) (id : Option (Bor (List ℕ))) → IsWalk (walk_at r n) given → Gives r n s m (option_copied id) → NextId (walk_at r n) id (walk_at s m)
 next_gives law r s n m given None w g =

@@ -23,16 +23,6 @@ use Rattle.ctap_message.proofs.Pushes.{ap2, ap3, and_true, number_push, numbers_
 
 -- ---- heads
 
-pub head_map : (v : Tree) → is_map v ≡ is_map (head_of (part_of_tree v))
-head_map (Plain s) = refl
-head_map (Array ts) = refl
-head_map (Map ps) = refl
-
-pub head_natural : (v : Tree) → is_natural v ≡ is_natural (head_of (part_of_tree v))
-head_natural (Plain s) = refl
-head_natural (Array ts) = refl
-head_natural (Map ps) = refl
-
 -- ---- makeCredential
 
 ap9 : {A B C D E F G H J I : Type 0} (f : A → B → C → D → E → F → G → H → J → I) {a a' : A} {b b' : B} {c c' : C} {d d' : D} {e e' : E} {g g' : F} {h h' : G} {i i' : H} {j j' : J} → a ≡ a' → b ≡ b' → c ≡ c' → d ≡ d' → e ≡ e' → g ≡ g' → h ≡ h' → i ≡ i' → j ≡ j' → f a b c d e g h i j ≡ f a' b' c' d' e' g' h' i' j'

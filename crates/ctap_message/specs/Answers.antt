@@ -12,7 +12,7 @@ refusal status = status ∷ []
 abbrev pub success : Tree → List ℕ
 success map = 0x00 ∷ text map
 
--- an integer of at least 0, a text, a byte string, a truth value
+-- an integer of at least 0, and below it a text, a byte string and a truth value
 abbrev pub number : ℕ → Tree
 number n = Plain (Int (pos n))
 

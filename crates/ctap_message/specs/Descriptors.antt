@@ -6,17 +6,19 @@ use Rattle.std.specs.Str.{bytes_eq}
 use Rattle.ctap_cbor.specs.Tree.{Tree, Trees, no_trees, tree}
 use Rattle.ctap_message.specs.Members.{named, as_bytes, as_text, as_int, is_bytes, is_text, is_int, is_flag, array_of}
 
--- the types of their members; other names may have any value
+-- the types of the members of a descriptor; other names may have any value
 abbrev pub descriptor_types : List (List ℕ × (Tree → Bool))
 descriptor_types = (codes "id", is_bytes) ∷ (codes "type", is_text) ∷ (codes "transports", array_of is_text) ∷ []
 
+-- the same of a credential parameter
 abbrev pub parameter_types : List (List ℕ × (Tree → Bool))
 parameter_types = (codes "alg", is_int) ∷ (codes "type", is_text) ∷ []
 
+-- the same of the options
 abbrev pub option_types : List (List ℕ × (Tree → Bool))
 option_types = (codes "rk", is_flag) ∷ (codes "up", is_flag) ∷ (codes "uv", is_flag) ∷ []
 
--- the credential type that is known
+-- whether it is `public-key`, the credential type that is known
 abbrev pub is_public_key : Option (List ℕ) → Bool
 is_public_key None = false
 is_public_key (Some s) = bytes_eq s (codes "public-key")
@@ -25,7 +27,7 @@ is_public_key (Some s) = bytes_eq s (codes "public-key")
 abbrev pub type_of : Tree → Option (List ℕ)
 type_of t = as_text (named (codes "type") (Some t))
 
--- id and type are there
+-- whether id and type are there
 abbrev pub has_id_and_type : Tree → Bool
 has_id_and_type t = is_some (as_bytes (named (codes "id") (Some t))) && is_some (type_of t)
 
@@ -38,15 +40,15 @@ abbrev pub ids_of : Trees → List (List ℕ)
 ids_of no_trees = []
 ids_of (tree t ts) = cons_option (id_of t) (ids_of ts)
 
--- alg and type are there
+-- whether alg and type are there
 abbrev pub has_alg_and_type : Tree → Bool
 has_alg_and_type t = is_some (as_int (named (codes "alg") (Some t))) && is_some (type_of t)
 
--- -7; negsuc n is the integer -1 - n
+-- whether it is -7, ES256
 abbrev pub is_es256 : Option ℤ → Bool
 is_es256 (Some (negsuc n)) = n == 6
 is_es256 _ = false
 
--- ES256 for public keys
+-- whether an entry asks for ES256 keys
 abbrev pub asks_es256 : Tree → Bool
 asks_es256 t = is_es256 (as_int (named (codes "alg") (Some t))) && is_public_key (type_of t)

@@ -1,5 +1,5 @@
--- authenticatorGetAssertion (CTAP 2.1, section 6.2): the types of its parameters, the checks of a request in their
--- order, and what it asks. The order, and that pinUvAuthParam is refused, are this project's choice.
+-- authenticatorGetAssertion (CTAP 2.1, sections 6.2 and 8.2): the types of its parameters, the checks of a request in
+-- their order, and what it asks. The order, and that pinUvAuthParam is refused, are this project's choice.
 use Rattle.std.specs.Prelude.{ℕ, ◌==◌, Bool, true, false, not, ◌&&◌, List, [], ◌∷◌, length, Option, is_some, is_none, unwrap_or, Result, codes}
 use Rattle.ctap_cbor.specs.Tree.{Tree, is_map}
 use Rattle.ctap_message.specs.Members.{numbered, named, as_bytes, as_text, as_flag, is_bytes, is_text, is_natural, array_of, all_entries, entries_of, map_by_name, map_by_number}
@@ -7,7 +7,7 @@ use Rattle.ctap_message.specs.Checks.{if_all_hold}
 use Rattle.ctap_message.specs.Asked.{Asked, GetAssertion}
 use Rattle.ctap_message.specs.Descriptors.{descriptor_types, option_types, has_id_and_type}
 
--- the types of members; other keys may have any value
+-- the types of the parameters; other keys may have any value
 abbrev pub assertion_types : List (ℕ × (Tree → Bool))
 assertion_types =
     (0x01, is_text)  -- rpId

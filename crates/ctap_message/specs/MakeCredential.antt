@@ -1,5 +1,5 @@
--- authenticatorMakeCredential (CTAP 2.1, section 6.1): the types of its parameters, the checks of a request in their
--- order, and what it asks. The order, and that pinUvAuthParam is refused, are this project's choice.
+-- authenticatorMakeCredential (CTAP 2.1, sections 6.1 and 8.2): the types of its parameters, the checks of a request in
+-- their order, and what it asks. The order, and that pinUvAuthParam is refused, are this project's choice.
 use Rattle.std.specs.Prelude.{ℕ, ◌==◌, nat_le, Bool, true, false, not, ◌&&◌, List, [], ◌∷◌, length, Option, is_some, is_none, unwrap_or, Result, codes}
 use Rattle.ctap_cbor.specs.Tree.{Tree, is_map}
 use Rattle.ctap_message.specs.Members.{numbered, named, as_bytes, as_text, as_flag, is_bytes, is_text, is_natural, array_of, all_entries, some_entry, entries_of, map_by_name, map_by_number}
@@ -7,13 +7,15 @@ use Rattle.ctap_message.specs.Checks.{if_all_hold}
 use Rattle.ctap_message.specs.Asked.{Asked, MakeCredential}
 use Rattle.ctap_message.specs.Descriptors.{descriptor_types, option_types, parameter_types, has_id_and_type, has_alg_and_type, asks_es256}
 
--- the types of members; other keys may have any value
+-- the types of the members of rp; other names may have any value
 abbrev pub rp_types : List (List ℕ × (Tree → Bool))
 rp_types = (codes "id", is_text) ∷ (codes "name", is_text) ∷ []
 
+-- the same of user
 abbrev pub user_types : List (List ℕ × (Tree → Bool))
 user_types = (codes "id", is_bytes) ∷ (codes "name", is_text) ∷ (codes "displayName", is_text) ∷ []
 
+-- the types of the parameters; other keys may have any value
 abbrev pub make_types : List (ℕ × (Tree → Bool))
 make_types =
     (0x01, is_bytes)  -- clientDataHash

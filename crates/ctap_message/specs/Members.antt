@@ -1,5 +1,5 @@
--- How a request's parameters are found in the tree of its bytes: members of maps by number or by name, entries of
--- arrays, and the types that they are to have.
+-- How a request's parameters are found in the tree of its bytes (CTAP 2.1, section 8): members of maps by number or by
+-- name, entries of arrays, and the types that they are to have.
 use Rattle.std.specs.Prelude.{ℕ, ℤ, pos, ◌==◌, Bool, true, false, ◌&&◌, ◌||◌, List, [], ◌∷◌, Option, Some, None, is_some, if◌then◌else◌}
 use Rattle.std.specs.Option.{option_or}
 use Rattle.std.specs.Str.{bytes_eq}
@@ -17,11 +17,12 @@ abbrev pub entries_of : Option Tree → Trees
 entries_of (Some (Array ts)) = ts
 entries_of _ = no_trees
 
--- a key is this number, or this name
+-- whether a key is this number
 abbrev pub is_number : ℕ → Tree → Bool
 is_number n (Plain (Int (pos m))) = m == n
 is_number n _ = false
 
+-- whether a key is this name
 abbrev pub is_name : List ℕ → Tree → Bool
 is_name name (Plain (Text s)) = bytes_eq s name
 is_name name _ = false
@@ -31,28 +32,32 @@ unfoldable pub value_at : (Tree → Bool) → Pairs → Option Tree
 value_at key no_pairs = None
 value_at key (pair k v ps) = option_or (value_at key ps) (if key k then Some v else None)
 
--- the member of a map with this number, and the one with this name; none where it has none, or there is no map
+-- the member of a map with this number; none where it has none, or there is no map
 abbrev pub numbered : ℕ → Option Tree → Option Tree
 numbered n map = value_at (is_number n) (pairs_of map)
 
+-- the same with this name
 abbrev pub named : List ℕ → Option Tree → Option Tree
 named name map = value_at (is_name name) (pairs_of map)
 
--- each entry of an array passes a test, some entry does
+-- whether each entry of an array passes a test
 unfoldable pub all_entries : (Tree → Bool) → Trees → Bool
 all_entries test no_trees = true
 all_entries test (tree t ts) = test t && all_entries test ts
 
+-- whether some entry does
 unfoldable pub some_entry : (Tree → Bool) → Trees → Bool
 some_entry test no_trees = false
 some_entry test (tree t ts) = test t || some_entry test ts
 
+-- whether there is an entry
 abbrev pub has_entries : Trees → Bool
 has_entries no_trees = false
 has_entries (tree t ts) = true
 
--- ---- what a value is; None where it isn't there, or is of another type
+-- ---- values
 
+-- what a value is; None where it isn't there, or is of another type
 abbrev pub as_bytes : Option Tree → Option (List ℕ)
 as_bytes (Some (Plain (Bytes s))) = Some s
 as_bytes _ = None
@@ -71,6 +76,7 @@ as_flag _ = None
 
 -- ---- types: tests of trees
 
+-- whether a tree is of a type
 abbrev pub is_bytes : Tree → Bool
 is_bytes t = is_some (as_bytes (Some t))
 
@@ -83,33 +89,35 @@ is_int t = is_some (as_int (Some t))
 abbrev pub is_flag : Tree → Bool
 is_flag t = is_some (as_flag (Some t))
 
--- an integer of at least 0
+-- whether it is an integer of at least 0
 abbrev pub is_natural : Tree → Bool
 is_natural (Plain (Int (pos n))) = true
 is_natural _ = false
 
--- an array of entries of a type
+-- whether it is an array of entries of a type
 abbrev pub array_of : (Tree → Bool) → Tree → Bool
 array_of type t = is_array t && all_entries type (entries_of (Some t))
 
+-- whether each pair of a map passes a test
 unfoldable pub all_pairs : (Tree → Tree → Bool) → Pairs → Bool
 all_pairs test no_pairs = true
 all_pairs test (pair k v ps) = test k v && all_pairs test ps
 
--- A value has the type that is listed for its key; where none is, it may be anything.
+-- Whether a value has the type that is listed for its key. Where none is, it may be anything.
 abbrev pub suits_number : List (ℕ × (Tree → Bool)) → Tree → Tree → Bool
 suits_number [] k v = true
 suits_number (t ∷ ts) k v = if is_number t.0 k then t.1 v else suits_number ts k v
 
+-- the same by names
 abbrev pub suits_name : List (List ℕ × (Tree → Bool)) → Tree → Tree → Bool
 suits_name [] k v = true
 suits_name (t ∷ ts) k v = if is_name t.0 k then t.1 v else suits_name ts k v
 
--- there is a map, whose members have the types that are listed for their numbers
+-- whether there is a map, and its members have the types that are listed for their numbers
 abbrev pub map_by_number : List (ℕ × (Tree → Bool)) → Option Tree → Bool
 map_by_number types None = false
 map_by_number types (Some t) = is_map t && all_pairs (suits_number types) (pairs_of (Some t))
 
--- a map whose members have the types that are listed for their names
+-- whether it is a map whose members have the types that are listed for their names
 abbrev pub map_by_name : List (List ℕ × (Tree → Bool)) → Tree → Bool
 map_by_name types t = is_map t && all_pairs (suits_name types) (pairs_of (Some t))

@@ -1,4 +1,5 @@
--- What a message asks, or the status of the first check that it fails; and the steps of reading it.
+-- What a message asks, or the status of the first check that it fails; and the steps of reading it (CTAP 2.1, sections
+-- 6 and 8.1).
 use Rattle.std.specs.Prelude.{ℕ, ◌*◌, ◌==◌, ◌||◌, List, [], ◌∷◌, length, is_some, Result, Ok, Err, if◌then◌else◌}
 use Rattle.ctap_cbor.specs.Telling.{canonical_tree, check_steps}
 use Rattle.ctap_message.specs.Asked.{Asked, GetInfo, Reset, GetNextAssertion, Selection}
@@ -10,8 +11,8 @@ use Rattle.ctap_message.specs.GetAssertion.{assertion_request}
 abbrev pub alone : List ℕ → Asked → Result Asked ℕ
 alone parameters asked = if length parameters == 0 then Ok asked else Err 0x03  -- INVALID_LENGTH
 
--- What a message asks (CTAP 2.1, section 8, "Message Encoding"): its first byte names the command (section 8.1), and its
--- parameters are after it. A message without a command byte has a wrong length.
+-- What a message asks (CTAP 2.1, section 8, "Message Encoding"): its first byte names the command (section 8.1), and
+-- its parameters are after it. A message without a command byte has a wrong length.
 unfoldable pub read_of : List ℕ → Result Asked ℕ
 read_of [] = Err 0x03  -- INVALID_LENGTH
 read_of (byte ∷ parameters) =

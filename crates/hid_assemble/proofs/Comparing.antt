@@ -9,9 +9,6 @@ cond_case P false x y p q = q refl
 pub equal : (a b : ℕ) → (a == b) ≡ true → a ≡ b
 equal a b h = grind (arith, nat_tests)
 
-pub unequal : (a b : ℕ) → (a == b) ≡ false → a ≡ b → ⊥
-unequal a b h e = grind (arith, nat_tests)
-
 pub at_most : (a b : ℕ) → nat_le a b ≡ true → a ≤ b
 at_most a b h = grind (arith, nat_tests)
 

@@ -1,4 +1,4 @@
--- What is kept of the packets that came, and what each row of the reply table makes of it.
+-- What is kept of the packets that came, and what each row of the reply table makes of it (CTAP 2.1, section 11.2.4).
 use Rattle.std.specs.Prelude.{◌≡◌, ℕ, ◌+◌, ◌≤◌, ◌<◌, ◌⊎◌, Bool, false, ◌==◌, nat_le, List, [], ◌++◌, take, length, Option, Some, None, option_map, if◌then◌else◌}
 use Rattle.hid_packet.specs.Commands.{PING, CBOR}
 use Rattle.hid_packet.specs.Packet.{Fields, channel_of, command_of, length_of, data_of}
@@ -9,7 +9,7 @@ use Rattle.hid_packet.specs.Limits.{data_room}
 use Rattle.hid_packet.specs.declared.limit.TheConstants.{INITIALIZATION_DATA, LONGEST_MESSAGE}
 use Rattle.hid_assemble.specs.declared.assembler.TheConstants.{MESSAGE_TIMEOUT}
 
--- a finished message
+-- a finished message: its channel, its command and its bytes
 pub record Message : Type 0 where
   pub cid : ℕ
   pub cmd : ℕ

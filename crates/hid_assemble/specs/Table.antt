@@ -1,4 +1,4 @@
--- The reply table: which of its rows a packet falls under (CTAP 2.1, sections 11.2.4 to 11.2.5 and 11.2.9, with this
+-- The reply table: which of its rows a packet falls under (CTAP 2.1, sections 11.2.4, 11.2.5 and 11.2.9, with this
 -- project's choices). It looks at the packet's fields, at how many channels were given out, at the open message and at
 -- the channel of waiting work.
 use Rattle.std.specs.Prelude.{ℕ, ◌+◌, Bool, true, false, not, ◌&&◌, ◌||◌, ◌==◌, nat_le, nat_lt, List, [], ◌∷◌, Option, Some, None, option_map, if◌then◌else◌}
@@ -29,12 +29,12 @@ LAST_CHANNEL = 0xffff_fffe
 abbrev pub is_given : ℕ → ℕ → Bool
 is_given given cid = nat_le 1 cid && nat_le cid given
 
--- Is there something, an open message or waiting work, on this channel?
+-- Whether the number is there, and is this one. Here it is the channel of the open message, or that of waiting work.
 abbrev pub is_on : Option ℕ → ℕ → Bool
 is_on None cid = false
 is_on (Some busy) cid = busy == cid
 
--- Is there something on another channel?
+-- whether the number is there, and is another one
 abbrev pub is_elsewhere : Option ℕ → ℕ → Bool
 is_elsewhere None cid = false
 is_elsewhere (Some busy) cid = not (busy == cid)
@@ -44,7 +44,8 @@ abbrev pub first_row : List (Bool × Row) → Row → Row
 first_row [] else_row = else_row
 first_row (t ∷ ts) else_row = if t.0 then t.1 else first_row ts else_row
 
--- An initialization packet: each row with its test, in their order. A packet that is under none of them opens a
+-- An initialization packet on the channel `cid`, where `current` is the channel of the open message and `work` that of
+-- waiting work: each row with its test, in their order. A packet that is under none of them is Long: it opens a
 -- message.
 unfoldable pub initialization_row : ℕ → Option ℕ → Option ℕ → ℕ → ℕ → ℕ → Row
 initialization_row given current work cid cmd len =
@@ -74,6 +75,7 @@ continues on len kept cid number =
     else if nat_lt (data_room (kept + 1)) len then Kept
     else Whole
 
+-- the same where a message may be open: without one it is stray
 unfoldable pub continuation_row : Option Open → ℕ → ℕ → Continuation
 continuation_row None cid number = Stray
 continuation_row (Some m) cid number = continues m.cid m.len m.kept cid number
@@ -83,6 +85,7 @@ pub data Ruling : Type 0 where
   Begins : Row → Ruling
   Continues : Continuation → Ruling
 
+-- the ruling on a packet, by how many channels were given out, the open message, and the channel of waiting work
 unfoldable pub ruling_of : ℕ → Option Open → Option ℕ → Fields → Ruling
 ruling_of given current work (initialization cid cmd len part) =
     Begins (initialization_row given (option_map (λ m. m.cid) current) work cid cmd len)

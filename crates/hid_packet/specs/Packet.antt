@@ -43,25 +43,29 @@ pub data Fields : Type 0 where
   initialization : (channel command length : ℕ) (data_bytes : List ℕ) → Fields
   continuation : (channel sequence : ℕ) (data_bytes : List ℕ) → Fields
 
+-- the fields of a packet
 abbrev pub fields : List ℕ → Fields
 fields packet =
     if is_initialization packet
     then initialization (channel packet) (command packet) (message_length packet) (initialization_data packet)
     else continuation (channel packet) (sequence packet) (continuation_data packet)
 
--- each field by its name; a continuation packet has no command and no length
+-- the channel of either kind
 abbrev pub channel_of : Fields → ℕ
 channel_of (initialization cid cmd len part) = cid
 channel_of (continuation cid number part) = cid
 
+-- the command, 0 of a continuation packet, which has none
 abbrev pub command_of : Fields → ℕ
 command_of (initialization cid cmd len part) = cmd
 command_of (continuation cid number part) = 0
 
+-- the length, 0 of a continuation packet, which has none
 abbrev pub length_of : Fields → ℕ
 length_of (initialization cid cmd len part) = len
 length_of (continuation cid number part) = 0
 
+-- the data of either kind
 abbrev pub data_of : Fields → List ℕ
 data_of (initialization cid cmd len part) = part
 data_of (continuation cid number part) = part

@@ -9,8 +9,8 @@ use Rattle.authn_core.specs.Turn.{Start, working, waiting}
 use Rattle.authn_core.proofs.Facts.{info_answered}
 use Rattle.hid_assemble.specs.Table.{Begins, Continues, Open, Ruling, is_given, ruling_of}
 use Rattle.hid_assemble.specs.Assembly.{Message, message_after}
-use Rattle.hid_assemble.specs.declared.table.Row.TheVariants.{BadLength, BrokenOff, BusyElsewhere, BusyHere, CancelsNothing, CancelsWork, InitAgain, InitFull, InitLength, InitNew, Long, NoSuchChannel, NoSuchCommand, Short}
-use Rattle.hid_assemble.specs.declared.table.Continuation.TheVariants.{Kept, Stray, Whole, WrongNumber}
+use Rattle.hid_assemble.specs.declared.table.Row.TheVariants.{Short}
+use Rattle.hid_assemble.specs.declared.table.Continuation.TheVariants.{Whole}
 use Rattle.hid_packet.specs.Carries.{Carries, IsLeast}
 use Rattle.hid_packet.specs.Commands.{CBOR, PING}
 use Rattle.hid_packet.specs.declared.packet.Packet.{Packet as Packet64}
@@ -39,22 +39,7 @@ ends : (g : ℕ) (w : Option ℕ) (o : Option Open) (f : Fields) (m : Message) (
 unfolding message_after row_packets event_after
 ends g w o f m (Begins Short) h = record { quiet = refl; asks = refl }
 ends g w o f m (Continues Whole) h = record { quiet = refl; asks = refl }
-ends g w o f m (Begins CancelsWork) h = cc
-ends g w o f m (Begins CancelsNothing) h = cc
-ends g w o f m (Begins NoSuchChannel) h = cc
-ends g w o f m (Begins InitLength) h = cc
-ends g w o f m (Begins InitFull) h = cc
-ends g w o f m (Begins InitNew) h = cc
-ends g w o f m (Begins InitAgain) h = cc
-ends g w o f m (Begins BusyElsewhere) h = cc
-ends g w o f m (Begins BusyHere) h = cc
-ends g w o f m (Begins BrokenOff) h = cc
-ends g w o f m (Begins NoSuchCommand) h = cc
-ends g w o f m (Begins BadLength) h = cc
-ends g w o f m (Begins Long) h = cc
-ends g w o f m (Continues Kept) h = cc
-ends g w o f m (Continues WrongNumber) h = cc
-ends g w o f m (Continues Stray) h = cc
+ends g w o f m other h = cc
 
 asked : (m : Message) → m.cmd ≡ CBOR → request_event (Some m) ≡ Some (Request m.cid m.bytes)
 asked m h = rw h refl

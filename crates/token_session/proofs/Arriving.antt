@@ -1,5 +1,6 @@
 -- A message of several packets finishes, whatever other hosts send between.
 use Rattle.std.proofs.Common.{◌≡◌, ℕ, ◌+◌, ◌*◌, ◌≤◌, ◌<◌, ◌==◌, ◌⊎◌, inl, inr, Bool, true, false, cond, ◌&&◌, not, nat_le, nat_lt, List, [], ◌∷◌, ◌++◌, length, filter, append-nil, append_assoc, length-append, take, Some, None, refl, sym, ◌∙◌, ap, subst, arith}
+use Rattle.std.proofs.lemmas.Bool.{and_from, false_from_ne_true}
 use Rattle.std.proofs.lemmas.Bool.Decides.{nat_tests}
 use Rattle.std.proofs.lemmas.List.{length-map}
 use Rattle.hid_packet.specs.Carries.{Carries, Continue, IsLeast, joined}
@@ -17,7 +18,7 @@ use Rattle.token_session.specs.Law.{onto}
 use Rattle.token_session.specs.Messages.{begun_by, finished, finished_at, finished_long, goes_on, is_last, is_long, is_next, is_open, open_among, open_at, packets_of}
 use Rattle.token_session.proofs.Answering.{is_served, on_given}
 use Rattle.token_session.proofs.Follows.{good_judged}
-use Rattle.token_session.proofs.Opens.{is_own_packet, From, both_true, from_earlier, goes_on_prefix, not_true, own-append, own_from}
+use Rattle.token_session.proofs.Opens.{is_own_packet, From, from_earlier, goes_on_prefix, own-append, own_from}
 
 -- ---- the moments
 
@@ -50,7 +51,7 @@ begins_open : (start : Start) (h : List Timed) (x : Timed) → (judge start x (j
 unfolding judged open_among is_open
 begins_open start h x admitted long M t goes =
     let e = judge start x (judged start h) in
-    let both : (e.admitted && is_long (packet e.input)) ≡ true = both_true _ _ admitted long in
+    let both : (e.admitted && is_long (packet e.input)) ≡ true = and_from _ _ admitted long in
     rw (admitted, long, goes) refl
 
 -- what isn't admitted opens nothing
@@ -73,7 +74,7 @@ one_longer e start g D z away stays M t goes =
 alone : (start : Start) (g : List Timed) (z : Timed) → (open_at (judged start g) (judge start z (judged start g)).at ≡ None → ⊥) → (judge start z (judged start g)).admitted ≡ false
 unfolding judged
 alone start g z is_open_there =
-    not_true _ (λ a. is_open_there ((good_judged start (z ∷ g)).lawful.1 a))
+    false_from_ne_true _ (λ a. is_open_there ((good_judged start (z ∷ g)).lawful.1 a))
 
 stays_open : (e : Judged) (start : Start) (zs g : List Timed) (D : List Judged) (t : ℕ) → StaysOpen e start g D → end start (judged start (onto zs g)) ≤ t
     → goes_on (message_length (packet e.input)) 0 e.at (own (channel (packet e.input)) (D ++ arriving start g zs)) t ≡ true
@@ -128,7 +129,7 @@ all_go_on [] c len m since t q on cont room soon is = let s = soon.0 in grind (a
 all_go_on (e ∷ es) c len m since t q on cont room soon is =
     let fits : nat_lt (57 + 59 * (m + 1)) len ≡ true = grind (arith, nat_tests) in
     let in_time : nat_lt e.at (since + 500) ≡ true = let s = soon.0 in grind (arith, nat_tests) in
-    both_true _ _ (both_true _ _ (next_is c len m e.input on.0 cont.0 cont.2 fits) in_time) (all_go_on es c len (m + 1) e.at t q on.1 cont.3 (omega arith) soon.1 is)
+    and_from _ _ (and_from _ _ (next_is c len m e.input on.0 cont.0 cont.2 fits) in_time) (all_go_on es c len (m + 1) e.at t q on.1 cont.3 (omega arith) soon.1 is)
 
 -- the last of those that continue
 record IsEnd (c n : ℕ) (p : List ℕ) : Type 0 where
@@ -190,7 +191,7 @@ unfolding is_long
 long_enough p n len long short e =
     let a : nat_lt 57 (message_length p) ≡ true = let m = long.more in grind (arith, nat_tests) in
     let b : nat_le (message_length p) 7609 ≡ true = grind (arith, nat_tests) in
-    both_true _ _ a b
+    and_from _ _ a b
 
 first_admitted : (start : Start) (h : List Timed) (x : Timed) (p : Packet64) (cid cmd : ℕ) (bytes : List ℕ) (others : List (List ℕ)) → x.input ≡ Packet p → Carries p.0 others cid cmd bytes
     → (cmd ≡ PING) ⊎ ((cmd ≡ CBOR) × (1 ≤ length bytes)) → 1 ≤ cid → cid ≤ given (judged start h) → open_at (judged start h) (judge start x (judged start h)).at ≡ None → working (core start (judged start h)) ≡ None

@@ -1,10 +1,11 @@
 -- At most one message is open, and how much is held of it.
 use Rattle.std.proofs.Common.{◌≡◌, ℕ, ◌+◌, ◌-◌, ◌*◌, ◌≤◌, ◌<◌, min, sum_by, Bool, true, false, cond, ◌&&◌, List, [], ◌∷◌, length, Option, Some, None, option_to_list, refl, ap, arith, nat_lt}
+use Rattle.std.proofs.lemmas.Bool.{and_parts}
 use Rattle.std.specs.Prelude.{unwrap_or, option_map}
 use Rattle.std.proofs.lemmas.Bool.Decides.{nat_tests}
 use Rattle.std.proofs.lemmas.List.Sums.{sum_by-cons}
 use Rattle.authn_core.specs.Turn.{Start}
-use Rattle.token_session.proofs.Opens.{From, Lawful, from_earlier, none_stays, open_is_admitted, and_true, cond_none}
+use Rattle.token_session.proofs.Opens.{From, Lawful, from_earlier, none_stays, open_is_admitted, cond_none}
 use Rattle.token_session.proofs.Serve.{cond_case, long_says}
 use Rattle.hid_packet.specs.Packet.{channel, message_length}
 use Rattle.token_session.specs.Inputs.{Judged, end, own, packet}
@@ -37,7 +38,7 @@ one_open (e ∷ before) L start t l f le = go (is_open e L t) refl (one_open bef
 
 next_below : (len m : ℕ) (e : Judged) → is_next len m e ≡ true → 57 + 59 * (m + 1) < len
 unfolding is_next
-next_below len m e h = let a = (and_true _ (nat_lt (57 + 59 * (m + 1)) len) h).1 in below _ _ a
+next_below len m e h = let a = (and_parts _ (nat_lt (57 + 59 * (m + 1)) len) h).1 in below _ _ a
   where
     below : (a b : ℕ) → nat_lt a b ≡ true → a < b
     below a b h = grind (arith, nat_tests)
@@ -46,8 +47,8 @@ pub goes_on_below : (os : List Judged) (len m since t : ℕ) → 57 + 59 * m < l
 unfolding goes_on
 goes_on_below [] len m since t lt h = omega arith
 goes_on_below (o ∷ os) len m since t lt h =
-    let a = and_true (is_next len m o && nat_lt o.at (since + 500)) (goes_on len (m + 1) o.at os t) h in
-    let b = next_below len m o (and_true (is_next len m o) (nat_lt o.at (since + 500)) a.0).0 in
+    let a = and_parts (is_next len m o && nat_lt o.at (since + 500)) (goes_on len (m + 1) o.at os t) h in
+    let b = next_below len m o (and_parts (is_next len m o) (nat_lt o.at (since + 500)) a.0).0 in
     let c = goes_on_below os len (m + 1) o.at t b a.1 in
     omega arith
 
@@ -59,8 +60,8 @@ FewOwn (Some b) = 57 + 59 * length b.own ≤ 7550
 few_here : (e : Judged) (L : List Judged) (t : ℕ) → is_open e L t ≡ true → 57 + 59 * length (own (channel (packet e.input)) L) ≤ 7550
 unfolding is_open
 few_here e L t h =
-    let a = and_true (e.admitted && is_long (packet e.input)) _ h in
-    let l = long_says (packet e.input) (and_true e.admitted (is_long (packet e.input)) a.0).1 in
+    let a = and_parts (e.admitted && is_long (packet e.input)) _ h in
+    let l = long_says (packet e.input) (and_parts e.admitted (is_long (packet e.input)) a.0).1 in
     let b = goes_on_below (own (channel (packet e.input)) L) (message_length (packet e.input)) 0 e.at t (omega (arith, l.least)) a.1 in
     omega (arith, l.most)
 

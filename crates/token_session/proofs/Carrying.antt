@@ -1,12 +1,13 @@
 -- A finished message is carried by its initialization packet and its channel's own packets.
 use Rattle.std.proofs.Common.{◌≡◌, ℕ, ◌+◌, ◌*◌, ◌≤◌, ◌==◌, Bool, true, false, cond, ◌&&◌, not, inl, inr, List, [], ◌∷◌, ◌++◌, length, take, drop, filter, flat_map, refl, sym, ◌∙◌, ap, subst, arith, Option, Some, None, max, nat_le, nat_lt, length-append, length-drop, length-take}
+use Rattle.std.proofs.lemmas.Bool.{and_parts}
 use Rattle.std.proofs.lemmas.Bool.Decides.{nat_tests}
 use Rattle.std.proofs.lemmas.List.{length-map}
 use Rattle.authn_core.specs.Turn.{Start}
 use Rattle.token_session.proofs.Bounds.{goes_on_below}
 use Rattle.std.proofs.lemmas.Option.{same_Some}
 use Rattle.token_session.specs.Carried.{Are64, IsWhole, AreWhole, ArriveWhole, carriers, long_carriers, carriers_at}
-use Rattle.token_session.proofs.Opens.{is_own_packet, and_true}
+use Rattle.token_session.proofs.Opens.{is_own_packet}
 use Rattle.token_session.proofs.Serve.{is_eq, not_is, all_four, long_says, is_le, says_admitted}
 use Rattle.hid_assemble.specs.Assembly.{Message}
 use Rattle.hid_packet.specs.Carries.{Carries, CarriesMessage, Continue, joined}
@@ -41,9 +42,9 @@ record Next (c m : ℕ) (e : Judged) : Type 0 where
 next_of : (c m : ℕ) (b : Bool) (i : Input) → is_packet (is_own_packet c) i ≡ true → (is_packet (λ p. not (is_initialization p) && (sequence p == m)) i && b) ≡ true
     → (is_initialization (packet i) ≡ false) × (channel (packet i) ≡ c) × (sequence (packet i) ≡ m)
 next_of c m b (Packet x) o n =
-    let own = and_true (c == channel x.0) (not (is_command CANCEL x.0)) o in
-    let two = and_true (not (is_initialization x.0) && (sequence x.0 == m)) b n in
-    let both = and_true (not (is_initialization x.0)) (sequence x.0 == m) two.0 in
+    let own = and_parts (c == channel x.0) (not (is_command CANCEL x.0)) o in
+    let two = and_parts (not (is_initialization x.0) && (sequence x.0 == m)) b n in
+    let both = and_parts (not (is_initialization x.0)) (sequence x.0 == m) two.0 in
     (not_is (is_initialization x.0) true both.0, sym (is_eq c (channel x.0) own.0), is_eq (sequence x.0) m both.1)
 next_of c m b other o n = cc
 
@@ -67,8 +68,8 @@ all_continue : (os : List Judged) (c len m since t : ℕ) → On c os → goes_o
 unfolding goes_on
 all_continue [] c len m since t o h = tt
 all_continue (e ∷ es) c len m since t o h =
-    let a = and_true (is_next len m e && nat_lt e.at (since + 500)) (goes_on len (m + 1) e.at es t) h in
-    let n = next_is c len m e o.0 (and_true (is_next len m e) (nat_lt e.at (since + 500)) a.0).0 in
+    let a = and_parts (is_next len m e && nat_lt e.at (since + 500)) (goes_on len (m + 1) e.at es t) h in
+    let n = next_is c len m e o.0 (and_parts (is_next len m e) (nat_lt e.at (since + 500)) a.0).0 in
     (n.more, n.on, n.number, all_continue es c len (m + 1) e.at t o.1 a.1)
 
 are64_more : (ps : List (List ℕ)) (p : List ℕ) → Are64 ps → length p ≡ 64 → Are64 (ps ++ p ∷ [])
@@ -147,8 +148,8 @@ known_here : (e : Judged) (L : List Judged) (t : ℕ) → AreWhole L → (e.admi
 unfolding is_open own
 known_here e L t whole starts h =
     let c = channel (packet e.input) in
-    let a = and_true (e.admitted && is_long (packet e.input)) _ h in
-    let two = and_true e.admitted (is_long (packet e.input)) a.0 in
+    let a = and_parts (e.admitted && is_long (packet e.input)) _ h in
+    let two = and_parts e.admitted (is_long (packet e.input)) a.0 in
     let l = long_says (packet e.input) two.1 in
     let s = starts two.0 in
     record { start = s.0; whole = s.1; parts = packets_whole c L whole; own_packets = on_filter c L; long = l.least; short = l.most; goes = a.1 }
@@ -208,7 +209,7 @@ carried o t admitted (Packet p) m k whole starts h = go (admitted && nat_le (mes
     go : (v : Bool) → (admitted && nat_le (message_length p.0) 57) ≡ v → cond v (Some (message p.0 [])) (finished_long o p.0) ≡ Some m
         → CarriesMessage (cond v (p.0 ∷ []) (long_carriers o p.0)) m.cid m.cmd m.bytes
     go true short q =
-        let two = and_true admitted (nat_le (message_length p.0) 57) short in
+        let two = and_parts admitted (nat_le (message_length p.0) 57) short in
         subst (λ x. Carries p.0 [] x.cid x.cmd x.bytes) (some_is _ m q) (short_carries p.0 (starts two.0) whole (is_le (message_length p.0) 57 two.1))
     go false short q = long_carried o t p.0 m k whole q
 carried o t admitted other m k whole starts h = cc

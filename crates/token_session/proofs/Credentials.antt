@@ -1,5 +1,6 @@
 -- The authenticator after a history is that of its events, so that the laws of its credentials hold of the history.
 use Rattle.std.proofs.Common.{◌≡◌, ℕ, ◌≤◌, max, nat_le, true, ◌&&◌, ◌==◌, List, [], ◌∷◌, ◌++◌, Option, Some, None, option_map, refl, sym, ◌∙◌, ap, subst, arith}
+use Rattle.std.proofs.lemmas.Bool.{and_parts}
 use Rattle.hid_assemble.specs.Assembly.{Message}
 use Rattle.hid_assemble.specs.Table.{is_on}
 use Rattle.hid_packet.specs.declared.packet.Packet.{Packet as Packet64}
@@ -7,8 +8,7 @@ use Rattle.hid_packet.specs.Commands.{CANCEL, INIT}
 use Rattle.hid_packet.specs.Packet.{channel, is_command, message_length}
 use Rattle.cred_table.specs.Rows.{Lawful}
 use Rattle.cred_table.specs.Waiting.{pending_count}
-use Rattle.authn_core.specs.declared.task.Job.{Job}
-use Rattle.authn_core.specs.State.{Event, Request}
+use Rattle.authn_core.specs.State.{Job, Event, Request}
 use Rattle.authn_core.specs.Views.{as_work}
 use Rattle.authn_core.specs.Turn.{Start, CoreState, Work, working, first_state}
 use Rattle.authn_core.specs.Ready.{Ready}
@@ -23,7 +23,6 @@ use Rattle.token_session.specs.Events.{event_core}
 use Rattle.token_session.specs.Replies.{request_event}
 use Rattle.token_session.specs.Law.{event_at}
 use Rattle.token_session.specs.Credentials.{step_of, steps}
-use Rattle.token_session.proofs.Opens.{and_true}
 use Rattle.token_session.proofs.Serve.{OpenGiven, cond_case, says_admitted}
 use Rattle.token_session.proofs.Follows.{Good, good_judged, judged_at, safe_at}
 
@@ -33,7 +32,7 @@ one_step start at None past = refl
 one_step start at (Some e) past = refl
 
 pub core_is : (start : Start) (h : List Judged) → core start h ≡ core_at (first_state start) (steps start h)
-unfolding core steps core_at event_at
+unfolding core steps core_at
 core_is start [] = refl
 core_is start (e ∷ past) =
     ap (λ k. event_core k e.at (event_at start e past)) (core_is start past)
@@ -69,7 +68,7 @@ finished_idle : (g : ℕ) (o : Option Begun) (work : Option ℕ) (x : Packet64) 
 unfolding FinishesIdle finished
 finished_idle g o work x h =
     cond_case (FinishesIdle work) (admits g o work x.0 && nat_le (message_length x.0) 57) _ _
-    (λ y. (says_admitted g o work x.0 (and_true (admits g o work x.0) (nat_le (message_length x.0) 57) y).0).idle)
+    (λ y. (says_admitted g o work x.0 (and_parts (admits g o work x.0) (nat_le (message_length x.0) 57) y).0).idle)
     (λ _. long_idle g o work x.0 h)
 
 packet_idle : (work : Option ℕ) (m : Option Message) (p : List ℕ) → FinishesIdle work m → AsksIdle work (packet_event work m p)
@@ -80,7 +79,7 @@ packet_idle work m p h =
 
 event_idle : (start : Start) (t : ℕ) (h : List Judged) (i : Input) → Good start h → end start h ≤ t
     → AsksIdle (working (core start h)) (event_at start (judged_at start t h i) h)
-unfolding event_at event
+unfolding event
 event_idle start t h (Packet x) good le =
     let s = safe_at start t h good le in
     packet_idle (working (core start h)) _ x.0 (finished_idle (given h) (open_at h t) (working (core start h)) x s.opens)

@@ -8,8 +8,8 @@ use Rattle.authn_core.specs.State.{Answer, Answered, Cancel, Drop, Event, Nothin
 use Rattle.authn_core.specs.Turn.{CoreState, Work, working, waiting}
 use Rattle.hid_assemble.specs.Table.{Begins, Continues, Open, Ruling, is_on, ruling_of}
 use Rattle.hid_assemble.specs.Assembly.{Message, is_overdue, message_after}
-use Rattle.hid_assemble.specs.declared.table.Row.TheVariants.{BadLength, BrokenOff, BusyElsewhere, BusyHere, CancelsNothing, CancelsWork, InitAgain, InitFull, InitLength, InitNew, Long, NoSuchChannel, NoSuchCommand, Short}
-use Rattle.hid_assemble.specs.declared.table.Continuation.TheVariants.{Kept, Stray, Whole, WrongNumber}
+use Rattle.hid_assemble.specs.declared.table.Row.TheVariants.{BadLength, BrokenOff, BusyElsewhere, BusyHere, CancelsWork, InitAgain, InitFull, InitLength, InitNew, NoSuchChannel, NoSuchCommand, Short}
+use Rattle.hid_assemble.specs.declared.table.Continuation.TheVariants.{Whole, WrongNumber}
 use Rattle.hid_packet.specs.Commands.{BROADCAST, CBOR, ERROR, INIT, KEEPALIVE, PING}
 use Rattle.hid_packet.specs.Message.{continuation_packets, written}
 use Rattle.hid_packet.specs.Packet.{Fields, channel_of, data_of, fields}
@@ -71,7 +71,6 @@ pub service_few : (g t : ℕ) (o : Option Open) (k : CoreState) (w : Option ℕ)
     → length ((row_packets g p r ++ ping_packets (message_after o p r)) ++ event_packets k t (event_after w p (message_after o p r) r)) ≤ 129
 unfolding row_packets message_after event_after
 service_few g t o k w p (Begins CancelsWork) = event_few k t (Some Cancel)
-service_few g t o k w p (Begins CancelsNothing) = omega arith
 service_few g t o k w p (Begins NoSuchChannel) = alone _ (few_written (channel_of p) ERROR (11 ∷ []))
 service_few g t o k w p (Begins InitLength) = alone _ (few_written (channel_of p) ERROR (3 ∷ []))
 service_few g t o k w p (Begins InitFull) = alone _ (few_written (channel_of p) ERROR (127 ∷ []))
@@ -84,11 +83,9 @@ service_few g t o k w p (Begins BrokenOff) = alone _ (few_written (channel_of p)
 service_few g t o k w p (Begins NoSuchCommand) = alone _ (few_written (channel_of p) ERROR (1 ∷ []))
 service_few g t o k w p (Begins BadLength) = alone _ (few_written (channel_of p) ERROR (3 ∷ []))
 service_few g t o k w p (Begins Short) = message_few k t (message_after o p (Begins Short))
-service_few g t o k w p (Begins Long) = omega arith
-service_few g t o k w p (Continues Kept) = omega arith
 service_few g t o k w p (Continues Whole) = message_few k t (message_after o p (Continues Whole))
 service_few g t o k w p (Continues WrongNumber) = alone _ (few_written (channel_of p) ERROR (4 ∷ []))
-service_few g t o k w p (Continues Stray) = omega arith
+service_few g t o k w p other = omega arith
 
 overdue_few : (o : Option Open) → length (overdue_packets o) ≤ 1
 overdue_few None = omega arith

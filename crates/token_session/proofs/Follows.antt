@@ -122,7 +122,7 @@ named_turn : (start : Start) (e : Judged) (h : List Judged)
     (table_packets (given h) (open_at h e.at) (working (core start h)) e.input ++ ping_packets (finished (open_at h e.at) e.admitted e.input))
     (event (working (core start h)) (finished (open_at h e.at) e.admitted e.input) e.input)
     ≡ goal_turn start e h
-unfolding named sent_at service_packets core last_keepalive event_at
+unfolding named sent_at service_packets core last_keepalive
 named_turn start e h =
     let m = finished (open_at h e.at) e.admitted e.input in
     let ev = event (working (core start h)) m e.input in

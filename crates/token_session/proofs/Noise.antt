@@ -1,5 +1,6 @@
 -- Noise leaves all as a tick leaves it: of one turn, of a session's step, and of histories.
-use Rattle.std.proofs.Common.{◌≡◌, ℕ, ◌+◌, ◌≤◌, inl, inr, Bool, true, false, not, cond, List, [], ◌∷◌, ◌++◌, append-nil, length, max, Option, Some, None, option_map, refl, sym, ◌∙◌, ap, subst, suc, arith}
+use Rattle.std.proofs.Common.{◌≡◌, ℕ, ◌+◌, ◌≤◌, inl, inr, Bool, true, false, cond, List, [], ◌∷◌, ◌++◌, append-nil, length, max, Option, Some, None, option_map, refl, sym, ◌∙◌, ap, subst, suc, arith}
+use Rattle.std.proofs.lemmas.Bool.{not-true}
 use Rattle.hid_packet.specs.Packet.{Fields, fields}
 use Rattle.hid_assemble.specs.declared.table.Row.TheVariants.{CancelsNothing, NoSuchChannel, BusyElsewhere, BusyHere}
 use Rattle.hid_assemble.specs.declared.table.Continuation.TheVariants.{Stray}
@@ -66,17 +67,13 @@ event_leaves s early e ignored unread = record {
   request = unread;
 }
 
-unwanted : (b : Bool) → not b ≡ true → b ≡ false
-unwanted true h = cc
-unwanted false h = refl
-
 served_leaves : (s : State) (early : List (List ℕ)) (i : Input) → is_noise_to s i ≡ true → Leaves (served s early i) (served s early Tick)
 served_leaves s early (Packet p) h = row_leaves s (fields p.0) early (ruling_of s.given s.current (working s.core) (fields p.0)) h
 served_leaves s early (Presence reply) h =
-    event_leaves s early (PresenceIs reply) (presence_ignored (s.core).setup (s.core).state s.now reply (unwanted _ h)) refl
-served_leaves s early (Key key) h = event_leaves s early (KeyIs key) (key_ignored (s.core).setup (s.core).state s.now key (unwanted _ h)) refl
+    event_leaves s early (PresenceIs reply) (presence_ignored (s.core).setup (s.core).state s.now reply (not-true _ h)) refl
+served_leaves s early (Key key) h = event_leaves s early (KeyIs key) (key_ignored (s.core).setup (s.core).state s.now key (not-true _ h)) refl
 served_leaves s early (Signature sig) h =
-    event_leaves s early (SignatureIs sig) (signature_ignored (s.core).setup (s.core).state s.now sig (unwanted _ h)) refl
+    event_leaves s early (SignatureIs sig) (signature_ignored (s.core).setup (s.core).state s.now sig (not-true _ h)) refl
 served_leaves s early Tick h = cc
 
 pub noise_leaves : (s : State) (x : Timed) → is_noise_at s x ≡ true → Leaves (turn s x) (turn s (tick_at x.at))

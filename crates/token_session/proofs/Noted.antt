@@ -6,8 +6,8 @@ use Rattle.authn_core.specs.State.{Event, Answer, Answered, Waits, Ignored, Noth
 use Rattle.authn_core.specs.Turn.{Start, Work, CoreState, working, waiting}
 use Rattle.hid_assemble.specs.Table.{Begins, Continues, Ruling, ruling_of, is_on}
 use Rattle.hid_assemble.specs.Assembly.{Message}
-use Rattle.hid_assemble.specs.declared.table.Row.TheVariants.{BadLength, BrokenOff, BusyElsewhere, BusyHere, CancelsNothing, CancelsWork, InitAgain, InitFull, InitLength, InitNew, Long, NoSuchChannel, NoSuchCommand, Short}
-use Rattle.hid_assemble.specs.declared.table.Continuation.TheVariants.{Kept, Stray, Whole, WrongNumber}
+use Rattle.hid_assemble.specs.declared.table.Row.TheVariants.{BadLength, BrokenOff, BusyElsewhere, BusyHere, InitAgain, InitFull, InitLength, InitNew, NoSuchChannel, NoSuchCommand}
+use Rattle.hid_assemble.specs.declared.table.Continuation.TheVariants.{WrongNumber}
 use Rattle.hid_packet.specs.Commands.{CBOR, ERROR, INIT, KEEPALIVE, PING, BROADCAST}
 use Rattle.hid_packet.specs.Message.{padded, initialization_packet, continuation_packet, continuation_packets, written}
 use Rattle.hid_packet.specs.Packet.{Fields, channel, channel_of, command, fields, is_command, is_initialization}
@@ -71,8 +71,6 @@ of_written cid cmd bytes =
 
 row_silent : (g : ℕ) (f : Fields) (r : Ruling) → keeps_alive (row_packets g f r) ≡ false
 unfolding row_packets greeting
-row_silent g f (Begins CancelsWork) = refl
-row_silent g f (Begins CancelsNothing) = refl
 row_silent g f (Begins NoSuchChannel) = of_written (channel_of f) ERROR _
 row_silent g f (Begins InitLength) = of_written (channel_of f) ERROR _
 row_silent g f (Begins InitFull) = of_written (channel_of f) ERROR _
@@ -83,12 +81,8 @@ row_silent g f (Begins BusyHere) = of_written (channel_of f) ERROR _
 row_silent g f (Begins BrokenOff) = of_written (channel_of f) ERROR _
 row_silent g f (Begins NoSuchCommand) = of_written (channel_of f) ERROR _
 row_silent g f (Begins BadLength) = of_written (channel_of f) ERROR _
-row_silent g f (Begins Short) = refl
-row_silent g f (Begins Long) = refl
-row_silent g f (Continues Kept) = refl
-row_silent g f (Continues Whole) = refl
 row_silent g f (Continues WrongNumber) = of_written (channel_of f) ERROR _
-row_silent g f (Continues Stray) = refl
+row_silent g f other = refl
 
 table_silent : (g : ℕ) (o : Option Begun) (w : Option ℕ) (i : Input) → keeps_alive (table_packets g o w i) ≡ false
 table_silent g o w (Packet p) = row_silent g (fields p.0) (ruling_of g (option_map as_open o) w (fields p.0))

@@ -1,5 +1,6 @@
 -- How the open message of a history goes on by one input.
 use Rattle.std.proofs.Common.{◌≡◌, ℕ, ◌+◌, ◌≤◌, Bool, true, false, cond, ◌&&◌, List, [], ◌∷◌, ◌++◌, length, filter, append-nil, Option, Some, None, refl, sym, ◌∙◌, ap, arith, nat_lt, if◌then◌else◌}
+use Rattle.std.proofs.lemmas.Bool.{and_parts, and_from}
 use Rattle.std.specs.Prelude.{not, ◌==◌}
 use Rattle.std.proofs.lemmas.Bool.Decides.{nat_tests}
 use Rattle.std.proofs.lemmas.List.Elements.{filter-append}
@@ -32,25 +33,17 @@ unfolding own
 own-append c L M = filter-append (is_own c) L M
 
 -- Tests.
-pub and_true : (a b : Bool) → (a && b) ≡ true → (a ≡ true) × (b ≡ true)
-and_true true b h = (refl, h)
-and_true false b h = cc
-
-pub both_true : (a b : Bool) → a ≡ true → b ≡ true → (a && b) ≡ true
-both_true true b p q = q
-both_true false b p q = cc
-
 pub goes_on_prefix : (os ps : List Judged) (len m since t u : ℕ) → From t ps → t ≤ u → goes_on len m since (os ++ ps) u ≡ true → goes_on len m since os t ≡ true
 unfolding goes_on
 goes_on_prefix [] [] len m since t u f le h = grind (arith, nat_tests)
 goes_on_prefix [] (p ∷ ps) len m since t u f le h =
-    let a : (is_next len m p && nat_lt p.at (since + 500)) ≡ true = (and_true _ _ h).0 in
-    let b : nat_lt p.at (since + 500) ≡ true = (and_true (is_next len m p) (nat_lt p.at (since + 500)) a).1 in
+    let a : (is_next len m p && nat_lt p.at (since + 500)) ≡ true = (and_parts _ _ h).0 in
+    let b : nat_lt p.at (since + 500) ≡ true = (and_parts (is_next len m p) (nat_lt p.at (since + 500)) a).1 in
     let g : t ≤ p.at = f.0 in
     grind (arith, nat_tests)
 goes_on_prefix (o ∷ os) ps len m since t u f le h =
-    let a = and_true (is_next len m o && nat_lt o.at (since + 500)) (goes_on len (m + 1) o.at (os ++ ps) u) h in
-    both_true _ _ a.0 (goes_on_prefix os ps len (m + 1) o.at t u f le a.1)
+    let a = and_parts (is_next len m o && nat_lt o.at (since + 500)) (goes_on len (m + 1) o.at (os ++ ps) u) h in
+    and_from _ _ a.0 (goes_on_prefix os ps len (m + 1) o.at t u f le a.1)
 
 and_turned : (a b c : Bool) → c ≡ true → ((a && b) && c) ≡ (b && a)
 and_turned true true c h = h
@@ -82,18 +75,14 @@ own_from c es t f = from_filter (is_own c) es t f
 pub is_open_prefix : (e : Judged) (L M : List Judged) (t u : ℕ) → From t M → t ≤ u → is_open e (L ++ M) u ≡ true → is_open e L t ≡ true
 unfolding is_open
 is_open_prefix e L M t u f le h =
-    let a = and_true (e.admitted && is_long (packet e.input)) _ h in
+    let a = and_parts (e.admitted && is_long (packet e.input)) _ h in
     let f' : From t (own (channel (packet e.input)) M) = own_from (channel (packet e.input)) M t f in
-    both_true _ _ a.0 (goes_on_prefix (own (channel (packet e.input)) L) (own (channel (packet e.input)) M) (message_length (packet e.input)) 0 e.at t u f' le
+    and_from _ _ a.0 (goes_on_prefix (own (channel (packet e.input)) L) (own (channel (packet e.input)) M) (message_length (packet e.input)) 0 e.at t u f' le
     (rw (← own-append (channel (packet e.input)) L M) a.1))
 
 pub cond_none : {A : Type 0} (b : Bool) (x : A) (r : Option A) → cond b (Some x) r ≡ None → (b ≡ false) × (r ≡ None)
 cond_none true x r h = cc
 cond_none false x r h = (refl, h)
-
-pub not_true : (b : Bool) → (b ≡ true → ⊥) → b ≡ false
-not_true true h = absurd (h refl)
-not_true false h = refl
 
 pub cond_at : {A : Type 0} (b : Bool) (x y z : A) → (b ≡ true → x ≡ z) → (b ≡ false → y ≡ z) → cond b x y ≡ z
 cond_at true x y z p q = p refl
@@ -168,7 +157,7 @@ one_more_here e x L rest false q h n =
 
 pub open_is_admitted : (e : Judged) (L : List Judged) (t : ℕ) → is_open e L t ≡ true → e.admitted ≡ true
 unfolding is_open
-open_is_admitted e L t h = (and_true _ _ (and_true (e.admitted && is_long (packet e.input)) _ h).0).0
+open_is_admitted e L t h = (and_parts _ _ (and_parts (e.admitted && is_long (packet e.input)) _ h).0).0
 
 from_one : (L : List Judged) (x : Judged) (t : ℕ) → From t L → t ≤ x.at → From t (L ++ x ∷ [])
 from_one [] x t f le = (le, tt)

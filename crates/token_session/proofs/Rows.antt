@@ -3,10 +3,9 @@
 use Rattle.std.proofs.Common.{arith, inl, inr}
 use Rattle.std.specs.Prelude.{◌≡◌, ℕ, ◌+◌, ◌-◌, List, [], ◌∷◌, ◌++◌, length, refl, replicate, reverse, true, zero, suc, Option, Some, None}
 use Rattle.cred_table.specs.declared.row.Row.{Row}
-use Rattle.authn_core.specs.State.{Waits}
+use Rattle.authn_core.specs.State.{Selects, Waits}
 use Rattle.authn_core.specs.Turn.{Start}
 use Rattle.authn_core.specs.Turn as core_turn
-use Rattle.authn_core.specs.declared.task.Task.TheVariants.{Selects}
 use Rattle.ctap_message.specs.Answers.{assertion_answer, info_answer}
 use Rattle.ctap_message.specs.Requests.{read_of}
 use Rattle.hid_assemble.specs.Assembly.{Message, is_overdue, message_after, open_after}

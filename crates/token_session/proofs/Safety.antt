@@ -1,8 +1,9 @@
 -- After every input at most one message is open or waits, on a channel that was given.
 use Rattle.std.proofs.Common.{◌≡◌, ℕ, ◌≤◌, ◌==◌, true, false, cond, ◌&&◌, List, [], ◌∷◌, ◌++◌, length, not, nat_lt, ◌+◌, ◌*◌, Option, Some, None, refl, sym, ◌∙◌, ap, subst, arith, nat_le}
+use Rattle.std.proofs.lemmas.Bool.{and_parts, false_from_ne_true}
 use Rattle.std.proofs.lemmas.Option.{same_Some}
 use Rattle.token_session.proofs.Serve.{OpenGiven, Safe, new_open, cond_case, says_admitted, never_admitted, now_came, long_says, is_le, no_event, own_more, not_is, all_four}
-use Rattle.token_session.proofs.Opens.{next, and_true, not_true}
+use Rattle.token_session.proofs.Opens.{next}
 use Rattle.authn_core.proofs.Facts.{EventIsGiven, IsGiven, work_stays_given, presence_starts_none, key_starts_none, signature_starts_none}
 use Rattle.authn_core.specs.State.{Event, PresenceIs, KeyIs, SignatureIs}
 use Rattle.authn_core.specs.Turn.{CoreState, working}
@@ -46,7 +47,7 @@ finished_given : (g : ℕ) (o : Option Begun) (w : Option ℕ) (x : Packet64) �
 unfolding finished
 finished_given g o w x h =
     cond_case (MessageGiven g) (admits g o w x.0 && nat_le (message_length x.0) 57) _ _
-    (λ y. let a = says_admitted g o w x.0 (and_true (admits g o w x.0) (nat_le (message_length x.0) 57) y).0 in (a.low, a.high))
+    (λ y. let a = says_admitted g o w x.0 (and_parts (admits g o w x.0) (nat_le (message_length x.0) 57) y).0 in (a.low, a.high))
     (λ _. long_given g o w x.0 h)
 
 -- The event of a packet leaves work on a channel that was given.
@@ -73,10 +74,10 @@ begun_alone : (g : ℕ) (k : CoreState) (t : ℕ) (x : Packet64) → (admits g N
     → OpenGiven g (Some (record { packet = x.0; at = t; own = [] })) (working (event_core k t (packet_event (working k) (finished None (admits g None (working k) x.0) (Packet x)) x.0)))
 unfolding finished finished_long
 begun_alone g k t x h =
-    let q = and_true (admits g None (working k) x.0) (is_long x.0) h in
+    let q = and_parts (admits g None (working k) x.0) (is_long x.0) h in
     let a = says_admitted g None (working k) x.0 q.0 in
     let l = long_says x.0 q.1 in
-    let sh : nat_le (message_length x.0) 57 ≡ false = not_true _ (λ y. let u = is_le (message_length x.0) 57 y in omega (arith, l.least)) in
+    let sh : nat_le (message_length x.0) 57 ≡ false = false_from_ne_true _ (λ y. let u = is_le (message_length x.0) 57 y in omega (arith, l.least)) in
     (a.low, a.high, still_idle k t x.0 _ a.idle (rw (q.0, sh) refl))
 
 next_packet : (e : Judged) (b c : Begun) → next e b ≡ Some c → b.packet ≡ c.packet
@@ -101,7 +102,7 @@ unfolding finished finished_long
 next_alone g b k t x None low high idle n = tt
 next_alone g b k t x (Some c) low high idle n =
     let same = next_packet (now_came t x) b c n in
-    let last : is_last b x.0 ≡ false = not_true _ (λ y. let e : None ≡ Some c = sym (last_ends b t x y) ∙ n in cc) in (
+    let last : is_last b x.0 ≡ false = false_from_ne_true _ (λ y. let e : None ≡ Some c = sym (last_ends b t x y) ∙ n in cc) in (
       subst (λ v. 1 ≤ channel v) same low,
       subst (λ v. channel v ≤ g) same high,
       still_idle k t x.0 _ idle (rw (never_admitted g b (working k) x.0, last) refl),

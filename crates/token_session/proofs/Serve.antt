@@ -1,9 +1,10 @@
 -- The table's rows, over plain values: what the machine makes of a packet is what the history says.
 use Rattle.std.proofs.Common.{◌≡◌, ℕ, ◌+◌, ◌*◌, ◌≤◌, ◌<◌, Bool, true, false, cond, ◌&&◌, ◌||◌, not, ◌==◌, List, [], ◌∷◌, ◌++◌, length, append-nil, append_assoc, flat_map, Option, Some, None, option_map, is_none, ◌≢◌, refl, sym, ◌∙◌, ap, subst, arith, nat_lt, nat_le, min, ◌⊎◌, inl, inr}
+use Rattle.std.proofs.lemmas.Bool.{and_parts, and_from, false_from_ne_true, or_parts, and_left}
 use Rattle.std.proofs.lemmas.Bool.Decides.{nat_tests}
 use Rattle.std.proofs.lemmas.Grind.{flat_map-append}
 use Rattle.std.proofs.lemmas.List.{map-append, length-append}
-use Rattle.token_session.proofs.Opens.{next, then_next, and_true, both_true, not_true, cond_at}
+use Rattle.token_session.proofs.Opens.{next, then_next, cond_at}
 use Rattle.authn_core.proofs.Facts.{IsGiven}
 use Rattle.authn_core.specs.State.{Cancel, Drop}
 use Rattle.hid_assemble.specs.Table.{Begins, Continues, LAST_CHANNEL, Ruling, continuation_row, initialization_row, is_elsewhere, is_given, is_on, ruling_of}
@@ -58,23 +59,11 @@ is_eq a b h = grind (arith, nat_tests)
 not_eq : (a b : ℕ) → (a == b) ≡ false → a ≡ b → ⊥
 not_eq a b h e = grind (arith, nat_tests)
 
-or_false : (a b : Bool) → (a || b) ≡ false → (a ≡ false) × (b ≡ false)
-or_false true b h = cc
-or_false false b h = (refl, h)
-
-or_true : (a b : Bool) → (a || b) ≡ true → (a ≡ true) ⊎ (b ≡ true)
-or_true true b h = inl refl
-or_true false b h = inr h
-
 pub not_is : (a b : Bool) → not a ≡ b → a ≡ not b
 not_is true true h = sym h
 not_is true false h = refl
 not_is false true h = refl
 not_is false false h = sym h
-
-pub and_false : (a b : Bool) → a ≡ false → (a && b) ≡ false
-and_false true b h = cc
-and_false false b h = refl
 
 pub record Admitted (g : ℕ) (o : Option Begun) (w : Option ℕ) (p : List ℕ) : Type 0 where
   pub start : is_initialization p ≡ true
@@ -145,8 +134,8 @@ refused_row : (g : ℕ) (w : Option ℕ) (t : ℕ) (x : Packet64) (f : Fields) (
     → open_after None t f r ≡ None → message_after None f r ≡ None → packet_event w None x.0 ≡ event_after w f None r
     → Serves g None w t x.0 f (new_open g None w t x.0 (Packet x)) (finished None (admits g None w x.0) (Packet x)) r
 refused_row g w t x f r never ch op ms ev =
-    let adm : admits g None w x.0 ≡ false = not_true _ (λ y. never (says_admitted g None w x.0 y)) in
-    none_row g w t x f r ch (and_false _ _ adm) (and_false _ _ adm) op ms ev
+    let adm : admits g None w x.0 ≡ false = false_from_ne_true _ (λ y. never (says_admitted g None w x.0 y)) in
+    none_row g w t x f r ch (and_left _ _ adm) (and_left _ _ adm) op ms ev
 
 -- The channels and the event where the row is of another kind.
 record Three (a b c : Bool) : Type 0 where
@@ -196,7 +185,7 @@ no_event w m p a b =
 
 here_given : (g : ℕ) (w : Option ℕ) (c : ℕ) → IsGiven g w → (1 ≤ c → c ≤ g → ⊥) → is_on w c ≡ false
 here_given g None c h never = refl
-here_given g (Some w) c h never = not_true _ (λ y. let e : w ≡ c = is_eq w c y in never (omega (arith, h.0)) (omega (arith, h.1)))
+here_given g (Some w) c h never = false_from_ne_true _ (λ y. let e : w ≡ c = is_eq w c y in never (omega (arith, h.0)) (omega (arith, h.1)))
 
 cancel_event : (w : Option ℕ) (m : Option Message) (p : List ℕ) → is_initialization p ≡ true → (command p == CANCEL) ≡ true → is_on w (channel p) ≡ true → packet_event w m p ≡ Some Cancel
 unfolding packet_event
@@ -225,7 +214,7 @@ idle (Some w) c a b = let e = not_is (w == c) false a in true_or_false (w == c) 
 
 outside : (g c k : ℕ) → not ((nat_le 1 c && nat_le c g) || ((c == BROADCAST) && (k == INIT))) ≡ true → (1 ≤ c → c ≤ g → ⊥) × (c ≡ BROADCAST → k ≡ INIT → ⊥)
 outside g c k h =
-    let e = or_false (nat_le 1 c && nat_le c g) ((c == BROADCAST) && (k == INIT)) (not_is _ true h) in
+    let e = or_parts (nat_le 1 c && nat_le c g) ((c == BROADCAST) && (k == INIT)) (not_is _ true h) in
     (λ a b. grind (arith, nat_tests), λ a b. grind (arith, nat_tests))
 
 inside : (g c k : ℕ) → not ((nat_le 1 c && nat_le c g) || ((c == BROADCAST) && (k == INIT))) ≡ false → (k == INIT) ≡ false → is_given g c ≡ true
@@ -272,7 +261,7 @@ is_above a b h = grind (arith, nat_tests)
 
 is_long_now : (p : List ℕ) → 58 ≤ message_length p → message_length p ≤ 7609 → is_long p ≡ true
 unfolding is_long
-is_long_now p a b = let x : nat_lt 57 (message_length p) ≡ true = grind (arith, nat_tests) in let y : nat_le (message_length p) 7609 ≡ true = grind (arith, nat_tests) in both_true _ _ x y
+is_long_now p a b = let x : nat_lt 57 (message_length p) ≡ true = grind (arith, nat_tests) in let y : nat_le (message_length p) 7609 ≡ true = grind (arith, nat_tests) in and_from _ _ x y
 
 bad_row : (g : ℕ) (w : Option ℕ) (t : ℕ) (x : Packet64) → new_given g x.0 ≡ g → packet_event w None x.0 ≡ None
     → (7609 < message_length x.0) ⊎ ((command x.0 ≡ 16) × (message_length x.0 ≡ 0))
@@ -281,9 +270,9 @@ unfolding open_after message_after event_after
 bad_row g w t x ch ev bad =
     let p = x.0 in
     none_row g w t x (starts x.0) (Begins BadLength) ch
-    (not_true _ (λ y. let q = and_true (admits g None w p) (is_long p) y in let a = says_admitted g None w p q.0 in let l = long_says p q.1 in
+    (false_from_ne_true _ (λ y. let q = and_parts (admits g None w p) (is_long p) y in let a = says_admitted g None w p q.0 in let l = long_says p q.1 in
     elim bad [ inl z ↦ omega (arith, l.most) | inr z ↦ omega (arith, l.least, z.1) ]))
-    (not_true _ (λ y. let q = and_true (admits g None w p) (nat_le (message_length p) 57) y in let a = says_admitted g None w p q.0 in let l = is_le (message_length p) 57 q.1 in
+    (false_from_ne_true _ (λ y. let q = and_parts (admits g None w p) (nat_le (message_length p) 57) y in let a = says_admitted g None w p q.0 in let l = is_le (message_length p) 57 q.1 in
     elim bad [ inl z ↦ omega (arith, l, z) | inr z ↦ omega (arith, a.some z.0, z.1) ]))
     refl refl ev
 
@@ -294,7 +283,7 @@ unfolding open_after message_after event_after finished finished_long
 short_row g w t x ch ev adm sh =
     let p = x.0 in
     let few = is_le (message_length p) 57 sh in
-    let lg : is_long p ≡ false = not_true _ (λ y. let l = long_says p y in omega (arith, l.least)) in
+    let lg : is_long p ≡ false = false_from_ne_true _ (λ y. let l = long_says p y in omega (arith, l.least)) in
     record {
       channels = ch;
       current = rw (adm, lg) refl;
@@ -367,7 +356,7 @@ start_none g w t x few wg st =
 
 -- Where a message is open, no start is admitted.
 pub never_admitted : (g : ℕ) (b : Begun) (w : Option ℕ) (p : List ℕ) → admits g (Some b) w p ≡ false
-never_admitted g b w p = not_true _ (λ y. let a = says_admitted g (Some b) w p y in cc (a.none))
+never_admitted g b w p = false_from_ne_true _ (λ y. let a = says_admitted g (Some b) w p y in cc (a.none))
 
 abbrev pub now_came : ℕ → Packet64 → Judged
 now_came t x = record { at = t; input = Packet x; admitted = false }
@@ -436,7 +425,7 @@ start_open g b t x few low high st =
     let P : Row → Type 0 = λ r. Serves g (Some b) None t p (starts p) (new_open g (Some b) None t p (Packet x)) (finished (Some b) (admits g (Some b) None p) (Packet x)) (Begins r) in
     let last = last_is_no_start b p st in
     let ev : packet_event None None p ≡ None = no_event None None p (λ _. refl) (λ _ _. refl) in
-    let kept : (channel b.packet ≡ c → ⊥) → next (now_came t x) b ≡ Some b = λ never. foreign b t x (not_true _ (λ y. never (is_eq (channel b.packet) c y))) in
+    let kept : (channel b.packet ≡ c → ⊥) → next (now_came t x) b ≡ Some b = λ never. foreign b t x (false_from_ne_true _ (λ y. never (is_eq (channel b.packet) c y))) in
     subst P (sym (by_command g (Some (channel b.packet)) None c (command p) (message_length p)))
     (cond_case P (command p == CANCEL) _ _
     (λ k. let cancel : command p ≡ 17 = is_eq (command p) CANCEL k in
@@ -506,7 +495,7 @@ kept_next : (b : Begun) (t : ℕ) (x : Packet64) → is_initialization x.0 ≡ f
     → nat_lt (57 + 59 * (length b.own + 1)) (message_length b.packet) ≡ true → option_map as_open (next (now_came t x) b) ≡ Some (grown t (goes x.0) (as_open b))
 kept_next b t x st h n l =
     ap (option_map as_open) (own_more b t x st h)
-    ∙ ap (λ v. option_map as_open (cond v (Some (record { packet = b.packet; at = b.at; own = b.own ++ now_came t x ∷ [] })) None)) (both_true (sequence x.0 == length b.own) _ n l)
+    ∙ ap (λ v. option_map as_open (cond v (Some (record { packet = b.packet; at = b.at; own = b.own ++ now_came t x ∷ [] })) None)) (and_from (sequence x.0 == length b.own) _ n l)
     ∙ ap Some (grown_as b t x)
 
 pub gone_next : (b : Begun) (t : ℕ) (x : Packet64) → is_initialization x.0 ≡ false → (channel b.packet == channel x.0) ≡ true
@@ -549,7 +538,7 @@ more_open g b t x st =
     (λ f. let h = not_is (channel b.packet == channel p) false f in
     cond_case P (not (sequence p == length b.own)) _ _
     (λ q. let n = not_is (sequence p == length b.own) true q in
-    open_row g b t x (goes x.0) (Continues WrongNumber) ch (last_more b p st ∙ rw (h, n) refl) (gone_next b t x st h (and_false _ _ n)) refl ev)
+    open_row g b t x (goes x.0) (Continues WrongNumber) ch (last_more b p st ∙ rw (h, n) refl) (gone_next b t x st h (and_left _ _ n)) refl ev)
     (λ q. let n = not_is (sequence p == length b.own) false q in
     cond_case P (nat_lt (57 + 59 * (length b.own + 1)) (message_length b.packet)) _ _
     (λ l. open_row g b t x (goes x.0) (Continues Kept) ch (last_more b p st ∙ rw (h, n, l) refl) (kept_next b t x st h n l) refl ev)

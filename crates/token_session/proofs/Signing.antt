@@ -3,13 +3,12 @@ use Rattle.std.proofs.Common.{◌≡◌, ℕ, List, true, max, Option, Some, Non
 use Rattle.cred_table.specs.Rows.{Lawful}
 use Rattle.hid_packet.specs.Commands.{CBOR}
 use Rattle.hid_packet.specs.Message.{written}
-use Rattle.ctap_message.specs.Asked.{Asked, MakeCredential, GetAssertion, GetInfo, Reset, GetNextAssertion, Selection}
-use Rattle.authn_core.specs.declared.task.Job.{Job}
+use Rattle.ctap_message.specs.Asked.{Asked, MakeCredential, GetAssertion}
 use Rattle.authn_core.specs.Marks.{Step, Orderly, core_at, signs_by, texts}
 use Rattle.authn_core.specs.Ready.{Ready}
 use Rattle.authn_core.specs.Rising.{all_rise, IsNewest}
 use Rattle.authn_core.specs.Signed.{heard, IsNeeded, IsSigned}
-use Rattle.authn_core.specs.State.{Answer, Answered, SignatureIs}
+use Rattle.authn_core.specs.State.{Job, SignatureIs, Answer, Answered}
 use Rattle.authn_core.specs.Turn.{Start, CoreState, core_answer, first_state, waiting, working}
 use Rattle.authn_core.specs.Views.{needs, sign}
 use Rattle.token_session.specs.declared.input.Input.TheVariants.{Signature}
@@ -47,11 +46,7 @@ need_is_signed law start h l =
 answered_bytes : (aaguid : List ℕ) (work : Option Job) (id signed sig : List ℕ) (answer : Answer) (asked : Option Asked) → IsSigned aaguid work id signed sig answer asked → (bytes : List ℕ) × (answer ≡ Answered bytes)
 answered_bytes aaguid work id signed sig answer (Some (GetAssertion hash rp_id allow up)) s = (_, s.3)
 answered_bytes aaguid work id signed sig answer (Some (MakeCredential hash rp_id user_id user_name discoverable exclude)) s = (_, s.3)
-answered_bytes aaguid work id signed sig answer (Some GetInfo) s = absurd s
-answered_bytes aaguid work id signed sig answer (Some Reset) s = absurd s
-answered_bytes aaguid work id signed sig answer (Some GetNextAssertion) s = absurd s
-answered_bytes aaguid work id signed sig answer (Some Selection) s = absurd s
-answered_bytes aaguid work id signed sig answer None s = absurd s
+answered_bytes aaguid work id signed sig answer other s = absurd s
 
 -- what a signature sends
 sends : (k : CoreState) (t : ℕ) (sig bytes : List ℕ) (cid : ℕ) → working k ≡ Some cid → core_answer k t (SignatureIs (Some sig)) ≡ Answered bytes → event_packets k t (Some (SignatureIs (Some sig))) ≡ written cid CBOR bytes

@@ -1,4 +1,4 @@
--- The packets that carried a message which an input finished.
+-- The packets that carried a message which an input finished (CTAP 2.1, section 11.2.4).
 use Rattle.std.specs.Prelude.{◌≡◌, ℕ, Bool, ◌&&◌, nat_le, List, [], ◌∷◌, ◌++◌, length, Option, Some, None, if◌then◌else◌}
 use Rattle.hid_packet.specs.Packet.{message_length}
 use Rattle.token_session.specs.declared.input.Input.{Input}
@@ -30,6 +30,7 @@ unfoldable pub long_carriers : Option Begun → List ℕ → List (List ℕ)
 long_carriers None p = []
 long_carriers (Some b) p = if is_last b p then b.packet ∷ (packets_of b.own ++ p ∷ []) else []
 
+-- of an input: one packet where it brought a short message, those of the open message where it is its last one
 unfoldable pub carriers : Option Begun → Bool → Input → List (List ℕ)
 carriers o admitted (Packet p) = if admitted && nat_le (message_length p.0) INITIALIZATION_DATA then p.0 ∷ []
     else long_carriers o p.0

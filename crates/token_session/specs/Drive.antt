@@ -1,5 +1,5 @@
 -- What a drive does: inputs stepped one after the other, and what they send with the number of the input.
-use Rattle.std.specs.Prelude.{ℕ, ◌+◌, ◌<◌, ◌≤◌, ◌++◌, List, [], ◌∷◌, take, length, Result, Ok, Err}
+use Rattle.std.specs.Prelude.{◌≡◌, ℕ, ◌+◌, ◌<◌, ◌≤◌, ◌++◌, List, [], ◌∷◌, take, length, Result, Ok, Err}
 use Rattle.token_session.specs.declared.input.Timed.{Timed}
 use Rattle.token_session.specs.declared.input.Sent.{Sent}
 use Rattle.token_session.specs.declared.driving.DriveFault.{DriveFault}
@@ -55,3 +55,11 @@ second_done n (Err (BothFull first second)) = second
 abbrev pub HadRoom : ℕ → List (ℕ × List ℕ) → SessionState → List Timed → ℕ → Type 0
 HadRoom places old s xs done = (j : ℕ) → j < done → length
     (old ++ driven_sends 0 s (take j xs)) + OUTBOX_CAPACITY ≤ places
+
+-- So many of the inputs were stepped: the session and the list of packets are exactly after them, and before each of
+-- them 130 places were free.
+pub record IsDriven (places : ℕ) (old new : SessionState) (before after : List (ℕ × List ℕ)) (inputs : List Timed)
+    (done : ℕ) : Type 0 where
+  pub state : new ≡ driven old (take done inputs)
+  pub packets : after ≡ before ++ driven_sends 0 old (take done inputs)
+  pub room : HadRoom places before old inputs done

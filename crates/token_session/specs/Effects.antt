@@ -1,4 +1,4 @@
--- What a verdict sends and hands to the authenticator, and the request that an event is.
+-- What a verdict sends and hands to the authenticator, and the request that an event is (CTAP 2.1, section 11.2.9).
 use Rattle.std.specs.Prelude.{ℕ, ◌==◌, List, [], Option, Some, None, if◌then◌else◌}
 use Rattle.hid_packet.specs.Commands.{PING, CBOR}
 use Rattle.hid_packet.specs.Message.{written}

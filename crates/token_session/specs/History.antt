@@ -1,5 +1,6 @@
--- What a history says, by its inputs alone: positions, filters and lists, and no state. Each input is judged, the
--- authenticator takes its turns over the events, and packets are sent.
+-- What a history says, by its inputs alone (CTAP 2.1, section 11.2.5). Each input is judged, the authenticator takes
+-- its turns over the events, and packets are sent. The transport's part are positions, filters and lists; the
+-- authenticator's is the state that its turns lead to.
 use Rattle.std.specs.Prelude.{ℕ, Bool, not, ◌&&◌, ◌||◌, ◌==◌, nat_le, List, [], ◌∷◌, ◌++◌, max, Option, Some, None, option_map, is_some, is_none, if◌then◌else◌, length, unwrap_or}
 use Rattle.hid_packet.specs.Commands.{PING, INIT, CBOR, CANCEL}
 use Rattle.hid_packet.specs.Limits.{data_room}
@@ -16,14 +17,15 @@ use Rattle.token_session.specs.Messages.{Begun, open_at, as_open, finished, fini
 use Rattle.token_session.specs.Replies.{error, row_packets, ping_packets, request_event}
 use Rattle.token_session.specs.Events.{reply_in, event_core, event_packets, event_keeps_alive, keepalive_packets, keepalive_due}
 
--- The event that an input is to the authenticator: a CANCEL on the channel of waiting work, an INIT of length 8 there,
--- a finished CBOR message, or a reply of the caller.
+-- The event that a packet is to the authenticator: a CANCEL on the channel of waiting work, an INIT of length 8 there,
+-- or the CBOR message that it finished.
 unfoldable pub packet_event : Option ℕ → Option Message → List ℕ → Option Event
 packet_event work m p =
     if is_command CANCEL p && is_on work (channel p) then Some Cancel
     else if is_command INIT p && (message_length p == 8) && is_on work (channel p) then Some Drop
     else request_event m
 
+-- the event of an input: that of its packet, or a reply of the caller
 unfoldable pub event : Option ℕ → Option Message → Input → Option Event
 event work m (Packet p) = packet_event work m p.0
 event work m other = reply_in other
@@ -44,21 +46,23 @@ admits given o work p =
     is_initialization p && is_given given (channel p)
     && ((command p == PING) || ((command p == CBOR) && nat_le 1 (message_length p))) && is_none o && is_none work
 
+-- One input after a history: its moment is no earlier than those before it, and it is admitted or not.
 unfoldable pub judge : Start → Timed → List Judged → Judged
 judge start x past =
     let t = max (end start past) x.at in
     let admitted = is_packet (admits (given past) (open_at past t) (working (core start past))) x.input in
     record { at = t; input = x.input; admitted = admitted }
 
+-- all inputs of a history, judged one after the other
 unfoldable pub judged : Start → List Timed → List Judged
 judged start [] = []
 judged start (x ∷ past) = judge start x (judged start past) ∷ judged start past
 
--- The packets of time: ERROR 0x05 for a message that was open at the end of the history and isn't now; else a KEEPALIVE
--- where work waits and the last one was sent 100 ms ago or more.
+-- A message was open at the end of the history, and isn't any more: its time is over.
 abbrev pub is_cut : Option Begun → Option Begun → Bool
 is_cut before now = is_some before && is_none now
 
+-- ERROR 0x05 on its channel
 abbrev pub cut_packets : Option Begun → List (List ℕ)
 cut_packets None = []
 cut_packets (Some b) = error (channel b.packet) 0x05
@@ -72,6 +76,8 @@ last_keepalive start (e ∷ past) =
     && keepalive_due (waiting (core start past)) (last_keepalive start past) e.at)
     then e.at else last_keepalive start past
 
+-- The packets of time: ERROR 0x05 for a message whose time is over; else a KEEPALIVE where work waits and the last one
+-- was sent 100 ms ago or more.
 unfoldable pub time_packets : Start → List Judged → ℕ → List (List ℕ)
 time_packets start past t =
     let before = open_at past (end start past) in
@@ -79,11 +85,12 @@ time_packets start past t =
     if is_cut before (open_at past t) then cut_packets before
     else if keepalive_due work (last_keepalive start past) t then keepalive_packets work else []
 
--- The packets of service: those of the reply table's row, the answer to a finished PING, and those of the event.
+-- the packets of a packet's row in the reply table
 abbrev pub table_packets : ℕ → Option Begun → Option ℕ → Input → List (List ℕ)
 table_packets g o work (Packet p) = let f = fields p.0 in row_packets g f (ruling_of g (option_map as_open o) work f)
 table_packets g o work other = []
 
+-- The packets of service: those of the reply table's row, the answer to a finished PING, and those of the event.
 unfoldable pub service_packets : Start → Judged → List Judged → List (List ℕ)
 service_packets start e past =
     let o = open_at past e.at in

@@ -1,6 +1,6 @@
--- What came: the inputs of a history as they are judged, the channels that were given out, and a channel's own packets.
--- A history is a list of inputs, the newest first, so that what came before an input is the rest of the list. It begins
--- with an authenticator's start.
+-- What came: the inputs of a history as they are judged, the channels that were given out, and a channel's own packets
+-- (CTAP 2.1, section 11.2.3). A history is a list of inputs, the newest first, so that what came before an input is the
+-- rest of the list. It begins with an authenticator's start.
 use Rattle.std.specs.Prelude.{ℕ, Bool, false, not, ◌&&◌, ◌==◌, List, [], ◌∷◌, min, filter, count_by}
 use Rattle.hid_packet.specs.Commands.{INIT, CANCEL, BROADCAST}
 use Rattle.hid_packet.specs.Packet.{channel, message_length, is_command}
@@ -31,17 +31,19 @@ abbrev pub is_packet : (List ℕ → Bool) → Input → Bool
 is_packet test (Packet p) = test p.0
 is_packet test other = false
 
--- The channels that were given out: one for each INIT of length 8 on the broadcast channel, as far as there are
--- channels (CTAP 2.1, section 11.2.9.1.3).
+-- A packet that asks for a channel, which is then given out: an INIT of length 8 on the broadcast channel (CTAP 2.1,
+-- section 11.2.9.1.3).
 unfoldable pub asks_channel : List ℕ → Bool
 asks_channel p = is_command INIT p && (message_length p == 8) && (channel p == BROADCAST)
 
+-- How many channels were given out: they are the channels 1 to this number.
 unfoldable pub given : List Judged → ℕ
 given h = min (count_by (λ e. is_packet asks_channel e.input) h) LAST_CHANNEL
 
--- A channel's own packets: those on it, except for CANCEL.
+-- A channel's own packet: one on it, except for CANCEL.
 unfoldable pub is_own : ℕ → Judged → Bool
 is_own cid e = is_packet (λ p. (cid == channel p) && not (is_command CANCEL p)) e.input
 
+-- a channel's own packets among those that came later
 unfoldable pub own : ℕ → List Judged → List Judged
 own cid later = filter (is_own cid) later

@@ -30,7 +30,7 @@ unfoldable pub sent_now : Start → List Timed → Timed → List (List ℕ)
 sent_now start h x = sent_at start (judge start x (judged start h)) (judged start h)
 
 -- the event that an input is after a history
-unfoldable pub event_at : Start → Judged → List Judged → Option Event
+abbrev pub event_at : Start → Judged → List Judged → Option Event
 event_at start e past = event_to (core start past) e past
 
 -- the inputs of a list, in order, after a history

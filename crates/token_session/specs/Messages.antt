@@ -1,4 +1,5 @@
--- Which message is open after inputs, and which an input finishes, by their packets alone: there is no buffer.
+-- Which message is open after inputs, and which an input finishes, by their packets alone: there is no buffer
+-- (CTAP 2.1, sections 11.2.4 and 11.2.5). What came later is a list with the oldest input first.
 use Rattle.std.specs.Prelude.{ℕ, ◌+◌, Bool, not, ◌&&◌, ◌==◌, nat_le, nat_lt, List, [], ◌∷◌, ◌++◌, take, length, map, Option, Some, None, if◌then◌else◌}
 use Rattle.hid_packet.specs.Carries.{joined}
 use Rattle.hid_packet.specs.Limits.{data_room}
@@ -49,10 +50,11 @@ unfoldable pub open_among : List Judged → List Judged → ℕ → Option Begun
 open_among later [] t = None
 open_among later (e ∷ before) t = if is_open e later t then Some (begun_by e later) else open_among (e ∷ later) before t
 
+-- the open message at t after a history
 unfoldable pub open_at : List Judged → ℕ → Option Begun
 open_at h t = open_among [] h t
 
--- The message that an input finishes: an admitted short one, or the open one by its last continuation packet.
+-- the packets of these inputs
 abbrev pub packets_of : List Judged → List (List ℕ)
 packets_of es = map (λ e. packet e.input) es
 
@@ -69,20 +71,24 @@ as_open b =
     let last = last_at b.at b.own in
     record { cid = channel p; cmd = command p; len = message_length p; bytes = bytes; kept = length b.own; last = last }
 
+-- the message that an initialization packet and the packets after it carry
 abbrev pub message : List ℕ → List (List ℕ) → Message
 message first others =
     let bytes = take (message_length first) (joined first others) in
     record { cid = channel first; cmd = command first; bytes = bytes }
 
+-- the last continuation packet of an open message: the next one on its channel, after which no data are missing
 unfoldable pub is_last : Begun → List ℕ → Bool
 is_last b p =
     not (is_initialization p) && (channel b.packet == channel p) && (sequence p == length b.own)
     && not (nat_lt (data_room (length b.own + 1)) (message_length b.packet))
 
+-- the open message, where this packet is its last one
 unfoldable pub finished_long : Option Begun → List ℕ → Option Message
 finished_long None p = None
 finished_long (Some b) p = if is_last b p then Some (message b.packet (packets_of b.own ++ p ∷ [])) else None
 
+-- The message that an input finishes: an admitted short one, or the open one by its last continuation packet.
 unfoldable pub finished : Option Begun → Bool → Input → Option Message
 finished o admitted (Packet p) =
     if admitted && nat_le (message_length p.0) INITIALIZATION_DATA then Some (message p.0 []) else finished_long o p.0

@@ -1,5 +1,5 @@
 -- The meters of a session: what a history names, and what one turn adds.
-use Rattle.std.specs.Prelude.{◌≡◌, ◌≤◌, ℕ, ◌+◌, ◌-◌, ◌*◌, List, [], ◌∷◌, ◌++◌, length, max, min, sum_by, Option, Some, None}
+use Rattle.std.specs.Prelude.{◌≡◌, ◌≤◌, ℕ, ◌+◌, ◌-◌, ◌*◌, List, [], ◌∷◌, length, max, min, sum_by, Option, Some, None}
 use Rattle.std.specs.List.{cons_option}
 use Rattle.hid_assemble.specs.Assembly.{held_bytes}
 use Rattle.authn_core.specs.Turn.{Start}
@@ -9,14 +9,14 @@ use Rattle.token_session.specs.declared.input.Timed.{Timed}
 use Rattle.token_session.specs.declared.input.Meters.{Meters}
 use Rattle.token_session.specs.Effects.{request_in}
 use Rattle.token_session.specs.Inputs.{Judged}
-use Rattle.token_session.specs.History.{judged, held, core}
+use Rattle.token_session.specs.History.{judged, held, core, event_to}
 use Rattle.token_session.specs.Machine.{State, Turn, turn}
-use Rattle.token_session.specs.Law.{event_at, named}
+use Rattle.token_session.specs.Law.{named}
 
 -- the messages of the requests that a history finished, the newest first
 unfoldable pub requests : Start → List Judged → List (List ℕ)
 requests start [] = []
-requests start (e ∷ past) = cons_option (request_in (event_at start e past)) (requests start past)
+requests start (e ∷ past) = cons_option (request_in (event_to (core start past) e past)) (requests start past)
 
 -- the most data bytes held of an open message, at the start and after each input
 unfoldable pub peak_held : Start → List Judged → ℕ

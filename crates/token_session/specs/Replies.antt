@@ -1,4 +1,5 @@
--- The packets that are sent: those of each row of the reply table, of errors, of KEEPALIVEs and of answers.
+-- The packets that are sent: those of each row of the reply table, of errors, of KEEPALIVEs and of answers
+-- (CTAP 2.1, section 11.2.9).
 use Rattle.std.specs.Prelude.{ℕ, ◌+◌, Bool, false, not, ◌==◌, List, [], ◌∷◌, ◌++◌, take, Option, Some, None, option_map, if◌then◌else◌}
 use Rattle.byteorder.specs.Endian.{big_bytes}
 use Rattle.hid_packet.specs.Commands.{PING, INIT, CBOR, KEEPALIVE, ERROR, BROADCAST}
@@ -8,7 +9,7 @@ use Rattle.hid_assemble.specs.Table.{is_on, Begins, Continues, Ruling}
 use Rattle.hid_assemble.specs.Assembly.{Message}
 use Rattle.hid_assemble.specs.declared.table.Row.TheVariants.{NoSuchChannel, InitLength, InitFull, InitNew, InitAgain, BusyElsewhere, BusyHere, BrokenOff, NoSuchCommand, BadLength}
 use Rattle.hid_assemble.specs.declared.table.Continuation.TheVariants.{WrongNumber}
-use Rattle.authn_core.specs.State.{Event, Request, Answer, Answered, Waits, Ignored, Nothing}
+use Rattle.authn_core.specs.State.{Event, Request, Answer, Answered, Waits}
 use Rattle.authn_core.specs.Turn.{Work}
 
 -- The INIT answer on a channel, which names the channel that the host is to use: its nonce, that channel, version 2 of

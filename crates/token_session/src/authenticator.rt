@@ -2,15 +2,15 @@ ghost use Rattle.std.specs.Prelude.{◌≡◌, ◌+◌, ◌≤◌, ◌++◌, [],
 ghost use Rattle.ctap_message.specs.Requests.{steps_of, LARGEST};
 ghost use Rattle.cred_table.specs.declared.row.Row.{Row as AnyRow};
 ghost use Rattle.cred_table.specs.Snapshots.{Loads, Refuses};
-ghost use Rattle.authn_core.specs.Turn.{core_after, core_answer, first_state, waiting, working};
-ghost use Rattle.authn_core.specs.Views.{status_number, work_of};
+ghost use Rattle.authn_core.specs.Turn.{waiting, working};
+ghost use Rattle.authn_core.specs.Views.{answer_of, event_of, first_held, status_number, work_of};
 ghost use Rattle.token_session.specs.Replies.{keepalive, asker, status_of, answer_packets, answer_keeps_alive};
-ghost use Rattle.token_session.specs.Events.{answered, event_core, event_keeps_alive, event_of, event_packets, keepalive_due, keepalive_packets};
-ghost use Rattle.token_session.specs.Readings.{reading_in};
+ghost use Rattle.token_session.specs.Events.{event_core, event_keeps_alive, event_packets, keepalive_due, keepalive_packets};
+ghost use Rattle.token_session.specs.Readings.{IsTaken, reading_in};
 ghost use Rattle.token_session.specs.Effects.{request_in};
 ghost use Rattle.hid_packet.specs.declared.limit.TheConstants.{LONGEST_MESSAGE, OUTBOX_CAPACITY};
 
-use authn_core::{Config, Core, KeepaliveStatus, NewKey, Presence, Signature, Turn, Work};
+use authn_core::{Config, Core, Event, KeepaliveStatus, Turn, Work};
 use cred_table::{SnapshotFault, Store, Table};
 use ctap_message::laws::steps_are_bounded;
 use hid_packet::Outbox;
@@ -25,23 +25,6 @@ pub(crate) struct Reading {
     /// The bytes after its command byte.
     pub(crate) bytes: u16,
     pub(crate) steps: u64,
-}
-
-/// What happens to the authenticator.
-#[derive(Clone, Copy)]
-pub(crate) enum Event<'a> {
-    /// A request came on this channel.
-    Request { cid: u32, message: &'a [u8] },
-    /// The caller's reply to a test of user presence.
-    Presence(Presence),
-    /// The caller's new key; `None` where it has none.
-    Key(Option<NewKey>),
-    /// The caller's signature; `None` where it has none.
-    Signature(Option<Signature>),
-    /// The waiting work is cancelled.
-    Cancel,
-    /// The waiting work is dropped, with no answer.
-    Drop,
 }
 
 /// Returns the channel to which an event's answer goes: a request's own, or that of the waiting work.
@@ -74,31 +57,12 @@ fn reading_of(event: &Event<'_>, steps: u64) -> Option<Reading>
     }
 }
 
-/// Takes the turn of an event, which came at `now`. A drop has none.
-#[tactic(auto, using(authn_core::proofs::Facts::drop_answers_nothing))]
-fn turn_of<const C: usize>(
-    core: &mut Core<Store<C>, C>,
-    now: u64,
-    event: &Event<'_>,
-) -> Option<Turn>
+/// Takes the turn of an event, which came at `now`, no earlier than any before it.
+fn turn_of<const C: usize>(core: &mut Core<Store<C>, C>, now: u64, event: &Event<'_>) -> Turn
     requires { core.old.latest ≤ now }
-    ensures core { core.new.core ≡ core_after core.old.core now (event_of event.now) }
-    ensures answer { answered result ≡ core_answer core.old.core now (event_of event.now) }
-    ensures latest { core.new.latest ≤ now }
-    ensures steps { IfSome (request_in (Some (event_of event.now)))
-        (λ m. core.new.last_steps ≡ min (steps_of m) LARGEST) }
+    ensures { IsTaken core.old core.new (answer_of result) now (event_of event.now) }
 {
-    match event {
-        Event::Request { cid, message } => Some(core.request(now, *cid, message)),
-        Event::Presence(reply) => Some(core.presence(now, *reply)),
-        Event::Key(key) => Some(core.key(now, *key)),
-        Event::Signature(signature) => Some(core.signature(now, *signature)),
-        Event::Cancel => Some(core.cancel()),
-        Event::Drop => {
-            core.drop_work();
-            None
-        }
-    }
+    core.take(now, event)
 }
 
 fn put_keepalive(outbox: &mut Outbox, cid: u32, status: KeepaliveStatus)
@@ -119,14 +83,15 @@ pub(crate) struct Authenticator<const C: usize> {
 impl<const C: usize> Authenticator<C> {
     /// Returns an authenticator for which no work waits.
     pub(crate) fn new(config: Config, rows: Store<C>, start: u64) -> Self
-        ensures core { result.core.core ≡ first_state (record {
-          aaguid = config.aaguid;
-          moment = start;
-          room = C;
-          rows = ⟦<Store<C> as Table<C>>⟧.rows rows.entry;
-        }) }
-        ensures latest { result.core.latest ≡ start }
-        ensures keepalive { result.keepalive_at ≡ 0 }
+        ensures { result ≡ record {
+          core = first_held (record {
+            aaguid = config.aaguid;
+            moment = start;
+            room = C;
+            rows = ⟦<Store<C> as Table<C>>⟧.rows rows.entry;
+          });
+          keepalive_at = 0;
+        } }
     {
         Authenticator {
             core: Core::new(config, rows, start),
@@ -139,14 +104,10 @@ impl<const C: usize> Authenticator<C> {
     pub(crate) fn bare(config: Config, start: u64) -> Self
         requires some { 1 ≤ C }
         requires few { C ≤ 256 }
-        ensures core { result.core.core ≡ first_state (record {
-          aaguid = config.aaguid;
-          moment = start;
-          room = C;
-          rows = [];
-        }) }
-        ensures latest { result.core.latest ≡ start }
-        ensures keepalive { result.keepalive_at ≡ 0 }
+        ensures { result ≡ record {
+          core = first_held (record { aaguid = config.aaguid; moment = start; room = C; rows = [] });
+          keepalive_at = 0;
+        } }
     {
         Authenticator {
             core: Core::new(config, Store::new(), start),
@@ -164,10 +125,11 @@ impl<const C: usize> Authenticator<C> {
     ) -> Result<(), SnapshotFault>
         ensures { MatchResult result
             (λ _. (rows : List AnyRow) × Loads C snapshot.now (Ok tt) rows
-            × (self.new.core.core ≡ first_state (record { aaguid = config.aaguid; moment = start; room = C; rows = rows }))
-            × (self.new.core.latest ≡ start) × (self.new.keepalive_at ≡ 0))
-            (λ fault. Refuses C snapshot.now fault × (self.new.core ≡ self.old.core)
-            × (self.new.keepalive_at ≡ self.old.keepalive_at)) }
+            × (self.new ≡ record {
+              core = first_held (record { aaguid = config.aaguid; moment = start; room = C; rows = rows });
+              keepalive_at = 0;
+            }))
+            (λ fault. Refuses C snapshot.now fault × (self.new ≡ self.old)) }
     {
         self.core.load(config, snapshot, start)?;
         self.keepalive_at = 0;
@@ -199,24 +161,28 @@ impl<const C: usize> Authenticator<C> {
         }
     }
 
-    /// Serves an event, which came at `now`. Returns what reading the request took, if it is one.
+    /// Serves an event, if there is one, which came at `now`. Returns what reading the request took, if it is one.
     pub(crate) fn take(
         &mut self,
         now: u64,
-        event: &Event<'_>,
+        event: &Option<Event<'_>>,
         outbox: &mut Outbox,
     ) -> Option<Reading>
-        requires room { length outbox.old + length (event_packets self.old.core.core now (Some (event_of event.now)))
+        requires room { length outbox.old + length (event_packets self.old.core.core now (option_map event_of event.now))
             ≤ OUTBOX_CAPACITY }
-        requires short { IfSome (request_in (Some (event_of event.now))) (λ m. length m ≤ LONGEST_MESSAGE) }
+        requires short { IfSome (request_in (option_map event_of event.now)) (λ m. length m ≤ LONGEST_MESSAGE) }
         requires moment { self.old.core.latest ≤ now }
-        ensures core { self.new.core.core ≡ event_core self.old.core.core now (Some (event_of event.now)) }
+        ensures core { self.new.core.core ≡ event_core self.old.core.core now (option_map event_of event.now) }
         ensures latest { self.new.core.latest ≤ now }
-        ensures keepalive { self.new.keepalive_at ≡ (if event_keeps_alive self.old.core.core now (Some (event_of event.now))
-            then now else self.old.keepalive_at) }
-        ensures packets { outbox.new ≡ outbox.old ++ event_packets self.old.core.core now (Some (event_of event.now)) }
-        ensures reading { result ≡ reading_in (Some (event_of event.now)) }
+        ensures keepalive { self.new.keepalive_at ≡ (if event_keeps_alive self.old.core.core now
+            (option_map event_of event.now) then now else self.old.keepalive_at) }
+        ensures packets { outbox.new ≡ outbox.old
+            ++ event_packets self.old.core.core now (option_map event_of event.now) }
+        ensures reading { result ≡ reading_in (option_map event_of event.now) }
     {
+        let Some(event) = event else {
+            return None;
+        };
         let work = self.core.work();
         let asker = asker_of(event, work);
         let turn = turn_of(&mut self.core, now, event);
@@ -225,36 +191,36 @@ impl<const C: usize> Authenticator<C> {
         reading_of(event, steps)
     }
 
-    /// Sends what a turn returns to `asker`, and nothing where there is none; `work` waited before the turn.
+    /// Sends what a turn returns to `asker`; `work` waited before the turn.
     #[tactic(auto, unfolding(crate::specs::Replies::answer_packets, crate::specs::Replies::answer_keeps_alive))]
     fn send(
         &mut self,
         now: u64,
         asker: Option<u32>,
         work: Option<Work>,
-        turn: &Option<Turn>,
+        turn: &Turn,
         outbox: &mut Outbox,
     )
         requires { length outbox.old + length (answer_packets asker (status_of (option_map work_of work))
-            (answered turn.now)) ≤ OUTBOX_CAPACITY }
+            (answer_of turn.now)) ≤ OUTBOX_CAPACITY }
         ensures core { self.new.core ≡ self.old.core }
         ensures keepalive { self.new.keepalive_at ≡ (if answer_keeps_alive asker (status_of (option_map work_of work))
-            (answered turn.now) then now else self.old.keepalive_at) }
+            (answer_of turn.now) then now else self.old.keepalive_at) }
         ensures packets { outbox.new ≡ outbox.old ++ answer_packets asker (status_of (option_map work_of work))
-            (answered turn.now) }
+            (answer_of turn.now) }
     {
         let Some(cid) = asker else {
             return;
         };
         match turn {
-            Some(Turn::Answer(answer)) => outbox.put_message(cid, CBOR, answer.as_slice()),
-            Some(Turn::Waits(status)) => {
+            Turn::Answer(answer) => outbox.put_message(cid, CBOR, answer.as_slice()),
+            Turn::Waits(status) => {
                 if work.map(|work| work.status) != Some(*status) {
                     put_keepalive(outbox, cid, *status);
                     self.keepalive_at = now;
                 }
             }
-            Some(Turn::Ignored) | None => {}
+            Turn::Ignored | Turn::Nothing => {}
         }
     }
 }

@@ -4,7 +4,7 @@ ghost use Rattle.arrayvec.specs.ArrayVec.{array_vec_len};
 ghost use Rattle.authn_core.specs.Turn.{Start};
 ghost use Rattle.token_session.specs.declared.input.Timed.{Timed as OneInput};
 ghost use Rattle.token_session.specs.Carried.{ArriveWhole, IsWhole};
-ghost use Rattle.token_session.specs.Drive.{as_pair, packet_of, both_number, drive_number, done_in, driven, driven_sends, done_of, first_done, second_done, HadRoom};
+ghost use Rattle.token_session.specs.Drive.{as_pair, packet_of, both_number, drive_number, done_in, done_of, first_done, second_done, HadRoom, IsDriven};
 ghost use Rattle.token_session.specs.declared.driving.BothFault.TheVariants.{Full as BothFull};
 ghost use Rattle.token_session.specs.Headline.{IsAnswered, start_of};
 ghost use Rattle.token_session.specs.Law.{numbered, onto, sent_from};
@@ -106,17 +106,14 @@ pub fn drive<const C: usize, const N: usize>(
     sent: &mut ArrayVec<Sent, N>,
 ) -> Result<Meters, DriveFault>
     // The session and the list are exactly after the inputs done.
-    ensures state { session.new ≡ driven session.old (take (done_of (length inputs.now) result) inputs.now) }
-    ensures packets { map as_pair sent.new.items
-        ≡ map as_pair sent.old.items ++ driven_sends 0 session.old
-        (take (done_of (length inputs.now) result) inputs.now) }
+    ensures run { IsDriven N session.old session.new (map as_pair sent.old.items) (map as_pair sent.new.items)
+        inputs.now (done_of (length inputs.now) result) }
     ensures meters { IfOk result (λ meters. meters ≡ session.new.meters) }
     // Each packet has 64 bytes.
     ensures whole { ArriveWhole (take (done_of (length inputs.now) result) inputs.now) }
     // It is full exactly where too few places are free.
     ensures full { IfErr result (λ e. (done_of 0 result < length inputs.now)
         × (N < array_vec_len sent.new + OUTBOX_CAPACITY)) }
-    ensures room { HadRoom N (map as_pair sent.old.items) session.old inputs.now (done_of (length inputs.now) result) }
     // After any history.
     ensures after { (start : Start) (h : List OneInput) → StandsAfter session.old start h
         → StandsAfter session.new start (onto (take (done_of (length inputs.now) result) inputs.now) h) }
@@ -203,14 +200,10 @@ pub fn drive_both<const C: usize, const N: usize>(
     quiet_sent: &mut ArrayVec<Sent, N>,
 ) -> Result<(Meters, Meters), BothFault>
     // Both runs, as `drive` makes them.
-    ensures first { first.new ≡ driven first.old (take (first_done (length inputs.now) result) inputs.now) }
-    ensures second { second.new ≡ driven second.old (take (second_done (length quiet.now) result) quiet.now) }
-    ensures first_packets { map as_pair sent.new.items
-        ≡ map as_pair sent.old.items ++ driven_sends 0 first.old
-        (take (first_done (length inputs.now) result) inputs.now) }
-    ensures second_packets { map as_pair quiet_sent.new.items
-        ≡ map as_pair quiet_sent.old.items ++ driven_sends 0 second.old
-        (take (second_done (length quiet.now) result) quiet.now) }
+    ensures first { IsDriven N first.old first.new (map as_pair sent.old.items) (map as_pair sent.new.items)
+        inputs.now (first_done (length inputs.now) result) }
+    ensures second { IsDriven N second.old second.new (map as_pair quiet_sent.old.items)
+        (map as_pair quiet_sent.new.items) quiet.now (second_done (length quiet.now) result) }
     ensures meters { IfOk result (λ meters. (meters.0 ≡ first.new.meters) × (meters.1 ≡ second.new.meters)) }
     // It is full exactly where one of the runs is; where the first is, the second isn't begun.
     ensures full { IfErr result (λ e.
@@ -218,10 +211,6 @@ pub fn drive_both<const C: usize, const N: usize>(
         × (second_done 0 result ≡ 0))
         ⊎ ((first_done 0 result ≡ length inputs.now) × (second_done 0 result < length quiet.now)
         × (N < array_vec_len quiet_sent.new + OUTBOX_CAPACITY))) }
-    ensures first_room { HadRoom N (map as_pair sent.old.items) first.old inputs.now
-        (first_done (length inputs.now) result) }
-    ensures second_room { HadRoom N (map as_pair quiet_sent.old.items) second.old quiet.now
-        (second_done (length quiet.now) result) }
     // After histories of one start of which the second has ticks in place of noise, before and after.
     ensures alike { (start : Start) (h g : List OneInput) → StandsAfter first.old start h
         → StandsAfter second.old start g

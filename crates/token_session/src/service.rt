@@ -2,15 +2,16 @@
 ghost use Rattle.std.specs.Prelude.{◌≡◌, ◌≤◌, ◌++◌, Some, IfSome, length, option_map};
 ghost use Rattle.hid_assemble.specs.Assembly.{still_open};
 ghost use Rattle.hid_assemble.specs.Codes.{code_number};
+ghost use Rattle.authn_core.specs.Views.{event_of};
 ghost use Rattle.token_session.specs.Replies.{error, greeting};
-ghost use Rattle.token_session.specs.Events.{event_of};
 ghost use Rattle.token_session.specs.Noise.{is_noise_among};
 ghost use Rattle.token_session.specs.Effects.{assembly_after, input_event, input_verdict, request_in, verdict_packets};
 ghost use Rattle.hid_packet.specs.declared.limit.TheConstants.{LONGEST_MESSAGE};
 
-use crate::authenticator::{Authenticator, Event};
+use crate::authenticator::Authenticator;
 use crate::input::Input;
 use arrayvec::ArrayVec;
+use authn_core::Event;
 use byteorder::{BigEndian, ByteOrder};
 use hid_assemble::{Assembler, ErrorCode, Verdict};
 use hid_packet::Outbox;
@@ -79,10 +80,14 @@ pub(crate) fn put_verdict(outbox: &mut Outbox, verdict: Verdict, message: &[u8])
 
 /// Returns the event that an input is, if it is one: that of the verdict on a packet, which finished `message`, or a
 /// reply of the caller.
-pub(crate) fn event_in<'m>(input: &Input, verdict: Verdict, message: &'m [u8]) -> Option<Event<'m>>
+pub(crate) fn event_in<'a>(
+    input: &'a Input,
+    verdict: Verdict,
+    message: &'a [u8],
+) -> Option<Event<'a>>
     requires short { length message.now ≤ LONGEST_MESSAGE }
     ensures event { option_map event_of result ≡ input_event input.now verdict message.now }
-    ensures short { IfSome result (λ e. IfSome (request_in (Some (event_of e))) (λ m. length m ≤ LONGEST_MESSAGE)) }
+    ensures short { IfSome (request_in (option_map event_of result)) (λ m. length m ≤ LONGEST_MESSAGE) }
 {
     match input {
         Input::Packet(_) => match verdict {
@@ -97,8 +102,8 @@ pub(crate) fn event_in<'m>(input: &Input, verdict: Verdict, message: &'m [u8]) -
         },
         Input::Tick => None,
         Input::Presence(reply) => Some(Event::Presence(*reply)),
-        Input::Key(key) => Some(Event::Key(*key)),
-        Input::Signature(signature) => Some(Event::Signature(*signature)),
+        Input::Key(key) => Some(Event::Key(key)),
+        Input::Signature(signature) => Some(Event::Signature(signature)),
     }
 }
 

@@ -266,9 +266,6 @@ impl<const C: usize> Session<C> {
         let message = self.assembler.message();
         put_verdict(outbox, verdict, message);
         let event = event_in(&input, verdict, message);
-        match &event {
-            Some(event) => self.authenticator.take(self.latest, event, outbox),
-            None => None,
-        }
+        self.authenticator.take(self.latest, &event, outbox)
     }
 }

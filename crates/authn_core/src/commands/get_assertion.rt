@@ -8,7 +8,7 @@ ghost use Rattle.ctap_message.specs.Members.{has_entries};
 ghost use Rattle.ctap_message.specs.DescriptorWalk.{list_of, left_of};
 ghost use Rattle.authn_core.specs.Hash.{rp_hash};
 ghost use Rattle.authn_core.specs.GetAssertion as get;
-ghost use Rattle.authn_core.specs.Views.{Takes};
+ghost use Rattle.authn_core.specs.Views.{Takes, asserting_of};
 ghost use Rattle.authn_core.specs.Ready.{AllThere};
 
 use crate::authenticator::{Core, Turn};
@@ -101,8 +101,9 @@ impl<T: Table<C>, const C: usize> Core<T, C> {
     ) -> Turn
         requires hash { length hash.now ≡ 32 }
         requires fresh { list_of allow ≡ left_of allow }
-        ensures { Takes self.old self.new result (get.assert_begins self.old.core.state.rows self.old.latest cid
-            hash.now (rp_hash rp_id.now) (has_entries (left_of allow.entry)) (ids_of (left_of allow.entry)) presence) }
+        ensures { Takes self.old self.new result (get.begins self.old.core.state.rows self.old.latest cid hash.now
+            (rp_hash rp_id.now) presence (has_entries (left_of allow.entry)) (ids (get.applicable self.old.core.state.rows
+            (rp_hash rp_id.now) (has_entries (left_of allow.entry)) (ids_of (left_of allow.entry))))) }
     {
         let rp = rp_hash_of(rp_id);
         let hash = hash_of(hash);
@@ -156,14 +157,11 @@ impl<T: Table<C>, const C: usize> Core<T, C> {
         requires there { is_some (find (has_id a.id) self.old.core.state.rows) ≡ true }
         requires below { counter_of a.id self.old.core.state.rows < 2 ^ 32 - 1 }
         ensures { Takes self.old self.new result (get.assert_asked self.old.core.state.rows
-            self.old.core.state.pending cid a reply) }
+            self.old.core.state.pending cid (asserting_of a) reply) }
     {
         match reply {
             Presence::Granted => sign(&mut self.table, &mut self.work, cid, &a),
-            _ => {
-                self.pending.clear();
-                refuse(&mut self.work, refusals::OPERATION_DENIED)
-            }
+            _ => self.refuse_all(refusals::OPERATION_DENIED),
         }
     }
 
@@ -175,11 +173,10 @@ impl<T: Table<C>, const C: usize> Core<T, C> {
         signature: &Option<Signature>,
     ) -> Turn
         ensures { Takes self.old self.new result (get.assert_signed self.old.core.state.rows
-            self.old.core.state.pending self.old.latest a counter signature.now) }
+            self.old.core.state.pending self.old.latest (asserting_of a) counter signature.now) }
     {
         let Some(signature) = signature else {
-            self.pending.clear();
-            return refuse(&mut self.work, refusals::OTHER);
+            return self.refuse_all(refusals::OTHER);
         };
         self.pending.stamp(self.latest);
         end(&mut self.work);
@@ -202,8 +199,7 @@ impl<T: Table<C>, const C: usize> Core<T, C> {
             self.old.core.state.pending self.old.latest cid) }
     {
         if !is_due(&self.pending, self.latest, cid) {
-            self.pending.clear();
-            return refuse(&mut self.work, refusals::NOT_ALLOWED);
+            return self.refuse_all(refusals::NOT_ALLOWED);
         }
         let hash = self.pending.hash();
         let presence = self.pending.presence();
@@ -220,13 +216,11 @@ impl<T: Table<C>, const C: usize> Core<T, C> {
             cid hash presence id (find (has_id id) self.old.core.state.rows)) }
     {
         let Some(row) = self.table.find(&id) else {
-            self.pending.clear();
-            return refuse(&mut self.work, refusals::NOT_ALLOWED);
+            return self.refuse_all(refusals::NOT_ALLOWED);
         };
         let rp = row.rp;
         if counter_of(&self.table, &id) >= u32::MAX {
-            self.pending.clear();
-            return refuse(&mut self.work, refusals::LIMIT_EXCEEDED);
+            return self.refuse_all(refusals::LIMIT_EXCEEDED);
         }
         let a = Asserting {
             hash,

@@ -8,7 +8,7 @@ ghost use Rattle.ctap_message.specs.Descriptors.{ids_of};
 ghost use Rattle.ctap_message.specs.DescriptorWalk.{left_of};
 ghost use Rattle.authn_core.specs.Hash.{rp_hash};
 ghost use Rattle.authn_core.specs.MakeCredential as make;
-ghost use Rattle.authn_core.specs.Views.{Takes};
+ghost use Rattle.authn_core.specs.Views.{Takes, making_of};
 
 use crate::authenticator::{Core, Turn};
 use crate::hashes::{hash_of, rp_hash_of};
@@ -24,7 +24,7 @@ use ctap_message::{Descriptors, write_created};
 use fido_authdata::{AuthData, to_sign};
 
 /// Returns what is to be made.
-pub(crate) fn making_of(
+pub(crate) fn making_from(
     hash: &[u8],
     rp_id: &str,
     user_id: &[u8],
@@ -33,7 +33,7 @@ pub(crate) fn making_of(
 ) -> Making
     requires hash { length hash.now ≡ 32 }
     requires user { length user_id.now ≤ 64 }
-    ensures { result ≡ make.making hash.now rp_id.now user_id.now user_name.now discoverable }
+    ensures { making_of result ≡ make.making hash.now rp_id.now user_id.now user_name.now discoverable }
 {
     let mut user: ArrayVec<u8, 64> = ArrayVec::new();
     user.try_extend_from_slice(user_id).unwrap();
@@ -77,7 +77,7 @@ fn credential_to_sign(aaguid: &[u8; 16], making: &Making, key: &NewKey) -> Array
 impl<T: Table<C>, const C: usize> Core<T, C> {
     /// Asks for the user's presence, also where a credential is excluded.
     pub(crate) fn begin_make(&mut self, cid: u32, making: Making, exclude: Descriptors<'_>) -> Turn
-        ensures { Takes self.old self.new result (make.make_begins self.old.core.state.rows cid making
+        ensures { Takes self.old self.new result (make.make_begins self.old.core.state.rows cid (making_of making)
             (ids_of (left_of exclude.entry))) }
     {
         let excluded = names_one(&self.table, &making.rp, exclude);
@@ -96,7 +96,7 @@ impl<T: Table<C>, const C: usize> Core<T, C> {
         reply: Presence,
     ) -> Turn
         ensures { Takes self.old self.new result (make.make_asked C self.old.core.state.rows
-            self.old.core.state.pending cid making excluded reply) }
+            self.old.core.state.pending cid (making_of making) excluded reply) }
     {
         if excluded {
             return refuse(&mut self.work, refusals::CREDENTIAL_EXCLUDED);
@@ -114,9 +114,9 @@ impl<T: Table<C>, const C: usize> Core<T, C> {
 
     /// Asks for a signature by a key with a new id.
     pub(crate) fn make_key(&mut self, cid: u32, making: Making, key: &Option<NewKey>) -> Turn
-        requires { make.fits C making self.old.core.state.rows ≡ true }
+        requires { make.fits C (making_of making) self.old.core.state.rows ≡ true }
         ensures { Takes self.old self.new result (make.key_wanted self.old.core.setup.aaguid
-            self.old.core.state.rows self.old.core.state.pending cid making key.now) }
+            self.old.core.state.rows self.old.core.state.pending cid (making_of making) key.now) }
     {
         let Some(key) = key else {
             return refuse(&mut self.work, refusals::OTHER);
@@ -137,10 +137,10 @@ impl<T: Table<C>, const C: usize> Core<T, C> {
         key: NewKey,
         signature: &Option<Signature>,
     ) -> Turn
-        requires room { make.fits C making self.old.core.state.rows ≡ true }
+        requires room { make.fits C (making_of making) self.old.core.state.rows ≡ true }
         requires fresh { is_some (find (has_id key.id) self.old.core.state.rows) ≡ false }
         ensures { Takes self.old self.new result (make.make_signed self.old.core.setup.aaguid
-            self.old.core.state.rows self.old.core.state.pending making key signature.now) }
+            self.old.core.state.rows self.old.core.state.pending (making_of making) key signature.now) }
     {
         let Some(signature) = signature else {
             return refuse(&mut self.work, refusals::OTHER);

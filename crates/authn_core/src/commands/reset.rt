@@ -23,10 +23,10 @@ impl<T: Table<C>, const C: usize> Core<T, C> {
         ensures { Takes self.old self.new result (reset_begins self.old.core.state.rows self.old.core.setup.began
             self.old.latest cid) }
     {
-        self.pending.clear();
         if self.latest - self.began > RESET_LIMIT {
-            return refuse(&mut self.work, refusals::NOT_ALLOWED);
+            return self.refuse_all(refusals::NOT_ALLOWED);
         }
+        self.pending.clear();
         let task = Task::Resets;
         self.work = Some(Job { cid, task });
         Turn::Waits(KeepaliveStatus::PresenceNeeded)

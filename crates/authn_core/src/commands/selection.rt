@@ -1,8 +1,7 @@
 //! authenticatorSelection (CTAP 2.1, section 6.9).
 
 ghost use Rattle.std.specs.Prelude.{None};
-ghost use Rattle.authn_core.specs.declared.task.Task.TheVariants.{Selects};
-ghost use Rattle.authn_core.specs.State.{refuses, waits};
+ghost use Rattle.authn_core.specs.State.{Selects, refuses, waits};
 ghost use Rattle.authn_core.specs.Asking.{asked_alone};
 ghost use Rattle.authn_core.specs.Views.{Takes};
 

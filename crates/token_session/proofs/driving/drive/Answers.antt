@@ -7,12 +7,10 @@ use Rattle.token_session.proofs.driving.drive.Goals as goal
 
 pub returns-then-not-has_room : goal.returns-then-not-has_room
 returns-then-not-has_room g c = record {
-  state = c.loop-i.invariant.state;
-  packets = c.loop-i.invariant.packets;
+  run = record { state = c.loop-i.invariant.state; packets = c.loop-i.invariant.packets; room = c.loop-i.invariant.room };
   meters = tt;
   whole = c.loop-i.invariant.whole;
   full = (c.loop-i-test.true, omega (arith, c.if-not-has_room.ensures));
-  room = c.loop-i.invariant.room;
   after = λ start h b. c.loop-i.invariant.state ∙ driven_stands (take c.loop-i.i c.args.inputs.now) _ start h b;
   sent = λ start h b. c.loop-i.invariant.packets ∙ ap (λ q. map as_pair c.args.sent.now.items ++ q) (driven_follows (take c.loop-i.i c.args.inputs.now) _ start 0 h b);
 }
@@ -21,12 +19,10 @@ pub returns : goal.returns
 returns g c =
     let e : c.loop-i.i ≡ length c.args.inputs.now = omega arith in
     record {
-      state = rw (← e) c.loop-i.invariant.state;
-      packets = rw (← e) c.loop-i.invariant.packets;
+      run = rw (← e) (record { state = c.loop-i.invariant.state; packets = c.loop-i.invariant.packets; room = c.loop-i.invariant.room });
       meters = c.meters.ensures.value;
       whole = rw (← e) c.loop-i.invariant.whole;
       full = tt;
-      room = rw (← e) c.loop-i.invariant.room;
       after = λ start h b. rw (← e) (c.loop-i.invariant.state ∙ driven_stands (take c.loop-i.i c.args.inputs.now) _ start h b);
       sent = λ start h b. rw (← e) (c.loop-i.invariant.packets ∙ ap (λ q. map as_pair c.args.sent.now.items ++ q) (driven_follows (take c.loop-i.i c.args.inputs.now) _ start 0 h b));
     }

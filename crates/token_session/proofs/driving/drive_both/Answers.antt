@@ -3,16 +3,11 @@ use Rattle.token_session.proofs.Drives.{drives_alike}
 use Rattle.token_session.proofs.driving.drive_both.Goals as goal
 
 pub returns-in-Err-clause-first : goal.returns-in-Err-clause-first
-returns-in-Err-clause-first g c = rw c.in_first.ensures c.in-Err.ensures.state
+returns-in-Err-clause-first g c = rw c.in_first.ensures c.in-Err.ensures.run
 
 pub returns-in-Err-clause-second : goal.returns-in-Err-clause-second
-returns-in-Err-clause-second g c = rw c.in_first.ensures refl
-
-pub returns-in-Err-clause-first_packets : goal.returns-in-Err-clause-first_packets
-returns-in-Err-clause-first_packets g c = rw c.in_first.ensures c.in-Err.ensures.packets
-
-pub returns-in-Err-clause-second_packets : goal.returns-in-Err-clause-second_packets
-returns-in-Err-clause-second_packets g c = rw c.in_first.ensures (sym (append-nil _))
+returns-in-Err-clause-second g c =
+    rw c.in_first.ensures (record { state = refl; packets = sym (append-nil _); room = λ j less. absurd (omega arith) })
 
 pub returns-in-Err-clause-meters : goal.returns-in-Err-clause-meters
 returns-in-Err-clause-meters g c = tt
@@ -20,25 +15,15 @@ returns-in-Err-clause-meters g c = tt
 pub returns-in-Err-clause-full : goal.returns-in-Err-clause-full
 returns-in-Err-clause-full g c = rw c.in_first.ensures (inl (c.in-Err.ensures.full.0, c.in-Err.ensures.full.1, refl))
 
-pub returns-in-Err-clause-first_room : goal.returns-in-Err-clause-first_room
-returns-in-Err-clause-first_room g c = rw c.in_first.ensures c.in-Err.ensures.room
-
-pub returns-in-Err-clause-second_room : goal.returns-in-Err-clause-second_room
-returns-in-Err-clause-second_room g c = rw c.in_first.ensures (λ j less. absurd (omega arith))
-
 pub returns-in-Err-clause-alike : goal.returns-in-Err-clause-alike
 returns-in-Err-clause-alike g c = λ start h k b b' q longer. tt
 
 pub returns-in-Ok-drive : goal.returns-in-Ok-drive
 returns-in-Ok-drive g c = record {
-  first = c.in-Ok.ensures.state;
-  second = c.in-Ok-drive.ensures.state;
-  first_packets = c.in-Ok.ensures.packets;
-  second_packets = c.in-Ok-drive.ensures.packets;
+  first = c.in-Ok.ensures.run;
+  second = c.in-Ok-drive.ensures.run;
   meters = (c.in-Ok.ensures.meters, c.in-Ok-drive.ensures.meters);
   full = tt;
-  first_room = c.in-Ok.ensures.room;
-  second_room = c.in-Ok-drive.ensures.room;
   alike = λ start h k b b' q longer.
       drives_alike start h k c.args.inputs.now c.args.quiet.now c.drive.new.session c.drive-2.new.session c.in-Ok.meters c.in-Ok-drive.quiet_meters _ _ q longer
       (c.in-Ok.ensures.after start h b) (c.in-Ok-drive.ensures.after start k b') c.in-Ok.ensures.meters c.in-Ok-drive.ensures.meters (c.in-Ok-drive.ensures.sent start k b');
@@ -46,13 +31,9 @@ returns-in-Ok-drive g c = record {
 
 pub returns-in-Err-drive : goal.returns-in-Err-drive
 returns-in-Err-drive g c = record {
-  first = rw c.in_second.ensures c.in-Ok.ensures.state;
-  second = rw c.in_second.ensures c.in-Err-drive.ensures.state;
-  first_packets = rw c.in_second.ensures c.in-Ok.ensures.packets;
-  second_packets = rw c.in_second.ensures c.in-Err-drive.ensures.packets;
+  first = rw c.in_second.ensures c.in-Ok.ensures.run;
+  second = rw c.in_second.ensures c.in-Err-drive.ensures.run;
   meters = tt;
   full = rw c.in_second.ensures (inr (refl, c.in-Err-drive.ensures.full.0, c.in-Err-drive.ensures.full.1));
-  first_room = rw c.in_second.ensures c.in-Ok.ensures.room;
-  second_room = rw c.in_second.ensures c.in-Err-drive.ensures.room;
   alike = λ start h k b b' q longer. tt;
 }

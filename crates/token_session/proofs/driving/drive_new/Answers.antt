@@ -14,5 +14,5 @@ returns g c =
       numbers = numbers;
       meters = meters_named _ c.args.inputs.now c.drive.result _ (c.drive.ensures.after _ [] c.new-session.ensures) c.drive.ensures.meters;
       full = c.drive.ensures.full;
-      room = room_named _ _ _ _ _ _ c.clear.ensures c.new-session.ensures c.drive.ensures.room;
+      room = room_named _ _ _ _ _ _ c.clear.ensures c.new-session.ensures c.drive.ensures.run.room;
     }

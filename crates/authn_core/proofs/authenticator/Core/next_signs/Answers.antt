@@ -5,8 +5,8 @@ use Rattle.authn_core.specs.Turn.{Held}
 use Rattle.authn_core.proofs.Readiness.{signed_ready}
 use Rattle.authn_core.proofs.authenticator.Core.next_signs.Goals as goal
 
-pub invariant_of-self-2 : goal.invariant_of-self-2
-invariant_of-self-2 g c =
+pub invariant_of-self : goal.invariant_of-self
+invariant_of-self g c =
     let i = c.self.inside in
     let P : Held → Type 0 = λ v. is_some (find (has_id c.args.id) v.core.state.rows) ≡ true in
     (c.self.invariant.0, signed_ready g.row.C (g.T.Table.rows i.table) i.pending c.args.cid _ _ _ c.sign.ensures.rows c.sign.ensures.work c.self.invariant.1.pending (subst P (sym c.self.view_is) c.requires))

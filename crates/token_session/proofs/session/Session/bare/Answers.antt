@@ -1,5 +1,5 @@
 use Rattle.std.proofs.Common.{sym, ap, length}
-use Rattle.authn_core.specs.Turn.{CoreState}
+use Rattle.token_session.specs.declared.authenticator.Authenticator.{Authenticator}
 use Rattle.token_session.specs.Machine.{start_state}
 use Rattle.token_session.proofs.Metering.{begins, bounded_first}
 use Rattle.token_session.proofs.Passing.{whole}
@@ -10,8 +10,8 @@ pub returns : goal.returns
 unfolding start_state
 returns g c =
     let a = c.bare in
-    begins _ _ _ _ (λ i. whole c.args.start (c.new.ensures.value i) (a.ensures.core i) (a.ensures.keepalive i))
-    c.first_meters.ensures (ap (λ (v : CoreState). length v.state.rows) (sym a.ensures.core))
+    begins _ _ _ _ (λ i. whole c.args.start (c.new.ensures.value i) (a.ensures i).core.core (a.ensures i).keepalive_at)
+    c.first_meters.ensures (ap (λ (v : Authenticator g.row.C). length v.core.core.state.rows) (sym a.ensures))
 
 pub invariant_of-result : goal.invariant_of-result
-invariant_of-result g c = (at_most _ _ c.bare.ensures.latest, bounded_first _ _ c.first_meters.ensures)
+invariant_of-result g c = (at_most _ _ (ap (λ (v : Authenticator g.row.C). v.core.latest) c.bare.ensures), bounded_first _ _ c.first_meters.ensures)

@@ -9,6 +9,6 @@ returns-in-Ok g c =
     let e = c.in-Ok.ensures in (
       e.0,
       e.1,
-      begins _ _ _ _ (λ i. whole c.args.start (c.new-self-inside.ensures.value i) (e.2 i) (e.4 i))
+      begins _ _ _ _ (λ i. whole c.args.start (c.new-self-inside.ensures.value i) (e.2 i).core.core (e.2 i).keepalive_at)
           c.first_meters-self-inside.ensures c.credentials.ensures.value,
     )

@@ -1,4 +1,5 @@
-use Rattle.std.proofs.Common.{arith}
+use Rattle.std.proofs.Common.{ap, arith}
+use Rattle.token_session.specs.declared.authenticator.Authenticator.{Authenticator}
 use Rattle.token_session.specs.Machine.{start_state}
 use Rattle.token_session.proofs.Metering.{begins, bounded_first}
 use Rattle.token_session.proofs.Passing.{whole}
@@ -9,11 +10,11 @@ pub returns : goal.returns
 unfolding start_state
 returns g c =
     let a = c.new-authenticator in
-    begins _ _ _ _ (λ i. whole c.args.start (c.new.ensures.value i) (a.ensures.core i) (a.ensures.keepalive i))
+    begins _ _ _ _ (λ i. whole c.args.start (c.new.ensures.value i) (a.ensures i).core.core (a.ensures i).keepalive_at)
     c.first_meters.ensures c.credentials-rows.ensures.value
 
 pub invariant_of-result : goal.invariant_of-result
-invariant_of-result g c = (at_most _ _ c.new-authenticator.ensures.latest, bounded_first _ _ c.first_meters.ensures)
+invariant_of-result g c = (at_most _ _ (ap (λ (v : Authenticator g.row.C). v.core.latest) c.new-authenticator.ensures), bounded_first _ _ c.first_meters.ensures)
 
 pub overflow_cast-rows : goal.overflow_cast-rows
 overflow_cast-rows g c = let few = c.credentials-rows.ensures.few in omega (arith, few.0, few.1)
