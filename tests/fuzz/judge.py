@@ -12,7 +12,7 @@ NEEDS = (b"# need ", b"# signed ")
 
 RULES = {
     "status": "a log ends with 0, or with 1 where it has a fault",
-    "fault": "the fault named is the log's first, in the documented words; without one nothing is said",
+    "fault": "the fault named is the log's first, in the documented words; without one check alone has notes",
     "lines before": "what was written before a fault is what the lines before it make",
     "lines": "the input lines and comments are written again",
     "packets": "at most 130 packets answer an input, and none comes before the first",
@@ -41,6 +41,13 @@ LINE = re.compile(
     re.DOTALL,
 )
 REFUSED = re.compile(rb"hidlog: snapshot refused: (?:1|2|3)\n  [^\n]+: (?:it|credential \d+) [^\n]+\n")
+# What `check` notes of a log in which nothing differs.
+NOTES = (
+    rb"(?:hidlog: note: the log (?:is empty|has no inputs)\n)?"
+    rb"(?:hidlog: note: the last line has no line feed, so the log may be cut off\n)?"
+    rb"(?:hidlog: note: the log ends while the key waits for (?:the user's presence|a new key|a signature)\n"
+    rb"|hidlog: note: the log ends inside a message, after [1-9]\d* bytes of it\n)?"
+)
 COUNTS = re.compile(rb"= held (\d+) rows (\d+) pending (\d+) requests (\d+) bytes (\d+) steps (\d+)")
 # 196 bytes are signed for a registration, 69 for a sign-in.
 NEED = re.compile(
@@ -138,8 +145,9 @@ def is_part(short, whole):
 def judge_end(command, ended, fault):
     """Looks at how a command ended; its output."""
     status, output, said = ended
+    wanted = fault[1] if fault else NOTES if command == "check" else b""
     hold(status == (1 if fault else 0), "status", f"{command} ended with {status}, said {said[:200]!r}")
-    hold(re.fullmatch(fault[1] if fault else b"", said), "fault", f"{command} said {said[:200]!r} and not {fault!r}")
+    hold(re.fullmatch(wanted, said), "fault", f"{command} said {said[:200]!r} and not {wanted!r}")
     return output
 
 
@@ -185,8 +193,11 @@ def judge_difference(output, run):
     digit = b"1" if lines[place][-1:] == b"0" else b"0"
     lines[place] = lines[place][:-1] + digit
     wanted = b"hidlog: line %d: differs at packet %d\n" % (before + 1, place - before)
-    ended = run("check", b"\n".join(lines) + b"\n")
-    hold(ended == (1, b"", wanted), "difference", f"{ended!r} and not {wanted!r}")
+    status, written, said = run("check", b"\n".join(lines) + b"\n")
+    more = said.removeprefix(wanted).splitlines()
+    told = (status, written) == (1, b"") and said.startswith(wanted) and all(it[:2] == b"  " for it in more)
+    # The digit that was changed is the packet's last.
+    hold(told and b"\n  byte 63 of the packet" in said, "difference", f"{(status, written, said)!r} and not {wanted!r}")
 
 
 def judge_quiet(log, output, run):
@@ -250,7 +261,7 @@ def judge_fault(log, fault, run):
     before = b"".join(it + b"\n" for it in lines_of(log)[: fault[0] - 1])
     outputs = {it: judge_end(it, run(it, log), fault) for it in ("replay", "quiet", "live", "show")}
     status, output, said = run("check", log)
-    differs = re.fullmatch(rb"hidlog: line (\d+): differs at packet [1-9]\d*\n", said)
+    differs = re.fullmatch(rb"hidlog: line (\d+): differs at packet [1-9]\d*\n(?:  .*\n)+", said)
     hold(status == 1 and output == b"", "status", f"check ended with {status}")
     hold(re.fullmatch(fault[1], said) or differs and int(differs[1]) < fault[0], "fault", f"check said {said!r}")
     for command, output in outputs.items():

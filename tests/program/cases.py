@@ -4,8 +4,8 @@
     tests/program/cases.py [PROGRAM]      release/hidlog where none is named
 
 A case is a block of lines. The first is the exit status and the words. Of each further line the first sign says where it
-is: `-` in the log, `+` in what is written, `|` in both, `?` in what is said of faults. Two dots at its end mean zeros, up
-to 128 digits in all. A line of a mere `!` says that the log's last line has no line feed. The log is on standard input,
+is: `-` in the log, `+` in what is written, `|` in both, `?` in what is said of faults. Two dots at a packet's end mean
+zeros, up to 128 digits in all. A line of a mere `!` says that the log's last line has no line feed. The log is on standard input,
 and in the file `log` too. The expected texts follow from docs/LOG_FORMAT.md and the standard.
 
 Exit status: 1 where something isn't as it should be.
@@ -62,9 +62,10 @@ class Case:
 
 
 def expanded(line: str) -> str:
-    """Returns a line with the zeros that its two dots mean."""
+    """Returns a line with the zeros that two dots mean where it has a packet."""
     front, dots, _ = line.partition("..")
-    return front + "0" * (128 - len(front.rpartition(" ")[2])) if dots else line
+    is_packet = bool(dots) and line[:1] in ("<", ">")
+    return front + "0" * (128 - len(front.rpartition(" ")[2])) if is_packet else line
 
 
 def snapshot(version: int, head: int, end: bytes) -> bytes:

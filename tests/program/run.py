@@ -23,44 +23,10 @@ from concurrent.futures import ThreadPoolExecutor
 from pathlib import Path
 from typing import Any, Callable, Optional, Sequence
 
-TOP = Path(__file__).resolve().parents[2]
-PROGRAM = str(Path(sys.argv[1]).resolve() if len(sys.argv) > 1 else TOP / "release/hidlog")
-EXAMPLES = TOP / "examples"
-SNAPSHOT = EXAMPLES / "example_com.snapshot"
-AGAIN = EXAMPLES / "sign_in_again.log"
-INIT = b"> 0 " + b"ffffffff8600080001020304050607".ljust(128, b"0") + b"\n"
-COUNTS = b"= held 0 rows 0 pending 0 requests 0 bytes 0 steps 0\n"
+import person
+from running import AGAIN, COUNTS, EXAMPLES, INIT, PROGRAM, SNAPSHOT, STACK, TOP, Said, run, wants
+
 NOBODY = 65534
-# What docs/LIMITS.md says of the program, with the arguments and the environment that lie on it.
-STACK = 128 << 10
-
-Said = subprocess.CompletedProcess[bytes]
-
-
-def run(
-    words: Sequence[str],
-    log: bytes = b"",
-    *,
-    stdin: Optional[Path] = None,
-    trace: Sequence[str] = (),
-    before: Optional[Callable[[], None]] = None,
-) -> Said:
-    """Runs the program with these words on a log, or on a file; under strace where something is to be injected."""
-    command = [PROGRAM, *words]
-    if trace:
-        command = ["strace", "-f", "-qq", "-o", "/dev/null", *trace, *command]
-    if stdin is None:
-        return subprocess.run(command, input=log, capture_output=True, preexec_fn=before, timeout=60)
-    with open(stdin, "rb") as file:
-        return subprocess.run(command, stdin=file, capture_output=True, preexec_fn=before, timeout=60)
-
-
-def wants(said: Said, status: int, faults: bytes, output: Optional[bytes] = None) -> None:
-    """Fails unless the program ended so, and said so."""
-    assert said.returncode == status, f"status {said.returncode} and not {status}: {said.stderr!r}"
-    assert said.stderr == faults, f"said {said.stderr!r} and not {faults!r}"
-    if output is not None:
-        assert said.stdout == output, f"wrote {said.stdout!r} and not {output!r}"
 
 
 def lacks(room: Path, path: str, reason: str) -> bytes:
@@ -352,7 +318,8 @@ def bad_lines_say_where(_: Path) -> None:
 
 def other_faults_have_no_reason(_: Path) -> None:
     """A fault of another kind says nothing about lines that weren't played."""
-    wants(run(["check"], b"< " + b"0" * 128 + b"\nt 5x\n"), 1, b"hidlog: line 0: differs at packet 1\n", b"")
+    said = b"  the log has in line 1:\n    < 00000000 +0\n  the key sends no packet here\n"
+    wants(run(["check"], b"< " + b"0" * 128 + b"\nt 5x\n"), 1, b"hidlog: line 0: differs at packet 1\n" + said, b"")
     wants(run(["replay"], b"#" * 256 + b"\nt 5x\n"), 1, b"hidlog: line 1: longer than 255 bytes\n", b"")
 
 
@@ -382,7 +349,7 @@ def a_full_output_says_so(_: Path) -> None:
         with open("/dev/full", "wb") as out:
             said = subprocess.run([PROGRAM, *words], input=INIT[:-1], stdout=out, stderr=subprocess.PIPE)
         if words == ["check"]:
-            wants(said, 1, b"hidlog: line 1: differs at packet 1\n")
+            assert said.returncode == 1 and said.stderr.startswith(b"hidlog: line 1: differs at packet 1\n"), said
         else:
             wants(said, status, full)
 
@@ -480,6 +447,16 @@ def faults_of_files_say_why(room: Path) -> None:
     )
 
 
+# What is said of a log that has INIT alone.
+MISSING = """\
+  in INIT 06 on channel ffffffff, from line 1
+  the log has no packet here, up to line 2
+  the key sends:
+    < ffffffff INIT 17  nonce 0001020304050607 channel 00000001 version 2 device 1.0.0 capabilities 0c CBOR NMSG
+  the log has no packet of the key: hidlog replay plays a log of inputs, and check compares its result
+"""
+
+
 def several_are_checked(room: Path) -> None:
     """`check` compares each file on a session of its own, and says of each what came of it; no other command does."""
     good, again = EXAMPLES / "registration.log", EXAMPLES / "sign_in.log"
@@ -495,7 +472,7 @@ def several_are_checked(room: Path) -> None:
     differs.write_bytes(INIT + b"t 5\n")
     bad.write_bytes(b"t 5\nt 6x\n")
     told = (
-        f"{differs}: line 1: differs at packet 1\n"
+        f"{differs}: line 1: differs at packet 1\n{MISSING}"
         f"{bad}: line 2: not a log line\n  byte 4 is 'x', which fits no log line here\n"
         f"hidlog: cannot read log\n  {none}: No such file or directory (os error 2)\n"
     )
@@ -675,6 +652,11 @@ def little_stack_is_enough(_: Path) -> None:
     ):
         wants(run(words, log, before=small), 0, b"")
     wants(run(["replay", "--load", str(SNAPSHOT)], AGAIN.read_bytes(), before=small), 0, b"")
+    # What differs is said there, too.
+    bob = str(EXAMPLES / "failing/bob.snapshot")
+    for name, loaded in (("counter_stays", ()), ("wrong_snapshot", ("--load", bob))):
+        said = run(["check", "--all", *loaded], stdin=EXAMPLES / f"failing/{name}.log", before=small)
+        assert said.returncode == 1 and b"  the key sends:\n" in said.stderr, said
 
 
 class Skipped(Exception):
@@ -718,6 +700,7 @@ TESTS = [
     the_named_log_is_kept,
     a_terminal_is_told,
     little_stack_is_enough,
+    *person.TESTS,
 ]
 
 

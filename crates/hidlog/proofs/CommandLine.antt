@@ -220,8 +220,8 @@ met_is m name found named rows = both_parts (subcommand_rows_of m) name (rows_of
 pub path_is : (found : Found) (id : Text) (path : Option Text) → path ≡ first_value found id → path ≡ first_of id (rows_of found)
 path_is found id path is = is ∙ first_value-rows found id
 
-pub three_paths : {A B : Type 0} (f : A → A → A → B) {a a' b b' d d' : A} → a ≡ a' → b ≡ b' → d ≡ d' → f a b d ≡ f a' b' d'
-three_paths f {a} {a'} {b} {b'} {d} {d'} p q r = ap (λ x. f x b d) p ∙ (ap (λ x. f a' x d) q ∙ ap (f a' b') r)
+pub three_parts : {A B C D : Type 0} (f : A → B → C → D) {a a' : A} {b b' : B} {d d' : C} → a ≡ a' → b ≡ b' → d ≡ d' → f a b d ≡ f a' b' d'
+three_parts f {a} {a'} {b} {b'} {d} {d'} p q r = ap (λ x. f x b d) p ∙ (ap (λ x. f a' x d) q ∙ ap (f a' b') r)
 
 -- the paths of logs, where some were found, and where none was
 pub logs_are : (found : Found) (logs : List Text) → Some logs ≡ option_map raw_values (matched_of found (codes "log"))
@@ -244,7 +244,7 @@ pub plain_live : (name : Text) → asked_by (name ∷ codes "live" ∷ []) ≡ S
 unfolding asked_by answers_to clap_on_literals
 plain_live name = refl
 
-pub plain_check : (name : Text) → asked_by (name ∷ codes "check" ∷ []) ≡ Some (check None [])
+pub plain_check : (name : Text) → asked_by (name ∷ codes "check" ∷ []) ≡ Some (check None false [])
 unfolding asked_by answers_to clap_on_literals
 plain_check name = refl
 
@@ -252,6 +252,6 @@ pub plain_quiet : (name : Text) → asked_by (name ∷ codes "quiet" ∷ []) ≡
 unfolding asked_by answers_to clap_on_literals
 plain_quiet name = refl
 
-pub plain_show : (name : Text) → asked_by (name ∷ codes "show" ∷ []) ≡ Some (show Lines None)
+pub plain_show : (name : Text) → asked_by (name ∷ codes "show" ∷ []) ≡ Some (show Lines false None)
 unfolding asked_by answers_to clap_on_literals
 plain_show name = refl

@@ -1,5 +1,5 @@
 -- The definitions at worked words: a reader's check that they say which words ask for what.
-use Rattle.std.proofs.Common.{◌≡◌, ℕ, List, [], ◌∷◌, Option, Some, None, codes, refl}
+use Rattle.std.proofs.Common.{◌≡◌, ℕ, true, false, List, [], ◌∷◌, Option, Some, None, codes, refl}
 use Rattle.clap.proofs.OnLiterals.{clap_on_literals}
 use Rattle.clap.specs.Kinds.{Kinds}
 use Rattle.clap.specs.declared.error.kind.ErrorKind.TheVariants.{DisplayVersion}
@@ -32,7 +32,7 @@ unfolding asked
 live_alone = refl
 
 -- a value may stand after `=`
-attached : asked (codes "check" ∷ codes "--load=old" ∷ []) ≡ Some (check (Some (codes "old")) [])
+attached : asked (codes "check" ∷ codes "--load=old" ∷ []) ≡ Some (check (Some (codes "old")) false [])
 unfolding asked
 attached = refl
 
@@ -40,7 +40,7 @@ quiet_alone : asked (codes "quiet" ∷ []) ≡ Some (quiet None None)
 unfolding asked
 quiet_alone = refl
 
-show_alone : asked (codes "show" ∷ []) ≡ Some (show Lines None)
+show_alone : asked (codes "show" ∷ []) ≡ Some (show Lines false None)
 unfolding asked
 show_alone = refl
 
@@ -49,7 +49,7 @@ log_named : asked (codes "replay" ∷ codes "a.log" ∷ codes "--save" ∷ codes
 unfolding asked
 log_named = refl
 
-logs_named : asked (codes "check" ∷ codes "a.log" ∷ codes "-" ∷ codes "b.log" ∷ []) ≡ Some (check None (codes "a.log" ∷ codes "-" ∷ codes "b.log" ∷ []))
+logs_named : asked (codes "check" ∷ codes "a.log" ∷ codes "-" ∷ codes "b.log" ∷ []) ≡ Some (check None false (codes "a.log" ∷ codes "-" ∷ codes "b.log" ∷ []))
 unfolding asked
 logs_named = refl
 
@@ -63,10 +63,19 @@ unfolding asked
 hyphens_end_options = refl
 
 -- a summary, and JSON, which comes before it
-summary_asked : asked (codes "show" ∷ codes "--summary" ∷ codes "a.log" ∷ []) ≡ Some (show Summary (Some (codes "a.log")))
+summary_asked : asked (codes "show" ∷ codes "--summary" ∷ codes "a.log" ∷ []) ≡ Some (show Summary false (Some (codes "a.log")))
 unfolding asked
 summary_asked = refl
 
-json_asked : asked (codes "show" ∷ codes "--json" ∷ codes "--summary" ∷ []) ≡ Some (show Json None)
+json_asked : asked (codes "show" ∷ codes "--json" ∷ codes "--summary" ∷ []) ≡ Some (show Json false None)
 unfolding asked
 json_asked = refl
+
+-- a comparison that goes on after a difference, and lines that aren't cut
+all_asked : asked (codes "check" ∷ codes "--all" ∷ codes "a.log" ∷ []) ≡ Some (check None true (codes "a.log" ∷ []))
+unfolding asked
+all_asked = refl
+
+wide_asked : asked (codes "show" ∷ codes "--wide" ∷ codes "a.log" ∷ []) ≡ Some (show Lines true (Some (codes "a.log")))
+unfolding asked
+wide_asked = refl

@@ -42,9 +42,9 @@ grammar = record {
   top = record (new_shape (codes "hidlog")) { has_version = true; subcommand_required = true; is_leaf = false };
   subs = command (codes "replay") (path_option (codes "load") ∷ path_option (codes "save") ∷ log_path ∷ [])
       ∷ command (codes "live") (path_option (codes "load") ∷ path_option (codes "save") ∷ log_path ∷ [])
-      ∷ command (codes "check") (path_option (codes "load") ∷ log_paths ∷ [])
+      ∷ command (codes "check") (path_option (codes "load") ∷ flag (codes "all") ∷ log_paths ∷ [])
       ∷ command (codes "quiet") (path_option (codes "load") ∷ log_path ∷ [])
-      ∷ command (codes "show") (flag (codes "summary") ∷ flag (codes "json") ∷ log_path ∷ [])
+      ∷ command (codes "show") (flag (codes "summary") ∷ flag (codes "json") ∷ flag (codes "wide") ∷ log_path ∷ [])
       ∷ [];
 }
 
@@ -64,9 +64,9 @@ AddsCommand program command more = IsOkAnd command (λ sub. (fields_of sub).has_
 pub data Ask : Type 0 where
   replay : (load save log : Option (List ℕ)) → Ask
   live : (load save log : Option (List ℕ)) → Ask
-  check : (load : Option (List ℕ)) (logs : List (List ℕ)) → Ask
+  check : (load : Option (List ℕ)) (all : Bool) (logs : List (List ℕ)) → Ask
   quiet : (load log : Option (List ℕ)) → Ask
-  show : (form : Form) (log : Option (List ℕ)) → Ask
+  show : (form : Form) (wide : Bool) (log : Option (List ℕ)) → Ask
 
 abbrev pub path_of : Option (Bor (List ℕ)) → Option (List ℕ)
 path_of = option_map (λ path. path.now)
@@ -78,9 +78,9 @@ texts_of words = map (λ word. word.now) words
 abbrev pub asks : Task → Ask
 asks (Replay load save log) = replay (path_of load) (path_of save) (path_of log)
 asks (Live load save log) = live (path_of load) (path_of save) (path_of log)
-asks (Check load logs) = check (path_of load) (texts_of logs.items)
+asks (Check load all logs) = check (path_of load) all (texts_of logs.items)
 asks (Quiet load log) = quiet (path_of load) (path_of log)
-asks (Show form log) = show form (path_of log)
+asks (Show form wide log) = show form wide (path_of log)
 
 -- whether an option without a value was found
 abbrev pub is_set : List ℕ → List Row → Bool
@@ -101,10 +101,12 @@ ask_of (name, found) =
     (first_of (codes "log") found))
     else if bytes_eq name (codes "live") then Some (live (first_of (codes "load") found)
     (first_of (codes "save") found) (first_of (codes "log") found))
-    else if bytes_eq name (codes "check") then Some (check (first_of (codes "load") found) (logs_of found))
+    else if bytes_eq name (codes "check") then Some (check (first_of (codes "load") found)
+    (is_set (codes "all") found) (logs_of found))
     else if bytes_eq name (codes "quiet") then Some (quiet (first_of (codes "load") found)
     (first_of (codes "log") found))
-    else if bytes_eq name (codes "show") then Some (show (form_of found) (first_of (codes "log") found))
+    else if bytes_eq name (codes "show") then Some (show (form_of found) (is_set (codes "wide") found)
+    (first_of (codes "log") found))
     else None
 
 abbrev pub unless : Kinds → Option Ask → Option Ask

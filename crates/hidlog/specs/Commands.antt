@@ -14,8 +14,7 @@ use Rattle.session_log.specs.World.{World}
 use Rattle.hidlog.specs.CommandLine.{Ask, answers_to, asked_by, named, replay, live, check, quiet, show}
 use Rattle.hidlog.specs.declared.command_line.Form.{Form}
 use Rattle.hidlog.specs.declared.command_line.Form.TheVariants.{Lines}
-use Rattle.session_log.specs.Streams.{IsAllRead}
-use Rattle.hidlog.specs.Program.{Explains, IsTold, LacksMemory, cannot_read_log}
+use Rattle.hidlog.specs.Program.{Explains, IsTold, IsWhole, LacksMemory, cannot_read_log}
 use Rattle.hidlog.specs.Saved.{FailsToOpen, FailsToSave, Opens, Saves}
 
 -- what is said of the files, of the log's source, of the target of the result and of that of the faults
@@ -74,14 +73,14 @@ module _ {D I O F : Type 0} (holds : D → List ℕ → List ℕ → Type 0) (un
       ((s : SessionState) × IsQuieted start [] left unread ended taken unput status s input output)
       × (files.1 ≡ files.0) × OnOk status (faults.1 ≡ faults.0)
 
-  -- The log was shown. Without a fault all of it was read.
+  -- The log was shown. Without a fault all of it was read, and no read and no write failed.
   abbrev pub Shows : Form → Status → (D × D) → (I × I) → (O × O) → (F × F) → Type 0
   Shows Lines status files input output faults =
       ((answer : Result (Unit {0}) LogFault) × (status ≡ status_of answer)
       × IsCounted left unread ended unput answer input output)
       × (files.1 ≡ files.0) × OnOk status (faults.1 ≡ faults.0)
   Shows _ status files input output faults =
-      (files.1 ≡ files.0) × OnOk status (IsAllRead left ended input.1 × (faults.1 ≡ faults.0))
+      (files.1 ≡ files.0) × OnOk status (IsWhole left ended unread unput input output × (faults.1 ≡ faults.0))
 
   -- What is asked for is done. Of several logs each is compared, and the files stay as they are.
   abbrev pub Does : Ask → Status → (D × D) → (I × I) → (O × O) → (F × F) → Type 0
@@ -90,13 +89,13 @@ module _ {D I O F : Type 0} (holds : D → List ℕ → List ℕ → Type 0) (un
       status files input output faults
   Does (live load save log) status files input output faults = Reads log (λ read. Begins load
       (Lives save status files read output faults) status files read output faults) status files input output faults
-  Does (check load []) status files input output faults = Compares load None status files input output faults
-  Does (check load (log ∷ [])) status files input output faults =
+  Does (check load all []) status files input output faults = Compares load None status files input output faults
+  Does (check load all (log ∷ [])) status files input output faults =
       Compares load (Some log) status files input output faults
-  Does (check load (log ∷ next ∷ logs)) status files input output faults = files.1 ≡ files.0
+  Does (check load all (log ∷ next ∷ logs)) status files input output faults = files.1 ≡ files.0
   Does (quiet load log) status files input output faults = Reads log (λ read. Begins load
       (Quiets status files read output faults) status files read output faults) status files input output faults
-  Does (show form log) status files input output faults = Reads log (λ read. Shows form status files read output faults)
+  Does (show form wide log) status files input output faults = Reads log (λ read. Shows form status files read output faults)
       status files input output faults
 
   -- What words ask for is done, or memory was refused. Where they ask for nothing, clap's answer is given. But for what

@@ -6,7 +6,7 @@ use Rattle.clap.specs.declared.error.kind.ErrorKind.TheVariants.{DisplayHelp, Di
 use Rattle.cred_table.specs.declared.fault.SnapshotFault.{SnapshotFault}
 use Rattle.cred_table.specs.declared.fault.SnapshotFault.TheVariants.{NotSnapshot, TooMany, RowBroken, Memory}
 use Rattle.session_log.specs.Command.{Status}
-use Rattle.session_log.specs.Streams.{IsTaken, IsBroken}
+use Rattle.session_log.specs.Streams.{IsAllRead, IsTaken, IsBroken}
 
 -- a text was given to a target, whole or its front
 abbrev pub IsGiven : {F : Type 0} → (F → Option (List ℕ)) → (F → ℕ) → (F × F) → List ℕ → Type 0
@@ -17,6 +17,11 @@ abbrev pub IsTold : {F : Type 0} → (F → Option (List ℕ)) → (F → ℕ) �
 IsTold {F} taken failed target text = IsBroken taken failed target text
     ⊎ ((told : F) × IsTaken taken failed (target.0, told) text
     × ((target.1 ≡ told) ⊎ ((more : List ℕ) × IsGiven taken failed (told, target.1) more)))
+
+-- all of a source was read, and no call of it or of a target failed
+abbrev pub IsWhole : {I O : Type 0} → (I → Option (List ℕ)) → (I → Bool) → (I → ℕ) → (O → ℕ) → (I × I) → (O × O) → Type 0
+IsWhole left ended unread unput input output = IsAllRead left ended input.1
+    × (unread input.1 ≡ unread input.0) × (unput output.1 ≡ unput output.0)
 
 -- the text where memory is refused
 abbrev pub no_memory : List ℕ

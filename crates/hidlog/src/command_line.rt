@@ -40,9 +40,10 @@ pub enum Task<'a> {
         save: Option<&'a str>,
         log: Option<&'a str>,
     },
-    /// `hidlog check [--load F] [FILE]..`
+    /// `hidlog check [--load F] [--all] [FILE]..`
     Check {
         load: Option<&'a str>,
+        all: bool,
         logs: Vec<&'a str>,
     },
     /// `hidlog quiet [--load F] [FILE]`
@@ -50,9 +51,10 @@ pub enum Task<'a> {
         load: Option<&'a str>,
         log: Option<&'a str>,
     },
-    /// `hidlog show [--summary] [--json] [FILE]`
+    /// `hidlog show [--summary] [--json] [--wide] [FILE]`
     Show {
         form: Form,
+        wide: bool,
         log: Option<&'a str>,
     },
 }
@@ -98,6 +100,28 @@ fn json<'a>(alloc: Global) -> Arg<'a>
         .long("json")
         .action(ArgAction::SetTrue)
         .help("Writes an object of JSON a line, for scripts")
+}
+
+/// The option `--wide`.
+fn wide<'a>(alloc: Global) -> Arg<'a>
+    ensures rule { rule_of result ≡ flag (codes "wide") }
+    ensures local { result.global ≡ false }
+{
+    Arg::new(alloc, "wide")
+        .long("wide")
+        .action(ArgAction::SetTrue)
+        .help("Writes lines whole at a terminal, where they are cut at its width otherwise")
+}
+
+/// The option `--all`.
+fn all<'a>(alloc: Global) -> Arg<'a>
+    ensures rule { rule_of result ≡ flag (codes "all") }
+    ensures local { result.global ≡ false }
+{
+    Arg::new(alloc, "all")
+        .long("all")
+        .action(ArgAction::SetTrue)
+        .help("Goes on after a difference, and counts them")
 }
 
 /// The path of a log.
@@ -154,12 +178,13 @@ fn live<'a>(alloc: Global) -> Result<Command<'a>, AllocError>
 /// The command `check`.
 fn check<'a>(alloc: Global) -> Result<Command<'a>, AllocError>
     ensures shape { IfOk result (λ made. shape_of made ≡ command (codes "check")
-        (path_option (codes "load") ∷ log_paths ∷ [])) }
+        (path_option (codes "load") ∷ flag (codes "all") ∷ log_paths ∷ [])) }
     ensures local { IfOk result (λ made. (fields_of made).has_globals ≡ false) }
 {
     Command::new(alloc, "check")
         .about("Compares the packets that the log names as sent with those that the key sends")
         .arg(load(alloc))?
+        .arg(all(alloc))?
         .arg(logs(alloc))
 }
 
@@ -178,13 +203,14 @@ fn quiet<'a>(alloc: Global) -> Result<Command<'a>, AllocError>
 /// The command `show`.
 fn show<'a>(alloc: Global) -> Result<Command<'a>, AllocError>
     ensures shape { IfOk result (λ made. shape_of made ≡ command (codes "show")
-        (flag (codes "summary") ∷ flag (codes "json") ∷ log_path ∷ [])) }
+        (flag (codes "summary") ∷ flag (codes "json") ∷ flag (codes "wide") ∷ log_path ∷ [])) }
     ensures local { IfOk result (λ made. (fields_of made).has_globals ≡ false) }
 {
     Command::new(alloc, "show")
         .about("Writes what the log's lines say, line by line")
         .arg(summary(alloc))?
         .arg(json(alloc))?
+        .arg(wide(alloc))?
         .arg(log(alloc))
 }
 
@@ -267,6 +293,7 @@ fn task_in<'a>(alloc: Global, matches: &ArgMatches<'a>) -> Result<Option<Task<'a
         })),
         "check" => Ok(Some(Task::Check {
             load: options.get_str("load"),
+            all: is_set(options, "all"),
             logs: logs_in(alloc, options)?,
         })),
         "quiet" => Ok(Some(Task::Quiet {
@@ -275,6 +302,7 @@ fn task_in<'a>(alloc: Global, matches: &ArgMatches<'a>) -> Result<Option<Task<'a
         })),
         "show" => Ok(Some(Task::Show {
             form: form_in(options),
+            wide: is_set(options, "wide"),
             log: options.get_str("log"),
         })),
         _ => Ok(None),
@@ -291,11 +319,13 @@ fn plain_task<'a>(alloc: Global, program: &str, name: &str) -> Option<Task<'a>>
         "live" => Some(Task::Live { load, save, log }),
         "check" => Some(Task::Check {
             load,
+            all: false,
             logs: Vec::new(alloc),
         }),
         "quiet" => Some(Task::Quiet { load, log }),
         "show" => Some(Task::Show {
             form: Form::Lines,
+            wide: false,
             log,
         }),
         _ => None,

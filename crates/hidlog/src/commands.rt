@@ -8,6 +8,7 @@ ghost use Rattle.hidlog.specs.Commands.{Compares, Does};
 use crate::files::Files;
 use crate::logs::Logs;
 use crate::program::{open_log, path_in};
+use crate::remarks::Remarks;
 use crate::snapshots::{begin, look, save_rows};
 use session_log::{CAPACITY, Target, check_command, live_command, quiet_command, replay_command};
 use std::alloc::Global;
@@ -86,7 +87,7 @@ where
     }
 }
 
-/// Compares the log with what the session sends.
+/// Compares the log with what the session sends. Where nothing differs, the remarks have how it ended.
 #[inline(never)]
 pub fn check_on<D, L, O, E>(
     session: &mut Session<CAPACITY>,
@@ -96,6 +97,7 @@ pub fn check_on<D, L, O, E>(
     log: Option<&str>,
     input: &mut L,
     output: &mut O,
+    remarks: &mut Remarks,
     faults: &mut E,
 ) -> Result<(), u8>
 where
@@ -115,7 +117,9 @@ where
 {
     open_log(input, alloc, log, faults)?;
     let session = begin(session, files, alloc, load, faults)?;
-    check_command(session, input, output, faults)
+    let ended = check_command(session, input, output, faults);
+    remarks.look(&ended, session);
+    ended
 }
 
 /// Makes the log quiet.

@@ -1,13 +1,18 @@
 //! The logs that the program reads.
 ghost use Rattle.std.specs.Prelude.{◌≡◌, ℕ, List, None, IfOk, MatchResult};
 
+use crate::progress::Progress;
+use crate::seen::Seen;
 use crate::streams::Patient;
-use session_log::{Failed, Source};
-use std::fs::File;
-use std::io::{self, Error, IsTerminal, Read, Stdin, Write};
+use session_log::{Failed, FromRead, Source};
+use std::fs::{self, File};
+use std::io::{self, BufReader, Cursor, Error, IsTerminal, Read, Stdin, Write};
 
 /// A source that can be pointed at a file.
 pub trait Logs: Source {
+    /// The log once more.
+    type Again: Source + Drop;
+
     /// The source after it was pointed at the file at a path: nothing of it was read.
     ghost opened: { Self → List ℕ → Self → Type 0 };
 
@@ -29,15 +34,23 @@ pub trait Logs: Source {
 
     /// Returns the error at which reading failed.
     fn failure(&self) -> Option<&Error>;
+
+    /// Returns the log from its front once more, where it is a file or short. This one stays where it is.
+    fn again(&self) -> Option<Self::Again>;
+
+    /// Returns what was seen of the log so far.
+    fn seen(&self) -> &Seen;
 }
 
 /// Where the bytes of a log come from.
 #[derive(Drop)]
-enum Stream {
+pub enum Stream {
     /// Standard input.
     Standard(Stdin),
     /// A file that is named.
     Named(File),
+    /// What was kept of a log.
+    Kept(Cursor<Vec<u8>>),
 }
 
 impl Read for Stream {
@@ -45,9 +58,13 @@ impl Read for Stream {
         match self {
             Stream::Standard(input) => input.read(buf),
             Stream::Named(file) => file.read(buf),
+            Stream::Kept(bytes) => bytes.read(buf),
         }
     }
 }
+
+/// The path of standard input.
+const STANDARD_INPUT: &str = "/dev/stdin";
 
 /// How many bytes are held, of those that were read last.
 const HELD: usize = 8192;
@@ -68,6 +85,11 @@ pub struct HostLog<'a> {
     name: String,
     stream: Patient<Stream>,
     is_new: bool,
+    /// The path by which it can be read again, where it is a file.
+    path: Option<String>,
+    /// Whether it may have to be read again.
+    is_kept: bool,
+    seen: Seen,
     held: Vec<u8>,
     at: usize,
     end: usize,
@@ -101,18 +123,33 @@ fn say_awaited(rt: &HostRuntime) {
     }
 }
 
-/// Opens a file that isn't a folder.
-fn open_file(rt: &HostRuntime, path: &str) -> io::Result<File> {
+/// Opens a file that isn't a folder. Returns how many bytes it has, where it can be read again.
+fn open_file(rt: &HostRuntime, path: &str) -> io::Result<(File, Option<u64>)> {
     let file = File::open(rt, path)?;
-    if file.metadata()?.is_dir() {
+    let found = file.metadata()?;
+    if found.is_dir() {
         return Err(Error::from_raw_os_error(EISDIR));
     }
-    Ok(file)
+    let size = if found.is_file() {
+        Some(found.len())
+    } else {
+        None
+    };
+    Ok((file, size))
+}
+
+/// Returns how many bytes standard input has, where it is a file.
+fn size_of_input(rt: &HostRuntime) -> Option<u64> {
+    match fs::metadata(rt, STANDARD_INPUT) {
+        Ok(found) if found.is_file() => Some(found.len()),
+        _ => None,
+    }
 }
 
 impl<'a> HostLog<'a> {
-    /// Returns the log on standard input, or that there is no memory.
-    pub fn new(rt: &'a HostRuntime) -> io::Result<Self>
+    /// Returns the log on standard input, or that there is no memory. Where `is_kept`, a log that can't be read again is
+    /// kept, if it is short. Where `says_progress`, it is said how much was read of a long one.
+    pub fn new(rt: &'a HostRuntime, is_kept: bool, says_progress: bool) -> io::Result<Self>
         ensures { IfOk result (λ log. ⟦<HostLog<'a> as Source>⟧.failed log ≡ 0) }
     {
         Ok(HostLog {
@@ -120,6 +157,9 @@ impl<'a> HostLog<'a> {
             name: String::from_str(rt.alloc(), "standard input")?,
             stream: Patient::new(Stream::Standard(rt.stdin())),
             is_new: true,
+            path: None,
+            is_kept,
+            seen: Seen::new(Progress::new(says_progress, None)),
             held: vec![in rt.alloc(); 0; HELD]?,
             at: 0,
             end: 0,
@@ -146,6 +186,21 @@ impl<'a> HostLog<'a> {
         self.name.as_str()
     }
 
+    /// Begins to look at a log, which has so many bytes and this path where it can be read again.
+    fn look(&mut self, size: Option<u64>, path: &str)
+        ensures counted { self.new.failures ≡ self.old.failures }
+        ensures ends { self.new.ended ≡ self.old.ended }
+    {
+        self.seen = Seen::new(Progress::new(self.seen.progress.is_said(), size));
+        self.path = match size {
+            Some(_) => String::from_str(self.rt.alloc(), path).ok(),
+            None => None,
+        };
+        if self.is_kept && self.path.is_none() {
+            self.seen.keep(self.rt.alloc());
+        }
+    }
+
     /// Reads more, after what was read before.
     fn fill(&mut self) -> io::Result<()>
         ensures counted { self.new.failures ≡ self.old.failures }
@@ -154,6 +209,7 @@ impl<'a> HostLog<'a> {
         if self.is_new {
             self.is_new = false;
             say_awaited(self.rt);
+            self.look(size_of_input(self.rt), STANDARD_INPUT);
         }
         if self.end > HELD - KEPT {
             self.end = keep_last(&mut self.held, self.end);
@@ -162,9 +218,27 @@ impl<'a> HostLog<'a> {
         }
         if let Some((_, space)) = self.held.split_at_mut_checked(self.end) {
             let n = self.stream.read(space)?;
-            self.end = self.end.saturating_add(n);
+            let end = self.end.saturating_add(n);
+            self.seen.take(between(&self.held, self.end, end));
+            self.end = end;
+            self.say_read(n);
         }
         Ok(())
+    }
+}
+
+impl HostLog<'_> {
+    /// Says how much was read, after so many bytes more.
+    fn say_read(&mut self, more: usize)
+        ensures counted { self.new.failures ≡ self.old.failures }
+        ensures ends { self.new.ended ≡ self.old.ended }
+    {
+        let (rt, len) = (self.rt, self.seen.len());
+        if more == 0 {
+            self.seen.progress.end(rt);
+        } else {
+            self.seen.progress.pass(rt, len);
+        }
     }
 }
 
@@ -194,14 +268,17 @@ impl Source for HostLog<'_> {
 }
 
 impl Logs for HostLog<'_> {
+    type Again = FromRead<BufReader<Patient<Stream>>>;
+
     ghost opened = { λ _ _ _. Unit {0} };
 
     ghost unopenable = { λ _ _. Unit {0} };
 
     fn open(&mut self, path: &str) -> io::Result<()> {
-        let file = open_file(self.rt, path)?;
+        let (file, size) = open_file(self.rt, path)?;
         self.name = String::from_str(self.rt.alloc(), path)?;
         self.begin(Stream::Named(file), false);
+        self.look(size, path);
         Ok(())
     }
 
@@ -222,5 +299,19 @@ impl Logs for HostLog<'_> {
 
     fn failure(&self) -> Option<&Error> {
         self.stream.failure()
+    }
+
+    fn again(&self) -> Option<FromRead<BufReader<Patient<Stream>>>> {
+        let stream = match (&self.path, self.seen.kept()) {
+            (Some(path), _) => Stream::Named(open_file(self.rt, path.as_str()).ok()?.0),
+            (None, Some(kept)) => Stream::Kept(Cursor::new(kept.clone().ok()?)),
+            (None, None) => return None,
+        };
+        let reader = BufReader::new(self.rt.alloc(), Patient::new(stream)).ok()?;
+        Some(FromRead::new(reader))
+    }
+
+    fn seen(&self) -> &Seen {
+        &self.seen
     }
 }

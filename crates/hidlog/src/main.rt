@@ -5,25 +5,37 @@ ghost use Rattle.std.specs.Prelude.{◌<◌, ◌-◌, ◌^◌};
 
 mod command_line;
 mod commands;
+mod differing;
 mod files;
 mod logs;
 mod misfit;
 mod process;
 mod program;
+mod progress;
+mod remarks;
+mod screen;
+mod seen;
 mod several;
+mod sides;
 mod snapshots;
 mod streams;
+mod terminal;
 
+use command_line::{Task, task_of};
+use differing::{Wish, tell_differences};
 use files::HostFiles;
 use logs::{HostLog, Logs};
 use misfit::first_reason;
 use process::{no_memory, tell, tell_why, words_of};
 use program::run;
+use remarks::{Remarks, note};
+use screen::Screen;
 use session_log::{Target, ToWrite};
 use std::alloc::Global;
 use std::io::{self, ErrorKind, Printer};
 use std::process::ExitCode;
-use streams::{Faults, Patient, WRITING_FAILED};
+use streams::{Faults, Patient, Told, WRITING_FAILED};
+use terminal::{says_progress, style_of, width_of_faults};
 
 /// The exit status where standard output was closed, as a shell returns it for a program that SIGPIPE ended.
 const CLOSED_PIPE: u8 = 141;
@@ -31,8 +43,62 @@ const CLOSED_PIPE: u8 = 141;
 /// What standard output is written by.
 type Output<'a> = Patient<Printer<'a, HostRuntime>>;
 
-/// Runs the program on these words, and says why a line of the log is none, or why reading it failed. An error holds the
-/// exit status.
+/// Says why a line of the log is none, why reading it failed or what differs in it; and, where nothing is wrong, what may
+/// be.
+fn say_more<E: Target>(
+    rt: &HostRuntime,
+    words: &[&str],
+    input: &HostLog<'_>,
+    remarks: &Remarks,
+    faults: &mut Faults<E>,
+)
+    requires { E.failed faults.old.inner < 2 ^ 64 - 1 }
+{
+    let alloc = rt.alloc();
+    if faults.has_bad_line() {
+        if let Some(reason) = first_reason(alloc, input.lines()) {
+            tell(faults, reason.as_bytes());
+        }
+    } else if faults.has_failed_read() {
+        if let Some(error) = input.failure() {
+            tell_why(faults, alloc, b"", input.name(), error);
+        }
+    } else if let Some(told) = faults.difference() {
+        say_differences(rt, words, input, remarks, &told, faults);
+    } else if let Some(ending) = &remarks.ending {
+        note(faults, alloc, "hidlog", input.seen(), ending);
+    }
+}
+
+/// Says what differs in a log that isn't one of several.
+fn say_differences<E: Target>(
+    rt: &HostRuntime,
+    words: &[&str],
+    input: &HostLog<'_>,
+    remarks: &Remarks,
+    told: &Told,
+    faults: &mut Faults<E>,
+) {
+    let Ok(Task::Check { load, all, .. }) = task_of(rt.alloc(), words) else {
+        return;
+    };
+    let wish = Wish {
+        alloc: rt.alloc(),
+        name: "hidlog",
+        load,
+        is_all: all,
+        width: remarks.width,
+    };
+    tell_differences(
+        &HostFiles(rt),
+        &wish,
+        input.again(),
+        told.as_slice(),
+        faults,
+    );
+}
+
+/// Runs the program on these words, and says more of what came of it. An error holds the exit status.
 fn play<'a, E: Target>(
     rt: &HostRuntime,
     words: &'a [&'a str],
@@ -42,29 +108,25 @@ fn play<'a, E: Target>(
     requires { E.failed faults.old.inner < 2 ^ 64 - 1 }
 {
     let alloc = rt.alloc();
-    let Ok(mut input) = HostLog::new(rt) else {
+    let is_check = words.get(1).is_some_and(|word| *word == "check");
+    let Ok(mut input) = HostLog::new(rt, is_check, says_progress(rt, is_check)) else {
         return Err(no_memory(faults));
     };
-    let mut output = ToWrite::new(writer);
+    let mut remarks = Remarks {
+        width: width_of_faults(rt),
+        ending: None,
+    };
     let ended = run(
         &mut HostFiles(rt),
         alloc,
         words,
         &mut input,
-        &mut output,
+        &mut Screen::new(alloc, ToWrite::new(writer), style_of(rt, words)),
+        &mut remarks,
         faults,
     );
-    if faults.failures() > 0 {
-        return ended;
-    }
-    if faults.has_bad_line() {
-        if let Some(reason) = first_reason(alloc, input.lines()) {
-            tell(faults, reason.as_bytes());
-        }
-    } else if faults.has_failed_read()
-        && let Some(error) = input.failure()
-    {
-        tell_why(faults, alloc, b"", input.name(), error);
+    if faults.failures() == 0 {
+        say_more(rt, words, &input, &remarks, faults);
     }
     ended
 }

@@ -1,11 +1,10 @@
 //! The program over any source and targets.
-ghost use Rattle.std.specs.Prelude.{◌≡◌, ◌<◌, ◌-◌, ◌^◌, ◌⊎◌, ◌∷◌, [], None, Some, Result, IfErr, IsSomeAnd, MatchOption, OnOk, OnErr, codes, option_and_then};
+ghost use Rattle.std.specs.Prelude.{◌≡◌, ◌<◌, ◌-◌, ◌^◌, ◌⊎◌, ◌∷◌, [], false, None, Some, Result, IfErr, IsSomeAnd, MatchOption, OnOk, OnErr, codes, option_and_then};
 ghost use Rattle.clap.specs.Words.{kind_of};
 ghost use Rattle.session_log.specs.Command.{start_with, status_of};
-ghost use Rattle.session_log.specs.Streams.{IsAllRead};
 ghost use Rattle.token_session.specs.Meters.{session_of};
 ghost use Rattle.hidlog.specs.CommandLine.{check, live, named, quiet, replay, show as shown, path_of, texts_of};
-ghost use Rattle.hidlog.specs.Program.{Explains, IsTold, cannot_read_log};
+ghost use Rattle.hidlog.specs.Program.{Explains, IsTold, IsWhole, cannot_read_log};
 ghost use Rattle.hidlog.specs.Commands.{Answers, Compares, Does};
 
 use crate::command_line::{Form, Task, task_of};
@@ -13,6 +12,7 @@ use crate::commands::{check_on, live_on, quiet_on, replay_on};
 use crate::files::Files;
 use crate::logs::Logs;
 use crate::process::{log_fault, no_memory, tell, tell_why};
+use crate::remarks::Remarks;
 use crate::several::check_each;
 use clap::Error;
 use clap::error::ErrorKind;
@@ -89,7 +89,7 @@ pub fn open_log<L: Logs, E: Target>(
 
 /// Returns the program's session at its start, without credentials.
 // By this function it is made where its caller keeps it. Of a call of `Session::bare` in its place there is a copy.
-fn fresh() -> Session<CAPACITY>
+pub fn fresh() -> Session<CAPACITY>
     ensures { result ≡ session_of (start_with []) [] }
 {
     Session::bare([0; 16], 0)
@@ -180,6 +180,7 @@ pub fn check_log<D, L, O, E>(
     log: Option<&str>,
     input: &mut L,
     output: &mut O,
+    remarks: &mut Remarks,
     faults: &mut E,
 ) -> Result<(), u8>
 where
@@ -196,7 +197,17 @@ where
         (path_of load.entry) (path_of log.entry) result
         (files.now, files.now) (input.old, input.new) (output.old, output.new) (faults.old, faults.new) }
 {
-    check_on(&mut fresh(), files, alloc, load, log, input, output, faults)
+    check_on(
+        &mut fresh(),
+        files,
+        alloc,
+        load,
+        log,
+        input,
+        output,
+        remarks,
+        faults,
+    )
 }
 
 /// Makes the log quiet.
@@ -231,16 +242,23 @@ where
 fn show_summary<L: Logs, O: Target>(input: &mut L, output: &mut O) -> Result<(), LogFault>
     requires reads { L.failed input.old < 2 ^ 64 - 1 }
     requires writes { O.failed output.old < 2 ^ 64 - 1 }
-    ensures { OnOk result (IsAllRead L.left L.ended input.new) }
+    ensures { OnOk result (IsWhole L.left L.ended L.failed O.failed (input.old, input.new) (output.old, output.new)) }
 {
     let mut summary = Summary::new();
-    let ended = summarize(input, output, &mut summary);
-    if output.failures() == u64::MAX || ended == Err(LogFault::Write) {
-        return Err(LogFault::Write);
-    }
-    match summary.put(output) {
-        Ok(()) => ended,
-        Err(_) => Err(LogFault::Write),
+    match summarize(input, output, &mut summary) {
+        Ok(()) => {
+            match summary.put(output) {
+                Ok(()) => Ok(()),
+                Err(_) => Err(LogFault::Write),
+            }
+        }
+        Err(fault) => {
+            let is_lost = fault == LogFault::Write || output.failures() == u64::MAX;
+            if !is_lost && summary.put(output).is_err() {
+                return Err(LogFault::Write);
+            }
+            Err(fault)
+        }
     }
 }
 
@@ -249,15 +267,17 @@ fn show_summary<L: Logs, O: Target>(input: &mut L, output: &mut O) -> Result<(),
 fn show_objects<L: Logs, O: Target>(input: &mut L, output: &mut O) -> Result<(), LogFault>
     requires reads { L.failed input.old < 2 ^ 64 - 1 }
     requires writes { O.failed output.old < 2 ^ 64 - 1 }
-    ensures { OnOk result (IsAllRead L.left L.ended input.new) }
+    ensures { OnOk result (IsWhole L.left L.ended L.failed O.failed (input.old, input.new) (output.old, output.new)) }
 {
-    let ended = show_json(input, output);
-    if let Err(fault) = &ended {
-        if *fault != LogFault::Write && output.failures() < u64::MAX {
-            let _ = put_json_fault(output, fault);
+    match show_json(input, output) {
+        Ok(()) => Ok(()),
+        Err(fault) => {
+            if fault != LogFault::Write && output.failures() < u64::MAX {
+                let _ = put_json_fault(output, &fault);
+            }
+            Err(fault)
         }
     }
-    ended
 }
 
 /// Writes the fault that a log was shown up to, if it has one. An error holds the exit status, 1.
@@ -293,7 +313,7 @@ where
     requires tells { E.failed faults.old < 2 ^ 64 - 1 }
     ensures status { IfErr result (λ code. (code ≡ 1) ⊎ (code ≡ 2)) }
     ensures does { Does D.holds D.unreadable D.written D.unwritten D.unwritable L.opened L.unopenable L.left L.failed L.ended
-        O.taken O.failed E.taken E.failed (shown form (path_of log.entry)) result
+        O.taken O.failed E.taken E.failed (shown form false (path_of log.entry)) result
         (files.now, files.now) (input.old, input.new) (output.old, output.new) (faults.old, faults.new) }
 {
     open_log(input, alloc, log, faults)?;
@@ -318,9 +338,11 @@ fn check_logs<D, L, O, E>(
     files: &D,
     alloc: Global,
     load: Option<&str>,
+    all: bool,
     logs: &[&str],
     input: &mut L,
     output: &mut O,
+    remarks: &mut Remarks,
     faults: &mut E,
 ) -> Result<(), u8>
 where
@@ -334,13 +356,26 @@ where
     ensures status { IfErr result (λ code. (code ≡ 1) ⊎ (code ≡ 2)) }
     ensures does { Does D.holds D.unreadable D.written D.unwritten D.unwritable L.opened L.unopenable L.left L.failed L.ended
         O.taken O.failed E.taken E.failed
-        (check (path_of load.entry) (texts_of logs.now)) result
+        (check (path_of load.entry) all (texts_of logs.now)) result
         (files.now, files.now) (input.old, input.new) (output.old, output.new) (faults.old, faults.new) }
 {
     match logs {
-        [] => check_log(files, alloc, load, None, input, output, faults),
-        [log] => check_log(files, alloc, load, Some(*log), input, output, faults),
-        _ => check_each(files, alloc, load, logs, input, output, faults),
+        [] => check_log(files, alloc, load, None, input, output, remarks, faults),
+        [log] => {
+            check_log(
+                files,
+                alloc,
+                load,
+                Some(*log),
+                input,
+                output,
+                remarks,
+                faults,
+            )
+        }
+        _ => check_each(
+            files, alloc, load, all, logs, input, output, remarks, faults,
+        ),
     }
 }
 
@@ -353,6 +388,7 @@ pub fn run<'a, D, L, O, E>(
     words: &'a [&'a str],
     input: &mut L,
     output: &mut O,
+    remarks: &mut Remarks,
     faults: &mut E,
 ) -> Result<(), u8>
 where
@@ -376,13 +412,18 @@ where
         Ok(Task::Live { load, save, log }) => {
             live_log(files, alloc, load, save, log, input, output, faults)
         }
-        Ok(Task::Check { load, logs }) => {
-            check_logs(files, alloc, load, &logs, input, output, faults)
+        Ok(Task::Check { load, all, logs }) => {
+            check_logs(
+                files, alloc, load, all, &logs, input, output, remarks, faults,
+            )
         }
         Ok(Task::Quiet { load, log }) => {
             quiet_log(files, alloc, load, log, input, output, faults)
         }
-        Ok(Task::Show { form, log }) => { show_log(files, alloc, form, log, input, output, faults) }
+        // Whether lines are whole is a matter of the output.
+        Ok(Task::Show { form, wide: _, log }) => show_log(
+            files, alloc, form, log, input, output, faults,
+        ),
         Err(error) => explain(alloc, &error, output, faults),
     }
 }

@@ -1,11 +1,14 @@
 //! Several logs that are compared, one after the other.
 ghost use Rattle.std.specs.Prelude.{◌≡◌, ◌<◌, ◌-◌, ◌^◌, ◌⊎◌, IfErr, OnOk};
 
+use crate::differing::{Wish, tell_differences};
 use crate::files::Files;
 use crate::logs::Logs;
 use crate::misfit::first_reason;
 use crate::process::tell;
 use crate::program::check_log;
+use crate::remarks::{Remarks, note};
+use crate::streams::is_difference;
 use session_log::{Failed, Target, ToWrite, put_all};
 use std::alloc::Global;
 
@@ -37,6 +40,8 @@ fn tell_of<L: Logs, E: Target>(faults: &mut E, alloc: Global, path: &str, input:
     }
     let more = if text.ends_with(b": not a log line\n") {
         first_reason(alloc, input.lines())
+    } else if is_difference(text) {
+        None
     } else {
         reading_failed(alloc, input)
     };
@@ -54,11 +59,10 @@ fn reading_failed<L: Logs>(alloc: Global, input: &L) -> Option<String> {
 /// Compares one of several logs, and says what came of it with its path in front.
 fn check_one<D, L, O, E>(
     files: &D,
-    alloc: Global,
-    load: Option<&str>,
-    path: &str,
+    wish: &Wish<'_>,
     input: &mut L,
     output: &mut O,
+    remarks: &mut Remarks,
     faults: &mut E,
 ) -> Result<(), u8>
 where
@@ -71,6 +75,7 @@ where
     requires tells { E.failed faults.old < 2 ^ 64 - 1 }
     ensures { IfErr result (λ code. (code ≡ 1) ⊎ (code ≡ 2)) }
 {
+    let (alloc, path) = (wish.alloc, wish.name);
     if path == "-" {
         input.restart();
     }
@@ -78,18 +83,37 @@ where
     let ended = check_log(
         files,
         alloc,
-        load,
+        wish.load,
         Some(path),
         input,
         &mut ToWrite::new(&mut same),
+        remarks,
         &mut ToWrite::new(&mut told),
     );
     if ended.is_err() {
         tell_of(faults, alloc, path, input, &told);
+        if is_difference(&told) {
+            tell_differences(files, wish, input.again(), &told, faults);
+        }
     } else if put_about(output, path, &same).is_err() {
         return Err(1);
     }
     ended
+}
+
+/// Writes what may be wrong with a log in which nothing differs.
+fn note_one<L: Logs, E: Target>(
+    alloc: Global,
+    path: &str,
+    input: &L,
+    remarks: &mut Remarks,
+    faults: &mut E,
+) {
+    if let Some(ending) = remarks.ending.take()
+        && faults.failures() < u64::MAX
+    {
+        note(faults, alloc, path, input.seen(), &ending);
+    }
 }
 
 /// Compares each log at these paths, on a session of its own. An error holds the exit status, 1 where any of them
@@ -98,9 +122,11 @@ pub fn check_each<D, L, O, E>(
     files: &D,
     alloc: Global,
     load: Option<&str>,
+    is_all: bool,
     paths: &[&str],
     input: &mut L,
     output: &mut O,
+    remarks: &mut Remarks,
     faults: &mut E,
 ) -> Result<(), u8>
 where
@@ -116,7 +142,15 @@ where
         if is_spent || output.failures() > 0 {
             return Err(1);
         }
-        let one = check_one(files, alloc, load, path, input, output, faults);
+        let wish = Wish {
+            alloc,
+            name: path,
+            load,
+            is_all,
+            width: remarks.width,
+        };
+        let one = check_one(files, &wish, input, output, remarks, faults);
+        note_one(alloc, path, input, remarks, faults);
         has_failed = has_failed || one.is_err();
         if one == Err(2) {
             return Err(2);

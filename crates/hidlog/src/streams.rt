@@ -1,6 +1,7 @@
 //! The streams of the program's process, with what is known of them when they fail.
 ghost use Rattle.std.specs.Prelude.{◌≡◌, None};
 
+use arrayvec::ArrayVec;
 use session_log::{Failed, Target};
 use std::io::{self, ErrorKind, Read, Write};
 
@@ -66,13 +67,17 @@ impl<W: Write> Write for Patient<W> {
 /// The text of a write that failed. The program writes it once it knows why.
 pub const WRITING_FAILED: &[u8] = b"hidlog: writing failed\n";
 
-/// A target for the texts of faults. It holds that of a failed write back, and notes those of a line that is none and of
-/// a read that failed, of a log that isn't one of several.
+/// The text of a difference.
+pub type Told = ArrayVec<u8, 96>;
+
+/// A target for the texts of faults. It holds that of a failed write back, and notes those of a line that is none, of
+/// a read that failed and of a difference, of a log that isn't one of several.
 #[derive(Drop)]
 pub struct Faults<E> {
     inner: E,
     has_bad_line: bool,
     has_failed_read: bool,
+    difference: Option<Told>,
     held_back: bool,
     holds_back: bool,
 }
@@ -86,6 +91,7 @@ impl<E: Target> Faults<E> {
             inner,
             has_bad_line: false,
             has_failed_read: false,
+            difference: None,
             held_back: false,
             holds_back: true,
         }
@@ -101,11 +107,24 @@ impl<E: Target> Faults<E> {
         self.has_failed_read
     }
 
+    /// Returns the text of a difference that it took.
+    pub fn difference(&mut self) -> Option<Told>
+        ensures { E.failed self.new.inner ≡ E.failed self.old.inner }
+    {
+        self.difference.take()
+    }
+
     /// Holds nothing back from now on. Returns whether it did.
     pub fn pass_all(&mut self) -> bool {
         self.holds_back = false;
         self.held_back
     }
+}
+
+/// Returns whether a text is that of a difference.
+pub fn is_difference(text: &[u8]) -> bool {
+    let differs: &[u8] = b": differs at packet ";
+    text.windows(differs.len()).any(|part| part == differs)
 }
 
 impl<E: Target> Target for Faults<E> {
@@ -121,6 +140,11 @@ impl<E: Target> Target for Faults<E> {
         if piece.starts_with(b"hidlog: line ") {
             self.has_bad_line = self.has_bad_line || piece.ends_with(b": not a log line\n");
             self.has_failed_read = self.has_failed_read || piece.ends_with(b": reading failed\n");
+            if is_difference(piece) {
+                let mut text = Told::new();
+                let _ = text.try_extend_from_slice(piece);
+                self.difference = Some(text);
+            }
         }
         self.inner.put(piece)
     }

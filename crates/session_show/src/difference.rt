@@ -1,4 +1,4 @@
-//! The first packet in which a log isn't what a session sends.
+//! The packets in which a log isn't what a session sends.
 ghost use Rattle.std.specs.Prelude.{◌<◌, ◌-◌, ◌^◌};
 
 use crate::entry::{Entry, MessageLines, PacketLine};
@@ -7,11 +7,11 @@ use crate::putting::put_written;
 use crate::transactions::{Transaction, Transactions};
 use crate::transcript::Transcript;
 use hid_packet::{Outbox, Packet};
-use session_log::{Failed, Line, Source, Target, Window, next_line, read_line};
-use token_session::Session;
+use session_log::{Failed, Line, LogFault, Source, Target, Window, next_line, read_line};
+use token_session::{Session, Timed};
 
-/// One more than the most lines of a log.
-const LINES: u64 = 1 << 32;
+/// More than the most lines of a log.
+const LINES: u64 = 1 << 33;
 
 /// The most packets of a message.
 const PACKETS: usize = 129;
@@ -19,6 +19,10 @@ const PACKETS: usize = 129;
 /// A packet that differs, is missing or is one too many.
 #[derive(Clone, Copy)]
 pub struct Difference {
+    /// The line of the input that the packet was sent for, 0 before any.
+    pub input: u64,
+    /// The packet's number among those that were sent for that input, from 1.
+    pub number: u64,
     /// The line of the log's packet. Where that is missing, the line of the next input, or the log's last one.
     pub line: u64,
     /// The packet that the log has.
@@ -28,6 +32,14 @@ pub struct Difference {
 }
 
 impl Difference {
+    /// Returns the fault that [`session_log::check`] finds there.
+    pub fn fault(&self) -> LogFault {
+        LogFault::Differs {
+            line: self.input,
+            packet: self.number,
+        }
+    }
+
     /// Returns the offset of the first byte in which two packets differ, and what it is in the log's and the session's.
     pub fn byte(&self) -> Option<(usize, u8, u8)> {
         let (logged, sent) = (self.logged?, self.sent?);
@@ -42,7 +54,10 @@ impl Difference {
 
 /// Why a comparison ends at a line.
 enum Stop {
+    /// Its packet differs.
     Differs(Difference),
+    /// A packet is missing before it. The line wasn't taken.
+    Missing(Difference),
     /// It isn't a log line.
     BadLine,
 }
@@ -54,9 +69,33 @@ struct Played {
     transactions: Transactions,
     /// The packets that the session sent and the log has yet to have.
     outbox: Outbox,
+    /// The line of the last input, 0 before any.
+    input: u64,
+    /// How many of its packets were compared.
+    compared: u64,
+    /// Whether one of them differed, so that the others aren't compared.
+    has_differed: bool,
+    /// The packet that differed, and its line, until the transcript has it.
+    last: Option<(u64, Packet)>,
+    /// Whether the log has a packet of the key.
+    has_sent: bool,
 }
 
 impl Played {
+    /// Returns that of no lines.
+    fn new() -> Self {
+        Played {
+            transcript: Transcript::new(),
+            transactions: Transactions::new(),
+            outbox: Outbox::new(),
+            input: 0,
+            compared: 0,
+            has_differed: false,
+            last: None,
+            has_sent: false,
+        }
+    }
+
     /// Takes the next line, with its number.
     fn take<const C: usize>(
         &mut self,
@@ -69,12 +108,7 @@ impl Played {
         };
         match &said {
             Line::Sent(packet) => self.compare(number, *packet)?,
-            Line::Input(timed) => {
-                if let Some(sent) = self.outbox.pop() {
-                    return Err(missing(number, sent));
-                }
-                session.step(timed.at, timed.input, &mut self.outbox);
-            }
+            Line::Input(timed) => self.play(number, timed, session)?,
             Line::Comment | Line::Count => {}
         }
         self.transactions
@@ -84,95 +118,141 @@ impl Played {
 
     /// Compares a packet of the log with the one that the session sent.
     fn compare(&mut self, number: u64, packet: Packet) -> Result<(), Stop> {
-        let sent = self.outbox.pop();
-        if sent == Some(packet) {
+        self.has_sent = true;
+        if self.has_differed {
             return Ok(());
         }
-        Err(Stop::Differs(Difference {
-            line: number,
-            logged: Some(packet),
+        let sent = self.outbox.pop();
+        if sent == Some(packet) {
+            self.compared = self.compared.saturating_add(1);
+            return Ok(());
+        }
+        self.last = Some((number, packet));
+        Err(Stop::Differs(self.differ(number, Some(packet), sent)))
+    }
+
+    /// Steps the session, unless the log lacks a packet of the input before.
+    fn play<const C: usize>(
+        &mut self,
+        number: u64,
+        timed: &Timed,
+        session: &mut Session<C>,
+    ) -> Result<(), Stop> {
+        if self.has_differed {
+            self.outbox = Outbox::new();
+        }
+        if let Some(sent) = self.outbox.pop() {
+            return Err(Stop::Missing(self.differ(number, None, Some(sent))));
+        }
+        session.step(timed.at, timed.input, &mut self.outbox);
+        self.input = number;
+        self.compared = 0;
+        self.has_differed = false;
+        Ok(())
+    }
+
+    /// Returns the packet that is missing at the log's end, after this line.
+    fn finish(&mut self, line: u64) -> Option<Difference> {
+        if self.has_differed {
+            return None;
+        }
+        let sent = self.outbox.pop()?;
+        Some(self.differ(line, None, Some(sent)))
+    }
+
+    /// Returns a difference at this line.
+    fn differ(&mut self, line: u64, logged: Option<Packet>, sent: Option<Packet>) -> Difference {
+        self.has_differed = true;
+        Difference {
+            input: self.input,
+            number: self.compared.saturating_add(1),
+            line,
+            logged,
             sent,
-        }))
+        }
+    }
+
+    /// Follows the packet of the log that differed.
+    fn follow_last(&mut self) {
+        if let Some((number, packet)) = self.last.take() {
+            self.transactions
+                .follow(&mut self.transcript, number, b"", Line::Sent(packet));
+        }
     }
 }
 
-/// Returns that the log lacks a packet before or at this line.
-fn missing(line: u64, sent: Packet) -> Stop {
-    Stop::Differs(Difference {
-        line,
-        logged: None,
-        sent: Some(sent),
-    })
+/// Returns the front of some bytes.
+fn front(bytes: &[u8], len: usize) -> &[u8] {
+    bytes.split_at_checked(len).map_or(bytes, |parts| parts.0)
 }
 
-/// A log beside a session that plays its inputs, up to the first difference.
+/// A log beside a session that plays its inputs.
 #[derive(Drop)]
 pub struct Comparison {
     played: Played,
     window: Window,
+    /// How many lines were taken.
+    lines: u64,
+    pen: Pen,
 }
 
 impl Comparison {
     /// Returns that of no lines.
     pub fn new() -> Self {
         Comparison {
-            played: Played {
-                transcript: Transcript::new(),
-                transactions: Transactions::new(),
-                outbox: Outbox::new(),
-            },
+            played: Played::new(),
             window: Window::new(),
+            lines: 0,
+            pen: Pen::new(),
         }
     }
 
-    /// Plays a log on a session, and returns the first difference. None where there is none, or a line fault is before
-    /// it, or reading failed.
+    /// Plays a log on a session up to the next input with a difference, and returns the first one there; none at the
+    /// log's end. The log is read on from where the last call ended, by the same reader and on the same session.
     pub fn find<S: Source, const C: usize>(
         &mut self,
         reader: &mut S,
         session: &mut Session<C>,
-    ) -> Option<Difference> {
-        for number in 1..LINES {
-            if reader.failures() == u64::MAX {
-                return None;
-            }
-            let Some(end) = next_line(&mut self.window, reader, number).ok()? else {
-                return self.finish(number, session);
+    ) -> Result<Option<Difference>, LogFault> {
+        self.played.follow_last();
+        for _ in 0..LINES {
+            let number = self.lines.saturating_add(1);
+            let Some(end) = self.next_end(reader)? else {
+                return Ok(self.played.finish(self.lines));
             };
-            let line = self.window.as_slice().split_at(end).0;
-            let taken = self.played.take(number, line, session);
-            self.window.drop_front(end + 1);
-            match taken {
-                Ok(()) => {}
-                Err(Stop::Differs(difference)) => return Some(difference),
-                Err(Stop::BadLine) => return None,
+            let line = front(self.window.as_slice(), end);
+            match self.played.take(number, line, session) {
+                Ok(()) => self.drop_line(end),
+                // The input's line is taken by the next call.
+                Err(Stop::Missing(difference)) => return Ok(Some(difference)),
+                Err(Stop::Differs(difference)) => {
+                    self.drop_line(end);
+                    return Ok(Some(difference));
+                }
+                Err(Stop::BadLine) => return Err(LogFault::BadLine(number)),
             }
         }
-        None
+        Ok(None)
     }
 
-    /// Takes the log's last line, where it has no line feed, and returns the packet that is missing after it.
-    fn finish<const C: usize>(
-        &mut self,
-        number: u64,
-        session: &mut Session<C>,
-    ) -> Option<Difference> {
-        let line = self.window.as_slice();
-        let mut last = number.saturating_sub(1);
-        if !line.is_empty() {
-            last = number;
-            match self.played.take(number, line, session) {
-                Ok(()) => {}
-                Err(Stop::Differs(difference)) => return Some(difference),
-                Err(Stop::BadLine) => return None,
-            }
+    /// Returns where the log's next line ends, without its line feed. None at the log's end.
+    fn next_end<S: Source>(&mut self, reader: &mut S) -> Result<Option<usize>, LogFault> {
+        let number = self.lines.saturating_add(1);
+        if reader.failures() == u64::MAX {
+            return Err(LogFault::Read(number));
         }
-        let sent = self.played.outbox.pop()?;
-        Some(Difference {
-            line: last,
-            logged: None,
-            sent: Some(sent),
-        })
+        match next_line(&mut self.window, reader, number)? {
+            Some(end) => Ok(Some(end)),
+            None if self.window.is_empty() => Ok(None),
+            None => Ok(Some(self.window.len())),
+        }
+    }
+
+    /// Drops the line that ends here, with its line feed where it has one.
+    fn drop_line(&mut self, end: usize) {
+        let held = self.window.len();
+        self.window.drop_front(end.saturating_add(1).min(held));
+        self.lines = self.lines.saturating_add(1);
     }
 
     /// Returns the transaction that the packet belongs to.
@@ -188,9 +268,61 @@ impl Comparison {
         transactions.last()
     }
 
-    /// Writes the packet that the log has, as `< 00000001 CBOR 181`. Where the packets that the log has then complete a
-    /// CBOR message, [`crate::show`]'s lines for it follow. The log is read on for them.
-    pub fn put_logged<S: Source, T: Target>(
+    /// Returns whether the log has a packet of the key. It is read on up to the first one, and not compared.
+    pub fn has_sent<S: Source>(&mut self, reader: &mut S) -> bool {
+        for _ in 0..LINES {
+            if self.played.has_sent {
+                return true;
+            }
+            let Ok(Some(end)) = self.next_end(reader) else {
+                return false;
+            };
+            self.played.has_sent = self.window.as_slice().first() == Some(&b'<');
+            self.drop_line(end);
+        }
+        false
+    }
+
+    /// Writes the packet that the log has and the one that the session sends, each as `< 00000001 CBOR 181`. Where
+    /// those after it complete a CBOR message, [`crate::show`]'s lines for it follow. The log is read on for them.
+    pub fn put<S: Source, T: Target>(
+        &mut self,
+        difference: &Difference,
+        reader: &mut S,
+        logged: &mut T,
+        sent: &mut T,
+    ) -> Result<(), Failed> {
+        self.put_sent(difference, sent)?;
+        self.put_logged(difference, reader, logged)
+    }
+
+    /// Writes the packet that the session sends, and its message.
+    fn put_sent<T: Target>(
+        &mut self,
+        difference: &Difference,
+        writer: &mut T,
+    ) -> Result<(), Failed> {
+        let Some(packet) = difference.sent else {
+            return Ok(());
+        };
+        let mut transcript = self.played.transcript.copy();
+        put_packet(&mut self.pen, &packet, writer)?;
+        let line = difference.line;
+        let mut is_open = put_message(&mut transcript, &mut self.pen, line, &packet, writer)?;
+        for _ in 0..PACKETS {
+            if !is_open {
+                break;
+            }
+            let Some(next) = self.played.outbox.pop() else {
+                break;
+            };
+            is_open = put_message(&mut transcript, &mut self.pen, line, &next, writer)?;
+        }
+        Ok(())
+    }
+
+    /// Writes the packet that the log has, and its message.
+    fn put_logged<S: Source, T: Target>(
         &mut self,
         difference: &Difference,
         reader: &mut S,
@@ -199,8 +331,10 @@ impl Comparison {
         let Some(packet) = difference.logged else {
             return Ok(());
         };
-        let mut side = Side::new(&self.played.transcript, difference.line);
-        let mut is_open = side.begin(&packet, writer)?;
+        self.played.last = None;
+        put_packet(&mut self.pen, &packet, writer)?;
+        let line = difference.line;
+        let mut is_open = self.put_next(line, &packet, writer)?;
         for _ in 0..PACKETS {
             if !is_open {
                 break;
@@ -208,89 +342,69 @@ impl Comparison {
             let Some(next) = self.next_logged(reader) else {
                 break;
             };
-            is_open = side.take(&next, writer)?;
+            is_open = self.put_next(line, &next, writer)?;
         }
         Ok(())
     }
 
+    /// Takes a packet of the log, and writes the message that it completes. Returns whether the message has further
+    /// packets.
+    fn put_next<T: Target>(
+        &mut self,
+        line: u64,
+        packet: &Packet,
+        writer: &mut T,
+    ) -> Result<bool, Failed> {
+        let said = Line::Sent(*packet);
+        self.played.transactions.take(&Entry {
+            number: line,
+            line: b"",
+            said,
+            message: None,
+        });
+        let transcript = &mut self.played.transcript;
+        put_message(transcript, &mut self.pen, line, packet, writer)
+    }
+
     /// Returns the packet that the log has next, before any further input.
     fn next_logged<S: Source>(&mut self, reader: &mut S) -> Option<Packet> {
-        for number in 1..LINES {
-            if reader.failures() == u64::MAX {
-                return None;
-            }
-            let end = next_line(&mut self.window, reader, number).ok()??;
-            let said = read_line(self.window.as_slice().split_at(end).0);
-            self.window.drop_front(end + 1);
-            match said {
-                Some(Line::Sent(packet)) => return Some(packet),
-                Some(Line::Comment | Line::Count) => {}
+        for _ in 0..LINES {
+            let end = self.next_end(reader).ok()??;
+            match read_line(front(self.window.as_slice(), end)) {
+                Some(Line::Sent(packet)) => {
+                    self.drop_line(end);
+                    return Some(packet);
+                }
+                Some(Line::Comment | Line::Count) => self.drop_line(end),
                 Some(Line::Input(_)) | None => return None,
             }
         }
         None
     }
-
-    /// Writes the packet that the session sends, and a message, as [`Comparison::put_logged`] does.
-    pub fn put_sent<T: Target>(
-        &mut self,
-        difference: &Difference,
-        writer: &mut T,
-    ) -> Result<(), Failed> {
-        let Some(packet) = difference.sent else {
-            return Ok(());
-        };
-        let mut side = Side::new(&self.played.transcript, difference.line);
-        let mut is_open = side.begin(&packet, writer)?;
-        for _ in 0..PACKETS {
-            if !is_open {
-                break;
-            }
-            let Some(next) = self.played.outbox.pop() else {
-                break;
-            };
-            is_open = side.take(&next, writer)?;
-        }
-        Ok(())
-    }
 }
 
-/// What one of the two sends from the difference on.
-#[derive(Drop)]
-struct Side {
-    transcript: Transcript,
-    number: u64,
-    pen: Pen,
+/// Writes a packet alone.
+fn put_packet<T: Target>(pen: &mut Pen, packet: &Packet, writer: &mut T) -> Result<(), Failed> {
+    if writer.failures() == u64::MAX {
+        return Err(Failed);
+    }
+    put_written(writer, pen, &PacketLine(packet))
 }
 
-impl Side {
-    /// Returns that of a transcript up to the difference, at this line.
-    fn new(transcript: &Transcript, number: u64) -> Self {
-        Side {
-            transcript: transcript.copy(),
-            number,
-            pen: Pen::new(),
-        }
+/// Takes a packet of the key, and writes the message that it completes. Returns whether the message has further packets.
+fn put_message<T: Target>(
+    transcript: &mut Transcript,
+    pen: &mut Pen,
+    line: u64,
+    packet: &Packet,
+    writer: &mut T,
+) -> Result<bool, Failed> {
+    if writer.failures() == u64::MAX {
+        return Err(Failed);
     }
-
-    /// Writes the first packet, and the message that it completes. Returns whether the message has further packets.
-    fn begin<T: Target>(&mut self, packet: &Packet, writer: &mut T) -> Result<bool, Failed> {
-        if writer.failures() == u64::MAX {
-            return Err(Failed);
-        }
-        put_written(writer, &mut self.pen, &PacketLine(packet))?;
-        self.take(packet, writer)
+    let entry = transcript.take(line, b"", Line::Sent(*packet));
+    if let Some(message) = entry.message {
+        put_written(writer, pen, &MessageLines(line, message))?;
     }
-
-    /// Takes a packet, and writes the message that it completes. Returns whether the message has further packets.
-    fn take<T: Target>(&mut self, packet: &Packet, writer: &mut T) -> Result<bool, Failed> {
-        if writer.failures() == u64::MAX {
-            return Err(Failed);
-        }
-        let entry = self.transcript.take(self.number, b"", Line::Sent(*packet));
-        if let Some(message) = entry.message {
-            put_written(writer, &mut self.pen, &MessageLines(self.number, message))?;
-        }
-        Ok(self.transcript.awaits_answer())
-    }
+    Ok(transcript.awaits_answer())
 }

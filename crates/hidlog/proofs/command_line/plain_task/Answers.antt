@@ -1,4 +1,4 @@
-use Rattle.std.proofs.Common.{Some, None, ◌∙◌, ap, sym}
+use Rattle.std.proofs.Common.{Some, None, false, ◌∙◌, ap, sym}
 use Rattle.hidlog.specs.CommandLine.{check, texts_of}
 use Rattle.hidlog.proofs.CommandLine.{plain_replay, plain_live, plain_check, plain_quiet, plain_show}
 use Rattle.hidlog.proofs.command_line.plain_task.Goals as goal
@@ -11,7 +11,7 @@ returns-in-live c = rw c.in-live.is (plain_live c.args.program.now)
 
 pub returns-in-check : goal.returns-in-check
 returns-in-check c =
-    rw c.in-check.is (plain_check c.args.program.now ∙ ap (λ logs. Some (check None (texts_of logs))) (sym c.new.ensures.items))
+    rw c.in-check.is (plain_check c.args.program.now ∙ ap (λ logs. Some (check None false (texts_of logs))) (sym c.new.ensures.items))
 
 pub returns-in-quiet : goal.returns-in-quiet
 returns-in-quiet c = rw c.in-quiet.is (plain_quiet c.args.program.now)

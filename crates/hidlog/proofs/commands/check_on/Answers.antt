@@ -6,8 +6,8 @@ use Rattle.hidlog.proofs.commands.check_on.Goals as goal
 pub returns-clause-status : goal.returns-clause-status
 returns-clause-status g c =
     let begun = c.in_ok-session.ensures.begins in
-    let played = c.check_command.ensures.checked (start_with begun.0) [] begun.2 in
-    is_status played.0 c.check_command.result played.2
+    let played = c.check_command-ended.ensures.checked (start_with begun.0) [] begun.2 in
+    is_status played.0 c.check_command-ended.result played.2
 
 pub returns-clause-does : goal.returns-clause-does
 returns-clause-does g c =
@@ -19,9 +19,9 @@ returns-clause-does g c =
         begun.0,
         begun.1,
         (
-          (c.check_command.new.session, c.check_command.ensures.checked (start_with begun.0) [] begun.2),
+          (c.check_command-ended.new.session, c.check_command-ended.ensures.checked (start_with begun.0) [] begun.2),
           refl,
-          rw (sym (c.in_ok-session.ensures.silent ∙ c.in_ok-open_log.ensures.silent)) c.check_command.ensures.silent,
+          rw (sym (c.in_ok-session.ensures.silent ∙ c.in_ok-open_log.ensures.silent)) c.check_command-ended.ensures.silent,
         ),
       ),
     )

@@ -1,0 +1,68 @@
+//! How much of a long log was read, at a terminal.
+use std::alloc::Global;
+use std::io::Write;
+
+/// How many bytes take a command about a second. Of a shorter log nothing is said.
+const LONG: u64 = 64 << 20;
+
+/// How many bytes are read from one line to the next.
+const STEP: u64 = 8 << 20;
+
+/// How many bytes are a megabyte.
+const MEGABYTE: u64 = 1_000_000;
+
+/// Blanks over the last line.
+const ERASED: &[u8] = b"\r                              \r";
+
+/// Says how much was read, if that is to be said.
+#[derive(Clone, Copy)]
+pub struct Progress {
+    is_said: bool,
+    /// The bytes of the whole log, where they are known.
+    size: Option<u64>,
+    /// At how many bytes the next line is written.
+    next: u64,
+    is_written: bool,
+}
+
+impl Progress {
+    /// Returns that of a log of which nothing was read.
+    pub fn new(is_said: bool, size: Option<u64>) -> Self {
+        Progress {
+            is_said,
+            size,
+            next: LONG,
+            is_written: false,
+        }
+    }
+
+    /// Returns whether it is said how much was read.
+    pub fn is_said(&self) -> bool {
+        self.is_said
+    }
+
+    /// Says that so many bytes were read. The cursor stays at the line's front, so that what is written next is over it.
+    pub fn pass(&mut self, rt: &HostRuntime, len: u64) {
+        if !self.is_said || len < self.next {
+            return;
+        }
+        self.next = len.saturating_add(STEP);
+        self.is_written = true;
+        let read = len / MEGABYTE;
+        let line = match self.size {
+            Some(size) => format!(in rt.alloc(); "  {read} of {} MB\r", size / MEGABYTE),
+            None => format!(in rt.alloc(); "  {read} MB\r"),
+        };
+        if let Ok(line) = line {
+            let _ = rt.stderr().write_all(line.as_bytes());
+        }
+    }
+
+    /// Erases what was written.
+    pub fn end(&mut self, rt: &HostRuntime) {
+        if self.is_written {
+            self.is_written = false;
+            let _ = rt.stderr().write_all(ERASED);
+        }
+    }
+}

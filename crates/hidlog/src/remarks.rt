@@ -1,0 +1,112 @@
+//! What is said beside the result of `check`.
+ghost use Rattle.std.specs.Prelude.{◌<◌, ◌-◌, ◌^◌};
+
+use crate::process::tell;
+use crate::seen::Seen;
+use authn_core::Need;
+use session_log::{CAPACITY, Target};
+use std::alloc::{AllocError, Global};
+use std::fmt::Write;
+use token_session::Session;
+
+/// What a key waits for.
+#[derive(Clone, Copy)]
+enum Awaited {
+    Presence,
+    Key,
+    Signature,
+}
+
+/// What a session holds and waits for at the end of a log.
+#[derive(Clone, Copy)]
+pub struct Ending {
+    /// What the key needs of its caller.
+    awaited: Option<Awaited>,
+    /// How many bytes of an open message it holds.
+    held: u16,
+}
+
+impl Ending {
+    /// Returns that of a session.
+    pub fn of(session: &Session<CAPACITY>) -> Self {
+        let awaited = match session.need() {
+            Need::None => None,
+            Need::Presence => Some(Awaited::Presence),
+            Need::Key => Some(Awaited::Key),
+            Need::Sign { .. } => Some(Awaited::Signature),
+        };
+        Ending {
+            awaited,
+            held: session.held(),
+        }
+    }
+}
+
+/// Returns what is waited for, in words.
+fn name_of(awaited: Awaited) -> &'static str {
+    match awaited {
+        Awaited::Presence => "the user's presence",
+        Awaited::Key => "a new key",
+        Awaited::Signature => "a signature",
+    }
+}
+
+/// What is said beside a result, and where.
+#[derive(Clone, Copy)]
+pub struct Remarks {
+    /// The columns of the terminal that faults are written to; none where they go elsewhere.
+    pub width: Option<usize>,
+    /// How the log ended in which nothing differs and of which nothing was said yet.
+    pub ending: Option<Ending>,
+}
+
+impl Remarks {
+    /// Looks at the session after a log that was compared with this result.
+    pub fn look(&mut self, ended: &Result<(), u8>, session: &Session<CAPACITY>) {
+        if ended.is_ok() {
+            self.ending = Some(Ending::of(session));
+        }
+    }
+}
+
+/// Returns what may be wrong with a log in which nothing differs: a line for each, with this name in front.
+fn notes(alloc: Global, name: &str, seen: &Seen, ending: &Ending) -> Result<String, AllocError> {
+    let mut text = String::new(alloc);
+    if seen.len() == 0 {
+        writeln!(text, "{name}: note: the log is empty")?;
+    } else if !seen.has_input() {
+        writeln!(text, "{name}: note: the log has no inputs")?;
+    }
+    if !seen.ends_line() {
+        writeln!(
+            text,
+            "{name}: note: the last line has no line feed, so the log may be cut off"
+        )?;
+    }
+    if let Some(awaited) = ending.awaited {
+        let awaited = name_of(awaited);
+        writeln!(
+            text,
+            "{name}: note: the log ends while the key waits for {awaited}"
+        )?;
+    }
+    if ending.held > 0 {
+        let held = ending.held;
+        writeln!(
+            text,
+            "{name}: note: the log ends inside a message, after {held} bytes of it"
+        )?;
+    }
+    Ok(text)
+}
+
+/// Writes what may be wrong with a log in which nothing differs. Where memory is refused, nothing is written.
+pub fn note<E: Target>(faults: &mut E, alloc: Global, name: &str, seen: &Seen, ending: &Ending)
+    requires { E.failed faults.old < 2 ^ 64 - 1 }
+{
+    if let Ok(text) = notes(alloc, name, seen, ending) {
+        if !text.is_empty() {
+            tell(faults, text.as_bytes());
+        }
+    }
+}

@@ -1,0 +1,90 @@
+//! What was seen of a log that is read.
+use crate::progress::Progress;
+use std::alloc::Global;
+
+/// The most bytes that are kept of a log that can't be read again, as of a pipe.
+const KEPT_AT_MOST: usize = 1 << 20;
+
+/// What was seen of a log so far.
+#[derive(Drop)]
+pub struct Seen {
+    /// How many bytes it had.
+    len: u64,
+    /// Whether the last of them is a line feed.
+    ends_line: bool,
+    has_input: bool,
+    /// All of them, where they are kept.
+    kept: Option<Vec<u8>>,
+    pub progress: Progress,
+}
+
+/// Returns whether a line of these bytes begins as an input does. The first one begins a line where `is_new_line`.
+fn has_input(is_new_line: bool, bytes: &[u8]) -> bool {
+    let mut begins = is_new_line;
+    for byte in bytes {
+        if begins && matches!(*byte, b'>' | b't' | b'p' | b'k' | b's') {
+            return true;
+        }
+        begins = *byte == b'\n';
+    }
+    false
+}
+
+impl Seen {
+    /// Returns that of no bytes.
+    pub fn new(progress: Progress) -> Self {
+        Seen {
+            len: 0,
+            ends_line: true,
+            has_input: false,
+            kept: None,
+            progress,
+        }
+    }
+
+    /// Keeps what comes.
+    pub fn keep(&mut self, alloc: Global) {
+        self.kept = Some(Vec::new(alloc));
+    }
+
+    /// Takes the bytes that come next; none at the log's end.
+    pub fn take(&mut self, bytes: &[u8]) {
+        self.has_input = self.has_input || has_input(self.ends_line, bytes);
+        if let Some(last) = bytes.last() {
+            self.ends_line = *last == b'\n';
+        }
+        self.len = self.len.saturating_add(bytes.len() as u64);
+        self.keep_more(bytes);
+    }
+
+    /// Keeps some more bytes, unless there are too many.
+    fn keep_more(&mut self, bytes: &[u8]) {
+        let Some(kept) = &mut self.kept else {
+            return;
+        };
+        let is_short = kept.len().saturating_add(bytes.len()) <= KEPT_AT_MOST;
+        if !is_short || kept.extend_from_slice(bytes).is_err() {
+            self.kept = None;
+        }
+    }
+
+    /// Returns how many bytes it had.
+    pub fn len(&self) -> u64 {
+        self.len
+    }
+
+    /// Returns whether it has an input.
+    pub fn has_input(&self) -> bool {
+        self.has_input
+    }
+
+    /// Returns whether its last line is ended by a line feed. It is where there is none.
+    pub fn ends_line(&self) -> bool {
+        self.ends_line
+    }
+
+    /// Returns all bytes, where they are kept.
+    pub fn kept(&self) -> Option<&Vec<u8>> {
+        self.kept.as_ref()
+    }
+}
