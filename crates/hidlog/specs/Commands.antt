@@ -5,17 +5,21 @@ use Rattle.clap.specs.declared.error.kind.ErrorKind.{ErrorKind}
 use Rattle.clap.specs.declared.error.kind.ErrorKind.TheVariants.{OutOfMemory}
 use Rattle.authn_core.specs.Turn.{Start}
 use Rattle.cred_table.specs.declared.row.Row.{Row}
-use Rattle.token_session.specs.declared.input.Timed.{Timed}
 use Rattle.token_session.specs.Meters.{SessionState}
 use Rattle.session_log.specs.declared.fault.LogFault.{LogFault}
-use Rattle.session_log.specs.Command.{IsChecked, IsCounted, IsLogged, IsQuieted, Status, start_with, status_of}
-use Rattle.session_log.specs.Session.{history, live_history}
-use Rattle.session_log.specs.World.{World}
+use Rattle.session_log.specs.Command.{IsCounted, RunsLog, Status, start_with, status_of}
+use Rattle.session_log.specs.declared.command.Command.{Command}
+use Rattle.session_log.specs.declared.command.Command.TheVariants.{Check, Live, Quiet, Replay}
 use Rattle.hidlog.specs.CommandLine.{Ask, answers_to, asked_by, named, replay, live, check, quiet, show}
 use Rattle.hidlog.specs.declared.command_line.Form.{Form}
 use Rattle.hidlog.specs.declared.command_line.Form.TheVariants.{Lines}
 use Rattle.hidlog.specs.Program.{Explains, IsTold, IsWhole, LacksMemory, cannot_read_log}
 use Rattle.hidlog.specs.Saved.{FailsToOpen, FailsToSave, Opens, Saves}
+
+-- The path to save at that is looked at before the log is read: that of `live`, whose log may take long to come.
+abbrev pub looked_at : Command → Option (List ℕ) → Option (List ℕ)
+looked_at Live save = save
+looked_at _ save = None
 
 -- what is said of the files, of the log's source, of the target of the result and of that of the faults
 module _ {D I O F : Type 0} (holds : D → List ℕ → List ℕ → Type 0) (unreadable : D → List ℕ → Type 0)
@@ -40,38 +44,24 @@ module _ {D I O F : Type 0} (holds : D → List ℕ → List ℕ → Type 0) (un
       × FailsToOpen holds unreadable files.0 path said unsaid faults)
       ⊎ ((rows : List Row) × Opens holds files.0 path rows × Goes (start_with rows))
 
-  -- The log was replayed on the start, as this world says of its histories. Then, where it had no fault, the
-  -- credentials were saved at the path.
-  abbrev pub Replays : (Start → World (List Timed)) → Option (List ℕ) → Status → (D × D) → (I × I) → (O × O) → (F × F)
-      → Start → Type 0
-  Replays world path status files input output faults start =
-      (played : Status) × (s : SessionState) × IsLogged world start [] left unread ended taken unput played s input
-      output
-      × MatchResult played (λ _. Saves written unwritten path s said unsaid status files faults)
+  -- The log was played on the start. Then, where it had no fault, the credentials were saved at the path, if there is
+  -- one.
+  abbrev pub RunsOn : Command → Option (List ℕ) → Status → (D × D) → (I × I) → (O × O) → (F × F) → Start → Type 0
+  RunsOn command save status files input output faults start =
+      (ran : Status) × (s : SessionState) × RunsLog command start [] left unread ended taken unput ran s input output
+      × MatchResult ran (λ _. Saves written unwritten save s said unsaid status files faults)
       (λ code. (status ≡ Err code) × (files.1 ≡ files.0))
 
-  -- The log was replayed live on the start. Where it is seen before that the file at the path can't be written to, the
-  -- status is 2, the log isn't read, and nothing is written.
-  abbrev pub Lives : Option (List ℕ) → Status → (D × D) → (I × I) → (O × O) → (F × F) → Start → Type 0
-  Lives path status files input output faults start =
-      ((status ≡ Err 2) × (files.1 ≡ files.0) × (input.1 ≡ input.0) × (output.1 ≡ output.0)
-      × FailsToSave unwritable files.0 path said unsaid faults)
-      ⊎ Replays live_history path status files input output faults start
-
-  -- The log was compared with what is sent from the start on, or made quiet.
-  abbrev pub Checks : Status → (D × D) → (I × I) → (O × O) → (F × F) → Start → Type 0
-  Checks status files input output faults start =
-      ((s : SessionState) × IsChecked start [] left unread ended taken unput status s input output)
-      × (files.1 ≡ files.0) × OnOk status (faults.1 ≡ faults.0)
-
-  abbrev pub Compares : Option (List ℕ) → Option (List ℕ) → Status → (D × D) → (I × I) → (O × O) → (F × F) → Type 0
-  Compares load log status files input output faults = Reads log (λ read. Begins load
-      (Checks status files read output faults) status files read output faults) status files input output faults
-
-  abbrev pub Quiets : Status → (D × D) → (I × I) → (O × O) → (F × F) → Start → Type 0
-  Quiets status files input output faults start =
-      ((s : SessionState) × IsQuieted start [] left unread ended taken unput status s input output)
-      × (files.1 ≡ files.0) × OnOk status (faults.1 ≡ faults.0)
+  -- The command plays the log at a path, from the credentials of a snapshot, and saves those that there are then. Where
+  -- it is seen before that the file to save can't be written to, the status is 2, the log isn't read, and nothing is
+  -- written.
+  abbrev pub RunsCommand : Command → (load save log : Option (List ℕ)) → Status → (D × D) → (I × I) → (O × O) → (F × F) → Type 0
+  RunsCommand command load save log status files input output faults =
+      Reads log (λ read. Begins load (λ start.
+      ((status ≡ Err 2) × (files.1 ≡ files.0) × (read.1 ≡ read.0) × (output.1 ≡ output.0)
+      × FailsToSave unwritable files.0 (looked_at command save) said unsaid faults)
+      ⊎ RunsOn command save status files read output faults start) status files read output faults)
+      status files input output faults
 
   -- The log was shown. Without a fault all of it was read, and no read and no write failed.
   abbrev pub Shows : Form → Status → (D × D) → (I × I) → (O × O) → (F × F) → Type 0
@@ -84,17 +74,13 @@ module _ {D I O F : Type 0} (holds : D → List ℕ → List ℕ → Type 0) (un
 
   -- What is asked for is done. Of several logs each is compared, and the files stay as they are.
   abbrev pub Does : Ask → Status → (D × D) → (I × I) → (O × O) → (F × F) → Type 0
-  Does (replay load save log) status files input output faults = Reads log (λ read. Begins load
-      (Replays history save status files read output faults) status files read output faults)
-      status files input output faults
-  Does (live load save log) status files input output faults = Reads log (λ read. Begins load
-      (Lives save status files read output faults) status files read output faults) status files input output faults
-  Does (check load all []) status files input output faults = Compares load None status files input output faults
+  Does (replay load save log) status files input output faults = RunsCommand Replay load save log status files input output faults
+  Does (live load save log) status files input output faults = RunsCommand Live load save log status files input output faults
+  Does (check load all []) status files input output faults = RunsCommand Check load None None status files input output faults
   Does (check load all (log ∷ [])) status files input output faults =
-      Compares load (Some log) status files input output faults
+      RunsCommand Check load None (Some log) status files input output faults
   Does (check load all (log ∷ next ∷ logs)) status files input output faults = files.1 ≡ files.0
-  Does (quiet load log) status files input output faults = Reads log (λ read. Begins load
-      (Quiets status files read output faults) status files read output faults) status files input output faults
+  Does (quiet load log) status files input output faults = RunsCommand Quiet load None log status files input output faults
   Does (show form wide log) status files input output faults = Reads log (λ read. Shows form status files read output faults)
       status files input output faults
 

@@ -3,12 +3,12 @@ ghost use Rattle.std.specs.Prelude.{◌≡◌, ◌<◌, ◌-◌, ◌^◌, ◌⊎
 ghost use Rattle.clap.specs.Words.{kind_of};
 ghost use Rattle.session_log.specs.Command.{start_with, status_of};
 ghost use Rattle.token_session.specs.Meters.{session_of};
-ghost use Rattle.hidlog.specs.CommandLine.{check, live, named, quiet, replay, show as shown, path_of, texts_of};
+ghost use Rattle.hidlog.specs.CommandLine.{check, named, show as shown, path_of, texts_of};
 ghost use Rattle.hidlog.specs.Program.{Explains, IsTold, IsWhole, cannot_read_log};
-ghost use Rattle.hidlog.specs.Commands.{Answers, Compares, Does};
+ghost use Rattle.hidlog.specs.Commands.{Answers, Does, RunsCommand};
 
 use crate::command_line::{Form, Task, task_of};
-use crate::commands::{check_on, live_on, quiet_on, replay_on};
+use crate::commands::{Play, play_on};
 use crate::files::Files;
 use crate::logs::Logs;
 use crate::process::{log_fault, no_memory, tell, tell_why};
@@ -16,7 +16,7 @@ use crate::remarks::Remarks;
 use crate::several::check_each;
 use clap::Error;
 use clap::error::ErrorKind;
-use session_log::{CAPACITY, LogFault, Target, put_all};
+use session_log::{CAPACITY, Command, LogFault, Target, put_all};
 use session_show::{Summary, put_json_fault, show, show_json, summarize};
 use std::alloc::Global;
 use token_session::Session;
@@ -95,89 +95,12 @@ pub fn fresh() -> Session<CAPACITY>
     Session::bare([0; 16], 0)
 }
 
-/// Replays the log, and saves the credentials that the session has after it.
+/// Plays the log on a session of its own, as [`play_on`] does.
 #[inline(never)]
-fn replay_log<D, L, O, E>(
+pub fn play_log<D, L, O, E>(
+    play: &Play<'_>,
     files: &mut D,
     alloc: Global,
-    load: Option<&str>,
-    save: Option<&str>,
-    log: Option<&str>,
-    input: &mut L,
-    output: &mut O,
-    faults: &mut E,
-) -> Result<(), u8>
-where
-    D: Files,
-    L: Logs,
-    O: Target,
-    E: Target,
-    requires reads { L.failed input.old < 2 ^ 64 - 1 }
-    requires writes { O.failed output.old < 2 ^ 64 - 1 }
-    requires tells { E.failed faults.old < 2 ^ 64 - 1 }
-    ensures status { IfErr result (λ code. (code ≡ 1) ⊎ (code ≡ 2)) }
-    ensures does { Does D.holds D.unreadable D.written D.unwritten D.unwritable L.opened L.unopenable L.left L.failed L.ended
-        O.taken O.failed E.taken E.failed (replay (path_of load.entry) (path_of save.entry) (path_of log.entry)) result
-        (files.old, files.new) (input.old, input.new) (output.old, output.new) (faults.old, faults.new) }
-{
-    replay_on(
-        &mut fresh(),
-        files,
-        alloc,
-        load,
-        save,
-        log,
-        input,
-        output,
-        faults,
-    )
-}
-
-/// Replays the log and says what the key needs, and saves the credentials that the session has after it.
-#[inline(never)]
-fn live_log<D, L, O, E>(
-    files: &mut D,
-    alloc: Global,
-    load: Option<&str>,
-    save: Option<&str>,
-    log: Option<&str>,
-    input: &mut L,
-    output: &mut O,
-    faults: &mut E,
-) -> Result<(), u8>
-where
-    D: Files,
-    L: Logs,
-    O: Target,
-    E: Target,
-    requires reads { L.failed input.old < 2 ^ 64 - 1 }
-    requires writes { O.failed output.old < 2 ^ 64 - 1 }
-    requires tells { E.failed faults.old < 2 ^ 64 - 1 }
-    ensures status { IfErr result (λ code. (code ≡ 1) ⊎ (code ≡ 2)) }
-    ensures does { Does D.holds D.unreadable D.written D.unwritten D.unwritable L.opened L.unopenable L.left L.failed L.ended
-        O.taken O.failed E.taken E.failed (live (path_of load.entry) (path_of save.entry) (path_of log.entry)) result
-        (files.old, files.new) (input.old, input.new) (output.old, output.new) (faults.old, faults.new) }
-{
-    live_on(
-        &mut fresh(),
-        files,
-        alloc,
-        load,
-        save,
-        log,
-        input,
-        output,
-        faults,
-    )
-}
-
-/// Compares the log with what the session sends.
-#[inline(never)]
-pub fn check_log<D, L, O, E>(
-    files: &D,
-    alloc: Global,
-    load: Option<&str>,
-    log: Option<&str>,
     input: &mut L,
     output: &mut O,
     remarks: &mut Remarks,
@@ -192,49 +115,22 @@ where
     requires writes { O.failed output.old < 2 ^ 64 - 1 }
     requires tells { E.failed faults.old < 2 ^ 64 - 1 }
     ensures status { IfErr result (λ code. (code ≡ 1) ⊎ (code ≡ 2)) }
-    ensures does { Compares D.holds D.unreadable D.written D.unwritten D.unwritable L.opened L.unopenable L.left L.failed L.ended
+    ensures does { RunsCommand D.holds D.unreadable D.written D.unwritten D.unwritable L.opened L.unopenable L.left L.failed L.ended
         O.taken O.failed E.taken E.failed
-        (path_of load.entry) (path_of log.entry) result
-        (files.now, files.now) (input.old, input.new) (output.old, output.new) (faults.old, faults.new) }
+        play.now.command (path_of play.now.load) (path_of play.now.save) (path_of play.now.log) result
+        (files.old, files.new) (input.old, input.new) (output.old, output.new) (faults.old, faults.new) }
+    ensures kept { path_of play.now.save ≡ None → files.new ≡ files.old }
 {
-    check_on(
+    play_on(
         &mut fresh(),
+        play,
         files,
         alloc,
-        load,
-        log,
         input,
         output,
         remarks,
         faults,
     )
-}
-
-/// Makes the log quiet.
-#[inline(never)]
-fn quiet_log<D, L, O, E>(
-    files: &D,
-    alloc: Global,
-    load: Option<&str>,
-    log: Option<&str>,
-    input: &mut L,
-    output: &mut O,
-    faults: &mut E,
-) -> Result<(), u8>
-where
-    D: Files,
-    L: Logs,
-    O: Target,
-    E: Target,
-    requires reads { L.failed input.old < 2 ^ 64 - 1 }
-    requires writes { O.failed output.old < 2 ^ 64 - 1 }
-    requires tells { E.failed faults.old < 2 ^ 64 - 1 }
-    ensures status { IfErr result (λ code. (code ≡ 1) ⊎ (code ≡ 2)) }
-    ensures does { Does D.holds D.unreadable D.written D.unwritten D.unwritable L.opened L.unopenable L.left L.failed L.ended
-        O.taken O.failed E.taken E.failed (quiet (path_of load.entry) (path_of log.entry)) result
-        (files.now, files.now) (input.old, input.new) (output.old, output.new) (faults.old, faults.new) }
-{
-    quiet_on(&mut fresh(), files, alloc, load, log, input, output, faults)
 }
 
 /// Writes a summary of the log, also of one with a fault, up to there.
@@ -334,12 +230,12 @@ where
 }
 
 /// Compares the logs at these paths, each on a session of its own. Of several it is said which is meant.
-fn check_logs<D, L, O, E>(
-    files: &D,
+fn check_logs<'a, D, L, O, E>(
+    files: &mut D,
     alloc: Global,
-    load: Option<&str>,
+    load: Option<&'a str>,
     all: bool,
-    logs: &[&str],
+    logs: &[&'a str],
     input: &mut L,
     output: &mut O,
     remarks: &mut Remarks,
@@ -357,21 +253,22 @@ where
     ensures does { Does D.holds D.unreadable D.written D.unwritten D.unwritable L.opened L.unopenable L.left L.failed L.ended
         O.taken O.failed E.taken E.failed
         (check (path_of load.entry) all (texts_of logs.now)) result
-        (files.now, files.now) (input.old, input.new) (output.old, output.new) (faults.old, faults.new) }
+        (files.old, files.new) (input.old, input.new) (output.old, output.new) (faults.old, faults.new) }
 {
+    let play = Play {
+        command: Command::Check,
+        load,
+        save: None,
+        log: None,
+    };
     match logs {
-        [] => check_log(files, alloc, load, None, input, output, remarks, faults),
+        [] => play_log(&play, files, alloc, input, output, remarks, faults),
         [log] => {
-            check_log(
-                files,
-                alloc,
-                load,
-                Some(*log),
-                input,
-                output,
-                remarks,
-                faults,
-            )
+            let named = Play {
+                log: Some(*log),
+                ..play
+            };
+            play_log(&named, files, alloc, input, output, remarks, faults)
         }
         _ => check_each(
             files, alloc, load, all, logs, input, output, remarks, faults,
@@ -407,10 +304,24 @@ where
 {
     match task_of(alloc, words) {
         Ok(Task::Replay { load, save, log }) => {
-            replay_log(files, alloc, load, save, log, input, output, faults)
+            let command = Command::Replay;
+            let play = Play {
+                command,
+                load,
+                save,
+                log,
+            };
+            play_log(&play, files, alloc, input, output, remarks, faults)
         }
         Ok(Task::Live { load, save, log }) => {
-            live_log(files, alloc, load, save, log, input, output, faults)
+            let command = Command::Live;
+            let play = Play {
+                command,
+                load,
+                save,
+                log,
+            };
+            play_log(&play, files, alloc, input, output, remarks, faults)
         }
         Ok(Task::Check { load, all, logs }) => {
             check_logs(
@@ -418,7 +329,13 @@ where
             )
         }
         Ok(Task::Quiet { load, log }) => {
-            quiet_log(files, alloc, load, log, input, output, faults)
+            let play = Play {
+                command: Command::Quiet,
+                load,
+                save: None,
+                log,
+            };
+            play_log(&play, files, alloc, input, output, remarks, faults)
         }
         // Whether lines are whole is a matter of the output.
         Ok(Task::Show { form, wide: _, log }) => show_log(

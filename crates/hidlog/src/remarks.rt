@@ -4,7 +4,7 @@ ghost use Rattle.std.specs.Prelude.{◌<◌, ◌-◌, ◌^◌};
 use crate::process::tell;
 use crate::seen::Seen;
 use authn_core::Need;
-use session_log::{CAPACITY, Target};
+use session_log::{CAPACITY, Command, Target};
 use std::alloc::{AllocError, Global};
 use std::fmt::Write;
 use token_session::Session;
@@ -61,9 +61,9 @@ pub struct Remarks {
 }
 
 impl Remarks {
-    /// Looks at the session after a log that was compared with this result.
-    pub fn look(&mut self, ended: &Result<(), u8>, session: &Session<CAPACITY>) {
-        if ended.is_ok() {
+    /// Looks at the session after a log without a fault that a command played.
+    pub fn look(&mut self, command: Command, session: &Session<CAPACITY>) {
+        if command == Command::Check {
             self.ending = Some(Ending::of(session));
         }
     }

@@ -1,15 +1,16 @@
 //! Several logs that are compared, one after the other.
 ghost use Rattle.std.specs.Prelude.{◌≡◌, ◌<◌, ◌-◌, ◌^◌, ◌⊎◌, IfErr, OnOk};
 
+use crate::commands::Play;
 use crate::differing::{Wish, tell_differences};
 use crate::files::Files;
 use crate::logs::Logs;
 use crate::misfit::first_reason;
 use crate::process::tell;
-use crate::program::check_log;
+use crate::program::play_log;
 use crate::remarks::{Remarks, note};
 use crate::streams::is_difference;
-use session_log::{Failed, Target, ToWrite, put_all};
+use session_log::{Command, Failed, Target, ToWrite, put_all};
 use std::alloc::Global;
 
 /// The front of a fault's text that names a line. The log's path comes in place of the program's name.
@@ -58,7 +59,7 @@ fn reading_failed<L: Logs>(alloc: Global, input: &L) -> Option<String> {
 
 /// Compares one of several logs, and says what came of it with its path in front.
 fn check_one<D, L, O, E>(
-    files: &D,
+    files: &mut D,
     wish: &Wish<'_>,
     input: &mut L,
     output: &mut O,
@@ -73,18 +74,24 @@ where
     requires reads { L.failed input.old < 2 ^ 64 - 1 }
     requires writes { O.failed output.old < 2 ^ 64 - 1 }
     requires tells { E.failed faults.old < 2 ^ 64 - 1 }
-    ensures { IfErr result (λ code. (code ≡ 1) ⊎ (code ≡ 2)) }
+    ensures status { IfErr result (λ code. (code ≡ 1) ⊎ (code ≡ 2)) }
+    ensures kept { files.new ≡ files.old }
 {
     let (alloc, path) = (wish.alloc, wish.name);
     if path == "-" {
         input.restart();
     }
     let (mut same, mut told) = (Vec::new(alloc), Vec::new(alloc));
-    let ended = check_log(
+    let play = Play {
+        command: Command::Check,
+        load: wish.load,
+        save: None,
+        log: Some(path),
+    };
+    let ended = play_log(
+        &play,
         files,
         alloc,
-        wish.load,
-        Some(path),
         input,
         &mut ToWrite::new(&mut same),
         remarks,
@@ -119,7 +126,7 @@ fn note_one<L: Logs, E: Target>(
 /// Compares each log at these paths, on a session of its own. An error holds the exit status, 1 where any of them
 /// differs or has a fault. After a snapshot that can't be loaded no further log is read.
 pub fn check_each<D, L, O, E>(
-    files: &D,
+    files: &mut D,
     alloc: Global,
     load: Option<&str>,
     is_all: bool,
@@ -134,7 +141,8 @@ where
     L: Logs,
     O: Target,
     E: Target,
-    ensures { IfErr result (λ code. (code ≡ 1) ⊎ (code ≡ 2)) }
+    ensures status { IfErr result (λ code. (code ≡ 1) ⊎ (code ≡ 2)) }
+    ensures kept { files.new ≡ files.old }
 {
     let mut has_failed = false;
     for path in paths {

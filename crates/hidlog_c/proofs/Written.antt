@@ -1,13 +1,21 @@
 -- What a call that plays a log over a slice into a lent buffer did.
-use Rattle.std.proofs.Common.{◌≡◌, ◌+◌, ◌<◌, ◌≤◌, ℕ, Bool, true, false, List, [], ◌∷◌, ◌++◌, length, take, drop, Some, Result, Ok, Err, OnOk, inl, inr, if◌then◌else◌, ap, ◌∙◌, sym, refl, subst, arith}
+use Rattle.std.proofs.Common.{◌≡◌, ◌+◌, ◌<◌, ◌≤◌, ℕ, Bool, true, false, List, [], ◌∷◌, ◌++◌, length, take, drop, Option, Some, Result, Ok, Err, OnOk, inl, inr, if◌then◌else◌, ap, ◌∙◌, sym, refl, subst, arith}
 use Rattle.std.proofs.lemmas.List.{append_cancel_right}
 use Rattle.session_log.specs.declared.fault.LogFault.{LogFault}
 use Rattle.session_log.specs.declared.fault.LogFault.TheVariants.{BadLine, TooLong, Differs, Read, Write, TooManyLines, Memory}
 use Rattle.session_log.specs.Ending.{Ending, Done, Refused, Unread, Unwritten, ending_of, read_fails, write_fails}
 use Rattle.session_log.specs.Replay.{Finds, IsShown, Makes, Reaches, ReadsTo}
-use Rattle.session_log.specs.Streams.{Moves}
+use Rattle.cred_table.specs.declared.row.Row.{Row}
+use Rattle.session_log.specs.Check.{Compared, begun, check_history}
+use Rattle.session_log.specs.Command.{IsCounted, PlaysLog, start_with}
+use Rattle.session_log.specs.Session.{history, live_history, quiet_history}
+use Rattle.session_log.specs.Streams.{IsAllRead, Moves}
 use Rattle.session_log.specs.World.{World}
-use Rattle.hidlog_c.specs.Commands.{IsWritten}
+use Rattle.session_log.specs.declared.command.Command.{Command}
+use Rattle.session_log.specs.declared.command.Command.TheVariants.{Check, Live, Quiet, Replay}
+use Rattle.token_session.specs.Meters.{SessionState}
+use Rattle.token_session.specs.declared.input.Timed.{Timed}
+use Rattle.hidlog_c.specs.Commands.{IsWritten, PlaysSlice, PlaysSliceIn}
 
 -- to what begins with the name of a borrow a text was appended
 appended : (old new : ℕ) (none front text : List ℕ) → none ≡ [] → new ∷ front ≡ (old ∷ none) ++ text → front ≡ text
@@ -101,3 +109,18 @@ plays world s later answer all log begun rest name name' len failed failed' none
       full = w.full;
       does = (later, w.does.0, w.does.1);
     }
+
+-- What follows from a log that was played in some world follows from what a command did.
+pub by_command : (command : Command) (rows : List Row) {I O : Type 0} (left : I → Option (List ℕ)) (unread : I → ℕ) (ended : I → Bool) (taken : O → Option (List ℕ)) (unwritten : O → ℕ)
+    (answer : Result (Unit {0}) LogFault) (s : SessionState) (input : I × I) (output : O × O) (Q : (List ℕ → List ℕ → List ℕ → Ending → Type 0) → Type 0)
+    → ((S : Type 0) (world : World S) (x later : S)
+    → Moves (left input.0) (left input.1) (taken output.0) (taken output.1) (λ bytes text. Makes world x later bytes text (ending_of answer))
+    → ReadsTo world x (left input.0) (left input.1) (IsAllRead left ended input.1) (ending_of answer)
+    → IsCounted left unread ended unwritten answer input output
+    → Q (PlaysSliceIn world x))
+    → PlaysLog command (start_with rows) [] left unread ended taken unwritten answer s input output
+    → Q (PlaysSlice command rows)
+by_command Replay rows left unread ended taken unwritten answer s input output Q so p = so (List Timed) (history (start_with rows)) [] p.0 p.2 p.3 p.4
+by_command Live rows left unread ended taken unwritten answer s input output Q so p = so (List Timed) (live_history (start_with rows)) [] p.0 p.2 p.3 p.4
+by_command Check rows left unread ended taken unwritten answer s input output Q so p = so (Compared (List Timed)) (check_history (start_with rows)) (begun []) p.0 p.2 p.3 p.4
+by_command Quiet rows left unread ended taken unwritten answer s input output Q so p = so (List Timed) (quiet_history (start_with rows)) [] p.0 p.2 p.3 p.4

@@ -19,45 +19,47 @@ mod rows;
 mod showing;
 mod started;
 
-ghost use Rattle.hidlog_c.specs.Commands.{Answers, Checks, Lives, Quiets, Replays};
+ghost use Rattle.session_log.specs.declared.command.Command.TheVariants as commands;
+ghost use Rattle.hidlog_c.specs.Commands.{Answers};
 ghost use Rattle.hidlog_c.specs.Shown.{IsShown};
 
-use crate::commands::{Check, Live, Quiet, Replay, run};
+use crate::commands::run;
 use crate::outcome::Outcome;
 use crate::showing::show_log;
+use session_log::Command;
 
 /// Replays the log on a session with the credentials of the snapshot, or with none where the snapshot is empty.
 /// What a replay writes goes to the front of `out`.
 #[unsafe(no_mangle)]
 pub extern "C" fn hidlog_replay(log: &[u8], snapshot: &[u8], out: &mut [u8], outcome: &mut Outcome)
-    ensures { Answers Replays log.now snapshot.now (out.old, out.new) outcome.new }
+    ensures { Answers commands.Replay log.now snapshot.now (out.old, out.new) outcome.new }
 {
-    *outcome = run::<Replay>(log, snapshot, out);
+    *outcome = run(Command::Replay, log, snapshot, out);
 }
 
 /// Replays the log, and says after the packets of each input line what the session needs. Both go to the front
 /// of `out`.
 #[unsafe(no_mangle)]
 pub extern "C" fn hidlog_live(log: &[u8], snapshot: &[u8], out: &mut [u8], outcome: &mut Outcome)
-    ensures { Answers Lives log.now snapshot.now (out.old, out.new) outcome.new }
+    ensures { Answers commands.Live log.now snapshot.now (out.old, out.new) outcome.new }
 {
-    *outcome = run::<Live>(log, snapshot, out);
+    *outcome = run(Command::Live, log, snapshot, out);
 }
 
 /// Compares the log with what the session sends. The count of what was the same goes to the front of `out`.
 #[unsafe(no_mangle)]
 pub extern "C" fn hidlog_check(log: &[u8], snapshot: &[u8], out: &mut [u8], outcome: &mut Outcome)
-    ensures { Answers Checks log.now snapshot.now (out.old, out.new) outcome.new }
+    ensures { Answers commands.Check log.now snapshot.now (out.old, out.new) outcome.new }
 {
-    *outcome = run::<Check>(log, snapshot, out);
+    *outcome = run(Command::Check, log, snapshot, out);
 }
 
 /// Makes the log quiet. The quiet log goes to the front of `out`.
 #[unsafe(no_mangle)]
 pub extern "C" fn hidlog_quiet(log: &[u8], snapshot: &[u8], out: &mut [u8], outcome: &mut Outcome)
-    ensures { Answers Quiets log.now snapshot.now (out.old, out.new) outcome.new }
+    ensures { Answers commands.Quiet log.now snapshot.now (out.old, out.new) outcome.new }
 {
-    *outcome = run::<Quiet>(log, snapshot, out);
+    *outcome = run(Command::Quiet, log, snapshot, out);
 }
 
 /// Shows the log to a person. What is shown goes to the front of `out`.

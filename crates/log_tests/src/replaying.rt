@@ -1,6 +1,6 @@
 //! Logs replayed, worked out by hand; and the texts of faults.
 use crate::cases::assert_cases;
-use session_log::{LogFault, SliceIn, SliceOut, replay_command};
+use session_log::{Command, LogFault, SliceIn, SliceOut};
 use std::alloc::AllocError;
 use token_session::Session;
 
@@ -136,7 +136,7 @@ fn faults_are_written(rt: HostRuntime) {
         let mut faults = SliceOut::new(&mut said);
         let mut session = Session::<4>::bare([0; 16], 0);
         let mut input = SliceIn::new(log.as_bytes());
-        let answer = replay_command(&mut session, &mut input, &mut output, &mut faults);
+        let answer = Command::Replay.run(&mut session, &mut input, &mut output, &mut faults);
         let is_wanted = answer.err().unwrap_or(0) == status && faults.written() == want.as_bytes();
         assert!(rt; is_wanted, "{want}");
     }

@@ -23,3 +23,4 @@ pub mod Quieted
 pub mod Groups
 pub mod Checks
 pub mod Repeating
+pub mod Commands

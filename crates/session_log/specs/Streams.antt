@@ -45,3 +45,7 @@ abbrev pub Moves : Option (List ℕ) → Option (List ℕ) → Option (List ℕ)
     → Type 0
 Moves left left' taken taken' P = (bytes : List ℕ) × (text : List ℕ) × Consumes left left' bytes
     × Appends taken taken' text × P bytes text
+
+-- what a target had taken stays, and a text came after it
+abbrev pub Grows : Option (List ℕ) → Option (List ℕ) → Type 0
+Grows old new = (text : List ℕ) × Appends old new text

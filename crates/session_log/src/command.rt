@@ -3,7 +3,8 @@ ghost use Rattle.std.specs.Prelude.{◌≡◌, ◌<◌, ◌-◌, ◌^◌, List, 
 ghost use Rattle.authn_core.specs.Turn.{Start};
 ghost use Rattle.token_session.specs.declared.input.Timed.{Timed as OneInput};
 ghost use Rattle.token_session.specs.Meters.{StandsAfter};
-ghost use Rattle.session_log.specs.Command.{IsChecked, IsLived, IsQuieted, IsReplayed, status_of};
+ghost use Rattle.session_log.specs.Streams.{Grows};
+ghost use Rattle.session_log.specs.Command.{PlaysLog, RunsLog, status_of, unmetered};
 
 use crate::checking::check;
 use crate::fault::LogFault;
@@ -14,7 +15,7 @@ use crate::source::Source;
 use crate::target::{Target, put_all};
 use arrayvec::ArrayVec;
 use std::io::Write;
-use token_session::Session;
+use token_session::{Meters, Session};
 
 /// The most credential rows, and the most pending assertions, of the program's session.
 pub const CAPACITY: usize = 64;
@@ -30,13 +31,13 @@ pub fn tell_fault<E: Target>(faults: &mut E, fault: &LogFault)
 }
 
 /// The exit status of an answer: 1 for a fault, whose text is given to `faults`, if that can be.
-fn status<A: Drop, E: Target>(faults: &mut E, answer: Result<A, LogFault>) -> Result<(), u8>
+fn status<E: Target>(faults: &mut E, answer: Result<(), LogFault>) -> Result<(), u8>
     requires { E.failed faults.old < 2 ^ 64 - 1 }
     ensures status { result ≡ status_of answer }
     ensures silent { OnOk result (faults.new ≡ faults.old) }
 {
     match answer {
-        Ok(_) => Ok(()),
+        Ok(()) => Ok(()),
         Err(fault) => {
             tell_fault(faults, &fault);
             Err(1)
@@ -44,96 +45,74 @@ fn status<A: Drop, E: Target>(faults: &mut E, answer: Result<A, LogFault>) -> Re
     }
 }
 
-// The commands aren't inlined, so that their 30 kB of the stack aren't taken while a snapshot is loaded.
-
-/// The command `replay`: replays the log on the session. An error holds the exit status, 1: the fault's text was given
-/// to `faults`, if that could be.
-#[inline(never)]
-pub fn replay_command<S: Source, O: Target, E: Target, const C: usize>(
-    session: &mut Session<C>,
-    input: &mut S,
-    output: &mut O,
-    faults: &mut E,
-) -> Result<(), u8>
-    requires reads { S.failed input.old < 2 ^ 64 - 1 }
-    requires writes { O.failed output.old < 2 ^ 64 - 1 }
-    requires tells { E.failed faults.old < 2 ^ 64 - 1 }
-    // It is the log of each history that the session is after that was written.
-    ensures replayed { (start : Start) (h : List OneInput) → StandsAfter session.old start h
-        → IsReplayed start h S.left S.failed S.ended O.taken O.failed result session.new
-        (input.old, input.new) (output.old, output.new) }
-    // Without a fault nothing is written to `faults`.
-    ensures silent { OnOk result (faults.new ≡ faults.old) }
+/// Returns the answer without the meters.
+fn unmetered(answer: Result<Meters, LogFault>) -> Result<(), LogFault>
+    ensures { result ≡ unmetered answer }
 {
-    let answer = replay(input, output, session);
-    status(faults, answer)
+    match answer {
+        Ok(_) => Ok(()),
+        Err(fault) => Err(fault),
+    }
 }
 
-/// The command `live`: replays the log on the session, and says what the session needs. An error holds the exit
-/// status, 1, as for [`replay_command`].
-#[inline(never)]
-pub fn live_command<S: Source, O: Target, E: Target, const C: usize>(
-    session: &mut Session<C>,
-    input: &mut S,
-    output: &mut O,
-    faults: &mut E,
-) -> Result<(), u8>
-    requires reads { S.failed input.old < 2 ^ 64 - 1 }
-    requires writes { O.failed output.old < 2 ^ 64 - 1 }
-    requires tells { E.failed faults.old < 2 ^ 64 - 1 }
-    // It is the log of each history that the session is after, with what is needed, that was written.
-    ensures lived { (start : Start) (h : List OneInput) → StandsAfter session.old start h
-        → IsLived start h S.left S.failed S.ended O.taken O.failed result session.new
-        (input.old, input.new) (output.old, output.new) }
-    // Without a fault nothing is written to `faults`.
-    ensures silent { OnOk result (faults.new ≡ faults.old) }
-{
-    let answer = live(input, output, session);
-    status(faults, answer)
+/// A command that plays a log on a session.
+#[derive(Clone, Copy, Debug, PartialEq, Eq)]
+pub enum Command {
+    /// Writes the log again, with the packets that the session sends ([`crate::replay`]).
+    Replay,
+    /// The same, and says what the session needs ([`crate::live`]).
+    Live,
+    /// Compares the log with what the session sends ([`crate::check`]).
+    Check,
+    /// Makes the log quiet ([`crate::quiet`]).
+    Quiet,
 }
 
-/// The command `check`: compares the log with what the session sends. An error holds the exit status, 1, as for
-/// [`replay_command`].
-#[inline(never)]
-pub fn check_command<S: Source, O: Target, E: Target, const C: usize>(
-    session: &mut Session<C>,
-    input: &mut S,
-    output: &mut O,
-    faults: &mut E,
-) -> Result<(), u8>
-    requires reads { S.failed input.old < 2 ^ 64 - 1 }
-    requires writes { O.failed output.old < 2 ^ 64 - 1 }
-    requires tells { E.failed faults.old < 2 ^ 64 - 1 }
-    // It was compared with what each history names that the session is after.
-    ensures checked { (start : Start) (h : List OneInput) → StandsAfter session.old start h
-        → IsChecked start h S.left S.failed S.ended O.taken O.failed result session.new
-        (input.old, input.new) (output.old, output.new) }
-    // Without a fault nothing is written to `faults`.
-    ensures silent { OnOk result (faults.new ≡ faults.old) }
-{
-    let answer = check(input, output, session);
-    status(faults, answer)
-}
+impl Command {
+    /// Plays the log on the session. It fails where the call of its name does, and leaves what that leaves.
+    // It isn't inlined, so that its 30 kB of the stack aren't taken while a snapshot is loaded.
+    #[inline(never)]
+    pub fn play<S: Source, T: Target, const C: usize>(
+        self,
+        session: &mut Session<C>,
+        reader: &mut S,
+        writer: &mut T,
+    ) -> Result<(), LogFault>
+        requires reads { S.failed reader.old < 2 ^ 64 - 1 }
+        requires writes { T.failed writer.old < 2 ^ 64 - 1 }
+        // It is the log of each history that the session is after that was played.
+        ensures plays { (start : Start) (h : List OneInput) → StandsAfter session.old start h
+            → PlaysLog self start h S.left S.failed S.ended T.taken T.failed result session.new
+            (reader.old, reader.new) (writer.old, writer.new) }
+        ensures grown { Grows (T.taken writer.old) (T.taken writer.new) }
+    {
+        match self {
+            Command::Replay => unmetered(replay(reader, writer, session)),
+            Command::Live => unmetered(live(reader, writer, session)),
+            Command::Check => check(reader, writer, session),
+            Command::Quiet => quiet(reader, writer, session),
+        }
+    }
 
-/// The command `quiet`: makes the log quiet on the session. An error holds the exit status, 1, as for
-/// [`replay_command`].
-#[inline(never)]
-pub fn quiet_command<S: Source, O: Target, E: Target, const C: usize>(
-    session: &mut Session<C>,
-    input: &mut S,
-    output: &mut O,
-    faults: &mut E,
-) -> Result<(), u8>
-    requires reads { S.failed input.old < 2 ^ 64 - 1 }
-    requires writes { O.failed output.old < 2 ^ 64 - 1 }
-    requires tells { E.failed faults.old < 2 ^ 64 - 1 }
-    // It is quiet after each history that the session is after.
-    ensures quieted { (start : Start) (h : List OneInput) → StandsAfter session.old start h
-        → IsQuieted start h S.left S.failed S.ended O.taken O.failed result session.new
-        (input.old, input.new) (output.old, output.new) }
-    // Without a fault nothing is written to `faults`.
-    ensures silent { OnOk result (faults.new ≡ faults.old) }
-{
-    let answer = quiet(input, output, session);
-    status(faults, answer)
+    /// Plays the log on the session. An error holds the exit status, 1: the fault's text was given to `faults`, if that
+    /// could be.
+    pub fn run<S: Source, O: Target, E: Target, const C: usize>(
+        self,
+        session: &mut Session<C>,
+        input: &mut S,
+        output: &mut O,
+        faults: &mut E,
+    ) -> Result<(), u8>
+        requires reads { S.failed input.old < 2 ^ 64 - 1 }
+        requires writes { O.failed output.old < 2 ^ 64 - 1 }
+        requires tells { E.failed faults.old < 2 ^ 64 - 1 }
+        ensures runs { (start : Start) (h : List OneInput) → StandsAfter session.old start h
+            → RunsLog self start h S.left S.failed S.ended O.taken O.failed result session.new
+            (input.old, input.new) (output.old, output.new) }
+        // Without a fault nothing is written to `faults`.
+        ensures silent { OnOk result (faults.new ≡ faults.old) }
+    {
+        let answer = self.play(session, input, output);
+        status(faults, answer)
+    }
 }

@@ -4,7 +4,8 @@ use Rattle.std.specs.Io.KnownBytes.{Appends}
 use Rattle.std.proofs.KnownBytes.{Appends-trans}
 use Rattle.session_log.specs.Streams.{Puts}
 use Rattle.session_log.specs.declared.fault.Failed.{Failed}
-use Rattle.session_show.specs.Written.{Grows, Writes}
+use Rattle.session_log.specs.Streams.{Grows}
+use Rattle.session_show.specs.Written.{Writes}
 
 -- after the parts so far a part was appended, or broke off
 pub puts_on : {F : Type 0} (taken : F → Option (List ℕ)) (failed : F → ℕ) (a b c : F) (part : List ℕ) (r : Result (Unit {0}) Failed) → ((text : List ℕ) × Appends (taken a) (taken b) text) → failed b ≡ failed a → Puts taken failed (b, c) part r → Writes taken failed (a, c) r

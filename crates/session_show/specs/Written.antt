@@ -1,10 +1,6 @@
 -- What a call that writes did to its target.
 use Rattle.std.specs.Prelude.{◌≡◌, ℕ, ◌+◌, List, Option, Result, MatchResult}
-use Rattle.std.specs.Io.KnownBytes.{Appends}
-
--- what a target had taken stays, and a text came after it
-abbrev pub Grows : Option (List ℕ) → Option (List ℕ) → Type 0
-Grows old new = (text : List ℕ) × Appends old new text
+use Rattle.session_log.specs.Streams.{Grows}
 
 -- One more call of the target failed at an error, and else none did. A pair is the target before and after.
 abbrev pub Writes : {F A E : Type 0} → (F → Option (List ℕ)) → (F → ℕ) → (F × F) → Result A E → Type 0

@@ -4,7 +4,8 @@ ghost use Rattle.session_log.specs.Ending.{ending_of};
 ghost use Rattle.session_log.specs.Replay.{IsOfLine};
 ghost use Rattle.session_log.specs.Said.{said};
 ghost use Rattle.session_show.specs.Shown.{ShowsLine};
-ghost use Rattle.session_show.specs.Written.{Grows, Writes};
+ghost use Rattle.session_log.specs.Streams.{Grows};
+ghost use Rattle.session_show.specs.Written.{Writes};
 
 use crate::pen::Pen;
 use crate::putting::put_written;

@@ -4,7 +4,7 @@ ghost use Rattle.session_log.specs.Ending.{ending_of, read_fails, write_fails};
 ghost use Rattle.session_log.specs.Replay.{ReadsTo};
 ghost use Rattle.session_log.specs.Streams.{Counts, IsAllRead};
 ghost use Rattle.session_show.specs.Shown.{Shows, reading};
-ghost use Rattle.session_show.specs.Written.{Grows};
+ghost use Rattle.session_log.specs.Streams.{Grows};
 
 use crate::pen::Pen;
 use crate::putting::put_written;

@@ -4,7 +4,8 @@ ghost use Rattle.session_log.specs.Ending.{ending_of, read_fails, write_fails};
 ghost use Rattle.session_log.specs.Replay.{ReadsTo};
 ghost use Rattle.session_log.specs.Streams.{Counts as CountsFailures, IsAllRead};
 ghost use Rattle.session_show.specs.Shown.{Shows, reading};
-ghost use Rattle.session_show.specs.Written.{Grows, Writes};
+ghost use Rattle.session_log.specs.Streams.{Grows};
+ghost use Rattle.session_show.specs.Written.{Writes};
 
 use crate::counts::Counts;
 use crate::pen::Pen;

@@ -4,7 +4,7 @@ ghost use Rattle.session_log.specs.Ending.{ending_of, read_fails, write_fails};
 ghost use Rattle.session_log.specs.Replay.{ReadsTo};
 ghost use Rattle.session_log.specs.Streams.{Counts, IsAllRead};
 ghost use Rattle.session_show.specs.Shown.{Shows, reading};
-ghost use Rattle.session_show.specs.Written.{Grows};
+ghost use Rattle.session_log.specs.Streams.{Grows};
 
 use session_log::{LogFault, Source, Target, Window, next_line};
 
@@ -14,7 +14,7 @@ pub trait Telling {
     ghost use Rattle.session_log.specs.Ending.{ending_of};
     ghost use Rattle.session_log.specs.Replay.{IsOfLine};
     ghost use Rattle.session_show.specs.Shown.{ShowsLine};
-    ghost use Rattle.session_show.specs.Written.{Grows};
+    ghost use Rattle.session_log.specs.Streams.{Grows};
 
     /// Writes what is written for the next line.
     fn tell<T: Target>(&mut self, number: u64, line: &[u8], writer: &mut T) -> Result<(), LogFault>

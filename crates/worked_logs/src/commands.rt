@@ -7,7 +7,7 @@ ghost use Rattle.std.specs.Prelude.{◌≤◌};
 use crate::walk::{Place, Walk, is_packet};
 use authn_core::Config;
 use cred_table::{Store, load};
-use session_log::{LogFault, SliceIn, ToWrite, check, live, quiet, replay};
+use session_log::{Command, LogFault, SliceIn, ToWrite};
 use std::alloc::{AllocError, Global};
 use token_session::Session;
 
@@ -19,44 +19,14 @@ fn session<const C: usize>() -> Session<C>
     Session::bare([0; 16], 0)
 }
 
-fn replayed<const C: usize>(alloc: Global, log: &[u8]) -> Option<Vec<u8>>
+/// What a command writes for the log, or the first fault.
+fn played<const C: usize>(alloc: Global, command: Command, log: &[u8]) -> Result<Vec<u8>, LogFault>
     requires some { 1 ≤ C }
     requires few { C ≤ 256 }
 {
     let mut text = Vec::new(alloc);
     let writer = &mut ToWrite::new(&mut text);
-    replay(&mut SliceIn::new(log), writer, &mut session::<C>()).ok()?;
-    Some(text)
-}
-
-fn lived<const C: usize>(alloc: Global, log: &[u8]) -> Option<Vec<u8>>
-    requires some { 1 ≤ C }
-    requires few { C ≤ 256 }
-{
-    let mut text = Vec::new(alloc);
-    let writer = &mut ToWrite::new(&mut text);
-    live(&mut SliceIn::new(log), writer, &mut session::<C>()).ok()?;
-    Some(text)
-}
-
-fn quieted<const C: usize>(alloc: Global, log: &[u8]) -> Option<Vec<u8>>
-    requires some { 1 ≤ C }
-    requires few { C ≤ 256 }
-{
-    let mut text = Vec::new(alloc);
-    let writer = &mut ToWrite::new(&mut text);
-    quiet(&mut SliceIn::new(log), writer, &mut session::<C>()).ok()?;
-    Some(text)
-}
-
-/// The first place where the log differs from what is sent, or what is written where it doesn't.
-fn compared<const C: usize>(alloc: Global, log: &[u8]) -> Result<Vec<u8>, LogFault>
-    requires some { 1 ≤ C }
-    requires few { C ≤ 256 }
-{
-    let mut text = Vec::new(alloc);
-    let writer = &mut ToWrite::new(&mut text);
-    check(&mut SliceIn::new(log), writer, &mut session::<C>())?;
+    command.play(&mut session::<C>(), &mut SliceIn::new(log), writer)?;
     Ok(text)
 }
 
@@ -76,7 +46,8 @@ fn is_same<const C: usize>(alloc: Global, log: &[u8]) -> Result<bool, AllocError
 {
     let walk = walked(log);
     let wanted = format!(in alloc; "same {} inputs {} packets\n", walk.inputs, walk.packets)?;
-    Ok(compared::<C>(alloc, log).is_ok_and(|text| text.as_slice() == wanted.as_bytes()))
+    Ok(played::<C>(alloc, Command::Check, log).is_ok_and(|text| text.as_slice()
+        == wanted.as_bytes()))
 }
 
 /// Whether the log of these three parts differs at this place first.
@@ -97,7 +68,7 @@ fn differs_at<const C: usize>(
         line: place.line,
         packet: place.packet,
     };
-    Ok(compared::<C>(alloc, log.as_slice()).is_err_and(|fault| fault == wanted))
+    Ok(played::<C>(alloc, Command::Check, log.as_slice()).is_err_and(|fault| fault == wanted))
 }
 
 /// A line twice.
@@ -154,9 +125,9 @@ fn is_quieted<const C: usize>(alloc: Global, log: &[u8]) -> Option<bool>
     requires some { 1 ≤ C }
     requires few { C ≤ 256 }
 {
-    let quiet = quieted::<C>(alloc, log)?;
-    let again = quieted::<C>(alloc, quiet.as_slice())?;
-    let sent = replayed::<C>(alloc, quiet.as_slice())?;
+    let quiet = played::<C>(alloc, Command::Quiet, log).ok()?;
+    let again = played::<C>(alloc, Command::Quiet, quiet.as_slice()).ok()?;
+    let sent = played::<C>(alloc, Command::Replay, quiet.as_slice()).ok()?;
     let mut lines = log.split_inclusive(|byte| *byte == b'\n');
     for line in sent.as_slice().split_inclusive(|byte| *byte == b'\n') {
         if is_packet(line) && !lines.any(|other| other == line) {
@@ -185,9 +156,9 @@ fn is_lived<const C: usize>(alloc: Global, log: &[u8]) -> Option<bool>
     requires some { 1 ≤ C }
     requires few { C ≤ 256 }
 {
-    let told = lived::<C>(alloc, log)?;
-    let again = lived::<C>(alloc, told.as_slice())?;
-    let sent = replayed::<C>(alloc, told.as_slice())?;
+    let told = played::<C>(alloc, Command::Live, log).ok()?;
+    let again = played::<C>(alloc, Command::Live, told.as_slice()).ok()?;
+    let sent = played::<C>(alloc, Command::Replay, told.as_slice()).ok()?;
     let (rest, needs) = without_needs(alloc, told.as_slice()).ok()?;
     Some(again == told && sent == told && rest.as_slice() == log && needs == walked(log).inputs)
 }
@@ -197,7 +168,7 @@ pub fn is_worked<const C: usize>(alloc: Global, log: &[u8]) -> bool
     requires some { 1 ≤ C }
     requires few { C ≤ 256 }
 {
-    replayed::<C>(alloc, log).is_some_and(|text| text.as_slice() == log)
+    played::<C>(alloc, Command::Replay, log).is_ok_and(|text| text.as_slice() == log)
         && is_same::<C>(alloc, log) == Ok(true)
         && changes_are_found::<C>(alloc, log) == Ok(true)
         && is_quieted::<C>(alloc, log) == Some(true)
@@ -211,28 +182,23 @@ fn restarted(snapshot: &[u8]) -> Session<64> {
     Session::new(Config { aaguid: [0; 16] }, rows, 0)
 }
 
+/// What a command writes for a log that was recorded from these credentials on, or the first fault.
+fn recorded(
+    alloc: Global,
+    command: Command,
+    snapshot: &[u8],
+    log: &[u8],
+) -> Result<Vec<u8>, LogFault> {
+    let mut text = Vec::new(alloc);
+    let writer = &mut ToWrite::new(&mut text);
+    command.play(&mut restarted(snapshot), &mut SliceIn::new(log), writer)?;
+    Ok(text)
+}
+
 /// Whether a log that was recorded live, with what was needed, is what the session sends and needs: replayed, compared
 /// and played live.
 pub fn is_recorded(alloc: Global, snapshot: &[u8], log: &[u8]) -> bool {
-    let (mut sent, mut lived, mut same) = (Vec::new(alloc), Vec::new(alloc), Vec::new(alloc));
-    replay(
-        &mut SliceIn::new(log),
-        &mut ToWrite::new(&mut sent),
-        &mut restarted(snapshot),
-    )
-    .is_ok()
-        && live(
-            &mut SliceIn::new(log),
-            &mut ToWrite::new(&mut lived),
-            &mut restarted(snapshot),
-        )
-        .is_ok()
-        && check(
-            &mut SliceIn::new(log),
-            &mut ToWrite::new(&mut same),
-            &mut restarted(snapshot),
-        )
-        .is_ok()
-        && sent.as_slice() == log
-        && lived.as_slice() == log
+    recorded(alloc, Command::Replay, snapshot, log).is_ok_and(|sent| sent.as_slice() == log)
+        && recorded(alloc, Command::Live, snapshot, log).is_ok_and(|told| told.as_slice() == log)
+        && recorded(alloc, Command::Check, snapshot, log).is_ok()
 }

@@ -2,7 +2,7 @@ use Rattle.std.proofs.Common.{◌≡◌, ◌-◌, ◌^◌, ◌≤◌, List, ℕ,
 use Rattle.std.specs.Io.KnownBytes.{Consumes}
 use Rattle.session_log.proofs.Through.{Through}
 use Rattle.session_show.specs.Shown.{reading}
-use Rattle.session_show.specs.Written.{Grows}
+use Rattle.session_log.specs.Streams.{Grows}
 use Rattle.session_show.proofs.telling.tell_all.Given as goal
 
 -- whole lines were read and shown, and what was read after them stands in the window

@@ -1,9 +1,9 @@
 use Rattle.session_log.specs.Command.{start_with}
 use Rattle.std.proofs.Common.{◌≡◌, ◌∙◌, inr, refl, rules, sym, Ok, Err, [], inl}
-use Rattle.hidlog.proofs.commands.live_on.Goals as goal
+use Rattle.hidlog.proofs.commands.play_on.Goals as goal
 
-pub returns-in_err-live_command-clause-does : goal.returns-in_err-live_command-clause-does
-returns-in_err-live_command-clause-does g c =
+pub returns-in_err-run-clause-does : goal.returns-in_err-run-clause-does
+returns-in_err-run-clause-does g c =
     let begun = c.in_ok-session.ensures.begins in
     inr (
       c.open_log.new.input,
@@ -12,9 +12,9 @@ returns-in_err-live_command-clause-does g c =
         begun.0,
         begun.1,
         inr (
-          Err c.in_err-live_command.field-0.0,
-          c.live_command.new.session,
-          c.in_err-live_command.ensures.lived (start_with begun.0) [] begun.2,
+          Err c.in_err-run.field-0.0,
+          c.run.new.session,
+          c.in_err-run.ensures.runs (start_with begun.0) [] begun.2,
           (search rules, refl),
         ),
       ),
@@ -23,7 +23,7 @@ returns-in_err-live_command-clause-does g c =
 pub returns-in-Some-clause-does : goal.returns-in-Some-clause-does
 returns-in-Some-clause-does g c =
     let begun = c.in_ok-session.ensures.begins in
-    let silent : c.live_command.new.faults ≡ c.args.faults.now = c.in_ok-live_command.ensures.silent ∙ (c.in_ok-look.ensures.silent ∙ (c.in_ok-session.ensures.silent ∙ c.in_ok-open_log.ensures.silent)) in
+    let silent : c.run.new.faults ≡ c.args.faults.now = c.in_ok-run.ensures.silent ∙ (c.in_ok-look.ensures.silent ∙ (c.in_ok-session.ensures.silent ∙ c.in_ok-open_log.ensures.silent)) in
     inr (
       c.open_log.new.input,
       c.in_ok-open_log.ensures.opened,
@@ -31,9 +31,9 @@ returns-in-Some-clause-does g c =
         begun.0,
         begun.1,
         inr (
-          Ok c.in_ok-live_command.field-0,
-          c.live_command.new.session,
-          c.in_ok-live_command.ensures.lived (start_with begun.0) [] begun.2,
+          Ok c.in_ok-run.field-0,
+          c.run.new.session,
+          c.in_ok-run.ensures.runs (start_with begun.0) [] begun.2,
           rw (c.in-Some.is, sym silent) c.save_rows.ensures,
         ),
       ),
@@ -49,10 +49,10 @@ returns-in-None-clause-does g c =
         begun.0,
         begun.1,
         inr (
-          Ok c.in_ok-live_command.field-0,
-          c.live_command.new.session,
-          c.in_ok-live_command.ensures.lived (start_with begun.0) [] begun.2,
-          rw c.in-None.is (refl, refl, c.in_ok-live_command.ensures.silent ∙ (c.in_ok-look.ensures.silent ∙ (c.in_ok-session.ensures.silent ∙ c.in_ok-open_log.ensures.silent))),
+          Ok c.in_ok-run.field-0,
+          c.run.new.session,
+          c.in_ok-run.ensures.runs (start_with begun.0) [] begun.2,
+          rw c.in-None.is (refl, refl, c.in_ok-run.ensures.silent ∙ (c.in_ok-look.ensures.silent ∙ (c.in_ok-session.ensures.silent ∙ c.in_ok-open_log.ensures.silent))),
         ),
       ),
     )
@@ -74,6 +74,6 @@ returns-in_err-look-clause-does g c =
       inr (
         begun.0,
         begun.1,
-        inl (search rules, refl, refl, refl, rw (sym (c.in_ok-session.ensures.silent ∙ c.in_ok-open_log.ensures.silent)) c.in_err-look.ensures.told),
+        inl (search rules, refl, refl, refl, rw (sym c.looked_at.ensures, sym (c.in_ok-session.ensures.silent ∙ c.in_ok-open_log.ensures.silent)) c.in_err-look.ensures.told),
       ),
     )
