@@ -1,5 +1,6 @@
 -- Turns lead from ready states to ready states.
-use Rattle.std.proofs.Common.{◌≡◌, ℕ, ◌+◌, ◌-◌, ◌^◌, nat_lt, ◌<◌, List, [], ◌∷◌, ◌++◌, length, reverse, Bool, true, false, cond, Option, Some, None, option_to_list, is_some, Result, Ok, Err, refl, sym, ◌∙◌, ap, subst, arith, filter}
+use Rattle.std.specs.Prelude.{drop, slice_get}
+use Rattle.std.proofs.Common.{◌≡◌, ℕ, ◌+◌, ◌-◌, ◌^◌, ◌==◌, ◌&&◌, nat_le, nat_lt, ◌<◌, List, [], ◌∷◌, ◌++◌, length, reverse, Bool, true, false, cond, Option, Some, None, option_to_list, is_some, Result, Ok, Err, refl, sym, ◌∙◌, ap, subst, arith, filter}
 use Rattle.std.proofs.lemmas.Bool.Decides.{nat_tests}
 use Rattle.std.proofs.lemmas.List.{reverse-append, map-append}
 use Rattle.std.specs.Option.{option_or}
@@ -15,11 +16,11 @@ use Rattle.ctap_message.specs.Descriptors.{ids_of}
 use Rattle.ctap_message.specs.Requests.{read_of}
 use Rattle.authn_core.specs.declared.replies.Presence.{Presence}
 use Rattle.authn_core.specs.declared.replies.Presence.TheVariants.{Granted, Denied, TimedOut}
-use Rattle.authn_core.specs.Hash.{rp_hash}
+use Rattle.sha2.specs.Sha256.{sha256}
 use Rattle.authn_core.specs.State.{Setup, Asserting, Task, Resets, Selects, AsksMake, WantsKey, SignsMake, AsksAssert, SignsAssert, Job, State, Event, Request, PresenceIs, KeyIs, SignatureIs, Cancel, Drop, Turned, answers, refuses, waits, signing, signs}
 use Rattle.authn_core.specs.Asking.{RESET_LIMIT, asked_alone}
 use Rattle.authn_core.specs.MakeCredential.{fits}
-use Rattle.authn_core.specs.GetAssertion.{find_named, applicable, told, MOST, begun, begins, is_due, row_signs, next_signs, next_begins}
+use Rattle.authn_core.specs.GetAssertion.{find_named, applicable, told, MOST, NEXT_LIMIT, begun, begins, row_signs, next_signs, next_begins}
 use Rattle.authn_core.specs.Turn.{requested, replied, reply_turn, turn}
 use Rattle.authn_core.specs.Marks.{task_raises}
 use Rattle.authn_core.specs.Ready.{AllThere, Ready, PendingReady, WorkReady, TaskReady}
@@ -185,15 +186,20 @@ begins_case P rows t cid hash rp up given (id ∷ others) ended begin =
 next_case : (P : Turned → Type 0) (rows : List Row) (p : Option Waiting) (t cid : ℕ) → ((bytes : List ℕ) → P (answers rows None bytes))
     → ((id rp : List ℕ) → first_of p ≡ Some id → P (signs rows (rest_of p) cid (record { hash = hash_of p; rp = rp; id = id; presence = presence_of p; number = None })))
     → P (next_begins rows p t cid)
-next_case P rows p t cid ended next = cond_case P (is_due t cid p) _ _ (λ _. first (first_of p) refl) (λ _. ended _)
+next_case P rows None t cid ended next = ended _
+next_case P rows (Some w) t cid ended next = cond_case P ((w.cid == cid) && nat_le t (w.moment + NEXT_LIMIT)) _ _ (λ _. go w.ids refl) (λ _. ended _)
   where
-    row : (id : List ℕ) (o : Option Row) → first_of p ≡ Some id → P (row_signs rows (rest_of p) cid (hash_of p) (presence_of p) id o)
-    row id None e = ended _
-    row id (Some r) e = cond_case P (nat_lt (counter_of id rows) MOST) _ _ (λ _. next id r.rp e) (λ _. ended _)
+    Goes : List ℕ → List ℕ → List (List ℕ) → Type 0
+    Goes id rp others = P (signs rows (pending_of w.cid w.hash w.presence w.moment others) cid (record { hash = w.hash; rp = rp; id = id; presence = w.presence; number = None }))
 
-    first : (o : Option (List ℕ)) → first_of p ≡ o → P (next_signs rows p cid o)
-    first None e = ended _
-    first (Some id) e = row id (find (has_id id) rows) e
+    row : (id : List ℕ) (others : List (List ℕ)) (o : Option Row) → w.ids ≡ id ∷ others → P (row_signs rows (pending_of w.cid w.hash w.presence w.moment others) cid w.hash w.presence id o)
+    row id others None e = ended _
+    row id others (Some r) e =
+        cond_case P (nat_lt (counter_of id rows) MOST) _ _ (λ _. subst (λ l. Goes id r.rp (drop 1 l)) e (next id r.rp (ap (λ l. slice_get l 0) e))) (λ _. ended _)
+
+    go : (l : List (List ℕ)) → w.ids ≡ l → P (next_signs rows w cid l)
+    go [] e = ended _
+    go (id ∷ others) e = row id others (find (has_id id) rows) e
 
 -- It is answered, asks for the user's presence, begins an assertion of the rows that apply, or goes on with a pending one.
 pub requested_case : (P : Turned → Type 0) (u : Setup) (rows : List Row) (p : Option Waiting) (t cid : ℕ) (read : Result Asked ℕ) → ((bytes : List ℕ) → P (answers rows None bytes))
@@ -209,7 +215,7 @@ requested_case P u rows p t cid (Ok Reset) ended asks begin next =
 requested_case P u rows p t cid (Ok Selection) ended asks begin next = asks Selects (record { ready = λ _. tt; raises = λ _. refl })
 requested_case P u rows p t cid (Ok (MakeCredential hash rp_id user_id user_name discoverable exclude)) ended asks begin next = asks (AsksMake _ _) (record { ready = λ _. tt; raises = λ _. refl })
 requested_case P u rows p t cid (Ok (GetAssertion hash rp_id allow up)) ended asks begin next =
-    begins_case P rows t cid hash (rp_hash rp_id) up (has_entries allow) (ids (applicable rows (rp_hash rp_id) (has_entries allow) (ids_of allow))) ended (begin hash (rp_hash rp_id) up (has_entries allow) (ids_of allow))
+    begins_case P rows t cid hash (sha256 rp_id) up (has_entries allow) (ids (applicable rows (sha256 rp_id) (has_entries allow) (ids_of allow))) ended (begin hash (sha256 rp_id) up (has_entries allow) (ids_of allow))
 requested_case P u rows p t cid (Ok GetNextAssertion) ended asks begin next = next_case P rows p t cid ended next
 
 pub requested_ready : (u : Setup) (rows : List Row) (p : Option Waiting) (t cid : ℕ) (read : Result Asked ℕ) → PendingReady rows p → Ready u.room (requested u rows p t cid read).state

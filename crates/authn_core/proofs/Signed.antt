@@ -1,5 +1,5 @@
 -- Every turn keeps what is to be signed that of the newest request, and a signature is answered with what was signed.
-use Rattle.std.proofs.Common.{◌≡◌, ℕ, ◌+◌, nat_lt, List, [], ◌∷◌, ◌++◌, length, Bool, true, false, cond, not, Option, Some, None, option_map, option_to_list, is_some, Result, Ok, Err, refl, sym, ◌∙◌, ap, subst, inl, inr, filter}
+use Rattle.std.proofs.Common.{◌≡◌, ℕ, ◌+◌, ◌==◌, ◌&&◌, nat_le, nat_lt, List, [], ◌∷◌, ◌++◌, length, Bool, true, false, cond, not, Option, Some, None, option_map, option_to_list, is_some, Result, Ok, Err, refl, sym, ◌∙◌, ap, subst, inl, inr, filter}
 use Rattle.std.proofs.lemmas.Bool.{and_parts, or_parts, not-true}
 use Rattle.std.proofs.lemmas.Option.{same_Some}
 use Rattle.std.proofs.lemmas.Slice.Eq.{bytes_eq-Decides}
@@ -8,7 +8,7 @@ use Rattle.std.specs.Option.{option_or}
 use Rattle.std.specs.Str.{bytes_eq}
 use Rattle.cred_table.specs.declared.row.Row.{Row}
 use Rattle.cred_table.specs.Rows.{Lawful, has_id, is_named, is_listed, same_id, no_two, listed, ids, raised, counter_of, counter_in}
-use Rattle.cred_table.specs.Waiting.{Waiting, pending_of, stamped, first_of}
+use Rattle.cred_table.specs.Waiting.{Waiting, pending_of, stamped}
 use Rattle.fido_authdata.specs.AuthData.{assertion_bytes, created_bytes}
 use Rattle.ctap_message.specs.Answers.{created_answer, assertion_answer}
 use Rattle.ctap_message.specs.Asked.{Asked, MakeCredential, GetAssertion, GetInfo, Reset, GetNextAssertion, Selection}
@@ -17,11 +17,11 @@ use Rattle.ctap_message.specs.Descriptors.{ids_of}
 use Rattle.ctap_message.specs.Requests.{read_of}
 use Rattle.authn_core.specs.declared.replies.Presence.TheVariants.{Granted, Denied, TimedOut}
 use Rattle.authn_core.specs.declared.replies.NewKey.{NewKey}
-use Rattle.authn_core.specs.Hash.{rp_hash}
+use Rattle.sha2.specs.Sha256.{sha256}
 use Rattle.authn_core.specs.State.{Setup, Making, Asserting, Task, Resets, Selects, AsksMake, WantsKey, SignsMake, AsksAssert, SignsAssert, Job, State, Event, Request, PresenceIs, KeyIs, SignatureIs, Cancel, Drop, Answer, Answered, Turned, signs}
 use Rattle.authn_core.specs.Asking.{RESET_LIMIT}
 use Rattle.authn_core.specs.MakeCredential.{fits, new_row}
-use Rattle.authn_core.specs.GetAssertion.{find_named, applicable, MOST, told, begins, is_due, next_begins, next_signs, row_signs, user_in}
+use Rattle.authn_core.specs.GetAssertion.{find_named, applicable, MOST, NEXT_LIMIT, told, begins, next_begins, next_signs, row_signs, user_in}
 use Rattle.authn_core.specs.Turn.{Start, core_answer, first_state, requested, replied, reply_turn, turn}
 use Rattle.authn_core.specs.Views.{Needed, needs, sign}
 use Rattle.authn_core.specs.Marks.{Step, Comes, Orderly, core_at}
@@ -199,7 +199,7 @@ begins_signs aaguid h rows t cid hash rp up given (id ∷ l) c a =
 next_signs_on : (aaguid : List ℕ) (h : Heard) (rows : List Row) (p : Option Waiting) (t cid : ℕ) → PendingFor h.asked rows p → IsGranted h.granted p → Signs aaguid h (next_begins rows p t cid).state
 next_signs_on aaguid h rows None t cid f k = ended aaguid h rows None tt tt
 next_signs_on aaguid h rows (Some w) t cid f k =
-    cond_case (λ (v : Turned). Signs aaguid h v.state) (is_due t cid (Some w)) _ _ (λ _. go w.ids f) (λ _. ended aaguid h rows None tt tt)
+    cond_case (λ (v : Turned). Signs aaguid h v.state) ((w.cid == cid) && nat_le t (w.moment + NEXT_LIMIT)) _ _ (λ _. go w.ids f) (λ _. ended aaguid h rows None tt tt)
   where
     at : (id : List ℕ) (l : List (List ℕ)) (o : Option Row) → find (has_id id) rows ≡ o → PendingFor h.asked rows (Some (record w { ids = id ∷ l }))
         → Signs aaguid h (row_signs rows (pending_of w.cid w.hash w.presence w.moment l) cid w.hash w.presence id o).state
@@ -213,7 +213,7 @@ next_signs_on aaguid h rows (Some w) t cid f k =
         (pending_is h.asked rows w.cid w.hash f.0 w.presence w.moment l f.1 f.2.1) (still_granted h.granted w.cid w.hash w.presence w.moment l k) (subst P same f.1, found) k)
         (λ _. ended aaguid h rows None tt tt)
 
-    go : (l : List (List ℕ)) → PendingFor h.asked rows (Some (record w { ids = l })) → Signs aaguid h (next_signs rows (Some (record w { ids = l })) cid (first_of (Some (record w { ids = l })))).state
+    go : (l : List (List ℕ)) → PendingFor h.asked rows (Some (record w { ids = l })) → Signs aaguid h (next_signs rows w cid l).state
     go [] f = ended aaguid h rows None tt tt
     go (id ∷ l) f = at id l (find (has_id id) rows) refl f
 
@@ -226,8 +226,8 @@ requested_signs u h rows p t cid (Ok Reset) d f k =
 requested_signs u h rows p t cid (Ok Selection) d f k = record { pending = tt; granted = tt; work = tt }
 requested_signs u h rows p t cid (Ok (MakeCredential hash rp_id user_id user_name discoverable exclude)) d f k = record { pending = tt; granted = tt; work = refl }
 requested_signs u h rows p t cid (Ok (GetAssertion hash rp_id allow up)) d f k =
-    begins_signs u.aaguid (newer h (Ok (GetAssertion hash rp_id allow up))) rows t cid hash (rp_hash rp_id) up (has_entries allow)
-    (ids (applicable rows (rp_hash rp_id) (has_entries allow) (ids_of allow))) refl (applicable_of rows (rp_hash rp_id) (has_entries allow) (ids_of allow) d)
+    begins_signs u.aaguid (newer h (Ok (GetAssertion hash rp_id allow up))) rows t cid hash (sha256 rp_id) up (has_entries allow)
+    (ids (applicable rows (sha256 rp_id) (has_entries allow) (ids_of allow))) refl (applicable_of rows (sha256 rp_id) (has_entries allow) (ids_of allow) d)
 requested_signs u h rows p t cid (Ok GetNextAssertion) d f k = next_signs_on u.aaguid h rows p t cid f k
 
 -- once presence was granted
@@ -349,14 +349,14 @@ signs_at start (x ∷ past) l o =
 to_sign_assertion : (aaguid : List ℕ) (h : Heard) (rows : List Row) (id signed : List ℕ) (v : Claim) (asked : Option Asked) → assertion_asked asked ≡ Some v → rp_of id rows ≡ Some v.rp
     → signed ≡ assertion_bytes v.rp v.presence (counter_of id rows) ++ v.hash → (v.presence ≡ true → h.granted ≡ true) → IsToSign aaguid h rows id signed asked
 to_sign_assertion aaguid h rows id signed v (Some (GetAssertion hash rp_id allow up)) c r e present =
-    let s = same_Some (record { rp = rp_hash rp_id; presence = up; hash = hash }) v c in
+    let s = same_Some (record { rp = sha256 rp_id; presence = up; hash = hash }) v c in
     (e ∙ sym (ap (λ (w : Claim). assertion_bytes w.rp w.presence (counter_of id rows) ++ w.hash) s), r ∙ sym (ap (λ (w : Claim). Some w.rp) s), λ k. present (sym (ap (λ (w : Claim). w.presence) s) ∙ k))
 to_sign_assertion aaguid h rows id signed v other c r e present = cc
 
 to_sign_creation : (aaguid : List ℕ) (h : Heard) (rows : List Row) (key : NewKey) (signed rp hash : List ℕ) (asked : Option Asked) → creation_asked asked ≡ Some (rp, hash) → IsAmong key h.keys
     → signed ≡ created_bytes rp aaguid key.id key.x key.y ++ hash → h.granted ≡ true → IsToSign aaguid h rows key.id signed asked
 to_sign_creation aaguid h rows key signed rp hash (Some (MakeCredential asked_hash rp_id user_id user_name discoverable exclude)) c k e present =
-    let s = same_Some (rp_hash rp_id, asked_hash) (rp, hash) c in
+    let s = same_Some (sha256 rp_id, asked_hash) (rp, hash) c in
     (key, k, refl, e ∙ sym (ap (λ (w : List ℕ × List ℕ). created_bytes w.0 aaguid key.id key.x key.y ++ w.1) s), present)
 to_sign_creation aaguid h rows key signed rp hash other c k e present = cc
 
@@ -380,7 +380,7 @@ answered_assertion : (aaguid : List ℕ) (work : Option Job) (sig : List ℕ) (a
     → assertion_asked asked ≡ Some (record { rp = a.rp; presence = a.presence; hash = a.hash }) → signed ≡ assertion_bytes a.rp a.presence n ++ a.hash
     → IsSigned aaguid work a.id signed sig (Answered (assertion_answer a.id (assertion_bytes a.rp a.presence n) sig user a.number)) asked
 answered_assertion aaguid work sig a n signed user (Some (GetAssertion hash rp_id allow up)) c e =
-    let s = same_Some (record { rp = rp_hash rp_id; presence = up; hash = hash }) (record { rp = a.rp; presence = a.presence; hash = a.hash }) c in
+    let s = same_Some (record { rp = sha256 rp_id; presence = up; hash = hash }) (record { rp = a.rp; presence = a.presence; hash = a.hash }) c in
     (assertion_bytes a.rp a.presence n, user, a.number, refl, ap (λ (w : Claim). assertion_bytes a.rp a.presence n ++ w.hash) s ∙ sym e)
 answered_assertion aaguid work sig a n signed user other c e = cc
 
@@ -388,7 +388,7 @@ answered_creation : (aaguid : List ℕ) (cid : ℕ) (sig : List ℕ) (m : Making
     → creation_asked asked ≡ Some (m.rp, m.hash) → d ≡ created_bytes m.rp aaguid key.id key.x key.y ++ m.hash
     → IsSigned aaguid (Some (record { cid = cid; task = SignsMake m key d })) key.id d sig (Answered (created_answer (created_bytes m.rp aaguid key.id key.x key.y) sig)) asked
 answered_creation aaguid cid sig m key d (Some (MakeCredential hash rp_id user_id user_name discoverable exclude)) c e =
-    let s = same_Some (rp_hash rp_id, hash) (m.rp, m.hash) c in
+    let s = same_Some (sha256 rp_id, hash) (m.rp, m.hash) c in
     (new_row m key, refl, refl, refl, ap (λ (w : List ℕ × List ℕ). created_bytes m.rp aaguid key.id key.x key.y ++ w.1) s ∙ sym e)
 answered_creation aaguid cid sig m key d other c e = cc
 

@@ -5,7 +5,7 @@ use Rattle.std.specs.List.{find}
 use Rattle.std.specs.Option.{option_or}
 use Rattle.cred_table.specs.declared.row.Row.{Row}
 use Rattle.cred_table.specs.Rows.{has_id, is_named, listed, counter_of}
-use Rattle.cred_table.specs.Waiting.{Waiting, pending_of, stamped, first_of, rest_of, hash_of, presence_of}
+use Rattle.cred_table.specs.Waiting.{Waiting, pending_of, stamped}
 use Rattle.fido_authdata.specs.AuthData.{assertion_bytes}
 use Rattle.ctap_message.specs.Answers.{assertion_answer}
 use Rattle.authn_core.specs.declared.replies.Presence.{Presence}
@@ -66,12 +66,7 @@ assert_signed rows pending now a counter (Some sig) =
 abbrev pub NEXT_LIMIT : ℕ
 NEXT_LIMIT = 30000
 
--- something is pending for the channel, and the time isn't over
-abbrev pub is_due : (now cid : ℕ) → Option Waiting → Bool
-is_due now cid None = false
-is_due now cid (Some w) = w.cid == cid && nat_le now (w.moment + NEXT_LIMIT)
-
--- The row with the id signs. Every pending id has a row.
+-- The row with the id signs, by the first request's hash and presence. Every pending id has a row.
 abbrev pub row_signs : List Row → Option Waiting → (cid : ℕ) (hash : List ℕ) → Bool → List ℕ → Option Row → Turned
 row_signs rows pending cid hash presence id None = refuses rows None 0x30  -- NOT_ALLOWED
 row_signs rows pending cid hash presence id (Some row) =
@@ -79,14 +74,20 @@ row_signs rows pending cid hash presence id (Some row) =
     then signs rows pending cid (record { hash = hash; rp = row.rp; id = id; presence = presence; number = None })
     else refuses rows None 0x15  -- LIMIT_EXCEEDED
 
--- The first pending one signs, by the first request's hash and presence, and the others stay pending.
-abbrev pub next_signs : List Row → Option Waiting → (cid : ℕ) → Option (List ℕ) → Turned
-next_signs rows pending cid None = refuses rows None 0x30  -- NOT_ALLOWED
-next_signs rows pending cid (Some id) = row_signs rows (rest_of pending) cid (hash_of pending)
-    (presence_of pending) id (find (has_id id) rows)
+-- The first pending one signs, and the others stay pending.
+abbrev pub next_signs : List Row → Waiting → (cid : ℕ) → List (List ℕ) → Turned
+next_signs rows w cid [] = refuses rows None 0x30  -- NOT_ALLOWED
+next_signs rows w cid (id ∷ others) = row_signs rows (pending_of w.cid w.hash w.presence w.moment others) cid
+    w.hash w.presence id (find (has_id id) rows)
 
--- getNextAssertion, where something is pending and in time
+-- getNextAssertion, where something is pending for the channel and the time isn't over
 abbrev pub next_begins : List Row → Option Waiting → (now cid : ℕ) → Turned
-next_begins rows pending now cid =
-    if is_due now cid pending then next_signs rows pending cid (first_of pending)
+next_begins rows None now cid = refuses rows None 0x30  -- NOT_ALLOWED
+next_begins rows (Some w) now cid =
+    if (w.cid == cid) && nat_le now (w.moment + NEXT_LIMIT) then next_signs rows w cid w.ids
     else refuses rows None 0x30  -- NOT_ALLOWED
+
+-- Whether the next one is due, which the code asks first.
+abbrev pub is_due : (now cid : ℕ) → Option Waiting → Bool
+is_due now cid None = false
+is_due now cid (Some w) = (w.cid == cid) && nat_le now (w.moment + NEXT_LIMIT)

@@ -1,4 +1,3 @@
-pub mod Hash
 pub mod State
 pub mod Asking
 pub mod MakeCredential

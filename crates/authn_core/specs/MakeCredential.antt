@@ -12,7 +12,7 @@ use Rattle.ctap_message.specs.Answers.{created_answer}
 use Rattle.authn_core.specs.declared.replies.Presence.{Presence}
 use Rattle.authn_core.specs.declared.replies.Presence.TheVariants.{Granted}
 use Rattle.authn_core.specs.declared.replies.NewKey.{NewKey}
-use Rattle.authn_core.specs.Hash.{rp_hash}
+use Rattle.sha2.specs.Sha256.{sha256}
 use Rattle.authn_core.specs.State.{Making, AsksMake, WantsKey, SignsMake, Turned, answers, refuses, waits}
 
 -- one of the ids names a row of the RP
@@ -22,7 +22,7 @@ names_one rp rows ids = list_any (λ id. is_some (find (is_named rp id) rows)) i
 -- what is to be made
 abbrev pub making : (hash rp_id user_id user_name : List ℕ) (rk : Bool) → Making
 making hash rp_id user_id name rk =
-    record { hash = hash; rp = rp_hash rp_id; user = user_id; name = cut name; discoverable = rk }
+    record { hash = hash; rp = sha256 rp_id; user = user_id; name = cut name; discoverable = rk }
 
 -- The user's presence is asked for, also where a credential is excluded.
 abbrev pub make_begins : List Row → (cid : ℕ) → Making → (exclude : List (List ℕ)) → Turned

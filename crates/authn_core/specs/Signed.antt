@@ -11,7 +11,7 @@ use Rattle.ctap_message.specs.Answers.{created_answer, assertion_answer}
 use Rattle.ctap_message.specs.Requests.{read_of}
 use Rattle.authn_core.specs.declared.replies.Presence.TheVariants.{Granted}
 use Rattle.authn_core.specs.declared.replies.NewKey.{NewKey}
-use Rattle.authn_core.specs.Hash.{rp_hash}
+use Rattle.sha2.specs.Sha256.{sha256}
 use Rattle.authn_core.specs.Marks.{Step, made_by}
 use Rattle.authn_core.specs.State.{Making, Asserting, Task, AsksMake, WantsKey, SignsMake, AsksAssert, SignsAssert, Job, State, Event, Request, PresenceIs, KeyIs, SignatureIs, Answer, Answered}
 use Rattle.authn_core.specs.Views.{Needed, sign}
@@ -57,11 +57,11 @@ rp_of id rows = option_map (λ (r : Row). r.rp) (find (has_id id) rows)
 -- hash (sections 6.3.2, 6.5.1 and 8.2). Where UP is set, the user's presence was granted. Nothing else is signed.
 abbrev pub IsToSign : (aaguid : List ℕ) → Heard → List Row → (id signed : List ℕ) → Option Asked → Type 0
 IsToSign aaguid h rows id signed (Some (GetAssertion hash rp_id allow presence)) =
-    (signed ≡ assertion_bytes (rp_hash rp_id) presence (counter_of id rows) ++ hash)
-    × (rp_of id rows ≡ Some (rp_hash rp_id)) × (presence ≡ true → h.granted ≡ true)
+    (signed ≡ assertion_bytes (sha256 rp_id) presence (counter_of id rows) ++ hash)
+    × (rp_of id rows ≡ Some (sha256 rp_id)) × (presence ≡ true → h.granted ≡ true)
 IsToSign aaguid h rows id signed (Some (MakeCredential hash rp_id user_id user_name discoverable exclude)) =
     (key : NewKey) × IsAmong key h.keys × (key.id ≡ id)
-    × (signed ≡ created_bytes (rp_hash rp_id) aaguid key.id key.x key.y ++ hash) × (h.granted ≡ true)
+    × (signed ≡ created_bytes (sha256 rp_id) aaguid key.id key.x key.y ++ hash) × (h.granted ≡ true)
 IsToSign aaguid h rows id signed asked = ⊥
 
 abbrev pub IsNeeded : (aaguid : List ℕ) → Heard → List Row → Needed → Type 0
@@ -90,11 +90,11 @@ pub record Claim : Type 0 where
 
 abbrev pub assertion_asked : Option Asked → Option Claim
 assertion_asked (Some (GetAssertion hash rp_id allow presence)) =
-    Some (record { rp = rp_hash rp_id; presence = presence; hash = hash })
+    Some (record { rp = sha256 rp_id; presence = presence; hash = hash })
 assertion_asked asked = None
 
 abbrev pub creation_asked : Option Asked → Option (List ℕ × List ℕ)
-creation_asked (Some (MakeCredential hash rp_id user_id user_name discoverable exclude)) = Some (rp_hash rp_id, hash)
+creation_asked (Some (MakeCredential hash rp_id user_id user_name discoverable exclude)) = Some (sha256 rp_id, hash)
 creation_asked asked = None
 
 abbrev pub AssertsFor : Option Asked → List Row → Asserting → Type 0

@@ -8,13 +8,14 @@ use Rattle.ctap_message.specs.Answers.{info_answer}
 use Rattle.ctap_message.specs.Members.{has_entries}
 use Rattle.ctap_message.specs.Descriptors.{ids_of}
 use Rattle.ctap_message.specs.Requests.{read_of}
-use Rattle.authn_core.specs.Hash.{rp_hash}
+use Rattle.sha2.specs.Sha256.{sha256}
 use Rattle.authn_core.specs.State.{Setup, Task, Resets, Selects, AsksMake, WantsKey, SignsMake, AsksAssert, SignsAssert, Job, State, Event, Request, PresenceIs, KeyIs, SignatureIs, Cancel, Drop, Answer, Nothing, Turned, status, answers, refuses, waits, ignores}
 use Rattle.authn_core.specs.Asking.{reset_begins, asked_alone}
 use Rattle.authn_core.specs.MakeCredential.{making, make_begins, make_asked, key_wanted, make_signed}
 use Rattle.authn_core.specs.GetAssertion.{applicable, begins, assert_asked, assert_signed, next_begins}
 
--- Every request empties pending first, but a getNextAssertion that begins work.
+-- What a request begins, where it was read, or else the status that refuses it. Each empties what is pending, except
+-- for a getNextAssertion that begins work.
 abbrev pub requested : Setup → List Row → Option Waiting → (now cid : ℕ) → Result Asked ℕ → Turned
 requested u rows pending now cid (Err code) = refuses rows None code
 requested u rows pending now cid (Ok GetInfo) = answers rows None (info_answer u.aaguid)
@@ -23,7 +24,7 @@ requested u rows pending now cid (Ok Selection) = waits rows None cid Selects
 requested u rows pending now cid (Ok (MakeCredential hash rp_id user_id user_name discoverable exclude)) =
     make_begins rows cid (making hash rp_id user_id user_name discoverable) (ids_of exclude)
 requested u rows pending now cid (Ok (GetAssertion hash rp_id allow presence)) =
-    let rp = rp_hash rp_id in let given = has_entries allow in
+    let rp = sha256 rp_id in let given = has_entries allow in
     begins rows now cid hash rp presence given (ids (applicable rows rp given (ids_of allow)))
 requested u rows pending now cid (Ok GetNextAssertion) = next_begins rows pending now cid
 
@@ -39,7 +40,7 @@ replied u s now cid (AsksAssert a) (PresenceIs reply) = assert_asked s.rows s.pe
 replied u s now cid (SignsAssert a counter signed) (SignatureIs sig) = assert_signed s.rows s.pending now a counter sig
 replied u s now cid task other = ignores s
 
--- the same where nothing may wait
+-- a reply to the work that waits; where none waits it is ignored
 abbrev pub reply_turn : Setup → State → (now : ℕ) → Option Job → Event → Turned
 reply_turn u s now None reply = ignores s
 reply_turn u s now (Some job) reply = replied u s now job.cid job.task reply

@@ -1,14 +1,13 @@
 //! Hashes of 32 bytes.
 
 ghost use Rattle.std.specs.Prelude.{◌≡◌, length};
-ghost use Rattle.authn_core.specs.Hash.{rp_hash};
+ghost use Rattle.sha2.specs.Sha256.{sha256};
 
 use sha2::{Digest, Sha256};
 
 /// Returns the hash of an RP's id.
-#[tactic(auto, unfolding(crate::specs::Hash::rp_hash))]
 pub(crate) fn rp_hash_of(rp_id: &str) -> [u8; 32]
-    ensures { result ≡ rp_hash rp_id.now }
+    ensures { result ≡ sha256 rp_id.now }
 {
     Sha256::digest(rp_id)
 }

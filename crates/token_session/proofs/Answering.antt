@@ -21,22 +21,23 @@ use Rattle.token_session.specs.Inputs.{Judged, end, given}
 use Rattle.token_session.specs.Messages.{finished_at, finished, open_at}
 use Rattle.token_session.specs.History.{admits, core, event, judge, judged, packet_event, service_packets}
 use Rattle.token_session.specs.Messages.{as_open}
-use Rattle.token_session.specs.Machine.{event_after}
+use Rattle.token_session.specs.Machine.{event_after, ruling_packets}
 use Rattle.token_session.specs.Events.{event_core, event_packets}
-use Rattle.token_session.specs.Replies.{answer_packets, asker, ping_packets, request_event, row_packets, status_of}
+use Rattle.token_session.specs.Replies.{answer_packets, asker, ping_packets, request_event, status_of}
 use Rattle.token_session.specs.declared.input.Input.{Input}
 use Rattle.token_session.specs.declared.input.Input.TheVariants.{Packet}
 use Rattle.token_session.specs.declared.input.Timed.{Timed}
 use Rattle.token_session.proofs.Follows.{Good, good_judged, judged_at, safe_at}
+use Rattle.token_session.proofs.Tables.{table_same}
 use Rattle.token_session.proofs.Serve.{Serves, new_open, serves}
 
 -- A row that finishes a message sends nothing of its own, and the message is the event.
 record Ends (g : ℕ) (w : Option ℕ) (f : Fields) (m : Message) (r : Ruling) : Type 0 where
-  quiet : row_packets g f r ≡ []
+  quiet : ruling_packets g f r ≡ []
   asks : event_after w f (Some m) r ≡ request_event (Some m)
 
 ends : (g : ℕ) (w : Option ℕ) (o : Option Open) (f : Fields) (m : Message) (r : Ruling) → message_after o f r ≡ Some m → Ends g w f m r
-unfolding message_after row_packets event_after
+unfolding message_after ruling_packets event_after
 ends g w o f m (Begins Short) h = record { quiet = refl; asks = refl }
 ends g w o f m (Continues Whole) h = record { quiet = refl; asks = refl }
 ends g w o f m other h = cc
@@ -62,7 +63,7 @@ request_at start t h (Packet x) m good le fin is =
     let e : Ends g w f m row = ends g w (option_map as_open o) f m row after in
     let happened : packet_event w (Some m) x.0 ≡ event_after w f (Some m) row = subst (λ v. packet_event w v x.0 ≡ event_after w f v row) after s.event in
     let asks : packet_event w (Some m) x.0 ≡ Some (Request m.cid m.bytes) = happened ∙ e.asks ∙ asked m is in
-    rw (e.quiet, fin, no_ping m is, asks) refl
+    rw (table_same g o w x, e.quiet, fin, no_ping m is, asks) refl
 request_at start t h other m good le fin is = cc
 
 -- The AAGUID after every history is that of the start.

@@ -8,12 +8,12 @@ use Rattle.hid_assemble.specs.declared.verdict.Verdict.TheVariants.{Greet, Greet
 use Rattle.hid_assemble.specs.Assembly.{Message, message_after, bytes_of}
 use Rattle.hid_assemble.specs.Verdicts.{ruling_verdict, finished_verdict}
 use Rattle.authn_core.specs.State.{Drop}
-use Rattle.token_session.specs.Replies.{row_packets, ping_packets, request_event, greeting}
-use Rattle.token_session.specs.Machine.{event_after}
+use Rattle.token_session.specs.Replies.{ping_packets, request_event, greeting}
+use Rattle.token_session.specs.Machine.{event_after, ruling_packets}
 use Rattle.token_session.specs.Effects.{verdict_packets, verdict_event}
 
 pub record Effects (given : ℕ) (work : Option ℕ) (f : Fields) (m : Option Message) (row : Ruling) : Type 0 where
-  pub sends : row_packets given f row ++ ping_packets m ≡ verdict_packets (ruling_verdict given work f m row) (bytes_of m)
+  pub sends : ruling_packets given f row ++ ping_packets m ≡ verdict_packets (ruling_verdict given work f m row) (bytes_of m)
   pub does : event_after work f m row ≡ verdict_event (ruling_verdict given work f m row) (bytes_of m)
 
 finished_effects : (m : Option Message) → ([] ++ ping_packets m ≡ verdict_packets (finished_verdict m) (bytes_of m)) × (request_event m ≡ verdict_event (finished_verdict m) (bytes_of m))
@@ -29,7 +29,7 @@ again_does true on cid nonce = refl
 again_does false on cid nonce = refl
 
 pub effects : (current : Option Open) (given : ℕ) (work : Option ℕ) (f : Fields) (row : Ruling) → Effects given work f (message_after current f row) row
-unfolding row_packets message_after event_after ruling_verdict
+unfolding ruling_packets message_after event_after ruling_verdict
 effects c g w f (Begins CancelsWork) = record { sends = refl; does = refl }
 effects c g w f (Begins CancelsNothing) = record { sends = refl; does = refl }
 effects c g w f (Begins NoSuchChannel) = record { sends = append-nil _; does = refl }

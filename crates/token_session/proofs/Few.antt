@@ -13,9 +13,9 @@ use Rattle.hid_assemble.specs.declared.table.Continuation.TheVariants.{Whole, Wr
 use Rattle.hid_packet.specs.Commands.{BROADCAST, CBOR, ERROR, INIT, KEEPALIVE, PING}
 use Rattle.hid_packet.specs.Message.{continuation_packets, written}
 use Rattle.hid_packet.specs.Packet.{Fields, channel_of, data_of, fields}
-use Rattle.token_session.specs.Machine.{State, Turn, event_after, overdue_packets, time_passed, served, turn}
-use Rattle.token_session.specs.Events.{reply_in, event_keeps_alive, event_packets, keepalive_due, keepalive_packets}
-use Rattle.token_session.specs.Replies.{answer_keeps_alive, answer_packets, asker, greeting, ping_packets, request_event, row_packets, status_of}
+use Rattle.token_session.specs.Machine.{State, Turn, event_after, ruling_packets, overdue_packets, time_passed, served, turn}
+use Rattle.token_session.specs.Events.{reply_in, event_packets, keepalive_due, keepalive_packets}
+use Rattle.token_session.specs.Replies.{answer_packets, asker, greeting, ping_packets, request_event, status_of}
 use Rattle.token_session.specs.declared.input.Input.{Input}
 use Rattle.token_session.specs.declared.input.Input.TheVariants.{Packet}
 use Rattle.token_session.specs.declared.input.Timed.{Timed}
@@ -40,16 +40,13 @@ event_few : (k : CoreState) (t : ℕ) (e : Option Event) → length (event_packe
 event_few k t None = omega arith
 event_few k t (Some e) = answer_few _ _ _
 
-nothing_sent : (c s : Option ℕ) → (answer_packets c s Nothing ≡ []) × (answer_keeps_alive c s Nothing ≡ false)
-unfolding answer_packets answer_keeps_alive
-nothing_sent None s = (refl, refl)
-nothing_sent (Some c) s = (refl, refl)
+nothing_sent : (c s : Option ℕ) → answer_packets c s Nothing ≡ []
+unfolding answer_packets
+nothing_sent None s = refl
+nothing_sent (Some c) s = refl
 
 pub drop_sends_nothing : (k : CoreState) (t : ℕ) → event_packets k t (Some Drop) ≡ []
-drop_sends_nothing k t = ap (answer_packets (asker (waiting k) Drop) (status_of (waiting k))) (drop_answers_nothing k t) ∙ (nothing_sent (asker (waiting k) Drop) (status_of (waiting k))).0
-
-pub drop_keeps_silent : (k : CoreState) (t : ℕ) → event_keeps_alive k t (Some Drop) ≡ false
-drop_keeps_silent k t = ap (answer_keeps_alive (asker (waiting k) Drop) (status_of (waiting k))) (drop_answers_nothing k t) ∙ (nothing_sent (asker (waiting k) Drop) (status_of (waiting k))).1
+drop_sends_nothing k t = ap (answer_packets (asker (waiting k) Drop) (status_of (waiting k))) (drop_answers_nothing k t) ∙ nothing_sent (asker (waiting k) Drop) (status_of (waiting k))
 
 message_few : (k : CoreState) (t : ℕ) (m : Option Message) → length (ping_packets m ++ event_packets k t (request_event m)) ≤ 129
 message_few k t None = omega arith
@@ -68,8 +65,8 @@ unfolding greeting
 greeting_few on c nonce = few_written on INIT _
 
 pub service_few : (g t : ℕ) (o : Option Open) (k : CoreState) (w : Option ℕ) (p : Fields) (r : Ruling)
-    → length ((row_packets g p r ++ ping_packets (message_after o p r)) ++ event_packets k t (event_after w p (message_after o p r) r)) ≤ 129
-unfolding row_packets message_after event_after
+    → length ((ruling_packets g p r ++ ping_packets (message_after o p r)) ++ event_packets k t (event_after w p (message_after o p r) r)) ≤ 129
+unfolding ruling_packets message_after event_after
 service_few g t o k w p (Begins CancelsWork) = event_few k t (Some Cancel)
 service_few g t o k w p (Begins NoSuchChannel) = alone _ (few_written (channel_of p) ERROR (11 ∷ []))
 service_few g t o k w p (Begins InitLength) = alone _ (few_written (channel_of p) ERROR (3 ∷ []))

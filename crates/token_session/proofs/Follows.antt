@@ -4,6 +4,8 @@ use Rattle.std.proofs.lemmas.Bool.Decides.{nat_tests}
 use Rattle.std.proofs.lemmas.List.Sums.{sum_by-cons}
 use Rattle.token_session.proofs.Opens.{Lawful, next, then_next, open_next_is}
 use Rattle.token_session.proofs.Serve.{says_admitted, Safe, OpenGiven, Serves, serves, new_open, cond_case}
+use Rattle.token_session.proofs.Tables.{table_same}
+use Rattle.token_session.proofs.Noted.{last_noted}
 use Rattle.token_session.proofs.Time.{still, still_open}
 use Rattle.token_session.proofs.Safety.{packet_works, packet_alone, reply_works, reply_alone}
 use Rattle.authn_core.proofs.Facts.{IsGiven}
@@ -17,9 +19,9 @@ use Rattle.token_session.specs.Inputs.{Judged, asks_channel, end, given, is_own,
 use Rattle.token_session.specs.Messages.{Begun, as_open, finished, last_at, message, open_at}
 use Rattle.token_session.specs.History.{admits, core, cut_packets, event, is_cut, judge, judged, last_keepalive, packet_event, sent_at, service_packets, table_packets, time_packets}
 use Rattle.token_session.specs.Law.{event_at, named}
-use Rattle.token_session.specs.Machine.{State, Turn, event_after, happens, machine, overdue_packets, time_passed, served, start_state, turn}
-use Rattle.token_session.specs.Events.{reply_in, event_core, event_keeps_alive, keepalive_due, keepalive_packets}
-use Rattle.token_session.specs.Replies.{ping_packets, row_packets}
+use Rattle.token_session.specs.Machine.{State, Turn, event_after, happens, machine, event_keeps_alive, overdue_packets, ruling_packets, time_passed, served, start_state, turn}
+use Rattle.token_session.specs.Events.{reply_in, event_core, keepalive_due, keepalive_packets}
+use Rattle.token_session.specs.Replies.{ping_packets}
 use Rattle.token_session.specs.declared.input.Input.{Input}
 use Rattle.token_session.specs.declared.input.Input.TheVariants.{Packet}
 use Rattle.token_session.specs.declared.input.Timed.{Timed}
@@ -85,7 +87,7 @@ safe_at start t h good le =
 pub time_named : (start : Start) (t : ℕ) (h : List Judged) → Good start h → end start h ≤ t
     → time_passed (named start h) t ≡ record {
       state = record { now = t; given = given h; current = option_map as_open (open_at h t); core = core start h; keepalive_at = time_keepalive (open_at h (end start h)) (open_at h t) (waiting (core start h)) (last_keepalive start h) t };
-      packets = time_packets start h t;
+      packets = time_packets start h (last_keepalive start h) t;
       event = None;
     }
 unfolding named time_packets
@@ -118,16 +120,17 @@ goal_turn start e h = record { state = named start (e ∷ h); packets = sent_at 
 
 named_turn : (start : Start) (e : Judged) (h : List Judged)
     → happens e.at (given (e ∷ h)) (option_map as_open (open_at (e ∷ h) e.at)) (core start h)
-    (time_keepalive (open_at h (end start h)) (open_at h e.at) (waiting (core start h)) (last_keepalive start h) e.at) (time_packets start h e.at)
+    (time_keepalive (open_at h (end start h)) (open_at h e.at) (waiting (core start h)) (last_keepalive start h) e.at) (time_packets start h (last_keepalive start h) e.at)
     (table_packets (given h) (open_at h e.at) (working (core start h)) e.input ++ ping_packets (finished (open_at h e.at) e.admitted e.input))
     (event (working (core start h)) (finished (open_at h e.at) e.admitted e.input) e.input)
     ≡ goal_turn start e h
-unfolding named sent_at service_packets core last_keepalive
+unfolding named sent_at service_packets core
 named_turn start e h =
     let m = finished (open_at h e.at) e.admitted e.input in
     let ev = event (working (core start h)) m e.input in
     let cutted = is_cut (open_at h (end start h)) (open_at h e.at) in
-    let p = or_cond (event_keeps_alive (core start h) e.at ev) (not cutted && keepalive_due (waiting (core start h)) (last_keepalive start h) e.at) e.at (last_keepalive start h) in
+    let p = last_noted start e h
+    ∙ or_cond (event_keeps_alive (core start h) e.at ev) (not cutted && keepalive_due (waiting (core start h)) (last_keepalive start h) e.at) e.at (last_keepalive start h) in
     λ i. record {
       state = record { now = e.at; given = given (e ∷ h); current = option_map as_open (open_at (e ∷ h) e.at); core = core start (e ∷ h); keepalive_at = (sym p) i };
       packets = sent_at start e h;
@@ -150,8 +153,8 @@ other_next t b other None h = refl
 other_next t b other (Some c) h = refl
 
 served_named : (start : Start) (t : ℕ) (h : List Judged) (i : Input) → Good start h → end start h ≤ t
-    → served (late_state start h t) (time_packets start h t) i ≡ goal_turn start (judged_at start t h i) h
-unfolding event finished
+    → served (late_state start h t) (time_packets start h (last_keepalive start h) t) i ≡ goal_turn start (judged_at start t h i) h
+unfolding event finished table_packets
 served_named start t h (Packet x) good le =
     let g = given h in
     let o = open_at h t in
@@ -163,11 +166,12 @@ served_named start t h (Packet x) good le =
     let current : open_after (option_map as_open o) t (fields p) row ≡ option_map as_open (open_at (judged_at start t h (Packet x) ∷ h) t) =
     sym (ap (option_map as_open) (open_next_is h (judged_at start t h (Packet x)) start good.lawful le) ∙ s.current) in
     let message : message_after (option_map as_open o) (fields p) row ≡ finished o (admits g o w p) (Packet x) = sym s.message in
-    let packets : (row_packets g (fields p) row ++ ping_packets (message_after (option_map as_open o) (fields p) row)) ≡ (table_packets g o w (Packet x) ++ ping_packets (finished o (admits g o w p) (Packet x))) =
-    ap (λ m. row_packets g (fields p) row ++ ping_packets m) message in
+    let packets : (ruling_packets g (fields p) row ++ ping_packets (message_after (option_map as_open o) (fields p) row)) ≡ (table_packets g o w (Packet x) ++ ping_packets (finished o (admits g o w p) (Packet x))) =
+    ap (λ m. ruling_packets g (fields p) row ++ ping_packets m) message
+    ∙ ap (λ v. v ++ ping_packets (finished o (admits g o w p) (Packet x))) (sym (table_same g o w x)) in
     let ev : event_after w (fields p) (message_after (option_map as_open o) (fields p) row) row ≡ packet_event w (finished o (admits g o w p) (Packet x)) p =
     sym s.event ∙ ap (λ m. packet_event w m p) message in
-    happens_same t (time_keepalive (open_at h (end start h)) o (waiting (core start h)) (last_keepalive start h) t) _ _ _ _ (core start h) (time_packets start h t) _ _ _ _ channels current packets ev
+    happens_same t (time_keepalive (open_at h (end start h)) o (waiting (core start h)) (last_keepalive start h) t) _ _ _ _ (core start h) (time_packets start h (last_keepalive start h) t) _ _ _ _ channels current packets ev
     ∙ named_turn start (judged_at start t h (Packet x)) h
 served_named start t h other good le =
     let e : Judged = judged_at start t h other in
@@ -175,7 +179,7 @@ served_named start t h other good le =
     let channels : given h ≡ given (e ∷ h) = sym (given_more e h) in
     let current : option_map as_open o ≡ option_map as_open (open_at (e ∷ h) t) = sym (ap (option_map as_open) (open_next_is h e start good.lawful le ∙ other_next t false other o refl)) in
     happens_same t (time_keepalive (open_at h (end start h)) o (waiting (core start h)) (last_keepalive start h) t) (given h) (given (e ∷ h)) (option_map as_open o) (option_map as_open (open_at (e ∷ h) t))
-    (core start h) (time_packets start h t) [] [] (reply_in other) (reply_in other) channels current refl refl
+    (core start h) (time_packets start h (last_keepalive start h) t) [] [] (reply_in other) (reply_in other) channels current refl refl
     ∙ named_turn start e h
 
 -- One input: the machine's turn on the state that a history names gives the state that the longer history names, and its packets.

@@ -2,6 +2,7 @@ pub mod Opens
 pub mod Time
 pub mod Serve
 pub mod Safety
+pub mod Tables
 pub mod Follows
 pub mod Runs
 pub mod Bounds

@@ -13,13 +13,13 @@ use Rattle.authn_core.proofs.Facts.{presence_ignored, key_ignored, signature_ign
 use Rattle.token_session.specs.declared.input.Input.{Input}
 use Rattle.token_session.specs.declared.input.Input.TheVariants.{Packet, Tick, Presence, Key, Signature}
 use Rattle.token_session.specs.declared.input.Timed.{Timed}
-use Rattle.token_session.specs.Replies.{asker, status_of, answer_keeps_alive}
+use Rattle.token_session.specs.Replies.{asker, status_of}
 use Rattle.token_session.specs.Effects.{request_in}
 use Rattle.token_session.specs.Events.{keepalive_due}
-use Rattle.token_session.specs.Machine.{State, Turn, turn, time_passed, served, served_by, happens, event_after}
+use Rattle.token_session.specs.Machine.{State, Turn, answer_keeps_alive, turn, time_passed, served, served_by, happens, event_after}
 use Rattle.token_session.specs.Inputs.{Judged, end, given}
 use Rattle.token_session.specs.Messages.{open_at, as_open}
-use Rattle.token_session.specs.History.{core, judge, judged, sent, sent_at, time_packets}
+use Rattle.token_session.specs.History.{core, judge, judged, last_keepalive, sent, sent_at, time_packets}
 use Rattle.token_session.specs.Law.{named, IsAfter, onto, numbered, sent_now, sent_from}
 use Rattle.token_session.specs.Meters.{SessionState, stepped, session_of, metered}
 use Rattle.token_session.specs.Noise.{is_noise_among, is_noise_to, is_noise_at, is_noise_after, tick_at, IsQuiet, Quiet, is_replaced, quiet_now, quiet_sent, quiet_from}
@@ -162,7 +162,7 @@ now_same start h g x b =
     let s = named start (judged start h) in
     let e = judge start x (judged start h) in
     sym (step_sends s start g x b) ∙ step_sends s start h x refl
-    ∙ ap (λ r. cond r (time_packets start (judged start h) e.at) (sent_at start e (judged start h))) (sym (never_replaced x.input))
+    ∙ ap (λ r. cond r (time_packets start (judged start h) (last_keepalive start (judged start h)) e.at) (sent_at start e (judged start h))) (sym (never_replaced x.input))
 
 now_tick : (start : Start) (h g : List Timed) (x : Timed) → IsAfter (named start (judged start h)) start g → is_noise_after start (judge start x (judged start h)) (judged start h) ≡ true
     → sent_now start g (tick_at x.at) ≡ quiet_now start h x (tick_at x.at)
@@ -175,7 +175,7 @@ now_tick start h g x b noise =
     let le : end start past ≤ t = omega arith in
     sym (step_sends s start g (tick_at x.at) b) ∙ tick_sends s x.at
     ∙ ap (λ (v : Turn). v.packets) (time_named start t past (good_judged start h) le)
-    ∙ ap (λ r. cond r (time_packets start past t) (sent_at start e past)) (sym (noise_is_replaced (given past) (option_map as_open (open_at past t)) (core start past) x.input noise))
+    ∙ ap (λ r. cond r (time_packets start past (last_keepalive start past) t) (sent_at start e past)) (sym (noise_is_replaced (given past) (option_map as_open (open_at past t)) (core start past) x.input noise))
 
 quiet_sends_now : (start : Start) (h g : List Timed) (x y : Timed) → Quiet start h g → IsQuiet start h x y → sent_now start g y ≡ quiet_now start h x y
 unfolding session_of

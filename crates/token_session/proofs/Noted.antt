@@ -1,22 +1,22 @@
--- The moment of the last KEEPALIVE is that of the last input that sent one.
+-- What sends a KEEPALIVE: time where it is due, and an event that says so.
 use Rattle.std.proofs.Common.{◌≡◌, ℕ, ◌+◌, ◌-◌, ◌<◌, ◌≤◌, ◌==◌, Bool, true, false, cond, not, ◌&&◌, ◌||◌, suc, zero, List, [], ◌∷◌, ◌++◌, length, take, drop, Option, Some, None, option_map, refl, sym, ◌∙◌, ap, ap₂, arith, nat_le}
 use Rattle.std.proofs.lemmas.Bool.Decides.{nat_tests}
 use Rattle.std.proofs.lemmas.List.Folds.{list_any-append}
 use Rattle.authn_core.specs.State.{Event, Answer, Answered, Waits, Ignored, Nothing}
 use Rattle.authn_core.specs.Turn.{Start, Work, CoreState, working, waiting}
-use Rattle.hid_assemble.specs.Table.{Begins, Continues, Ruling, ruling_of, is_on}
+use Rattle.hid_assemble.specs.Table.{is_on}
+use Rattle.hid_assemble.specs.declared.table.Row.{Row}
 use Rattle.hid_assemble.specs.Assembly.{Message}
 use Rattle.hid_assemble.specs.declared.table.Row.TheVariants.{BadLength, BrokenOff, BusyElsewhere, BusyHere, InitAgain, InitFull, InitLength, InitNew, NoSuchChannel, NoSuchCommand}
-use Rattle.hid_assemble.specs.declared.table.Continuation.TheVariants.{WrongNumber}
 use Rattle.hid_packet.specs.Commands.{CBOR, ERROR, INIT, KEEPALIVE, PING, BROADCAST}
 use Rattle.hid_packet.specs.Message.{padded, initialization_packet, continuation_packet, continuation_packets, written}
-use Rattle.hid_packet.specs.Packet.{Fields, channel, channel_of, command, fields, is_command, is_initialization}
-use Rattle.token_session.specs.Events.{event_keeps_alive, event_packets, keepalive_due, keepalive_packets}
+use Rattle.hid_packet.specs.Packet.{channel, command, is_command, is_initialization, sequence}
+use Rattle.token_session.specs.Events.{event_packets, keepalive_due, keepalive_packets}
 use Rattle.token_session.specs.Inputs.{Judged, end, given}
-use Rattle.token_session.specs.Messages.{Begun, finished_at, open_at, as_open}
-use Rattle.token_session.specs.History.{core, cut_packets, event_to, is_cut, last_keepalive, sent_at, service_packets, table_packets, time_packets}
-use Rattle.token_session.specs.Law.{keeps_alive}
-use Rattle.token_session.specs.Replies.{answer_keeps_alive, answer_packets, greeting, ping_packets, row_packets}
+use Rattle.token_session.specs.Messages.{Begun, finished_at, open_at}
+use Rattle.token_session.specs.History.{continuation_error, core, cut_packets, event_to, is_cut, keeps_alive, last_keepalive, sent_at, service_packets, table_packets, time_packets}
+use Rattle.token_session.specs.Machine.{answer_keeps_alive, event_keeps_alive}
+use Rattle.token_session.specs.Replies.{answer_packets, greeting, ping_packets, row_packets}
 use Rattle.token_session.specs.declared.input.Input.{Input}
 use Rattle.token_session.specs.declared.input.Input.TheVariants.{Packet}
 
@@ -69,23 +69,35 @@ of_written cid cmd bytes =
     let rest = none_among 128 cid 0 (drop 57 bytes) (omega arith) in
     rw (is, named, rest) (or_none (cmd == KEEPALIVE))
 
-row_silent : (g : ℕ) (f : Fields) (r : Ruling) → keeps_alive (row_packets g f r) ≡ false
+row_silent : (g : ℕ) (p : List ℕ) (r : Row) → keeps_alive (row_packets g p r) ≡ false
 unfolding row_packets greeting
-row_silent g f (Begins NoSuchChannel) = of_written (channel_of f) ERROR _
-row_silent g f (Begins InitLength) = of_written (channel_of f) ERROR _
-row_silent g f (Begins InitFull) = of_written (channel_of f) ERROR _
-row_silent g f (Begins InitNew) = of_written BROADCAST INIT _
-row_silent g f (Begins InitAgain) = of_written (channel_of f) INIT _
-row_silent g f (Begins BusyElsewhere) = of_written (channel_of f) ERROR _
-row_silent g f (Begins BusyHere) = of_written (channel_of f) ERROR _
-row_silent g f (Begins BrokenOff) = of_written (channel_of f) ERROR _
-row_silent g f (Begins NoSuchCommand) = of_written (channel_of f) ERROR _
-row_silent g f (Begins BadLength) = of_written (channel_of f) ERROR _
-row_silent g f (Continues WrongNumber) = of_written (channel_of f) ERROR _
-row_silent g f other = refl
+row_silent g p NoSuchChannel = of_written (channel p) ERROR _
+row_silent g p InitLength = of_written (channel p) ERROR _
+row_silent g p InitFull = of_written (channel p) ERROR _
+row_silent g p InitNew = of_written BROADCAST INIT _
+row_silent g p InitAgain = of_written (channel p) INIT _
+row_silent g p BusyElsewhere = of_written (channel p) ERROR _
+row_silent g p BusyHere = of_written (channel p) ERROR _
+row_silent g p BrokenOff = of_written (channel p) ERROR _
+row_silent g p NoSuchCommand = of_written (channel p) ERROR _
+row_silent g p BadLength = of_written (channel p) ERROR _
+row_silent g p other = refl
+
+error_silent : (o : Option Begun) (p : List ℕ) → keeps_alive (continuation_error o p) ≡ false
+error_silent None p = refl
+error_silent (Some b) p = go ((channel b.packet == channel p) && not (sequence p == length b.own))
+  where
+    go : (wrong : Bool) → keeps_alive (cond wrong (written (channel p) ERROR (4 ∷ [])) []) ≡ false
+    go true = of_written (channel p) ERROR _
+    go false = refl
+
+both_silent : (b : Bool) (x y : List (List ℕ)) → keeps_alive x ≡ false → keeps_alive y ≡ false → keeps_alive (cond b x y) ≡ false
+both_silent true x y h k = h
+both_silent false x y h k = k
 
 table_silent : (g : ℕ) (o : Option Begun) (w : Option ℕ) (i : Input) → keeps_alive (table_packets g o w i) ≡ false
-table_silent g o w (Packet p) = row_silent g (fields p.0) (ruling_of g (option_map as_open o) w (fields p.0))
+unfolding table_packets
+table_silent g o w (Packet p) = both_silent (is_initialization p.0) _ _ (row_silent g p.0 _) (error_silent o p.0)
 table_silent g o w other = refl
 
 ping_silent : (m : Option Message) → keeps_alive (ping_packets m) ≡ false
@@ -142,9 +154,13 @@ sent_noted start e past =
     (list_any-append (is_command KEEPALIVE) (table ++ ping_packets m) ev
     ∙ ap₂ ◌||◌ (list_any-append (is_command KEEPALIVE) table (ping_packets m) ∙ ap₂ ◌||◌ (table_silent (given past) (open_at past e.at) (working k) e.input) (ping_silent m)) (event_noted k e.at (event_to k e past)))
 
-pub last_noted : (start : Start) (e : Judged) (past : List Judged) → last_keepalive start (e ∷ past) ≡ cond (keeps_alive (sent_at start e past)) e.at (last_keepalive start past)
-unfolding last_keepalive
+pub last_noted : (start : Start) (e : Judged) (past : List Judged)
+    → last_keepalive start (e ∷ past)
+    ≡ cond (event_keeps_alive (core start past) e.at (event_to (core start past) e past)
+    || (not (is_cut (open_at past (end start past)) (open_at past e.at)) && keepalive_due (waiting (core start past)) (last_keepalive start past) e.at))
+    e.at (last_keepalive start past)
+unfolding last_keepalive sent_at
 last_noted start e past =
     let k = core start past in
     let due = not (is_cut (open_at past (end start past)) (open_at past e.at)) && keepalive_due (waiting k) (last_keepalive start past) e.at in
-    ap (λ b. cond b e.at (last_keepalive start past)) (or_swap (event_keeps_alive k e.at (event_to k e past)) due ∙ sym (sent_noted start e past))
+    ap (λ b. cond b e.at (last_keepalive start past)) (sent_noted start e past ∙ or_swap due (event_keeps_alive k e.at (event_to k e past)))

@@ -15,7 +15,7 @@ use Rattle.token_session.specs.declared.input.Input.TheVariants.{Signature}
 use Rattle.token_session.specs.declared.input.Timed.{Timed}
 use Rattle.token_session.specs.Credentials.{steps}
 use Rattle.token_session.specs.Events.{event_packets}
-use Rattle.token_session.specs.History.{core, event, judge, judged, service_packets}
+use Rattle.token_session.specs.History.{core, event, judge, judged, service_packets, table_packets}
 use Rattle.token_session.specs.Inputs.{Judged, end}
 use Rattle.token_session.specs.Messages.{finished}
 use Rattle.token_session.specs.Replies.{answer_packets, status_of}
@@ -62,7 +62,7 @@ asked_on k id signed e = go k.state.work refl e
 
 signature_at : (start : Start) (e : Judged) (h : List Judged) (id signed sig : List ℕ) → e.input ≡ Signature (Some sig) → needs (core start h).state.work ≡ sign id signed
     → IsSigned start.aaguid (core start h).state.work id signed sig (core_answer (core start h) e.at (SignatureIs (Some sig))) (came start h).asked → IsAnsweredBy start h e id signed sig
-unfolding service_packets finished event
+unfolding service_packets table_packets finished event
 signature_at start e h id signed sig is need answer =
     let k = core start h in
     let a = answered_bytes start.aaguid k.state.work id signed sig (core_answer k e.at (SignatureIs (Some sig))) (came start h).asked answer in

@@ -5,7 +5,7 @@ use Rattle.authn_core.specs.State.{Event, KeyIs, PresenceIs, SignatureIs}
 use Rattle.authn_core.specs.Turn.{Work, CoreState, waiting, core_after, core_answer}
 use Rattle.token_session.specs.declared.input.Input.{Input}
 use Rattle.token_session.specs.declared.input.Input.TheVariants.{Presence, Key, Signature}
-use Rattle.token_session.specs.Replies.{keepalive, status_of, asker, answer_packets, answer_keeps_alive}
+use Rattle.token_session.specs.Replies.{keepalive, status_of, asker, answer_packets}
 use Rattle.token_session.specs.declared.authenticator.TheConstants.{KEEPALIVE_PERIOD}
 
 -- the event that a reply of the caller is
@@ -24,11 +24,6 @@ event_core core at (Some e) = core_after core at e
 abbrev pub event_packets : CoreState → ℕ → Option Event → List (List ℕ)
 event_packets k at None = []
 event_packets k at (Some e) = answer_packets (asker (waiting k) e) (status_of (waiting k)) (core_answer k at e)
-
--- whether a KEEPALIVE is among it
-abbrev pub event_keeps_alive : CoreState → ℕ → Option Event → Bool
-event_keeps_alive k at None = false
-event_keeps_alive k at (Some e) = answer_keeps_alive (asker (waiting k) e) (status_of (waiting k)) (core_answer k at e)
 
 -- A KEEPALIVE is due 100 ms after the last, where work waits (CTAP 2.1, section 11.2.9.1.7).
 unfoldable pub keepalive_due : Option Work → ℕ → ℕ → Bool

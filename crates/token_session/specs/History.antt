@@ -2,10 +2,11 @@
 -- its turns over the events, and packets are sent. The transport's part are positions, filters and lists; the
 -- authenticator's is the state that its turns lead to.
 use Rattle.std.specs.Prelude.{ℕ, Bool, not, ◌&&◌, ◌||◌, ◌==◌, nat_le, List, [], ◌∷◌, ◌++◌, max, Option, Some, None, option_map, is_some, is_none, if◌then◌else◌, length, unwrap_or}
-use Rattle.hid_packet.specs.Commands.{PING, INIT, CBOR, CANCEL}
+use Rattle.std.specs.List.{list_any}
+use Rattle.hid_packet.specs.Commands.{PING, INIT, CBOR, CANCEL, KEEPALIVE}
 use Rattle.hid_packet.specs.Limits.{data_room}
-use Rattle.hid_packet.specs.Packet.{fields, channel, is_initialization, command, message_length, is_command}
-use Rattle.hid_assemble.specs.Table.{is_given, is_on, ruling_of}
+use Rattle.hid_packet.specs.Packet.{channel, is_initialization, command, message_length, sequence, is_command}
+use Rattle.hid_assemble.specs.Table.{is_given, is_on, initialization_row}
 use Rattle.hid_assemble.specs.Assembly.{Message}
 use Rattle.authn_core.specs.State.{Event, Cancel, Drop}
 use Rattle.authn_core.specs.Turn.{Start, CoreState, working, first_state, waiting}
@@ -13,9 +14,9 @@ use Rattle.token_session.specs.declared.input.Input.{Input}
 use Rattle.token_session.specs.declared.input.Input.TheVariants.{Packet}
 use Rattle.token_session.specs.declared.input.Timed.{Timed}
 use Rattle.token_session.specs.Inputs.{Judged, end, is_packet, given}
-use Rattle.token_session.specs.Messages.{Begun, open_at, as_open, finished, finished_at}
+use Rattle.token_session.specs.Messages.{Begun, open_at, finished, finished_at}
 use Rattle.token_session.specs.Replies.{error, row_packets, ping_packets, request_event}
-use Rattle.token_session.specs.Events.{reply_in, event_core, event_packets, event_keeps_alive, keepalive_packets, keepalive_due}
+use Rattle.token_session.specs.Events.{reply_in, event_core, event_packets, keepalive_packets, keepalive_due}
 
 -- The event that a packet is to the authenticator: a CANCEL on the channel of waiting work, an INIT of length 8 there,
 -- or the CBOR message that it finished.
@@ -39,8 +40,8 @@ unfoldable pub core : Start → List Judged → CoreState
 core start [] = first_state start
 core start (e ∷ past) = let before = core start past in event_core before e.at (event_to before e past)
 
--- An initialization packet is admitted on a channel that was given out, with a command that is served, where nothing is
--- open and no work waits.
+-- An initialization packet is admitted on a channel that was given out, with PING or at least one byte of CBOR, where
+-- nothing is open and no work waits.
 unfoldable pub admits : ℕ → Option Begun → Option ℕ → List ℕ → Bool
 admits given o work p =
     is_initialization p && is_given given (channel p)
@@ -58,6 +59,10 @@ unfoldable pub judged : Start → List Timed → List Judged
 judged start [] = []
 judged start (x ∷ past) = judge start x (judged start past) ∷ judged start past
 
+-- Whether one of these packets is a KEEPALIVE.
+abbrev pub keeps_alive : List (List ℕ) → Bool
+keeps_alive packets = list_any (is_command KEEPALIVE) packets
+
 -- A message was open at the end of the history, and isn't any more: its time is over.
 abbrev pub is_cut : Option Begun → Option Begun → Bool
 is_cut before now = is_some before && is_none now
@@ -67,27 +72,20 @@ abbrev pub cut_packets : Option Begun → List (List ℕ)
 cut_packets None = []
 cut_packets (Some b) = error (channel b.packet) 0x05
 
--- the moment of the last input that sent a KEEPALIVE, 0 without one
-unfoldable pub last_keepalive : Start → List Judged → ℕ
-last_keepalive start [] = 0
-last_keepalive start (e ∷ past) =
-    if event_keeps_alive (core start past) e.at (event_to (core start past) e past)
-    || (not (is_cut (open_at past (end start past)) (open_at past e.at))
-    && keepalive_due (waiting (core start past)) (last_keepalive start past) e.at)
-    then e.at else last_keepalive start past
-
--- The packets of time: ERROR 0x05 for a message whose time is over; else a KEEPALIVE where work waits and the last one
--- was sent 100 ms ago or more.
-unfoldable pub time_packets : Start → List Judged → ℕ → List (List ℕ)
-time_packets start past t =
-    let before = open_at past (end start past) in
-    let work = waiting (core start past) in
-    if is_cut before (open_at past t) then cut_packets before
-    else if keepalive_due work (last_keepalive start past) t then keepalive_packets work else []
+-- The packets of a continuation packet: ERROR 0x04 where it is on the open message's channel with another number than
+-- the one that is due.
+abbrev pub continuation_error : Option Begun → List ℕ → List (List ℕ)
+continuation_error None p = []
+continuation_error (Some b) p =
+    if (channel b.packet == channel p) && not (sequence p == length b.own) then error (channel p) 0x04 else []
 
 -- the packets of a packet's row in the reply table
-abbrev pub table_packets : ℕ → Option Begun → Option ℕ → Input → List (List ℕ)
-table_packets g o work (Packet p) = let f = fields p.0 in row_packets g f (ruling_of g (option_map as_open o) work f)
+unfoldable pub table_packets : ℕ → Option Begun → Option ℕ → Input → List (List ℕ)
+table_packets g o work (Packet p) =
+    let current = option_map (λ b. channel b.packet) o in
+    if is_initialization p.0
+    then row_packets g p.0 (initialization_row g current work (channel p.0) (command p.0) (message_length p.0))
+    else continuation_error o p.0
 table_packets g o work other = []
 
 -- The packets of service: those of the reply table's row, the answer to a finished PING, and those of the event.
@@ -99,9 +97,26 @@ service_packets start e past =
     table_packets (given past) o (working k) e.input ++ ping_packets m
     ++ event_packets k e.at (event (working k) m e.input)
 
+-- The packets of time, where the last KEEPALIVE was sent at `latest`: ERROR 0x05 for a message whose time is over; else
+-- a KEEPALIVE where work waits and the last one was sent 100 ms ago or more.
+unfoldable pub time_packets : Start → List Judged → (latest t : ℕ) → List (List ℕ)
+time_packets start past latest t =
+    let before = open_at past (end start past) in
+    let work = waiting (core start past) in
+    if is_cut before (open_at past t) then cut_packets before
+    else if keepalive_due work latest t then keepalive_packets work else []
+
+-- the moment of the last input that sent a KEEPALIVE, 0 without one
+unfoldable pub last_keepalive : Start → List Judged → ℕ
+last_keepalive start [] = 0
+last_keepalive start (e ∷ past) =
+    let latest = last_keepalive start past in
+    let packets = time_packets start past latest e.at ++ service_packets start e past in
+    if keeps_alive packets then e.at else latest
+
 -- What an input sends: the packets of time, and then those of service.
 unfoldable pub sent_at : Start → Judged → List Judged → List (List ℕ)
-sent_at start e past = time_packets start past e.at ++ service_packets start e past
+sent_at start e past = time_packets start past (last_keepalive start past) e.at ++ service_packets start e past
 
 -- what a history sends, in order
 unfoldable pub sent : Start → List Judged → List (List ℕ)

@@ -1,8 +1,5 @@
 -- What a history names of the composed turn's state, and what runs of it send.
-use Rattle.std.specs.Prelude.{◌≡◌, Bool, ℕ, ◌+◌, List, [], ◌∷◌, ◌++◌, option_map, Option, if◌then◌else◌}
-use Rattle.std.specs.List.{list_any}
-use Rattle.hid_packet.specs.Commands.{KEEPALIVE}
-use Rattle.hid_packet.specs.Packet.{is_command}
+use Rattle.std.specs.Prelude.{◌≡◌, ℕ, ◌+◌, List, [], ◌∷◌, ◌++◌, option_map, Option, if◌then◌else◌}
 use Rattle.authn_core.specs.State.{Event}
 use Rattle.authn_core.specs.Turn.{Start}
 use Rattle.token_session.specs.declared.input.Timed.{Timed}
@@ -67,7 +64,3 @@ unfoldable pub all_open : List Judged → List Judged → ℕ → List Begun
 all_open later [] t = []
 all_open later (e ∷ before) t =
     if is_open e later t then begun_by e later ∷ all_open (e ∷ later) before t else all_open (e ∷ later) before t
-
--- Is one of these packets a KEEPALIVE?
-abbrev pub keeps_alive : List (List ℕ) → Bool
-keeps_alive packets = list_any (is_command KEEPALIVE) packets

@@ -1,14 +1,16 @@
 -- The composed turn: the transport and the authenticator together, as a state and what an input makes of it. It knows
 -- no history.
-use Rattle.std.specs.Prelude.{ℕ, List, [], ◌∷◌, ◌++◌, max, Option, Some, None, if◌then◌else◌}
-use Rattle.hid_packet.specs.Packet.{Fields, fields, channel_of}
-use Rattle.hid_assemble.specs.Table.{Begins, Open, Ruling, is_on, ruling_of}
-use Rattle.hid_assemble.specs.declared.table.Row.TheVariants.{CancelsWork, InitAgain}
+use Rattle.std.specs.Prelude.{ℕ, ◌+◌, Bool, false, not, take, List, [], ◌∷◌, ◌++◌, max, Option, Some, None, if◌then◌else◌}
+use Rattle.hid_packet.specs.Commands.{BROADCAST}
+use Rattle.hid_packet.specs.Packet.{Fields, fields, channel_of, data_of}
+use Rattle.hid_assemble.specs.Table.{Begins, Continues, Open, Ruling, is_on, ruling_of}
+use Rattle.hid_assemble.specs.declared.table.Row.TheVariants.{CancelsWork, NoSuchChannel, InitLength, InitFull, InitNew, InitAgain, BusyElsewhere, BusyHere, BrokenOff, NoSuchCommand, BadLength}
+use Rattle.hid_assemble.specs.declared.table.Continuation.TheVariants.{WrongNumber}
 use Rattle.hid_assemble.specs.Assembly.{Message, is_overdue, given_after, open_after, message_after}
-use Rattle.authn_core.specs.State.{Event, Cancel, Drop}
-use Rattle.authn_core.specs.Turn.{Start, CoreState, working, first_state, waiting}
-use Rattle.token_session.specs.Replies.{error, row_packets, ping_packets, request_event}
-use Rattle.token_session.specs.Events.{reply_in, event_core, event_packets, event_keeps_alive, keepalive_due, keepalive_packets}
+use Rattle.authn_core.specs.State.{Answer, Event, Cancel, Drop, Waits}
+use Rattle.authn_core.specs.Turn.{Start, CoreState, core_answer, working, first_state, waiting}
+use Rattle.token_session.specs.Replies.{error, greeting, asker, status_of, ping_packets, request_event}
+use Rattle.token_session.specs.Events.{reply_in, event_core, event_packets, keepalive_due, keepalive_packets}
 use Rattle.token_session.specs.declared.input.Input.{Input}
 use Rattle.token_session.specs.declared.input.Input.TheVariants.{Packet}
 use Rattle.token_session.specs.declared.input.Timed.{Timed}
@@ -46,6 +48,31 @@ time_passed s at =
     }
     else record { state = record s { now = at }; packets = []; event = None }
 
+-- Whether an answer sends a KEEPALIVE.
+unfoldable pub answer_keeps_alive : Option ℕ → Option ℕ → Answer → Bool
+answer_keeps_alive (Some cid) before (Waits status) = not (is_on before status)
+answer_keeps_alive _ before _ = false
+
+-- Whether an event does.
+abbrev pub event_keeps_alive : CoreState → ℕ → Option Event → Bool
+event_keeps_alive k at None = false
+event_keeps_alive k at (Some e) = answer_keeps_alive (asker (waiting k) e) (status_of (waiting k)) (core_answer k at e)
+
+-- The packets of a ruling, except for those of a finished message and of work.
+unfoldable pub ruling_packets : ℕ → Fields → Ruling → List (List ℕ)
+ruling_packets given f (Begins NoSuchChannel) = error (channel_of f) 0x0b
+ruling_packets given f (Begins InitLength) = error (channel_of f) 0x03
+ruling_packets given f (Begins InitFull) = error (channel_of f) 0x7f
+ruling_packets given f (Begins InitNew) = greeting BROADCAST (given + 1) (take 8 (data_of f))
+ruling_packets given f (Begins InitAgain) = greeting (channel_of f) (channel_of f) (take 8 (data_of f))
+ruling_packets given f (Begins BusyElsewhere) = error (channel_of f) 0x06
+ruling_packets given f (Begins BusyHere) = error (channel_of f) 0x06
+ruling_packets given f (Begins BrokenOff) = error (channel_of f) 0x04
+ruling_packets given f (Begins NoSuchCommand) = error (channel_of f) 0x01
+ruling_packets given f (Begins BadLength) = error (channel_of f) 0x03
+ruling_packets given f (Continues WrongNumber) = error (channel_of f) 0x04
+ruling_packets given f _ = []
+
 -- An event after what else a packet changed: the packets of time come first, then those of the row, then the event's.
 abbrev pub happens : ℕ → ℕ → Option Open → CoreState → ℕ → List (List ℕ) → List (List ℕ) → Option Event → Turn
 happens at given current core keepalive_at early packets e =
@@ -70,7 +97,7 @@ event_after work f m _ = request_event m
 abbrev pub served_by : State → Fields → List (List ℕ) → Ruling → Turn
 served_by s f early row =
     happens s.now (given_after s.given row) (open_after s.current s.now f row) s.core s.keepalive_at
-    early (row_packets s.given f row ++ ping_packets (message_after s.current f row))
+    early (ruling_packets s.given f row ++ ping_packets (message_after s.current f row))
     (event_after (working s.core) f (message_after s.current f row) row)
 
 -- An input is served after the packets of time.

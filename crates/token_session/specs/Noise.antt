@@ -12,7 +12,7 @@ use Rattle.token_session.specs.declared.input.Timed.{Timed}
 use Rattle.token_session.specs.Machine.{State, time_passed}
 use Rattle.token_session.specs.Inputs.{Judged, given}
 use Rattle.token_session.specs.Messages.{open_at, as_open}
-use Rattle.token_session.specs.History.{core, judge, judged, sent_at, time_packets}
+use Rattle.token_session.specs.History.{core, judge, judged, last_keepalive, sent_at, time_packets}
 use Rattle.token_session.specs.Law.{numbered}
 
 -- By the channels given out, the open message and the authenticator: a packet is noise by its row of the reply table, a
@@ -59,7 +59,7 @@ is_replaced i j = false
 
 -- what x sends after h, but only the packets of time where a tick replaces it
 abbrev pub quiet_packets : Start → List Judged → Judged → Input → List (List ℕ)
-quiet_packets start past e j = if is_replaced e.input j then time_packets start past e.at else sent_at start e past
+quiet_packets start past e j = if is_replaced e.input j then time_packets start past (last_keepalive start past) e.at else sent_at start e past
 
 unfoldable pub quiet_now : Start → List Timed → (x y : Timed) → List (List ℕ)
 quiet_now start h x y = quiet_packets start (judged start h) (judge start x (judged start h)) y.input

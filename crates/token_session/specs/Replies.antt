@@ -1,14 +1,14 @@
 -- The packets that are sent: those of each row of the reply table, of errors, of KEEPALIVEs and of answers
 -- (CTAP 2.1, section 11.2.9).
-use Rattle.std.specs.Prelude.{ℕ, ◌+◌, Bool, false, not, ◌==◌, List, [], ◌∷◌, ◌++◌, take, Option, Some, None, option_map, if◌then◌else◌}
+use Rattle.std.specs.Prelude.{ℕ, ◌+◌, ◌==◌, List, [], ◌∷◌, ◌++◌, take, Option, Some, None, option_map, if◌then◌else◌}
 use Rattle.byteorder.specs.Endian.{big_bytes}
 use Rattle.hid_packet.specs.Commands.{PING, INIT, CBOR, KEEPALIVE, ERROR, BROADCAST}
-use Rattle.hid_packet.specs.Packet.{Fields, channel_of, data_of}
+use Rattle.hid_packet.specs.Packet.{channel, initialization_data}
 use Rattle.hid_packet.specs.Message.{written}
-use Rattle.hid_assemble.specs.Table.{is_on, Begins, Continues, Ruling}
+use Rattle.hid_assemble.specs.Table.{is_on}
 use Rattle.hid_assemble.specs.Assembly.{Message}
+use Rattle.hid_assemble.specs.declared.table.Row.{Row}
 use Rattle.hid_assemble.specs.declared.table.Row.TheVariants.{NoSuchChannel, InitLength, InitFull, InitNew, InitAgain, BusyElsewhere, BusyHere, BrokenOff, NoSuchCommand, BadLength}
-use Rattle.hid_assemble.specs.declared.table.Continuation.TheVariants.{WrongNumber}
 use Rattle.authn_core.specs.State.{Event, Request, Answer, Answered, Waits}
 use Rattle.authn_core.specs.Turn.{Work}
 
@@ -25,20 +25,19 @@ error cid code = written cid ERROR (code ∷ [])
 abbrev pub keepalive : ℕ → ℕ → List (List ℕ)
 keepalive cid status = written cid KEEPALIVE (status ∷ [])
 
--- The packets of a row, except for those of a finished message and of work.
-unfoldable pub row_packets : ℕ → Fields → Ruling → List (List ℕ)
-row_packets given f (Begins NoSuchChannel) = error (channel_of f) 0x0b
-row_packets given f (Begins InitLength) = error (channel_of f) 0x03
-row_packets given f (Begins InitFull) = error (channel_of f) 0x7f
-row_packets given f (Begins InitNew) = greeting BROADCAST (given + 1) (take 8 (data_of f))
-row_packets given f (Begins InitAgain) = greeting (channel_of f) (channel_of f) (take 8 (data_of f))
-row_packets given f (Begins BusyElsewhere) = error (channel_of f) 0x06
-row_packets given f (Begins BusyHere) = error (channel_of f) 0x06
-row_packets given f (Begins BrokenOff) = error (channel_of f) 0x04
-row_packets given f (Begins NoSuchCommand) = error (channel_of f) 0x01
-row_packets given f (Begins BadLength) = error (channel_of f) 0x03
-row_packets given f (Continues WrongNumber) = error (channel_of f) 0x04
-row_packets given f _ = []
+-- The packets that answer an initialization packet under a row, except for those of a finished message and of work.
+unfoldable pub row_packets : ℕ → List ℕ → Row → List (List ℕ)
+row_packets given p NoSuchChannel = error (channel p) 0x0b
+row_packets given p InitLength = error (channel p) 0x03
+row_packets given p InitFull = error (channel p) 0x7f
+row_packets given p InitNew = greeting BROADCAST (given + 1) (take 8 (initialization_data p))
+row_packets given p InitAgain = greeting (channel p) (channel p) (take 8 (initialization_data p))
+row_packets given p BusyElsewhere = error (channel p) 0x06
+row_packets given p BusyHere = error (channel p) 0x06
+row_packets given p BrokenOff = error (channel p) 0x04
+row_packets given p NoSuchCommand = error (channel p) 0x01
+row_packets given p BadLength = error (channel p) 0x03
+row_packets given p _ = []
 
 -- A finished PING is answered by itself (CTAP 2.1, section 11.2.9.1.4).
 abbrev pub ping_packets : Option Message → List (List ℕ)
@@ -64,8 +63,3 @@ unfoldable pub answer_packets : Option ℕ → Option ℕ → Answer → List (L
 answer_packets (Some cid) before (Answered bytes) = written cid CBOR bytes
 answer_packets (Some cid) before (Waits status) = if is_on before status then [] else keepalive cid status
 answer_packets _ before _ = []
-
--- does the answer send a KEEPALIVE?
-unfoldable pub answer_keeps_alive : Option ℕ → Option ℕ → Answer → Bool
-answer_keeps_alive (Some cid) before (Waits status) = not (is_on before status)
-answer_keeps_alive _ before _ = false

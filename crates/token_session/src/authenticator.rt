@@ -4,8 +4,9 @@ ghost use Rattle.cred_table.specs.declared.row.Row.{Row as AnyRow};
 ghost use Rattle.cred_table.specs.Snapshots.{Loads, Refuses};
 ghost use Rattle.authn_core.specs.Turn.{waiting, working};
 ghost use Rattle.authn_core.specs.Views.{answer_of, event_of, first_held, status_number, work_of};
-ghost use Rattle.token_session.specs.Replies.{keepalive, asker, status_of, answer_packets, answer_keeps_alive};
-ghost use Rattle.token_session.specs.Events.{event_core, event_keeps_alive, event_packets, keepalive_due, keepalive_packets};
+ghost use Rattle.token_session.specs.Replies.{keepalive, asker, status_of, answer_packets};
+ghost use Rattle.token_session.specs.Events.{event_core, event_packets, keepalive_due, keepalive_packets};
+ghost use Rattle.token_session.specs.Machine.{answer_keeps_alive, event_keeps_alive};
 ghost use Rattle.token_session.specs.Readings.{IsTaken, reading_in};
 ghost use Rattle.token_session.specs.Effects.{request_in};
 ghost use Rattle.hid_packet.specs.declared.limit.TheConstants.{LONGEST_MESSAGE, OUTBOX_CAPACITY};
@@ -192,7 +193,7 @@ impl<const C: usize> Authenticator<C> {
     }
 
     /// Sends what a turn returns to `asker`; `work` waited before the turn.
-    #[tactic(auto, unfolding(crate::specs::Replies::answer_packets, crate::specs::Replies::answer_keeps_alive))]
+    #[tactic(auto, unfolding(crate::specs::Replies::answer_packets, crate::specs::Machine::answer_keeps_alive))]
     fn send(
         &mut self,
         now: u64,

@@ -6,7 +6,7 @@ ghost use Rattle.cred_table.specs.Rows.{has_id, ids, counter_of};
 ghost use Rattle.ctap_message.specs.Descriptors.{ids_of};
 ghost use Rattle.ctap_message.specs.Members.{has_entries};
 ghost use Rattle.ctap_message.specs.DescriptorWalk.{list_of, left_of};
-ghost use Rattle.authn_core.specs.Hash.{rp_hash};
+ghost use Rattle.sha2.specs.Sha256.{sha256};
 ghost use Rattle.authn_core.specs.GetAssertion as get;
 ghost use Rattle.authn_core.specs.Views.{Takes, asserting_of};
 ghost use Rattle.authn_core.specs.Ready.{AllThere};
@@ -102,8 +102,8 @@ impl<T: Table<C>, const C: usize> Core<T, C> {
         requires hash { length hash.now ≡ 32 }
         requires fresh { list_of allow ≡ left_of allow }
         ensures { Takes self.old self.new result (get.begins self.old.core.state.rows self.old.latest cid hash.now
-            (rp_hash rp_id.now) presence (has_entries (left_of allow.entry)) (ids (get.applicable self.old.core.state.rows
-            (rp_hash rp_id.now) (has_entries (left_of allow.entry)) (ids_of (left_of allow.entry))))) }
+            (sha256 rp_id.now) presence (has_entries (left_of allow.entry)) (ids (get.applicable self.old.core.state.rows
+            (sha256 rp_id.now) (has_entries (left_of allow.entry)) (ids_of (left_of allow.entry))))) }
     {
         let rp = rp_hash_of(rp_id);
         let hash = hash_of(hash);

@@ -6,7 +6,7 @@ ghost use Rattle.cred_table.specs.Rows.{has_id};
 ghost use Rattle.fido_authdata.specs.AuthData.{created_bytes};
 ghost use Rattle.ctap_message.specs.Descriptors.{ids_of};
 ghost use Rattle.ctap_message.specs.DescriptorWalk.{left_of};
-ghost use Rattle.authn_core.specs.Hash.{rp_hash};
+ghost use Rattle.sha2.specs.Sha256.{sha256};
 ghost use Rattle.authn_core.specs.MakeCredential as make;
 ghost use Rattle.authn_core.specs.Views.{Takes, making_of};
 
