@@ -111,4 +111,6 @@ signing a counter = SignsAssert a counter (assertion_bytes a.rp a.presence count
 
 -- An assertion goes on: its row's counter is raised, and it waits for the signature.
 abbrev pub signs : List Row → Option Waiting → (cid : ℕ) → Asserting → Turned
-signs rows pending cid a = waits (raised a.id rows) pending cid (signing a (counter_of a.id rows + 1))
+signs rows pending cid a =
+    let counter = counter_of a.id rows + 1 in
+    waits (raised a.id rows) pending cid (SignsAssert a counter (assertion_bytes a.rp a.presence counter ++ a.hash))

@@ -1,7 +1,6 @@
 -- The authenticator's turns: what each event makes of its state, and what it answers (CTAP 2.1, section 6).
-use Rattle.std.specs.Prelude.{ℕ, List, [], Option, Some, None, option_map, Result, Ok, Err}
+use Rattle.std.specs.Prelude.{ℕ, List, [], map, Option, Some, None, option_map, Result, Ok, Err}
 use Rattle.cred_table.specs.declared.row.Row.{Row}
-use Rattle.cred_table.specs.Rows.{ids}
 use Rattle.cred_table.specs.Waiting.{Waiting}
 use Rattle.ctap_message.specs.Asked.{Asked, MakeCredential, GetAssertion, GetInfo, Reset, GetNextAssertion, Selection}
 use Rattle.ctap_message.specs.Answers.{info_answer}
@@ -11,7 +10,7 @@ use Rattle.ctap_message.specs.Requests.{read_of}
 use Rattle.sha2.specs.Sha256.{sha256}
 use Rattle.authn_core.specs.State.{Setup, Task, Resets, Selects, AsksMake, WantsKey, SignsMake, AsksAssert, SignsAssert, Job, State, Event, Request, PresenceIs, KeyIs, SignatureIs, Cancel, Drop, Answer, Nothing, Turned, status, answers, refuses, waits, ignores}
 use Rattle.authn_core.specs.Asking.{reset_begins, asked_alone}
-use Rattle.authn_core.specs.MakeCredential.{making, make_begins, make_asked, key_wanted, make_signed}
+use Rattle.authn_core.specs.MakeCredential.{making, names_one, make_asked, key_wanted, make_signed}
 use Rattle.authn_core.specs.GetAssertion.{applicable, begins, assert_asked, assert_signed, next_begins}
 
 -- What a request begins, where it was read, or else the status that refuses it. Each empties what is pending, except
@@ -22,10 +21,11 @@ requested u rows pending now cid (Ok GetInfo) = answers rows None (info_answer u
 requested u rows pending now cid (Ok Reset) = reset_begins rows u.began now cid
 requested u rows pending now cid (Ok Selection) = waits rows None cid Selects
 requested u rows pending now cid (Ok (MakeCredential hash rp_id user_id user_name discoverable exclude)) =
-    make_begins rows cid (making hash rp_id user_id user_name discoverable) (ids_of exclude)
+    let m = making hash rp_id user_id user_name discoverable in
+    waits rows None cid (AsksMake m (names_one m.rp rows (ids_of exclude)))
 requested u rows pending now cid (Ok (GetAssertion hash rp_id allow presence)) =
     let rp = sha256 rp_id in let given = has_entries allow in
-    begins rows now cid hash rp presence given (ids (applicable rows rp given (ids_of allow)))
+    begins rows now cid hash rp presence given (map (λ row. row.id) (applicable rows rp given (ids_of allow)))
 requested u rows pending now cid (Ok GetNextAssertion) = next_begins rows pending now cid
 
 -- A reply, by what waits: one that isn't needed is ignored. A reset that is granted takes all rows out, and nothing is

@@ -17,8 +17,8 @@ use Rattle.hid_assemble.specs.Table.{LAST_CHANNEL, ruling_of}
 use Rattle.hid_packet.specs.Packet.{fields}
 use Rattle.token_session.specs.Inputs.{Judged, asks_channel, end, given, is_own, is_packet}
 use Rattle.token_session.specs.Messages.{Begun, as_open, finished, last_at, message, open_at}
-use Rattle.token_session.specs.History.{admits, core, cut_packets, event, is_cut, judge, judged, last_keepalive, packet_event, sent_at, service_packets, table_packets, time_packets}
-use Rattle.token_session.specs.Law.{event_at, named}
+use Rattle.token_session.specs.History.{admits, core, cut_packets, event, judge, judged, last_keepalive, packet_event, sent_at, service_packets, table_packets, time_packets}
+use Rattle.token_session.specs.Law.{event_at, named, is_cut}
 use Rattle.token_session.specs.Machine.{State, Turn, event_after, happens, machine, event_keeps_alive, overdue_packets, ruling_packets, time_passed, served, start_state, turn}
 use Rattle.token_session.specs.Events.{reply_in, event_core, keepalive_due, keepalive_packets}
 use Rattle.token_session.specs.Replies.{ping_packets}

@@ -14,7 +14,8 @@ use Rattle.hid_packet.specs.Packet.{channel, command, is_command, is_initializat
 use Rattle.token_session.specs.Events.{event_packets, keepalive_due, keepalive_packets}
 use Rattle.token_session.specs.Inputs.{Judged, end, given}
 use Rattle.token_session.specs.Messages.{Begun, finished_at, open_at}
-use Rattle.token_session.specs.History.{continuation_error, core, cut_packets, event_to, is_cut, keeps_alive, last_keepalive, sent_at, service_packets, table_packets, time_packets}
+use Rattle.token_session.specs.Law.{is_cut, keeps_alive}
+use Rattle.token_session.specs.History.{continuation_error, core, cut_packets, event_to, last_keepalive, sent_at, service_packets, table_packets, time_packets}
 use Rattle.token_session.specs.Machine.{answer_keeps_alive, event_keeps_alive}
 use Rattle.token_session.specs.Replies.{answer_packets, greeting, ping_packets, row_packets}
 use Rattle.token_session.specs.declared.input.Input.{Input}

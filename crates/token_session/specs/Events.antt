@@ -2,7 +2,7 @@
 -- 11.2.9.1.5 and 11.2.9.1.7): a moment, the authenticator and an event are all that is looked at.
 use Rattle.std.specs.Prelude.{ℕ, ◌+◌, Bool, false, nat_le, List, [], Option, Some, None}
 use Rattle.authn_core.specs.State.{Event, KeyIs, PresenceIs, SignatureIs}
-use Rattle.authn_core.specs.Turn.{Work, CoreState, waiting, core_after, core_answer}
+use Rattle.authn_core.specs.Turn.{Work, CoreState, turn, waiting}
 use Rattle.token_session.specs.declared.input.Input.{Input}
 use Rattle.token_session.specs.declared.input.Input.TheVariants.{Presence, Key, Signature}
 use Rattle.token_session.specs.Replies.{keepalive, status_of, asker, answer_packets}
@@ -18,12 +18,12 @@ reply_in other = None
 -- what an event, or none, makes of the authenticator
 abbrev pub event_core : CoreState → ℕ → Option Event → CoreState
 event_core core at None = core
-event_core core at (Some e) = core_after core at e
+event_core core at (Some e) = record core { state = (turn core.setup core.state at e).state }
 
 -- what it sends
 abbrev pub event_packets : CoreState → ℕ → Option Event → List (List ℕ)
 event_packets k at None = []
-event_packets k at (Some e) = answer_packets (asker (waiting k) e) (status_of (waiting k)) (core_answer k at e)
+event_packets k at (Some e) = answer_packets (asker (waiting k) e) (status_of (waiting k)) (turn k.setup k.state at e).answer
 
 -- A KEEPALIVE is due 100 ms after the last, where work waits (CTAP 2.1, section 11.2.9.1.7).
 unfoldable pub keepalive_due : Option Work → ℕ → ℕ → Bool

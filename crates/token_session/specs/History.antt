@@ -59,14 +59,6 @@ unfoldable pub judged : Start → List Timed → List Judged
 judged start [] = []
 judged start (x ∷ past) = judge start x (judged start past) ∷ judged start past
 
--- Whether one of these packets is a KEEPALIVE.
-abbrev pub keeps_alive : List (List ℕ) → Bool
-keeps_alive packets = list_any (is_command KEEPALIVE) packets
-
--- A message was open at the end of the history, and isn't any more: its time is over.
-abbrev pub is_cut : Option Begun → Option Begun → Bool
-is_cut before now = is_some before && is_none now
-
 -- ERROR 0x05 on its channel
 abbrev pub cut_packets : Option Begun → List (List ℕ)
 cut_packets None = []
@@ -103,7 +95,7 @@ unfoldable pub time_packets : Start → List Judged → (latest t : ℕ) → Lis
 time_packets start past latest t =
     let before = open_at past (end start past) in
     let work = waiting (core start past) in
-    if is_cut before (open_at past t) then cut_packets before
+    if is_some before && is_none (open_at past t) then cut_packets before
     else if keepalive_due work latest t then keepalive_packets work else []
 
 -- the moment of the last input that sent a KEEPALIVE, 0 without one
@@ -112,7 +104,7 @@ last_keepalive start [] = 0
 last_keepalive start (e ∷ past) =
     let latest = last_keepalive start past in
     let packets = time_packets start past latest e.at ++ service_packets start e past in
-    if keeps_alive packets then e.at else latest
+    if list_any (is_command KEEPALIVE) packets then e.at else latest
 
 -- What an input sends: the packets of time, and then those of service.
 unfoldable pub sent_at : Start → Judged → List Judged → List (List ℕ)

@@ -1,5 +1,8 @@
 -- What a history names of the composed turn's state, and what runs of it send.
-use Rattle.std.specs.Prelude.{◌≡◌, ℕ, ◌+◌, List, [], ◌∷◌, ◌++◌, option_map, Option, if◌then◌else◌}
+use Rattle.std.specs.Prelude.{◌≡◌, Bool, ◌&&◌, is_some, is_none, ℕ, ◌+◌, List, [], ◌∷◌, ◌++◌, option_map, Option, if◌then◌else◌}
+use Rattle.std.specs.List.{list_any}
+use Rattle.hid_packet.specs.Commands.{KEEPALIVE}
+use Rattle.hid_packet.specs.Packet.{is_command}
 use Rattle.authn_core.specs.State.{Event}
 use Rattle.authn_core.specs.Turn.{Start}
 use Rattle.token_session.specs.declared.input.Timed.{Timed}
@@ -64,3 +67,11 @@ unfoldable pub all_open : List Judged → List Judged → ℕ → List Begun
 all_open later [] t = []
 all_open later (e ∷ before) t =
     if is_open e later t then begun_by e later ∷ all_open (e ∷ later) before t else all_open (e ∷ later) before t
+
+-- whether one of these packets is a KEEPALIVE
+abbrev pub keeps_alive : List (List ℕ) → Bool
+keeps_alive packets = list_any (is_command KEEPALIVE) packets
+
+-- whether a message was open at the end of a history, and isn't any more: its time is over
+abbrev pub is_cut : Option Begun → Option Begun → Bool
+is_cut before now = is_some before && is_none now

@@ -86,7 +86,7 @@ is_last b p =
 -- the open message, where this packet is its last one
 unfoldable pub finished_long : Option Begun → List ℕ → Option Message
 finished_long None p = None
-finished_long (Some b) p = if is_last b p then Some (message b.packet (packets_of b.own ++ p ∷ [])) else None
+finished_long (Some b) p = if is_last b p then Some (message b.packet (map (λ e. packet e.input) b.own ++ p ∷ [])) else None
 
 -- The message that an input finishes: an admitted short one, or the open one by its last continuation packet.
 unfoldable pub finished : Option Begun → Bool → Input → Option Message
