@@ -29,7 +29,8 @@ use Rattle.token_session.specs.declared.input.Input.TheVariants.{Packet}
 use Rattle.token_session.specs.declared.input.Timed.{Timed}
 use Rattle.token_session.proofs.Follows.{Good, good_judged, judged_at, safe_at}
 use Rattle.token_session.proofs.Tables.{table_same}
-use Rattle.token_session.proofs.Serve.{Serves, new_open, serves}
+use Rattle.token_session.proofs.Serve.{Serves, new_open}
+use Rattle.token_session.proofs.Continuing.{serves}
 
 -- A row that finishes a message sends nothing of its own, and the message is the event.
 record Ends (g : ℕ) (w : Option ℕ) (f : Fields) (m : Message) (r : Ruling) : Type 0 where

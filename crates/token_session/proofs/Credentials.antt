@@ -23,7 +23,8 @@ use Rattle.token_session.specs.Events.{event_core}
 use Rattle.token_session.specs.Replies.{request_event}
 use Rattle.token_session.specs.Law.{event_at}
 use Rattle.token_session.specs.Credentials.{step_of, steps}
-use Rattle.token_session.proofs.Serve.{OpenGiven, cond_case, says_admitted}
+use Rattle.token_session.proofs.Serve.{cond_case, says_admitted}
+use Rattle.token_session.proofs.Continuing.{OpenGiven}
 use Rattle.token_session.proofs.Follows.{Good, good_judged, judged_at, safe_at}
 
 one_step : (start : CoreState) (at : ℕ) (e : Option Event) (past : List Step) → core_at start (step_of at e ++ past) ≡ event_core (core_at start past) at e

@@ -3,7 +3,8 @@ use Rattle.std.proofs.Common.{◌≡◌, ℕ, ◌+◌, ◌≤◌, Bool, true, fa
 use Rattle.std.proofs.lemmas.Bool.Decides.{nat_tests}
 use Rattle.std.proofs.lemmas.List.Sums.{sum_by-cons}
 use Rattle.token_session.proofs.Opens.{Lawful, next, then_next, open_next_is}
-use Rattle.token_session.proofs.Serve.{says_admitted, Safe, OpenGiven, Serves, serves, new_open, cond_case}
+use Rattle.token_session.proofs.Serve.{says_admitted, Serves, new_open, cond_case}
+use Rattle.token_session.proofs.Continuing.{Safe, OpenGiven, serves}
 use Rattle.token_session.proofs.Tables.{table_same}
 use Rattle.token_session.proofs.Noted.{last_noted}
 use Rattle.token_session.proofs.Time.{still, still_open}

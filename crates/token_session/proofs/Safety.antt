@@ -2,7 +2,8 @@
 use Rattle.std.proofs.Common.{◌≡◌, ℕ, ◌≤◌, ◌==◌, true, false, cond, ◌&&◌, List, [], ◌∷◌, ◌++◌, length, not, nat_lt, ◌+◌, ◌*◌, Option, Some, None, refl, sym, ◌∙◌, ap, subst, arith, nat_le}
 use Rattle.std.proofs.lemmas.Bool.{and_parts, false_from_ne_true}
 use Rattle.std.proofs.lemmas.Option.{same_Some}
-use Rattle.token_session.proofs.Serve.{OpenGiven, Safe, new_open, cond_case, says_admitted, never_admitted, now_came, long_says, is_le, no_event, own_more, not_is, all_four}
+use Rattle.token_session.proofs.Serve.{new_open, cond_case, says_admitted, never_admitted, now_came, long_says, is_le, no_event, not_is, all_four}
+use Rattle.token_session.proofs.Continuing.{OpenGiven, Safe, own_more}
 use Rattle.token_session.proofs.Opens.{next}
 use Rattle.authn_core.proofs.Facts.{EventIsGiven, IsGiven, work_stays_given, presence_starts_none, key_starts_none, signature_starts_none}
 use Rattle.authn_core.specs.State.{Event, PresenceIs, KeyIs, SignatureIs}
