@@ -255,12 +255,14 @@ impl<'a> Walk<'a> {
         let mut counted = Counted { count: 0 };
         match call {
             Call::Map(level) => {
-                let is_map = read_map(&mut counted, &mut self.cursor, level_of(rt, level))?;
-                Ok(is_map.then_some(Item::Map(counted.count)))
+                let read = read_map(&mut counted, &mut self.cursor, level_of(rt, level))?;
+                assert!(rt; read != Some(false));
+                Ok(read.is_some().then_some(Item::Map(counted.count)))
             }
             Call::Array(level) => {
-                let is_array = read_array(&mut counted, &mut self.cursor, level_of(rt, level))?;
-                Ok(is_array.then_some(Item::Array(counted.count)))
+                let read = read_array(&mut counted, &mut self.cursor, level_of(rt, level))?;
+                assert!(rt; read != Some(false));
+                Ok(read.is_some().then_some(Item::Array(counted.count)))
             }
             _ => self.passed(rt, call),
         }
@@ -322,20 +324,27 @@ struct Counted {
 }
 
 impl<'a> Members<'a> for Counted {
-    ghost Holds = { λ _ _. Unit {0} };
+    ghost Holds = { λ _ _ _. Unit {0} };
 
-    fn member(&mut self, cursor: &mut Cursor<'a>, _key: Item<'a>, level: u8) -> Result<(), Fault> {
+    fn member(
+        &mut self,
+        cursor: &mut Cursor<'a>,
+        _key: Item<'a>,
+        level: u8,
+    ) -> Result<bool, Fault> {
         self.count = self.count.saturating_add(1);
-        cursor.skip(level)
+        cursor.skip(level)?;
+        Ok(true)
     }
 }
 
 impl<'a> Entries<'a> for Counted {
-    ghost HoldsAll = { λ _ _. Unit {0} };
+    ghost HoldsAll = { λ _ _ _. Unit {0} };
 
-    fn entry(&mut self, cursor: &mut Cursor<'a>, level: u8) -> Result<(), Fault> {
+    fn entry(&mut self, cursor: &mut Cursor<'a>, level: u8) -> Result<bool, Fault> {
         self.count = self.count.saturating_add(1);
-        cursor.skip(level)
+        cursor.skip(level)?;
+        Ok(true)
     }
 }
 

@@ -7,4 +7,6 @@ mod items;
 #[cfg(test)]
 mod page;
 #[cfg(test)]
+mod taking;
+#[cfg(test)]
 mod values;

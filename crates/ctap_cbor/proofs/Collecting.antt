@@ -1,7 +1,8 @@
 -- What is collected: one pair or one entry more, and from these to the map or the array.
-use Rattle.std.proofs.Common.{◌≡◌, ℕ, ◌+◌, ◌-◌, ◌<◌, true, false, List, Option, Some, None, refl}
+use Rattle.std.proofs.Common.{◌≡◌, ℕ, ◌+◌, ◌-◌, ◌<◌, Bool, true, List, Option, Some, None, refl, sym, subst}
+use Rattle.std.specs.Prelude.{◌&&◌}
 use Rattle.ctap_cbor.specs.declared.fault.Kind.{Kind}
-use Rattle.ctap_cbor.specs.Tree.{Tree, Plain, Array, Map, Trees, no_trees, Pairs, no_pairs, is_map, is_array, push, push_pair}
+use Rattle.ctap_cbor.specs.Tree.{Tree, Plain, Array, Map, Trees, no_trees, Pairs, no_pairs, push, push_pair}
 use Rattle.ctap_cbor.specs.Faults.{AKey}
 use Rattle.ctap_cbor.specs.Parts.{Part, OpensArray, OpensMap}
 use Rattle.ctap_cbor.specs.declared.item.Item.{Item}
@@ -12,47 +13,49 @@ use Rattle.ctap_cbor.proofs.Moves.{passes_none, passes_more, pairs_none}
 use Rattle.ctap_cbor.proofs.Skipping.{given_more, key_stops, value_stops, item_stops, map_then, array_then}
 use Rattle.ctap_cbor.specs.Collecting.{InMap, InArray, Adds, AddsEntry, AddsPairs, AddsAll, ReadsMap, ReadsArray}
 
-pub adds_none : {M : Type 0} (H : M → Pairs → Type 0) (room : ℕ) (m : M) (r : Reading) → AddsPairs H room 0 None m m r r
+pub adds_none : {M : Type 0} (H : M → Bool → Pairs → Type 0) (room : ℕ) (m : M) (r : Reading) → AddsPairs H room 0 None true m m r r
 adds_none H room m r = (no_pairs, pairs_none room r, λ h. h)
 
-pub adds_more : {M : Type 0} (H : M → Pairs → Type 0) (room n : ℕ) (last : Option (List ℕ)) (x y z : M) (a b c d : Reading) (part : Part) (bytes : List ℕ)
-    → AddsPairs H room n last x y a b → GivesKey last b c part bytes → Adds H room part y z c d → AddsPairs H room (n + 1) (Some bytes) x z a d
-adds_more H room n last x y z a b c d part bytes h k s =
-    (push_pair h.0 (Plain k.key) s.0, given_more room n h.0 s.0 last a b c d part bytes h.1 k s.1, λ e. s.2 h.0 k.key k.part_is (h.2 e))
+pub adds_more : {M : Type 0} (H : M → Bool → Pairs → Type 0) (room n : ℕ) (last : Option (List ℕ)) (ok taken both : Bool) (x y z : M) (a b c d : Reading) (part : Part) (bytes : List ℕ)
+    → AddsPairs H room n last ok x y a b → GivesKey last b c part bytes → Adds H room part taken y z c d → both ≡ (ok && taken) → AddsPairs H room (n + 1) (Some bytes) both x z a d
+adds_more H room n last ok taken both x y z a b c d part bytes h k s is =
+    (push_pair h.0 (Plain k.key) s.0, given_more room n h.0 s.0 last a b c d part bytes h.1 k s.1, λ e. subst (λ r. H z r (push_pair h.0 (Plain k.key) s.0)) (sym is) (s.2 ok h.0 k.key k.part_is (h.2 e)))
 
-pub key_ends : {M : Type 0} (H : M → Pairs → Type 0) (room n i : ℕ) (last : Option (List ℕ)) (x y : M) (a b c : Reading) (at : ℕ) (kind : Kind)
-    → i < n → AddsPairs H room i last x y a b → Refuses 0 (AKey last) b c at kind → HaltsInPairs room n a c at kind
-key_ends H room n i last x y a b c at kind lt h k = key_stops room n i h.0 last a b c at kind lt h.1 k
+pub key_ends : {M : Type 0} (H : M → Bool → Pairs → Type 0) (room n i : ℕ) (last : Option (List ℕ)) (ok : Bool) (x y : M) (a b c : Reading) (at : ℕ) (kind : Kind)
+    → i < n → AddsPairs H room i last ok x y a b → Refuses 0 (AKey last) b c at kind → HaltsInPairs room n a c at kind
+key_ends H room n i last ok x y a b c at kind lt h k = key_stops room n i h.0 last a b c at kind lt h.1 k
 
-pub value_ends : {M : Type 0} (H : M → Pairs → Type 0) (room n i : ℕ) (last : Option (List ℕ)) (x y : M) (a b c d : Reading) (part : Part) (bytes : List ℕ) (at : ℕ) (kind : Kind)
-    → i < n → AddsPairs H room i last x y a b → GivesKey last b c part bytes → Halts room c d at kind → HaltsInPairs room n a d at kind
-value_ends H room n i last x y a b c d part bytes at kind lt h k p = value_stops room n i h.0 last a b c d part bytes at kind lt h.1 k p
+pub value_ends : {M : Type 0} (H : M → Bool → Pairs → Type 0) (room n i : ℕ) (last : Option (List ℕ)) (ok : Bool) (x y : M) (a b c d : Reading) (part : Part) (bytes : List ℕ) (at : ℕ) (kind : Kind)
+    → i < n → AddsPairs H room i last ok x y a b → GivesKey last b c part bytes → Halts room c d at kind → HaltsInPairs room n a d at kind
+value_ends H room n i last ok x y a b c d part bytes at kind lt h k p = value_stops room n i h.0 last a b c d part bytes at kind lt h.1 k p
 
-pub all_none : {M : Type 0} (H : M → Trees → Type 0) (room : ℕ) (m : M) (r : Reading) → AddsAll H room 0 m m r r
+pub all_none : {M : Type 0} (H : M → Bool → Trees → Type 0) (room : ℕ) (m : M) (r : Reading) → AddsAll H room 0 true m m r r
 all_none H room m r = (no_trees, passes_none room r, λ h. h)
 
-pub all_more : {M : Type 0} (H : M → Trees → Type 0) (room n : ℕ) (x y z : M) (a b c : Reading) → AddsAll H room n x y a b → AddsEntry H room y z b c → AddsAll H room (n + 1) x z a c
-all_more H room n x y z a b c h s = (push h.0 s.0, passes_more room n h.0 s.0 a b c h.1 s.1, λ e. s.2 h.0 (h.2 e))
+pub all_more : {M : Type 0} (H : M → Bool → Trees → Type 0) (room n : ℕ) (ok taken both : Bool) (x y z : M) (a b c : Reading)
+    → AddsAll H room n ok x y a b → AddsEntry H room taken y z b c → both ≡ (ok && taken) → AddsAll H room (n + 1) both x z a c
+all_more H room n ok taken both x y z a b c h s is =
+    (push h.0 s.0, passes_more room n h.0 s.0 a b c h.1 s.1, λ e. subst (λ r. H z r (push h.0 s.0)) (sym is) (s.2 ok h.0 (h.2 e)))
 
-pub entry_ends : {M : Type 0} (H : M → Trees → Type 0) (room n i : ℕ) (x y : M) (a b c : Reading) (at : ℕ) (kind : Kind)
-    → i < n → AddsAll H room i x y a b → Halts room b c at kind → HaltsInAll room n a c at kind
-entry_ends H room n i x y a b c at kind lt h k = item_stops room n i h.0 a b c at kind lt h.1 k
+pub entry_ends : {M : Type 0} (H : M → Bool → Trees → Type 0) (room n i : ℕ) (ok : Bool) (x y : M) (a b c : Reading) (at : ℕ) (kind : Kind)
+    → i < n → AddsAll H room i ok x y a b → Halts room b c at kind → HaltsInAll room n a c at kind
+entry_ends H room n i ok x y a b c at kind lt h k = item_stops room n i h.0 a b c at kind lt h.1 k
 
-pub map_read : {M : Type 0} (H : M → Pairs → Type 0) (level n : ℕ) (last : Option (List ℕ)) (x y : M) (a b c : Reading)
-    → Takes (5 - level) a b (OpensMap n) → AddsPairs H (5 - (level + 1)) n last x y b c → ReadsMap H (5 - level) true x y a c
-map_read H level n last x y a b c t h = (Map h.0, map_then level n h.0 last a b c t h.1, refl, h.2)
+pub map_read : {M : Type 0} (H : M → Bool → Pairs → Type 0) (level n : ℕ) (last : Option (List ℕ)) (ok : Bool) (x y : M) (a b c : Reading)
+    → Takes (5 - level) a b (OpensMap n) → AddsPairs H (5 - (level + 1)) n last ok x y b c → ReadsMap H (5 - level) (Some ok) x y a c
+map_read H level n last ok x y a b c t h = (Map h.0, map_then level n h.0 last a b c t h.1, (ok, refl, h.2))
 
-pub array_read : {M : Type 0} (H : M → Trees → Type 0) (level n : ℕ) (x y : M) (a b c : Reading)
-    → Takes (5 - level) a b (OpensArray n) → AddsAll H (5 - (level + 1)) n x y b c → ReadsArray H (5 - level) true x y a c
-array_read H level n x y a b c t h = (Array h.0, array_then level n h.0 a b c t h.1, refl, h.2)
+pub array_read : {M : Type 0} (H : M → Bool → Trees → Type 0) (level n : ℕ) (ok : Bool) (x y : M) (a b c : Reading)
+    → Takes (5 - level) a b (OpensArray n) → AddsAll H (5 - (level + 1)) n ok x y b c → ReadsArray H (5 - level) (Some ok) x y a c
+array_read H level n ok x y a b c t h = (Array h.0, array_then level n h.0 a b c t h.1, (ok, refl, h.2))
 
 -- a tree whose head opens none map is none
-not_map : {M : Type 0} (H : M → Pairs → Type 0) (part : Part) (m : M) (t : Tree) → ((n : ℕ) → part ≡ OpensMap n → ⊥) → part ≡ part_of_tree t → (false ≡ is_map t) × InMap H m m t
+not_map : {M : Type 0} (H : M → Bool → Pairs → Type 0) (part : Part) (m : M) (t : Tree) → ((n : ℕ) → part ≡ OpensMap n → ⊥) → part ≡ part_of_tree t → InMap H None m m t
 not_map H part m (Plain s) none e = (refl, refl)
 not_map H part m (Array ts) none e = (refl, refl)
 not_map H part m (Map ps) none e = absurd (none _ e)
 
-not_array : {M : Type 0} (H : M → Trees → Type 0) (part : Part) (m : M) (t : Tree) → ((n : ℕ) → part ≡ OpensArray n → ⊥) → part ≡ part_of_tree t → (false ≡ is_array t) × InArray H m m t
+not_array : {M : Type 0} (H : M → Bool → Trees → Type 0) (part : Part) (m : M) (t : Tree) → ((n : ℕ) → part ≡ OpensArray n → ⊥) → part ≡ part_of_tree t → InArray H None m m t
 not_array H part m (Plain s) none e = (refl, refl)
 not_array H part m (Array ts) none e = absurd (none _ e)
 not_array H part m (Map ps) none e = (refl, refl)

@@ -1,5 +1,5 @@
--- Data items as trees (RFC 8949, section 2), and how deep they are.
-use Rattle.std.specs.Prelude.{ℕ, ◌+◌, ℤ, Bool, true, false, List, max}
+-- Data items as trees (RFC 8949, section 2), how deep they are, and what they hold.
+use Rattle.std.specs.Prelude.{ℕ, ◌+◌, ◌^◌, ℤ, pos, Bool, true, false, nat_lt, List, Option, Some, None, if◌then◌else◌, max}
 
 -- what is no array and no map; byte strings and texts by their bytes
 pub data Scalar : Type 0 where
@@ -48,6 +48,28 @@ is_map _ = false
 abbrev pub is_array : Tree → Bool
 is_array (Array ts) = true
 is_array _ = false
+
+-- what a tree is; None where it is something else
+abbrev pub as_bytes : Tree → Option (List ℕ)
+as_bytes (Plain (Bytes s)) = Some s
+as_bytes _ = None
+
+abbrev pub as_text : Tree → Option (List ℕ)
+as_text (Plain (Text s)) = Some s
+as_text _ = None
+
+abbrev pub as_int : Tree → Option ℤ
+as_int (Plain (Int i)) = Some i
+as_int _ = None
+
+-- an integer of at least 0; 2^64-1 is the largest that there is
+abbrev pub as_uint : Tree → Option ℕ
+as_uint (Plain (Int (pos n))) = if nat_lt n (2 ^ 64) then Some n else None
+as_uint _ = None
+
+abbrev pub as_flag : Tree → Option Bool
+as_flag (Plain (Flag b)) = Some b
+as_flag _ = None
 
 -- how many items there are
 abbrev pub count : Trees → ℕ

@@ -22,6 +22,12 @@ part_of (Map n) = OpensMap n
 part_of (Logical b) = One (tree.Flag b)
 part_of Null = One tree.Null
 
+-- an item as a tree, without what is inside an array or a map
+abbrev pub head_of : Part → tree.Tree
+head_of (One s) = tree.Plain s
+head_of (OpensArray n) = tree.Array tree.no_trees
+head_of (OpensMap n) = tree.Map tree.no_pairs
+
 -- Nothing else can be taken there: an item that is at the place is the one that was taken.
 abbrev pub TakesOnly : ℕ → Reading → Reading → Result Item Fault → Type 0
 TakesOnly room old new result =

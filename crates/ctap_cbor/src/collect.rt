@@ -1,6 +1,6 @@
 //! Reading maps and arrays whole: one loop for each, whatever is collected of them.
 
-ghost use Rattle.std.specs.Prelude.{ℕ, ◌-◌, ◌≤◌, List, Option, MatchResult};
+ghost use Rattle.std.specs.Prelude.{◌≡◌, ℕ, Bool, ◌&&◌, ◌-◌, ◌≤◌, List, Option, MatchResult};
 ghost use Rattle.ctap_cbor.specs.Views.{part_of};
 ghost use Rattle.ctap_cbor.specs.Reading.{Halts, HaltsInPairs, HaltsInAll};
 ghost use Rattle.ctap_cbor.specs.Collecting.{Adds, AddsEntry, AddsPairs, AddsAll, ReadsMap, ReadsArray};
@@ -13,15 +13,16 @@ use crate::item::Item;
 pub trait Members<'a> {
     ghost use Rattle.ctap_cbor.specs.Tree.{Pairs as AllPairs};
 
-    /// It was collected of these pairs.
-    ghost Holds: { Self → AllPairs → Type 0 };
+    /// It was collected of these pairs, and whether each was taken.
+    ghost Holds: { Self → Bool → AllPairs → Type 0 };
 
-    /// Takes the value after a key, one whole item at this level.
-    fn member(&mut self, cursor: &mut Cursor<'a>, key: Item<'a>, level: u8) -> Result<(), Fault>
+    /// Passes the value after a key, one whole item at this level. Returns whether it was taken: false where it isn't
+    /// what the key asks for.
+    fn member(&mut self, cursor: &mut Cursor<'a>, key: Item<'a>, level: u8) -> Result<bool, Fault>
         requires low { 1 ≤ level }
         requires high { level ≤ 5 }
         ensures { MatchResult result
-            (λ _. Adds Holds (5 - level) (part_of key.entry) self.old self.new cursor.old cursor.new)
+            (λ taken. Adds Holds (5 - level) (part_of key.entry) taken self.old self.new cursor.old cursor.new)
             (λ f. Halts (5 - level) cursor.old cursor.new f.at f.kind) };
 }
 
@@ -29,109 +30,121 @@ pub trait Members<'a> {
 pub trait Entries<'a> {
     ghost use Rattle.ctap_cbor.specs.Tree.{Trees as AllTrees};
 
-    /// It was collected of these entries.
-    ghost HoldsAll: { Self → AllTrees → Type 0 };
+    /// It was collected of these entries, and whether each was taken.
+    ghost HoldsAll: { Self → Bool → AllTrees → Type 0 };
 
-    /// Takes an entry, one whole item at this level.
-    fn entry(&mut self, cursor: &mut Cursor<'a>, level: u8) -> Result<(), Fault>
+    /// Passes an entry, one whole item at this level. Returns whether it was taken.
+    fn entry(&mut self, cursor: &mut Cursor<'a>, level: u8) -> Result<bool, Fault>
         requires low { 1 ≤ level }
         requires high { level ≤ 5 }
         ensures { MatchResult result
-            (λ _. AddsEntry HoldsAll (5 - level) self.old self.new cursor.old cursor.new)
+            (λ taken. AddsEntry HoldsAll (5 - level) taken self.old self.new cursor.old cursor.new)
             (λ f. Halts (5 - level) cursor.old cursor.new f.at f.kind) };
 }
 
-/// Takes so many pairs.
+/// Returns whether both hold. Neither spares the other.
+fn both(a: bool, b: bool) -> bool
+    ensures { result ≡ (a && b) }
+{
+    a && b
+}
+
+/// Takes so many pairs. Returns whether each was taken.
 fn read_pairs<'a, M: Members<'a>>(
     members: &mut M,
     cursor: &mut Cursor<'a>,
     level: u8,
     count: u64,
-) -> Result<(), Fault>
+) -> Result<bool, Fault>
     requires low { 1 ≤ level }
     requires high { level ≤ 5 }
     ensures { MatchResult result
-        (λ _. (last : Option (List ℕ)) × AddsPairs M.Holds
-        (5 - level) count last members.old members.new cursor.old cursor.new)
+        (λ ok. (last : Option (List ℕ)) × AddsPairs M.Holds
+        (5 - level) count last ok members.old members.new cursor.old cursor.new)
         (λ f. HaltsInPairs (5 - level) count cursor.old cursor.new f.at f.kind) }
 {
     let mut previous = None;
+    let mut ok = true;
     for done in 0..count {
         let key = cursor.key(previous)?;
         previous = Some(key.bytes);
-        members.member(cursor, key.item, level)?;
+        let taken = members.member(cursor, key.item, level)?;
+        ok = both(ok, taken);
     }
-    Ok(())
+    Ok(ok)
 }
 
-/// Takes so many entries.
+/// Takes so many entries. Returns whether each was taken.
 fn read_entries<'a, M: Entries<'a>>(
     entries: &mut M,
     cursor: &mut Cursor<'a>,
     level: u8,
     count: u64,
-) -> Result<(), Fault>
+) -> Result<bool, Fault>
     requires low { 1 ≤ level }
     requires high { level ≤ 5 }
     ensures { MatchResult result
-        (λ _. AddsAll M.HoldsAll (5 - level) count entries.old entries.new cursor.old cursor.new)
+        (λ ok. AddsAll M.HoldsAll (5 - level) count ok entries.old entries.new cursor.old cursor.new)
         (λ f. HaltsInAll (5 - level) count cursor.old cursor.new f.at f.kind) }
 {
+    let mut ok = true;
     for done in 0..count {
-        entries.entry(cursor, level)?;
+        let taken = entries.entry(cursor, level)?;
+        ok = both(ok, taken);
     }
-    Ok(())
+    Ok(ok)
 }
 
-/// Takes a whole item at this level, from 1 to 5, and hands the pairs of a map to `members`. Gives whether it is a map.
+/// Takes a whole item at this level, from 1 to 5, and hands the pairs of a map to `members`. Returns None where it
+/// isn't a map, and else whether each member was taken.
 ///
 /// The first fault that is met ends the reading; the cursor then is as [`Cursor::skip`] leaves it.
 pub fn read_map<'a, M: Members<'a>>(
     members: &mut M,
     cursor: &mut Cursor<'a>,
     level: u8,
-) -> Result<bool, Fault>
+) -> Result<Option<bool>, Fault>
     requires low { 1 ≤ level }
     requires high { level ≤ 5 }
     ensures { MatchResult result
-        (λ is. ReadsMap M.Holds (5 - level) is members.old members.new cursor.old cursor.new)
+        (λ r. ReadsMap M.Holds (5 - level) r members.old members.new cursor.old cursor.new)
         (λ f. Halts (5 - level) cursor.old cursor.new f.at f.kind) }
 {
     match cursor.item(level)? {
         Item::Map(count) => {
-            read_pairs(members, cursor, level + 1, count)?;
-            Ok(true)
+            let ok = read_pairs(members, cursor, level + 1, count)?;
+            Ok(Some(ok))
         }
         other => {
             cursor.inside(other, level)?;
-            Ok(false)
+            Ok(None)
         }
     }
 }
 
-/// Takes a whole item at this level, from 1 to 5, and hands the entries of an array to `entries`. Gives whether it is
-/// an array.
+/// Takes a whole item at this level, from 1 to 5, and hands the entries of an array to `entries`. Returns None where
+/// it isn't an array, and else whether each entry was taken.
 ///
 /// The first fault that is met ends the reading; the cursor then is as [`Cursor::skip`] leaves it.
 pub fn read_array<'a, M: Entries<'a>>(
     entries: &mut M,
     cursor: &mut Cursor<'a>,
     level: u8,
-) -> Result<bool, Fault>
+) -> Result<Option<bool>, Fault>
     requires low { 1 ≤ level }
     requires high { level ≤ 5 }
     ensures { MatchResult result
-        (λ is. ReadsArray M.HoldsAll (5 - level) is entries.old entries.new cursor.old cursor.new)
+        (λ r. ReadsArray M.HoldsAll (5 - level) r entries.old entries.new cursor.old cursor.new)
         (λ f. Halts (5 - level) cursor.old cursor.new f.at f.kind) }
 {
     match cursor.item(level)? {
         Item::Array(count) => {
-            read_entries(entries, cursor, level + 1, count)?;
-            Ok(true)
+            let ok = read_entries(entries, cursor, level + 1, count)?;
+            Ok(Some(ok))
         }
         other => {
             cursor.inside(other, level)?;
-            Ok(false)
+            Ok(None)
         }
     }
 }

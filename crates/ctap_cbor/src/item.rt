@@ -1,5 +1,10 @@
 //! What a cursor returns for an item.
 
+ghost use Rattle.std.specs.Prelude.{◌≡◌};
+ghost use Rattle.std.specs.Option.{option_copied};
+ghost use Rattle.ctap_cbor.specs.Tree.{as_bytes, as_text, as_int, as_uint, as_flag};
+ghost use Rattle.ctap_cbor.specs.Views.{part_of, head_of};
+
 /// A data item's head, with the bytes of a string, which are lent from the message. What an array or a map holds
 /// follows it in the message.
 #[derive(Clone, Copy, Debug, PartialEq, Eq)]
@@ -14,6 +19,58 @@ pub enum Item<'a> {
     Map(u64),
     Bool(bool),
     Null,
+}
+
+impl<'a> Item<'a> {
+    /// Returns the bytes of a byte string.
+    pub fn as_bytes(&self) -> Option<&'a [u8]>
+        ensures { option_copied result ≡ as_bytes (head_of (part_of self.now)) }
+    {
+        match *self {
+            Item::Bytes(bytes) => Some(bytes),
+            _ => None,
+        }
+    }
+
+    /// Returns a text.
+    pub fn as_text(&self) -> Option<&'a str>
+        ensures { option_copied result ≡ as_text (head_of (part_of self.now)) }
+    {
+        match *self {
+            Item::Text(text) => Some(text),
+            _ => None,
+        }
+    }
+
+    /// Returns an integer.
+    pub fn as_int(&self) -> Option<i128>
+        ensures { result ≡ as_int (head_of (part_of self.now)) }
+    {
+        match *self {
+            Item::Int(n) => Some(n),
+            _ => None,
+        }
+    }
+
+    /// Returns an integer of at least 0.
+    pub fn as_uint(&self) -> Option<u64>
+        ensures { result ≡ as_uint (head_of (part_of self.now)) }
+    {
+        match *self {
+            Item::Int(n) if 0 <= n && n <= 0xffff_ffff_ffff_ffff => Some(n as u64),
+            _ => None,
+        }
+    }
+
+    /// Returns a truth value.
+    pub fn as_bool(&self) -> Option<bool>
+        ensures { result ≡ as_flag (head_of (part_of self.now)) }
+    {
+        match *self {
+            Item::Bool(flag) => Some(flag),
+            _ => None,
+        }
+    }
 }
 
 /// A key of a map, with its encoded bytes, by which the next key is compared.

@@ -11,19 +11,19 @@ loop-done-init g c = adds_none g.M.Members.Holds (5 - c.args.level) c.args.membe
 
 pub loop-done-preserved : goal.loop-done-preserved
 loop-done-preserved g c =
-    adds_more g.M.Members.Holds (5 - c.args.level) c.loop-done.done (option_copied c.loop-done.previous) c.args.members.now c.loop-done.members c.member.new.self c.args.cursor.now c.loop-done.cursor c.key.new.self c.member.new.cursor (part_of c.in_ok-key.key.item) c.in_ok-key.key.bytes.now c.loop-done.invariant c.in_ok-key.ensures.gives c.in_ok-member.ensures
+    adds_more g.M.Members.Holds (5 - c.args.level) c.loop-done.done (option_copied c.loop-done.previous) c.loop-done.ok c.in_ok-taken.taken c.both-ok.result c.args.members.now c.loop-done.members c.member.new.self c.args.cursor.now c.loop-done.cursor c.key.new.self c.member.new.cursor (part_of c.in_ok-key.key.item) c.in_ok-key.key.bytes.now c.loop-done.invariant c.in_ok-key.ensures.gives c.in_ok-taken.ensures c.both-ok.ensures
 
 pub returns-in_err-key : goal.returns-in_err-key
 returns-in_err-key g c =
     let p = err_from_is_err_and c.from_residual.result c.from_residual.ensures.1 in
-    rw (p.1, p.2) (key_ends g.M.Members.Holds (5 - c.args.level) c.args.count c.loop-done.done (option_copied c.loop-done.previous) c.args.members.now c.loop-done.members c.args.cursor.now c.loop-done.cursor c.key.new.self c.in_err-key.field-0.0.at c.in_err-key.field-0.0.kind c.loop-done-test.true c.loop-done.invariant c.in_err-key.ensures.gives)
+    rw (p.1, p.2) (key_ends g.M.Members.Holds (5 - c.args.level) c.args.count c.loop-done.done (option_copied c.loop-done.previous) c.loop-done.ok c.args.members.now c.loop-done.members c.args.cursor.now c.loop-done.cursor c.key.new.self c.in_err-key.field-0.0.at c.in_err-key.field-0.0.kind c.loop-done-test.true c.loop-done.invariant c.in_err-key.ensures.gives)
 
-pub returns-in_err-member : goal.returns-in_err-member
-returns-in_err-member g c =
-    let p = err_from_is_err_and c.from_residual-in_err-member.result c.from_residual-in_err-member.ensures.1 in
-    rw (p.1, p.2) (value_ends g.M.Members.Holds (5 - c.args.level) c.args.count c.loop-done.done (option_copied c.loop-done.previous) c.args.members.now c.loop-done.members c.args.cursor.now c.loop-done.cursor c.key.new.self c.member.new.cursor (part_of c.in_ok-key.key.item) c.in_ok-key.key.bytes.now c.in_err-member.field-0.0.at c.in_err-member.field-0.0.kind c.loop-done-test.true c.loop-done.invariant c.in_ok-key.ensures.gives c.in_err-member.ensures)
+pub returns-in_err-taken : goal.returns-in_err-taken
+returns-in_err-taken g c =
+    let p = err_from_is_err_and c.from_residual-in_err-taken.result c.from_residual-in_err-taken.ensures.1 in
+    rw (p.1, p.2) (value_ends g.M.Members.Holds (5 - c.args.level) c.args.count c.loop-done.done (option_copied c.loop-done.previous) c.loop-done.ok c.args.members.now c.loop-done.members c.args.cursor.now c.loop-done.cursor c.key.new.self c.member.new.cursor (part_of c.in_ok-key.key.item) c.in_ok-key.key.bytes.now c.in_err-taken.field-0.0.at c.in_err-taken.field-0.0.kind c.loop-done-test.true c.loop-done.invariant c.in_ok-key.ensures.gives c.in_err-taken.ensures)
 
 pub returns : goal.returns
 returns g c =
     let e : c.loop-done.done ≡ c.args.count = omega arith in
-    (option_copied c.loop-done.previous, subst (λ n. AddsPairs g.M.Members.Holds (5 - c.args.level) n (option_copied c.loop-done.previous) c.args.members.now c.loop-done.members c.args.cursor.now c.loop-done.cursor) e c.loop-done.invariant)
+    (option_copied c.loop-done.previous, subst (λ n. AddsPairs g.M.Members.Holds (5 - c.args.level) n (option_copied c.loop-done.previous) c.loop-done.ok c.args.members.now c.loop-done.members c.args.cursor.now c.loop-done.cursor) e c.loop-done.invariant)

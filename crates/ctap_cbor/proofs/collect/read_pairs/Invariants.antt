@@ -4,4 +4,4 @@ use Rattle.ctap_cbor.specs.Collecting.{AddsPairs}
 use Rattle.ctap_cbor.proofs.collect.read_pairs.Given as goal
 
 abbrev pub invariant-loop-done : goal.invariant-loop-done
-invariant-loop-done g l = AddsPairs g.M.Members.Holds (5 - l.level) l.done (option_copied l.previous) l.fn.members l.members l.fn.cursor l.cursor
+invariant-loop-done g l = AddsPairs g.M.Members.Holds (5 - l.level) l.done (option_copied l.previous) l.ok l.fn.members l.members l.fn.cursor l.cursor
