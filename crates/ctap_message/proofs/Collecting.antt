@@ -1,107 +1,93 @@
--- What is collected of maps and arrays, of one pair or one entry more; and what it tells of the tree that was passed.
-use Rattle.std.proofs.Common.{◌≡◌, ℕ, Bool, true, false, List, Option, Some, None, refl, sym, ap, ◌∙◌}
-use Rattle.std.specs.Prelude.{ℤ, ◌&&◌, ◌||◌}
-use Rattle.ctap_cbor.specs.Tree.{Scalar, Tree, Plain, Array, Map, Trees, no_trees, Pairs, no_pairs, push, push_pair, is_map, is_array}
-use Rattle.ctap_cbor.specs.Parts.{One}
-use Rattle.ctap_cbor.specs.Reading.{part_of_tree}
-use Rattle.ctap_message.specs.declared.item.Label.{Label}
-use Rattle.ctap_message.specs.declared.item.Label.TheVariants as label
-use Rattle.ctap_message.specs.Members.{all_pairs, value_at, all_entries, some_entry, as_bytes, as_text, as_int, as_flag, map_by_name}
-use Rattle.ctap_message.specs.Labels.{label_in, head_of}
-use Rattle.ctap_message.specs.Descriptors.{parameter_types}
-use Rattle.ctap_message.specs.Fields.{Options, Parameter, parameter_in, Parameters, is_whole_parameter, names_es256}
-use Rattle.ctap_message.specs.Fields.{User}
-use Rattle.ctap_cbor.specs.Collecting.{InMap, InArray}
-use Rattle.ctap_message.specs.Walks.{map_told, array_told}
-use Rattle.ctap_message.specs.Collected.{rp_labels, rp_told, rp_step, user_labels, user_told, user_step, option_labels, options_told, options_step, parameter_labels, parameter_told, parameter_step, parameters_told}
-use Rattle.ctap_message.proofs.Pushes.{ap2, ap3, entries_push, some_push, head_bytes, head_text, head_int, head_flag, is_head_bytes, is_head_text, is_head_int, is_head_flag}
-use Rattle.ctap_message.proofs.Labelling.{head_push, types_push}
+-- From pairs and entries that are taken one by one to what the whole map or array says.
+use Rattle.std.proofs.Common.{◌≡◌, ℕ, Bool, true, false, List, Option, Some, refl, sym, ap, ◌∙◌}
+use Rattle.std.specs.Prelude.{unwrap_or, ◌&&◌}
+use Rattle.ctap_cbor.specs.Tree.{Scalar, Tree, Plain, Array, Map, Trees, no_trees, Pairs, no_pairs, push, push_pair}
+use Rattle.ctap_cbor.specs.Parts.{Part, One}
+use Rattle.ctap_cbor.specs.Views.{head_of}
+use Rattle.ctap_cbor.specs.Reading.{Reading, Passes, PassesAs, part_of_tree}
+use Rattle.ctap_cbor.specs.Collecting.{InMap, InArray, Adds, AddsEntry, ReadsMap, ReadsArray}
+use Rattle.ctap_message.specs.Members.{Key, pairs_of, entries_of, suits, all_pairs, all_entries, map_of, array_of}
+use Rattle.ctap_message.specs.Walks.{Reads, HasPairs, HasEntries}
+use Rattle.ctap_message.proofs.Pushes.{ap2, all_push, entries_push}
 
--- ---- from what was collected to what the tree tells
+-- ---- one pair more
 
-pub map_collected : {M V : Type 0} (shown : M → Bool × V) (told : Pairs → Bool × V) (t : Tree) (is r : Bool) (x y : M)
-    → r ≡ (is && (shown y).0) → is ≡ is_map t → InMap (λ m ps. shown m ≡ told ps) x y t → shown x ≡ told no_pairs → ◌≡◌ {A = Bool × V} (r, (shown y).1) (map_told told t)
-map_collected {V = V} shown told (Plain s) is r x y e map h start = ap2 (λ (a : Bool) (b : V). (a, b)) (e ∙ ap (λ b. b && (shown y).0) map) (ap (λ m. (shown m).1) h ∙ ap (λ p. p.1) start)
-map_collected {V = V} shown told (Array ts) is r x y e map h start = ap2 (λ (a : Bool) (b : V). (a, b)) (e ∙ ap (λ b. b && (shown y).0) map) (ap (λ m. (shown m).1) h ∙ ap (λ p. p.1) start)
-map_collected {V = V} shown told (Map ps) is r x y e map h start =
-    ap2 (λ (a : Bool) (b : V). (a, b)) (e ∙ ap (λ b. b && (shown y).0) map ∙ ap (λ p. p.0) (h start)) (ap (λ p. p.1) (h start))
+-- one pair more is what `next` says
+abbrev pub Grows : {V : Type 0} → (Option Tree → V) → (Tree → Tree → V → V) → Type 0
+Grows {V} view next = (ps : Pairs) (k v : Tree) → view (Some (Map (push_pair ps k v))) ≡ next k v (view (Some (Map ps)))
 
-pub array_collected : {M V : Type 0} (shown : M → Bool × V) (told : Trees → Bool × V) (t : Tree) (is r : Bool) (x y : M)
-    → r ≡ (is && (shown y).0) → is ≡ is_array t → InArray (λ m ts. shown m ≡ told ts) x y t → shown x ≡ told no_trees → ◌≡◌ {A = Bool × V} (r, (shown y).1) (array_told told t)
-array_collected {V = V} shown told (Plain s) is r x y e array h start = ap2 (λ (a : Bool) (b : V). (a, b)) (e ∙ ap (λ b. b && (shown y).0) array) (ap (λ m. (shown m).1) h ∙ ap (λ p. p.1) start)
-array_collected {V = V} shown told (Map ps) is r x y e array h start = ap2 (λ (a : Bool) (b : V). (a, b)) (e ∙ ap (λ b. b && (shown y).0) array) (ap (λ m. (shown m).1) h ∙ ap (λ p. p.1) start)
-array_collected {V = V} shown told (Array ts) is r x y e array h start =
-    ap2 (λ (a : Bool) (b : V). (a, b)) (e ∙ ap (λ b. b && (shown y).0) array ∙ ap (λ p. p.0) (h start)) (ap (λ p. p.1) (h start))
+-- after this key a value's head decides
+abbrev pub HeadDecides : {V : Type 0} → List (Key × (Tree → Bool)) → (Tree → Tree → V → V) → Tree → Type 0
+HeadDecides {V} types next k = (v : Tree) → (suits types k v ≡ suits types k (head_of (part_of_tree v))) × ((z : V) → next k v z ≡ next k (head_of (part_of_tree v)) z)
 
--- ---- rp
+one_key : (k j : Scalar) (part : Part) → part ≡ One k → part ≡ One j → k ≡ j
+one_key k j part e f = let g : One k ≡ One j = sym e ∙ f in cc
 
-pub rp_start : ◌≡◌ {A = Bool × Option (List ℕ)} (true, None) (rp_told no_pairs)
-unfolding all_pairs value_at
-rp_start = refl
+pub adds_tree : {M V : Type 0} (shown : M → V) (types : List (Key × (Tree → Bool))) (view : Option Tree → V) (next : Tree → Tree → V → V) (room : ℕ) (key : Part) (j : Scalar) (taken : Bool) (x y : M) (a c : Reading)
+    → Grows view next → key ≡ One j → (v : Tree) × Passes room v a c × (taken ≡ suits types (Plain j) v) × (shown y ≡ next (Plain j) v (shown x))
+    → Adds (λ m ok ps. HasPairs types view (shown m) ok ps) room key taken x y a c
+adds_tree shown types view next room key j taken x y a c grows is h = (
+  h.0,
+  h.1,
+  λ ok ps k e held. let same = one_key j k key is e in (
+    ap2 (λ a b. a && b) held.0 (h.2 ∙ ap (λ k. suits types (Plain k) h.0) same) ∙ sym (all_push (suits types) ps (Plain k) h.0),
+    h.3 ∙ ap (λ k. next (Plain k) h.0 (shown x)) same ∙ ap (next (Plain k) h.0) held.1 ∙ sym (grows ps (Plain k) h.0),
+  ),
+)
 
-pub rp_push : (l : Label) (ps : Pairs) (k : Scalar) (v : Tree) → label_in (One k) ≡ l → rp_told (push_pair ps (Plain k) v) ≡ rp_step l (head_of (part_of_tree v)) (rp_told ps)
-rp_push l ps k v e =
-    ap2 (λ (a : Bool) (b : Option (List ℕ)). (a, b))
-    (types_push rp_labels ps k v l (refl, (refl, tt)) (is_head_text, (is_head_text, tt)) e)
-    (head_push as_text head_text label.Id ps k v l refl e)
+-- a value whose head was put under its key
+pub adds_head : {M V : Type 0} (shown : M → V) (types : List (Key × (Tree → Bool))) (view : Option Tree → V) (next : Tree → Tree → V → V) (room : ℕ) (key part : Part) (taken : Bool) (x y : M) (a c : Reading)
+    → Grows view next → HeadDecides types next (head_of key) → PassesAs room part a c
+    → taken ≡ suits types (head_of key) (head_of part) → shown y ≡ next (head_of key) (head_of part) (shown x)
+    → Adds (λ m ok ps. HasPairs types view (shown m) ok ps) room key taken x y a c
+adds_head shown types view next room key part taken x y a c grows head h is put =
+    let v : Tree = h.0 in
+    let tested : taken ≡ suits types (head_of key) v = is ∙ ap (λ p. suits types (head_of key) (head_of p)) h.2 ∙ sym (head v).0 in
+    let made : shown y ≡ next (head_of key) v (shown x) = put ∙ ap (λ p. next (head_of key) (head_of p) (shown x)) h.2 ∙ sym ((head v).1 (shown x)) in (
+      v,
+      h.1,
+      λ ok ps k e held. (
+        ap2 (λ a b. a && b) held.0 (tested ∙ ap (λ k. suits types (head_of k) v) e) ∙ sym (all_push (suits types) ps (Plain k) v),
+        made ∙ ap (λ k. next (head_of k) v (shown x)) e ∙ ap (next (Plain k) v) held.1 ∙ sym (grows ps (Plain k) v),
+      ),
+    )
 
--- ---- user
+-- ---- one entry more
 
-abbrev make_user : Option (List ℕ) → Option (List ℕ) → User
-make_user a b = record { id = a; name = b }
+pub adds_entry : {M V : Type 0} (shown : M → V) (type : Tree → Bool) (view : Option Tree → V) (room : ℕ) (taken : Bool) (x y : M) (t : Tree) (a c : Reading)
+    → Passes room t a c → taken ≡ type t → ((ts : Trees) → shown x ≡ view (Some (Array ts)) → shown y ≡ view (Some (Array (push ts t))))
+    → AddsEntry (λ m ok ts. HasEntries type view (shown m) ok ts) room taken x y a c
+adds_entry shown type view room taken x y t a c passes is more =
+    (t, passes, λ ok ts held. (ap2 (λ a b. a && b) held.0 is ∙ sym (entries_push type ts t), more ts held.1))
 
-pub user_start : ◌≡◌ {A = Bool × User} (true, make_user None None) (user_told no_pairs)
-unfolding all_pairs value_at
-user_start = refl
+-- ---- from what was collected to what the tree says
 
-pub user_push : (l : Label) (ps : Pairs) (k : Scalar) (v : Tree) → label_in (One k) ≡ l → user_told (push_pair ps (Plain k) v) ≡ user_step l (head_of (part_of_tree v)) (user_told ps)
-user_push l ps k v e =
-    ap2 (λ (a : Bool) (b : User). (a, b))
-    (types_push user_labels ps k v l (refl, (refl, (refl, tt))) (is_head_bytes, (is_head_text, (is_head_text, tt))) e)
-    (ap2 make_user (head_push as_bytes head_bytes label.Id ps k v l refl e) (head_push as_text head_text label.Name ps k v l refl e))
+map_says : {M V : Type 0} (shown : M → V) (types : List (Key × (Tree → Bool))) (view : Option Tree → V) (r : Option Bool) (x y : M) (t : Tree)
+    → InMap (λ m ok ps. HasPairs types view (shown m) ok ps) r x y t → HasPairs types view (shown x) true no_pairs
+    → ◌≡◌ {A = Bool × V} (unwrap_or r false, shown y) (map_of types t, view (Some (Map (pairs_of (Some t)))))
+map_says {V = V} shown types view r x y (Plain s) h start = ap2 (λ (a : Bool) (b : V). (a, b)) (ap (λ r. unwrap_or r false) h.0) (ap shown h.1 ∙ start.1)
+map_says {V = V} shown types view r x y (Array ts) h start = ap2 (λ (a : Bool) (b : V). (a, b)) (ap (λ r. unwrap_or r false) h.0) (ap shown h.1 ∙ start.1)
+map_says {V = V} shown types view r x y (Map ps) h start =
+    let held = h.2 start in
+    ap2 (λ (a : Bool) (b : V). (a, b)) (ap (λ r. unwrap_or r false) h.1 ∙ held.0) held.1
 
--- ---- options
+pub map_read : {M V : Type 0} (shown : M → V) (types : List (Key × (Tree → Bool))) (view : Option Tree → V) (room : ℕ) (r : Option Bool) (b : Bool) (x y : M) (a c : Reading) → b ≡ unwrap_or r false
+    → ReadsMap (λ m ok ps. HasPairs types view (shown m) ok ps) room r x y a c → shown x ≡ view (Some (Map no_pairs))
+    → Reads {V = Bool × V} (λ t. (map_of types t, view (Some (Map (pairs_of (Some t)))))) room (b, shown y) a c
+unfolding all_pairs
+map_read {V = V} shown types view room r b x y a c e h start = (h.0, h.1, ap (λ (b : Bool). (b, shown y)) e ∙ map_says shown types view r x y h.0 h.2 (refl, start))
 
-abbrev make_options : Option Bool → Option Bool → Option Bool → Options
-make_options a b c = record { rk = a; up = b; uv = c }
+array_says : {M V : Type 0} (shown : M → V) (type : Tree → Bool) (view : Option Tree → V) (r : Option Bool) (x y : M) (t : Tree)
+    → InArray (λ m ok ts. HasEntries type view (shown m) ok ts) r x y t → HasEntries type view (shown x) true no_trees
+    → ◌≡◌ {A = Bool × V} (unwrap_or r false, shown y) (array_of type t, view (Some (Array (entries_of (Some t)))))
+array_says {V = V} shown type view r x y (Plain s) h start = ap2 (λ (a : Bool) (b : V). (a, b)) (ap (λ r. unwrap_or r false) h.0) (ap shown h.1 ∙ start.1)
+array_says {V = V} shown type view r x y (Map ps) h start = ap2 (λ (a : Bool) (b : V). (a, b)) (ap (λ r. unwrap_or r false) h.0) (ap shown h.1 ∙ start.1)
+array_says {V = V} shown type view r x y (Array ts) h start =
+    let held = h.2 start in
+    ap2 (λ (a : Bool) (b : V). (a, b)) (ap (λ r. unwrap_or r false) h.1 ∙ held.0) held.1
 
-pub options_start : ◌≡◌ {A = Bool × Options} (true, make_options None None None) (options_told no_pairs)
-unfolding all_pairs value_at
-options_start = refl
-
-pub options_push : (l : Label) (ps : Pairs) (k : Scalar) (v : Tree) → label_in (One k) ≡ l → options_told (push_pair ps (Plain k) v) ≡ options_step l (head_of (part_of_tree v)) (options_told ps)
-options_push l ps k v e =
-    ap2 (λ (a : Bool) (b : Options). (a, b))
-    (types_push option_labels ps k v l (refl, (refl, (refl, tt))) (is_head_flag, (is_head_flag, (is_head_flag, tt))) e)
-    (ap3 make_options (head_push as_flag head_flag label.Rk ps k v l refl e) (head_push as_flag head_flag label.Up ps k v l refl e) (head_push as_flag head_flag label.Uv ps k v l refl e))
-
--- ---- credential parameters
-
-abbrev make_parameter : Option ℤ → Option (List ℕ) → Parameter
-make_parameter a b = record { alg = a; credential_type = b }
-
-pub parameter_start : ◌≡◌ {A = Bool × Parameter} (true, make_parameter None None) (parameter_told no_pairs)
-unfolding all_pairs value_at
-parameter_start = refl
-
-pub parameter_push : (l : Label) (ps : Pairs) (k : Scalar) (v : Tree) → label_in (One k) ≡ l → parameter_told (push_pair ps (Plain k) v) ≡ parameter_step l (head_of (part_of_tree v)) (parameter_told ps)
-parameter_push l ps k v e =
-    ap2 (λ (a : Bool) (b : Parameter). (a, b))
-    (types_push parameter_labels ps k v l (refl, (refl, tt)) (is_head_int, (is_head_text, tt)) e)
-    (ap2 make_parameter (head_push as_int head_int label.Alg ps k v l refl e) (head_push as_text head_text label.Type ps k v l refl e))
-
-abbrev make_parameters : Bool → Bool → Parameters
-make_parameters a b = record { is_whole = a; has_es256 = b }
-
-pub parameters_start : ◌≡◌ {A = Bool × Parameters} (true, make_parameters true false) (parameters_told no_trees)
-unfolding all_entries some_entry
-parameters_start = refl
-
-pub parameters_more : (old : Bool × Parameters) (p : Bool × Parameter) (typed whole es256 w s : Bool) (ts : Trees) (t : Tree)
-    → typed ≡ (old.0 && p.0) → w ≡ is_whole_parameter p.1 → whole ≡ (old.1.is_whole && w) → s ≡ names_es256 p.1 → es256 ≡ (old.1.has_es256 || s)
-    → p ≡ map_told parameter_told t → old ≡ parameters_told ts → ◌≡◌ {A = Bool × Parameters} (typed, make_parameters whole es256) (parameters_told (push ts t))
-parameters_more old p typed whole es256 w s ts t e f g h i is eq =
-    ap3 (λ (a b c : Bool). (a, make_parameters b c))
-    (e ∙ ap2 (λ a b. a && b) (ap (λ x. x.0) eq) (ap (λ x. x.0) is) ∙ sym (entries_push (map_by_name parameter_types) ts t))
-    (g ∙ ap2 (λ a b. a && b) (ap (λ x. x.1.is_whole) eq) (f ∙ ap (λ x. is_whole_parameter x.1) is) ∙ sym (entries_push (λ t. is_whole_parameter (parameter_in (Some t))) ts t))
-    (i ∙ ap2 (λ a b. a || b) (ap (λ x. x.1.has_es256) eq) (h ∙ ap (λ x. names_es256 x.1) is) ∙ sym (some_push (λ t. names_es256 (parameter_in (Some t))) ts t))
+pub array_read : {M V : Type 0} (shown : M → V) (type : Tree → Bool) (view : Option Tree → V) (room : ℕ) (r : Option Bool) (b : Bool) (x y : M) (a c : Reading) → b ≡ unwrap_or r false
+    → ReadsArray (λ m ok ts. HasEntries type view (shown m) ok ts) room r x y a c → shown x ≡ view (Some (Array no_trees))
+    → Reads {V = Bool × V} (λ t. (array_of type t, view (Some (Array (entries_of (Some t)))))) room (b, shown y) a c
+unfolding all_entries
+array_read {V = V} shown type view room r b x y a c e h start = (h.0, h.1, ap (λ (b : Bool). (b, shown y)) e ∙ array_says shown type view r x y h.0 h.2 (refl, start))

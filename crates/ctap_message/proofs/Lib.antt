@@ -4,11 +4,10 @@ pub mod Messages
 pub mod Rows
 pub mod CheckedRows
 pub mod Pushes
-pub mod Labelling
 pub mod Collecting
+pub mod Growing
 pub mod Listing
 pub mod Naming
-pub mod Taking
 pub mod Asking
 pub mod Pairing
 pub mod AnsweredLawful

@@ -17,12 +17,11 @@ use Rattle.ctap_cbor.specs.Outcome.{Whole, later_keys}
 use Rattle.ctap_cbor.specs.Reading.{Reading, at_front, rest_of, Halts, Passes, Takes}
 use Rattle.ctap_cbor.specs.Telling.{outcome_of, canonical_tree, whole_tree, items_at}
 use Rattle.ctap_cbor.specs.Views.{part_of, TakesOnly}
-use Rattle.ctap_message.specs.Members.{has_entries, entries_of}
-use Rattle.ctap_message.specs.Descriptors.{ids_of}
+use Rattle.ctap_message.specs.Members.{has_entries, entries_of, map_of}
+use Rattle.ctap_message.specs.Descriptors.{ids_of, descriptor_types}
 use Rattle.ctap_message.specs.Fields.{Descriptor, descriptor_in, named_id}
 use Rattle.std.specs.List.{cons_option}
-use Rattle.ctap_message.specs.Walks.{Reads, map_told}
-use Rattle.ctap_message.specs.CollectedLists.{descriptor_told}
+use Rattle.ctap_message.specs.Walks.{Reads, typed}
 use Rattle.ctap_message.specs.DescriptorWalk.{DescriptorWalk, IsWhole, list_steps, entry_steps, after_first, NextId, Left, Walks, Gives, IsList, IsWalk}
 
 -- as many ids are left as there were
@@ -33,7 +32,7 @@ Onward : Reading → Reading → ℕ → Trees → Trees → Descriptor → Type
 Onward r s m ts us d =
     (vs : Trees) × (more : ℕ) × Walks r s m ts vs more × (ids_of us ≡ cons_option (named_id d) (ids_of vs)) × (after_first us ≡ (if is_some (named_id d) then vs else after_first vs))
 
-onward : OneTreePasses → (r s s' : Reading) (m : ℕ) (ts us : Trees) (more : ℕ) (d : Bool × Descriptor) → Walks r s m ts us more → 0 < m → Reads (map_told descriptor_told) 3 d s s' → Onward r s' (m - 1) ts us d.1
+onward : OneTreePasses → (r s s' : Reading) (m : ℕ) (ts us : Trees) (more : ℕ) (d : Bool × Descriptor) → Walks r s m ts us more → 0 < m → Reads (typed (map_of descriptor_types) descriptor_in) 3 d s s' → Onward r s' (m - 1) ts us d.1
 unfolding Onward
 onward law r s s' m ts no_trees more d h lt k = absurd (omega (arith, h.left.number))
 onward law r s s' m ts (tree u us) more d h lt k =
@@ -58,14 +57,14 @@ pub entry_never : NothingHalts → (r s s' : Reading) (m : ℕ) (ts us : Trees) 
 entry_never law r s s' m ts no_trees more at kind h lt k = omega (arith, h.left.number)
 entry_never law r s s' m ts (tree u us) more at kind h lt k = law 3 u (texts us) s s' at kind h.left.lawful.0 (omega (arith, h.left.flat)) h.left.spelled k
 
-pub sofar_more : OneTreePasses → (r s s' : Reading) (n m : ℕ) (d : Bool × Descriptor) → Sofar r n s m → 0 < m → Reads (map_told descriptor_told) 3 d s s' → named_id d.1 ≡ None → Sofar r n s' (m - 1)
+pub sofar_more : OneTreePasses → (r s s' : Reading) (n m : ℕ) (d : Bool × Descriptor) → Sofar r n s m → 0 < m → Reads (typed (map_of descriptor_types) descriptor_in) 3 d s s' → named_id d.1 ≡ None → Sofar r n s' (m - 1)
 unfolding Onward
 sofar_more law r s s' n m d h lt k e = λ ts l.
     let g = h ts l in
     let o = onward law r s s' m ts g.0 g.1 d g.2 lt k in
     (o.0, o.1, o.2, g.3 ∙ o.3 ∙ ap (λ x. cons_option x (ids_of o.0)) e, g.4 ∙ o.4 ∙ ap (λ x. if is_some x then o.0 else after_first o.0) e)
 
-pub gives_some : OneTreePasses → (r s s' : Reading) (n m : ℕ) (d : Bool × Descriptor) (id : Option (List ℕ)) → Sofar r n s m → 0 < m → Reads (map_told descriptor_told) 3 d s s' → id ≡ named_id d.1 → is_some id ≡ true → Gives r n s' (m - 1) id
+pub gives_some : OneTreePasses → (r s s' : Reading) (n m : ℕ) (d : Bool × Descriptor) (id : Option (List ℕ)) → Sofar r n s m → 0 < m → Reads (typed (map_of descriptor_types) descriptor_in) 3 d s s' → id ≡ named_id d.1 → is_some id ≡ true → Gives r n s' (m - 1) id
 unfolding Onward
 gives_some law r s s' n m d id h lt k e there = λ ts l.
     let g = h ts l in

@@ -1,120 +1,117 @@
--- What is collected of the parameters of a request, pair by pair; and beside it the entries that the walk over its list
--- has.
-use Rattle.std.specs.Prelude.{◌≡◌, ℕ, ◌==◌, Bool, true, ◌&&◌, Some, if◌then◌else◌, codes}
-use Rattle.std.specs.Option.{option_copied}
-use Rattle.ctap_cbor.specs.Tree.{Tree, Map, Trees, Pairs}
+-- What is collected of the parameters of a request, of one more by its key and its value; and beside it the entries
+-- that the walk over its list has.
+use Rattle.std.specs.Prelude.{◌≡◌, ℕ, pos, Bool, true, false, Option, Some, is_some, unwrap_or, if◌then◌else◌}
+use Rattle.std.specs.Option.{option_copied, option_map}
+use Rattle.ctap_cbor.specs.Tree.{Int, Tree, Plain, Map, Trees, no_pairs, as_bytes, as_text, as_uint}
 use Rattle.ctap_cbor.specs.Reading.{Reading, Passes}
 use Rattle.ctap_message.specs.declared.make.Make.{Make}
 use Rattle.ctap_message.specs.declared.assert.Assert.{Assert}
-use Rattle.ctap_message.specs.Members.{numbered, named, as_bytes, as_text, all_pairs, suits_number, entries_of}
-use Rattle.ctap_message.specs.Fields.{parameters_in, descriptors_in, options_in}
+use Rattle.ctap_message.specs.Members.{Number, is_key, suits, member, entries_of}
+use Rattle.ctap_message.specs.Fields.{Parameters, parameters_in, descriptors_in, options_in, rp_in, user_in}
 use Rattle.ctap_message.specs.MakeCredential.{make_types}
-use Rattle.ctap_message.specs.Fields.{user_in}
-use Rattle.ctap_message.specs.Judged.{MakeParameters, make_parameters}
 use Rattle.ctap_message.specs.GetAssertion.{assertion_types}
-use Rattle.ctap_message.specs.Judged.{AssertionParameters, assertion_parameters}
-use Rattle.ctap_message.specs.Labels.{number_suits}
-use Rattle.ctap_message.specs.Collected.{shown_user, shown_parameters, shown_options}
-use Rattle.ctap_message.specs.CollectedLists.{shown_list}
+use Rattle.ctap_message.specs.Judged.{MakeParameters, make_parameters, AssertionParameters, assertion_parameters}
+use Rattle.ctap_message.specs.Collected.{shown_rp, shown_user, shown_parameters, shown_options, shown_list}
+
+-- the key of a parameter
+abbrev pub numbered : ℕ → Tree
+numbered n = Plain (Int (pos n))
 
 -- ---- makeCredential
 
-abbrev pub MakeTold : Type 0
-MakeTold = Bool × (MakeParameters × Trees)
+abbrev pub make_in : Option Tree → MakeParameters × Trees
+make_in t = (make_parameters t, entries_of (member (Number 0x05) t))
 
-abbrev pub make_told : Pairs → MakeTold
-make_told ps = (
-  all_pairs (suits_number make_types) ps,
-  (make_parameters (Some (Map ps)), entries_of (numbered 0x05 (Some (Map ps)))),
-)
+abbrev pub no_parameters : Parameters
+no_parameters = record { is_whole = true; has_es256 = false }
 
-abbrev pub shown_make : Make → MakeTold
+abbrev pub shown_make : Make → MakeParameters × Trees
 shown_make m = (
-  m.typed,
-  (
-    record {
-      client_data_hash = option_copied m.hash;
-      rp_id = option_copied m.rp_id;
-      user = (shown_user m.user).1;
-      has_parameters = m.has_parameters;
-      parameters = (shown_parameters m.parameters).1;
-      exclude_list = (shown_list m.exclude).1.0;
-      options = (shown_options m.options).1;
-      has_pin_uv_auth_param = m.has_pin_uv_auth_param;
-      has_enterprise_attestation = m.has_enterprise_attestation;
-    },
-    (shown_list m.exclude).1.1,
-  ),
+  record {
+    client_data_hash = option_copied m.hash;
+    rp_id = shown_rp m.rp;
+    user = shown_user m.user;
+    has_parameters = is_some m.parameters;
+    parameters = unwrap_or (option_map shown_parameters m.parameters) no_parameters;
+    exclude_list = (shown_list m.exclude).0;
+    options = shown_options m.options;
+    pin_uv_auth_param = option_copied m.pin_uv_auth_param;
+    enterprise_attestation = m.enterprise_attestation;
+  },
+  (shown_list m.exclude).1,
 )
 
--- of one pair more, by its number and its value
-abbrev pub make_next : ℕ → Tree → MakeParameters → MakeParameters
-make_next n v m =
-    record {
-      client_data_hash = if 0x01 == n then as_bytes (Some v) else m.client_data_hash;
-      rp_id = if 0x02 == n then as_text (named (codes "id") (Some v)) else m.rp_id;
-      user = if 0x03 == n then user_in (Some v) else m.user;
-      has_parameters = if 0x04 == n then true else m.has_parameters;
-      parameters = if 0x04 == n then parameters_in (Some v) else m.parameters;
-      exclude_list = if 0x05 == n then descriptors_in (Some v) else m.exclude_list;
-      options = if 0x07 == n then options_in (Some v) else m.options;
-      has_pin_uv_auth_param = if 0x08 == n then true else m.has_pin_uv_auth_param;
-      has_enterprise_attestation = if 0x0a == n then true else m.has_enterprise_attestation;
-    }
+-- of a request without parameters
+abbrev pub nothing_made : MakeParameters × Trees
+nothing_made = make_in (Some (Map no_pairs))
 
-abbrev pub make_step : ℕ → Tree → MakeTold → MakeTold
-make_step n v x = (
-  x.0 && number_suits make_types n v,
-  (make_next n v x.1.0, if 0x05 == n then entries_of (Some v) else x.1.1),
+abbrev pub make_next : Tree → Tree → MakeParameters × Trees → MakeParameters × Trees
+make_next k v m = (
+  record {
+    client_data_hash = if is_key (Number 0x01) k then as_bytes v else m.0.client_data_hash;
+    rp_id = if is_key (Number 0x02) k then rp_in (Some v) else m.0.rp_id;
+    user = if is_key (Number 0x03) k then user_in (Some v) else m.0.user;
+    has_parameters = if is_key (Number 0x04) k then true else m.0.has_parameters;
+    parameters = if is_key (Number 0x04) k then parameters_in (Some v) else m.0.parameters;
+    exclude_list = if is_key (Number 0x05) k then descriptors_in (Some v) else m.0.exclude_list;
+    options = if is_key (Number 0x07) k then options_in (Some v) else m.0.options;
+    pin_uv_auth_param = if is_key (Number 0x08) k then as_bytes v else m.0.pin_uv_auth_param;
+    enterprise_attestation = if is_key (Number 0x0a) k then as_uint v else m.0.enterprise_attestation;
+  },
+  if is_key (Number 0x05) k then entries_of (Some v) else m.1,
 )
 
--- the value of the parameter with this number was taken
-abbrev pub TakesMake : ℕ → ℕ → Make → Make → Reading → Reading → Type 0
-TakesMake n room before after old new = (v : Tree) × Passes room v old new
-    × (shown_make after ≡ make_step n v (shown_make before))
+-- a parameter that isn't rp, user, a list or the options
+pub record IsPlainMake (k : Tree) : Type 0 where
+  pub rp : is_key (Number 0x02) k ≡ false
+  pub user : is_key (Number 0x03) k ≡ false
+  pub parameters : is_key (Number 0x04) k ≡ false
+  pub exclude_list : is_key (Number 0x05) k ≡ false
+  pub options : is_key (Number 0x07) k ≡ false
+
+-- the value of the parameter with this number was passed, and taken or not
+abbrev pub TakesMake : ℕ → ℕ → Bool → Make → Make → Reading → Reading → Type 0
+TakesMake n room taken before after old new = (v : Tree) × Passes room v old new
+    × (taken ≡ suits make_types (numbered n) v) × (shown_make after ≡ make_next (numbered n) v (shown_make before))
 
 -- ---- getAssertion
 
-abbrev pub AssertTold : Type 0
-AssertTold = Bool × (AssertionParameters × Trees)
+abbrev pub assertion_in : Option Tree → AssertionParameters × Trees
+assertion_in t = (assertion_parameters t, entries_of (member (Number 0x03) t))
 
-abbrev pub assert_told : Pairs → AssertTold
-assert_told ps = (
-  all_pairs (suits_number assertion_types) ps,
-  (assertion_parameters (Some (Map ps)), entries_of (numbered 0x03 (Some (Map ps)))),
-)
-
-abbrev pub shown_assert : Assert → AssertTold
+abbrev pub shown_assert : Assert → AssertionParameters × Trees
 shown_assert a = (
-  a.typed,
-  (
-    record {
-      rp_id = option_copied a.rp_id;
-      client_data_hash = option_copied a.hash;
-      allow_list = (shown_list a.allow).1.0;
-      options = (shown_options a.options).1;
-      has_pin_uv_auth_param = a.has_pin_uv_auth_param;
-    },
-    (shown_list a.allow).1.1,
-  ),
+  record {
+    rp_id = option_copied a.rp_id;
+    client_data_hash = option_copied a.hash;
+    allow_list = (shown_list a.allow).0;
+    options = shown_options a.options;
+    pin_uv_auth_param = option_copied a.pin_uv_auth_param;
+  },
+  (shown_list a.allow).1,
 )
 
-abbrev pub assert_next : ℕ → Tree → AssertionParameters → AssertionParameters
-assert_next n v a =
-    record {
-      rp_id = if 0x01 == n then as_text (Some v) else a.rp_id;
-      client_data_hash = if 0x02 == n then as_bytes (Some v) else a.client_data_hash;
-      allow_list = if 0x03 == n then descriptors_in (Some v) else a.allow_list;
-      options = if 0x05 == n then options_in (Some v) else a.options;
-      has_pin_uv_auth_param = if 0x06 == n then true else a.has_pin_uv_auth_param;
-    }
+abbrev pub nothing_asserted : AssertionParameters × Trees
+nothing_asserted = assertion_in (Some (Map no_pairs))
 
-abbrev pub assert_step : ℕ → Tree → AssertTold → AssertTold
-assert_step n v x = (
-  x.0 && number_suits assertion_types n v,
-  (assert_next n v x.1.0, if 0x03 == n then entries_of (Some v) else x.1.1),
+abbrev pub assert_next : Tree → Tree → AssertionParameters × Trees → AssertionParameters × Trees
+assert_next k v a = (
+  record {
+    rp_id = if is_key (Number 0x01) k then as_text v else a.0.rp_id;
+    client_data_hash = if is_key (Number 0x02) k then as_bytes v else a.0.client_data_hash;
+    allow_list = if is_key (Number 0x03) k then descriptors_in (Some v) else a.0.allow_list;
+    options = if is_key (Number 0x05) k then options_in (Some v) else a.0.options;
+    pin_uv_auth_param = if is_key (Number 0x06) k then as_bytes v else a.0.pin_uv_auth_param;
+  },
+  if is_key (Number 0x03) k then entries_of (Some v) else a.1,
 )
 
-abbrev pub TakesAssert : ℕ → ℕ → Assert → Assert → Reading → Reading → Type 0
-TakesAssert n room before after old new = (v : Tree) × Passes room v old new
-    × (shown_assert after ≡ assert_step n v (shown_assert before))
+-- a parameter that isn't a list or the options
+pub record IsPlainAssert (k : Tree) : Type 0 where
+  pub allow_list : is_key (Number 0x03) k ≡ false
+  pub options : is_key (Number 0x05) k ≡ false
+
+abbrev pub TakesAssert : ℕ → ℕ → Bool → Assert → Assert → Reading → Reading → Type 0
+TakesAssert n room taken before after old new = (v : Tree) × Passes room v old new
+    × (taken ≡ suits assertion_types (numbered n) v)
+    × (shown_assert after ≡ assert_next (numbered n) v (shown_assert before))

@@ -1,7 +1,7 @@
--- What the code keeps of descriptors, options, credential parameters and the user, by the trees that they are.
-use Rattle.std.specs.Prelude.{ℕ, ℤ, Bool, ◌&&◌, List, Option, Some, None, is_some, if◌then◌else◌, codes}
-use Rattle.ctap_cbor.specs.Tree.{Tree, Trees}
-use Rattle.ctap_message.specs.Members.{named, as_bytes, as_text, as_int, as_flag, all_entries, some_entry, entries_of}
+-- What the code keeps of descriptors, options, credential parameters, rp and the user, by the trees that they are.
+use Rattle.std.specs.Prelude.{ℕ, ℤ, Bool, ◌&&◌, List, Option, Some, None, is_some, if◌then◌else◌}
+use Rattle.ctap_cbor.specs.Tree.{Tree, Trees, as_bytes, as_text, as_int, as_flag}
+use Rattle.ctap_message.specs.Members.{Name, member_as, all_entries, some_entry, entries_of}
 use Rattle.ctap_message.specs.Descriptors.{is_public_key, is_es256}
 
 -- ---- descriptors
@@ -11,7 +11,7 @@ pub record Descriptor : Type 0 where
   pub credential_type : Option (List ℕ)
 
 abbrev pub descriptor_in : Option Tree → Descriptor
-descriptor_in t = record { id = as_bytes (named (codes "id") t); credential_type = as_text (named (codes "type") t) }
+descriptor_in t = record { id = member_as as_bytes (Name "id") t; credential_type = member_as as_text (Name "type") t }
 
 -- id and type are there
 abbrev pub is_whole_descriptor : Descriptor → Bool
@@ -41,9 +41,9 @@ pub record Options : Type 0 where
 
 abbrev pub options_in : Option Tree → Options
 options_in t = record {
-  rk = as_flag (named (codes "rk") t);
-  up = as_flag (named (codes "up") t);
-  uv = as_flag (named (codes "uv") t);
+  rk = member_as as_flag (Name "rk") t;
+  up = member_as as_flag (Name "up") t;
+  uv = member_as as_flag (Name "uv") t;
 }
 
 -- ---- credential parameters
@@ -53,7 +53,7 @@ pub record Parameter : Type 0 where
   pub credential_type : Option (List ℕ)
 
 abbrev pub parameter_in : Option Tree → Parameter
-parameter_in t = record { alg = as_int (named (codes "alg") t); credential_type = as_text (named (codes "type") t) }
+parameter_in t = record { alg = member_as as_int (Name "alg") t; credential_type = member_as as_text (Name "type") t }
 
 abbrev pub is_whole_parameter : Parameter → Bool
 is_whole_parameter p = is_some p.alg && is_some p.credential_type
@@ -73,11 +73,14 @@ parameters_in t =
       has_es256 = some_entry (λ t. names_es256 (parameter_in (Some t))) (entries_of t);
     }
 
--- ---- the user
+-- ---- rp, of which the id is kept, and the user
+
+abbrev pub rp_in : Option Tree → Option (List ℕ)
+rp_in t = member_as as_text (Name "id") t
 
 pub record User : Type 0 where
   pub id : Option (List ℕ)
   pub name : Option (List ℕ)
 
 abbrev pub user_in : Option Tree → User
-user_in t = record { id = as_bytes (named (codes "id") t); name = as_text (named (codes "name") t) }
+user_in t = record { id = member_as as_bytes (Name "id") t; name = member_as as_text (Name "name") t }

@@ -1,11 +1,11 @@
 -- What the code keeps of a request's parameters, and the same checks over it: of the tree that they are, these are the
 -- checks of MakeCredential.antt and GetAssertion.antt.
-use Rattle.std.specs.Prelude.{ℕ, ◌==◌, nat_le, Bool, true, false, not, ◌&&◌, List, [], ◌∷◌, length, Option, is_some, unwrap_or, Result, codes}
-use Rattle.ctap_cbor.specs.Tree.{Tree}
-use Rattle.ctap_message.specs.Members.{numbered, named, as_bytes, as_text}
+use Rattle.std.specs.Prelude.{ℕ, ◌==◌, nat_le, Bool, true, false, not, ◌&&◌, List, [], ◌∷◌, length, Option, is_some, is_none, unwrap_or, Result}
+use Rattle.ctap_cbor.specs.Tree.{Tree, as_bytes, as_text, as_uint}
+use Rattle.ctap_message.specs.Members.{Number, member, member_as}
 use Rattle.ctap_message.specs.Checks.{if_all_hold}
 use Rattle.ctap_message.specs.Asked.{Asked, MakeCredential, GetAssertion}
-use Rattle.ctap_message.specs.Fields.{DescriptorList, descriptors_in, Options, options_in, Parameters, parameters_in, User, user_in}
+use Rattle.ctap_message.specs.Fields.{DescriptorList, descriptors_in, Options, options_in, Parameters, parameters_in, rp_in, User, user_in}
 
 pub record MakeParameters : Type 0 where
   pub client_data_hash : Option (List ℕ)
@@ -15,21 +15,21 @@ pub record MakeParameters : Type 0 where
   pub parameters : Parameters
   pub exclude_list : DescriptorList
   pub options : Options
-  pub has_pin_uv_auth_param : Bool
-  pub has_enterprise_attestation : Bool
+  pub pin_uv_auth_param : Option (List ℕ)
+  pub enterprise_attestation : Option ℕ
 
 abbrev pub make_parameters : Option Tree → MakeParameters
 make_parameters t =
     record {
-      client_data_hash = as_bytes (numbered 0x01 t);
-      rp_id = as_text (named (codes "id") (numbered 0x02 t));
-      user = user_in (numbered 0x03 t);
-      has_parameters = is_some (numbered 0x04 t);
-      parameters = parameters_in (numbered 0x04 t);
-      exclude_list = descriptors_in (numbered 0x05 t);
-      options = options_in (numbered 0x07 t);
-      has_pin_uv_auth_param = is_some (numbered 0x08 t);
-      has_enterprise_attestation = is_some (numbered 0x0a t);
+      client_data_hash = member_as as_bytes (Number 0x01) t;
+      rp_id = rp_in (member (Number 0x02) t);
+      user = user_in (member (Number 0x03) t);
+      has_parameters = is_some (member (Number 0x04) t);
+      parameters = parameters_in (member (Number 0x04) t);
+      exclude_list = descriptors_in (member (Number 0x05) t);
+      options = options_in (member (Number 0x07) t);
+      pin_uv_auth_param = member_as as_bytes (Number 0x08) t;
+      enterprise_attestation = member_as as_uint (Number 0x0a) t;
     }
 
 abbrev pub make_judged : Bool → Bool → MakeParameters → Result Asked ℕ
@@ -43,10 +43,10 @@ make_judged is_canonical is_typed m =
       0x14,
     )
     ∷ (length (unwrap_or m.client_data_hash []) == 32 && nat_le (length (unwrap_or m.user.id [])) 64, 0x03)
-    ∷ (not m.has_pin_uv_auth_param, 0x02)
+    ∷ (is_none m.pin_uv_auth_param, 0x02)
     ∷ (m.parameters.has_es256, 0x26)
     ∷ (not (unwrap_or m.options.uv false) && unwrap_or m.options.up true, 0x2c)
-    ∷ (not m.has_enterprise_attestation, 0x02)
+    ∷ (is_none m.enterprise_attestation, 0x02)
     ∷ [])
     (MakeCredential (unwrap_or m.client_data_hash []) (unwrap_or m.rp_id []) (unwrap_or m.user.id [])
     (unwrap_or m.user.name []) (unwrap_or m.options.rk false) m.exclude_list.entries)
@@ -56,16 +56,16 @@ pub record AssertionParameters : Type 0 where
   pub client_data_hash : Option (List ℕ)
   pub allow_list : DescriptorList
   pub options : Options
-  pub has_pin_uv_auth_param : Bool
+  pub pin_uv_auth_param : Option (List ℕ)
 
 abbrev pub assertion_parameters : Option Tree → AssertionParameters
 assertion_parameters t =
     record {
-      rp_id = as_text (numbered 0x01 t);
-      client_data_hash = as_bytes (numbered 0x02 t);
-      allow_list = descriptors_in (numbered 0x03 t);
-      options = options_in (numbered 0x05 t);
-      has_pin_uv_auth_param = is_some (numbered 0x06 t);
+      rp_id = member_as as_text (Number 0x01) t;
+      client_data_hash = member_as as_bytes (Number 0x02) t;
+      allow_list = descriptors_in (member (Number 0x03) t);
+      options = options_in (member (Number 0x05) t);
+      pin_uv_auth_param = member_as as_bytes (Number 0x06) t;
     }
 
 abbrev pub assertion_judged : Bool → Bool → AssertionParameters → Result Asked ℕ
@@ -75,9 +75,9 @@ assertion_judged is_canonical is_typed a =
     ∷ (is_typed, 0x11)
     ∷ (is_some a.rp_id && is_some a.client_data_hash && a.allow_list.is_whole, 0x14)
     ∷ (length (unwrap_or a.client_data_hash []) == 32, 0x03)
-    ∷ (not a.has_pin_uv_auth_param, 0x02)
+    ∷ (is_none a.pin_uv_auth_param, 0x02)
     ∷ (not (unwrap_or a.options.uv false), 0x2c)
-    ∷ (not (is_some a.options.rk), 0x2b)
+    ∷ (is_none a.options.rk, 0x2b)
     ∷ [])
     (GetAssertion (unwrap_or a.client_data_hash []) (unwrap_or a.rp_id []) a.allow_list.entries
     (unwrap_or a.options.up true))

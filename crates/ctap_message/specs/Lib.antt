@@ -7,10 +7,8 @@ pub mod MakeCredential
 pub mod GetAssertion
 pub mod Judged
 pub mod Walks
-pub mod Labels
 pub mod Collected
 pub mod DescriptorWalk
-pub mod CollectedLists
 pub mod CollectedRequests
 pub mod Requests
 pub mod Commands

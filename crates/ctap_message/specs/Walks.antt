@@ -1,17 +1,21 @@
--- What the tree that a cursor passed says.
-use Rattle.std.specs.Prelude.{◌≡◌, ℕ, Bool, ◌&&◌, Some}
-use Rattle.ctap_cbor.specs.Tree.{Tree, Trees, Pairs, is_map, is_array}
+-- What the tree that a cursor passed says, and what is collected of its pairs or its entries.
+use Rattle.std.specs.Prelude.{◌≡◌, ℕ, Bool, List, Option, Some}
+use Rattle.ctap_cbor.specs.Tree.{Tree, Array, Map, Trees, Pairs}
 use Rattle.ctap_cbor.specs.Reading.{Reading, Passes}
-use Rattle.ctap_message.specs.Members.{pairs_of, entries_of}
+use Rattle.ctap_message.specs.Members.{Key, all_pairs, all_entries, suits}
 
 -- a tree was passed, and this is what it says
 abbrev pub Reads : {V : Type 0} → (Tree → V) → ℕ → V → Reading → Reading → Type 0
 Reads f room value old new = (t : Tree) × Passes room t old new × (value ≡ f t)
 
--- what pairs say, of a tree that is to be a map: first whether it has its types
-abbrev pub map_told : {V : Type 0} → (Pairs → Bool × V) → Tree → Bool × V
-map_told told t = (is_map t && (told (pairs_of (Some t))).0, (told (pairs_of (Some t))).1)
+-- whether a tree is of a type, and what it says
+abbrev pub typed : {V : Type 0} → (Tree → Bool) → (Option Tree → V) → Tree → Bool × V
+typed type view t = (type t, view (Some t))
 
--- what entries say, of a tree that is to be an array
-abbrev pub array_told : {V : Type 0} → (Trees → Bool × V) → Tree → Bool × V
-array_told told t = (is_array t && (told (entries_of (Some t))).0, (told (entries_of (Some t))).1)
+-- of these pairs: whether they have their types, and what a map of them says
+abbrev pub HasPairs : {V : Type 0} → List (Key × (Tree → Bool)) → (Option Tree → V) → V → Bool → Pairs → Type 0
+HasPairs types view value ok ps = (ok ≡ all_pairs (suits types) ps) × (value ≡ view (Some (Map ps)))
+
+-- the same of entries, which are of one type
+abbrev pub HasEntries : {V : Type 0} → (Tree → Bool) → (Option Tree → V) → V → Bool → Trees → Type 0
+HasEntries type view value ok ts = (ok ≡ all_entries type ts) × (value ≡ view (Some (Array ts)))

@@ -1,176 +1,123 @@
 //! The parameters of authenticatorGetAssertion (CTAP 2.1, section 6.2).
 
 ghost use Rattle.std.specs.Prelude.{◌≡◌, ◌-◌, ◌≤◌, MatchResult};
-ghost use Rattle.ctap_cbor.specs.Tree.{no_pairs};
+ghost use Rattle.ctap_cbor.specs.Views.{part_of, head_of};
 ghost use Rattle.ctap_cbor.specs.Reading.{Halts};
-ghost use Rattle.ctap_message.specs.Walks.{Reads, map_told};
-ghost use Rattle.ctap_message.specs.CollectedRequests.{assert_told, shown_assert, TakesAssert};
+ghost use Rattle.ctap_message.specs.Members.{suits, map_of};
+ghost use Rattle.ctap_message.specs.Walks.{Reads, typed, HasPairs};
+ghost use Rattle.ctap_message.specs.GetAssertion.{assertion_types};
+ghost use Rattle.ctap_message.specs.CollectedRequests.{assertion_in, shown_assert, assert_next, IsPlainAssert, TakesAssert, nothing_asserted};
 
 use crate::descriptor::{DescriptorList, read_list};
 use crate::descriptors::Descriptors;
-use crate::item::{
-    both, bytes_of, is_a_byte_string, is_a_map, is_a_natural, is_a_text, number_of, text_of,
-};
+use crate::item::is_a_map;
 use crate::options::{Options, read_options};
 use ctap_cbor::{Cursor, Fault, Item, Members, read_map};
 
 /// What is known of the parameters of authenticatorGetAssertion.
 #[derive(Drop)]
 pub(crate) struct Assert<'a> {
-    pub typed: bool,
     pub rp_id: Option<&'a str>,
     pub hash: Option<&'a [u8]>,
     pub allow: DescriptorList<'a>,
     pub options: Options,
-    pub has_pin_uv_auth_param: bool,
+    pub pin_uv_auth_param: Option<&'a [u8]>,
 }
 
 impl<'a> Assert<'a> {
     /// Nothing is known yet.
     fn empty() -> Self
-        ensures { shown_assert result ≡ assert_told no_pairs }
+        ensures { shown_assert result ≡ nothing_asserted }
     {
         Assert {
-            typed: true,
             rp_id: None,
             hash: None,
             allow: DescriptorList {
-                typed: true,
                 is_whole: true,
                 list: Descriptors::none(),
             },
-            options: Options {
-                typed: true,
-                rk: None,
-                up: None,
-                uv: None,
-            },
-            has_pin_uv_auth_param: false,
+            options: Options::NONE,
+            pin_uv_auth_param: None,
         }
     }
 
-    /// rpId, a text.
-    fn take_rp_id(&mut self, cursor: &mut Cursor<'a>, level: u8) -> Result<(), Fault>
-        requires low { 1 ≤ level }
-        requires high { level ≤ 5 }
-        ensures { MatchResult result
-            (λ _. TakesAssert 0x01 (5 - level) self.old self.new cursor.old cursor.new)
-            (λ f. Halts (5 - level) cursor.old cursor.new f.at f.kind) }
+    /// Takes a parameter with nothing inside, or extensions, which are ignored. Returns whether it has its type.
+    fn put(&mut self, key: Item<'a>, value: Item<'a>) -> bool
+        requires plain { IsPlainAssert (head_of (part_of key)) }
+        ensures plain { IsPlainAssert (head_of (part_of key.entry)) }
+        ensures typed { result ≡ suits assertion_types (head_of (part_of key.entry)) (head_of (part_of value.entry)) }
+        ensures value { shown_assert self.new ≡ assert_next (head_of (part_of key.entry))
+            (head_of (part_of value.entry))
+            (shown_assert self.old) }
     {
-        let value = cursor.whole(level)?;
-        self.typed = both(self.typed, is_a_text(value));
-        self.rp_id = text_of(value);
-        Ok(())
-    }
-
-    /// clientDataHash, a byte string.
-    fn take_hash(&mut self, cursor: &mut Cursor<'a>, level: u8) -> Result<(), Fault>
-        requires low { 1 ≤ level }
-        requires high { level ≤ 5 }
-        ensures { MatchResult result
-            (λ _. TakesAssert 0x02 (5 - level) self.old self.new cursor.old cursor.new)
-            (λ f. Halts (5 - level) cursor.old cursor.new f.at f.kind) }
-    {
-        let value = cursor.whole(level)?;
-        self.typed = both(self.typed, is_a_byte_string(value));
-        self.hash = bytes_of(value);
-        Ok(())
+        match key {
+            Item::Int(0x01) => {
+                self.rp_id = value.as_text();
+                self.rp_id.is_some()
+            }
+            Item::Int(0x02) => {
+                self.hash = value.as_bytes();
+                self.hash.is_some()
+            }
+            Item::Int(0x04) => is_a_map(value),
+            Item::Int(0x06) => {
+                self.pin_uv_auth_param = value.as_bytes();
+                self.pin_uv_auth_param.is_some()
+            }
+            Item::Int(0x07) => value.as_uint().is_some(),
+            _ => true,
+        }
     }
 
     /// allowList, an array of descriptors.
-    fn take_allow_list(&mut self, cursor: &mut Cursor<'a>, level: u8) -> Result<(), Fault>
+    fn take_allow_list(&mut self, cursor: &mut Cursor<'a>, level: u8) -> Result<bool, Fault>
         requires low { 1 ≤ level }
         requires high { level ≤ 5 }
         ensures { MatchResult result
-            (λ _. TakesAssert 0x03 (5 - level) self.old self.new cursor.old cursor.new)
+            (λ taken. TakesAssert 0x03 (5 - level) taken self.old self.new cursor.old cursor.new)
             (λ f. Halts (5 - level) cursor.old cursor.new f.at f.kind) }
     {
-        let found = read_list(cursor, level)?;
-        self.typed = both(self.typed, found.typed);
-        self.allow = found;
-        Ok(())
-    }
-
-    /// extensions, a map, which is ignored.
-    fn take_extensions(&mut self, cursor: &mut Cursor<'a>, level: u8) -> Result<(), Fault>
-        requires low { 1 ≤ level }
-        requires high { level ≤ 5 }
-        ensures { MatchResult result
-            (λ _. TakesAssert 0x04 (5 - level) self.old self.new cursor.old cursor.new)
-            (λ f. Halts (5 - level) cursor.old cursor.new f.at f.kind) }
-    {
-        let value = cursor.whole(level)?;
-        self.typed = both(self.typed, is_a_map(value));
-        Ok(())
+        let (typed, allow) = read_list(cursor, level)?;
+        self.allow = allow;
+        Ok(typed)
     }
 
     /// options, a map of truth values.
-    fn take_options(&mut self, cursor: &mut Cursor<'a>, level: u8) -> Result<(), Fault>
+    fn take_options(&mut self, cursor: &mut Cursor<'a>, level: u8) -> Result<bool, Fault>
         requires low { 1 ≤ level }
         requires high { level ≤ 5 }
         ensures { MatchResult result
-            (λ _. TakesAssert 0x05 (5 - level) self.old self.new cursor.old cursor.new)
+            (λ taken. TakesAssert 0x05 (5 - level) taken self.old self.new cursor.old cursor.new)
             (λ f. Halts (5 - level) cursor.old cursor.new f.at f.kind) }
     {
-        let found = read_options(cursor, level)?;
-        self.typed = both(self.typed, found.typed);
-        self.options = found;
-        Ok(())
-    }
-
-    /// pinUvAuthParam, a byte string.
-    fn take_pin_uv_auth_param(&mut self, cursor: &mut Cursor<'a>, level: u8) -> Result<(), Fault>
-        requires low { 1 ≤ level }
-        requires high { level ≤ 5 }
-        ensures { MatchResult result
-            (λ _. TakesAssert 0x06 (5 - level) self.old self.new cursor.old cursor.new)
-            (λ f. Halts (5 - level) cursor.old cursor.new f.at f.kind) }
-    {
-        let value = cursor.whole(level)?;
-        self.typed = both(self.typed, is_a_byte_string(value));
-        self.has_pin_uv_auth_param = true;
-        Ok(())
-    }
-
-    /// pinUvAuthProtocol, an integer of at least 0, which is ignored.
-    fn take_pin_uv_auth_protocol(&mut self, cursor: &mut Cursor<'a>, level: u8) -> Result<(), Fault>
-        requires low { 1 ≤ level }
-        requires high { level ≤ 5 }
-        ensures { MatchResult result
-            (λ _. TakesAssert 0x07 (5 - level) self.old self.new cursor.old cursor.new)
-            (λ f. Halts (5 - level) cursor.old cursor.new f.at f.kind) }
-    {
-        let value = cursor.whole(level)?;
-        self.typed = both(self.typed, is_a_natural(value));
-        Ok(())
+        let (typed, options) = read_options(cursor, level)?;
+        self.options = options;
+        Ok(typed)
     }
 }
 
 impl<'a> Members<'a> for Assert<'a> {
-    ghost Holds = { λ x ps. shown_assert x ≡ assert_told ps };
+    ghost Holds = { λ x ok ps. HasPairs assertion_types assertion_in (shown_assert x) ok ps };
 
-    fn member(&mut self, cursor: &mut Cursor<'a>, key: Item<'a>, level: u8) -> Result<(), Fault> {
-        match number_of(key) {
-            1 => self.take_rp_id(cursor, level),
-            2 => self.take_hash(cursor, level),
-            3 => self.take_allow_list(cursor, level),
-            4 => self.take_extensions(cursor, level),
-            5 => self.take_options(cursor, level),
-            6 => self.take_pin_uv_auth_param(cursor, level),
-            7 => self.take_pin_uv_auth_protocol(cursor, level),
-            _ => cursor.skip(level),
+    fn member(&mut self, cursor: &mut Cursor<'a>, key: Item<'a>, level: u8) -> Result<bool, Fault> {
+        match key {
+            Item::Int(0x03) => self.take_allow_list(cursor, level),
+            Item::Int(0x05) => self.take_options(cursor, level),
+            _ => {
+                let value = cursor.whole(level)?;
+                Ok(self.put(key, value))
+            }
         }
     }
 }
 
-/// Reads the parameters.
-pub(crate) fn read_assert<'a>(cursor: &mut Cursor<'a>) -> Result<Assert<'a>, Fault>
+/// Reads the parameters. Returns whether they have their types too.
+pub(crate) fn read_assert<'a>(cursor: &mut Cursor<'a>) -> Result<(bool, Assert<'a>), Fault>
     ensures { MatchResult result
-        (λ x. Reads (map_told assert_told) 4 (shown_assert x) cursor.old cursor.new)
+        (λ r. Reads (typed (map_of assertion_types) assertion_in) 4 (r.0, shown_assert r.1) cursor.old cursor.new)
         (λ f. Halts 4 cursor.old cursor.new f.at f.kind) }
 {
     let mut found: Assert<'a> = Assert::empty();
-    let is_map = read_map(&mut found, cursor, 1)?;
-    found.typed = both(is_map, found.typed);
-    Ok(found)
+    let typed = read_map(&mut found, cursor, 1)?.unwrap_or(false);
+    Ok((typed, found))
 }

@@ -31,7 +31,7 @@ impl<'a> Entry<'a> {
         nothing_halts();
         while self.left > 0 {
             self.left -= 1;
-            let Ok(descriptor) = read_descriptor(&mut self.cursor, 2) else {
+            let Ok((_, descriptor)) = read_descriptor(&mut self.cursor, 2) else {
                 unreachable!()
             };
             let id = descriptor.key_id();

@@ -12,35 +12,40 @@ use crate::make::Make;
 use crate::request::Request;
 use crate::status::Status;
 
-/// What a makeCredential asks, or the status of the first check that it fails.
-pub(crate) fn judge_make<'a>(make: Make<'a>) -> Result<Request<'a>, Status>
+/// Returns what a makeCredential asks, or the status of the first check that it fails.
+pub(crate) fn judge_make<'a>(typed: bool, make: Make<'a>) -> Result<Request<'a>, Status>
     requires { list_of make.exclude.list ≡ left_of make.exclude.list }
-    ensures request { shown result ≡ make_judged true (shown_make make.entry).0 (shown_make make.entry).1.0 }
+    ensures request { shown result ≡ make_judged true typed (shown_make make.entry).0 }
     ensures fresh { IsFresh result }
     ensures lens { HasLengths result }
 {
-    if !make.typed {
+    if !typed {
         return Err(Status::CBOR_UNEXPECTED_TYPE);
     }
-    let (Some(hash), Some(rp_id), Some(user_id)) = (make.hash, make.rp_id, make.user.id) else {
+    let (Some(hash), Some(rp_id), Some(user_id), Some(parameters)) = (
+        make.hash,
+        make.rp.id,
+        make.user.id,
+        make.parameters,
+    ) else {
         return Err(Status::MISSING_PARAMETER);
     };
-    if !make.has_parameters || !make.parameters.is_whole || !make.exclude.is_whole {
+    if !parameters.is_whole || !make.exclude.is_whole {
         return Err(Status::MISSING_PARAMETER);
     }
     if hash.len() != 32 || user_id.len() > 64 {
         return Err(Status::INVALID_LENGTH);
     }
-    if make.has_pin_uv_auth_param {
+    if make.pin_uv_auth_param.is_some() {
         return Err(Status::INVALID_PARAMETER);
     }
-    if !make.parameters.has_es256 {
+    if !parameters.has_es256 {
         return Err(Status::UNSUPPORTED_ALGORITHM);
     }
     if make.options.uv == Some(true) || make.options.up == Some(false) {
         return Err(Status::INVALID_OPTION);
     }
-    if make.has_enterprise_attestation {
+    if make.enterprise_attestation.is_some() {
         return Err(Status::INVALID_PARAMETER);
     }
     Ok(Request::Make {
@@ -53,15 +58,14 @@ pub(crate) fn judge_make<'a>(make: Make<'a>) -> Result<Request<'a>, Status>
     })
 }
 
-/// What a getAssertion asks, or the status of the first check that it fails.
-pub(crate) fn judge_assert<'a>(assert: Assert<'a>) -> Result<Request<'a>, Status>
+/// Returns what a getAssertion asks, or the status of the first check that it fails.
+pub(crate) fn judge_assert<'a>(typed: bool, assert: Assert<'a>) -> Result<Request<'a>, Status>
     requires { list_of assert.allow.list ≡ left_of assert.allow.list }
-    ensures request { shown result ≡ assertion_judged true (shown_assert assert.entry).0
-        (shown_assert assert.entry).1.0 }
+    ensures request { shown result ≡ assertion_judged true typed (shown_assert assert.entry).0 }
     ensures fresh { IsFresh result }
     ensures lens { HasLengths result }
 {
-    if !assert.typed {
+    if !typed {
         return Err(Status::CBOR_UNEXPECTED_TYPE);
     }
     let (Some(rp_id), Some(hash)) = (assert.rp_id, assert.hash) else {
@@ -73,7 +77,7 @@ pub(crate) fn judge_assert<'a>(assert: Assert<'a>) -> Result<Request<'a>, Status
     if hash.len() != 32 {
         return Err(Status::INVALID_LENGTH);
     }
-    if assert.has_pin_uv_auth_param {
+    if assert.pin_uv_auth_param.is_some() {
         return Err(Status::INVALID_PARAMETER);
     }
     if assert.options.uv == Some(true) {

@@ -1,73 +1,75 @@
 //! The parameter options: a credential's discoverability (rk), the user's presence (up) and verification (uv).
 
 ghost use Rattle.std.specs.Prelude.{◌≡◌, ◌-◌, ◌≤◌, MatchResult};
-ghost use Rattle.ctap_cbor.specs.Views.{part_of};
+ghost use Rattle.ctap_cbor.specs.Views.{part_of, head_of};
 ghost use Rattle.ctap_cbor.specs.Reading.{Halts};
-ghost use Rattle.ctap_message.specs.Walks.{Reads, map_told};
-ghost use Rattle.ctap_message.specs.Labels.{head_of};
-ghost use Rattle.ctap_message.specs.Collected.{options_told, shown_options, options_step};
+ghost use Rattle.ctap_message.specs.Members.{suits, map_of};
+ghost use Rattle.ctap_message.specs.Walks.{Reads, typed, HasPairs};
+ghost use Rattle.ctap_message.specs.Descriptors.{option_types};
+ghost use Rattle.ctap_message.specs.Fields.{options_in};
+ghost use Rattle.ctap_message.specs.Collected.{shown_options, options_next};
 
-use crate::item::{Label, both, flag_of, label_of};
 use ctap_cbor::{Cursor, Fault, Item, Members, read_map};
 
 /// What is known of options.
 #[derive(Clone, Copy, Drop)]
 pub(crate) struct Options {
-    pub typed: bool,
     pub rk: Option<bool>,
     pub up: Option<bool>,
     pub uv: Option<bool>,
 }
 
 impl Options {
-    /// Takes a member.
-    fn put(&mut self, label: Label, value: Item<'_>)
-        ensures { shown_options self.new ≡ options_step label (head_of (part_of value.entry)) (shown_options self.old) }
+    /// No option is given.
+    pub const NONE: Options = Options {
+        rk: None,
+        up: None,
+        uv: None,
+    };
+
+    /// Takes a member. Returns whether it has its type.
+    fn put(&mut self, key: Item<'_>, value: Item<'_>) -> bool
+        ensures typed { result ≡ suits option_types (head_of (part_of key.entry)) (head_of (part_of value.entry)) }
+        ensures value { shown_options self.new ≡ options_next (head_of (part_of key.entry))
+            (head_of (part_of value.entry))
+            (shown_options self.old) }
     {
-        match label {
-            Label::Rk => {
-                self.rk = flag_of(value);
-                self.typed = both(self.typed, self.rk.is_some());
+        match key {
+            Item::Text("rk") => {
+                self.rk = value.as_bool();
+                self.rk.is_some()
             }
-            Label::Up => {
-                self.up = flag_of(value);
-                self.typed = both(self.typed, self.up.is_some());
+            Item::Text("up") => {
+                self.up = value.as_bool();
+                self.up.is_some()
             }
-            Label::Uv => {
-                self.uv = flag_of(value);
-                self.typed = both(self.typed, self.uv.is_some());
+            Item::Text("uv") => {
+                self.uv = value.as_bool();
+                self.uv.is_some()
             }
-            _ => {}
+            _ => true,
         }
     }
 }
 
 impl<'a> Members<'a> for Options {
-    ghost Holds = { λ x ps. shown_options x ≡ options_told ps };
+    ghost Holds = { λ x ok ps. HasPairs option_types options_in (shown_options x) ok ps };
 
-    fn member(&mut self, cursor: &mut Cursor<'a>, key: Item<'a>, level: u8) -> Result<(), Fault> {
-        let label = label_of(key);
+    fn member(&mut self, cursor: &mut Cursor<'a>, key: Item<'a>, level: u8) -> Result<bool, Fault> {
         let value = cursor.whole(level)?;
-        self.put(label, value);
-        Ok(())
+        Ok(self.put(key, value))
     }
 }
 
-/// Reads options.
-pub(crate) fn read_options<'a>(cursor: &mut Cursor<'a>, level: u8) -> Result<Options, Fault>
+/// Reads options. Returns whether it has its type too.
+pub(crate) fn read_options(cursor: &mut Cursor<'_>, level: u8) -> Result<(bool, Options), Fault>
     requires low { 1 ≤ level }
     requires high { level ≤ 5 }
     ensures { MatchResult result
-        (λ x. Reads (map_told options_told) (5 - level) (shown_options x) cursor.old cursor.new)
+        (λ r. Reads (typed (map_of option_types) options_in) (5 - level) (r.0, shown_options r.1) cursor.old cursor.new)
         (λ f. Halts (5 - level) cursor.old cursor.new f.at f.kind) }
 {
-    let mut found = Options {
-        typed: true,
-        rk: None,
-        up: None,
-        uv: None,
-    };
-    let is_map = read_map(&mut found, cursor, level)?;
-    found.typed = both(is_map, found.typed);
-    Ok(found)
+    let mut found = Options::NONE;
+    let typed = read_map(&mut found, cursor, level)?.unwrap_or(false);
+    Ok((typed, found))
 }

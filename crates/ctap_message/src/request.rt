@@ -3,10 +3,11 @@
 ghost use Rattle.std.specs.Prelude.{◌≡◌, ◌⊎◌, ◌≤◌, length, min, Ok, MatchResult};
 ghost use Rattle.ctap_cbor.specs.Reading.{Reading, PassesOne, Halts, Ends, GoesOn};
 ghost use Rattle.ctap_cbor.specs.Telling.{canonical_tree};
-ghost use Rattle.ctap_message.specs.Walks.{Reads, map_told};
-ghost use Rattle.ctap_message.specs.CollectedRequests.{make_told, shown_make, assert_told, shown_assert};
-ghost use Rattle.ctap_message.specs.MakeCredential.{make_request};
-ghost use Rattle.ctap_message.specs.GetAssertion.{assertion_request};
+ghost use Rattle.ctap_message.specs.Members.{map_of};
+ghost use Rattle.ctap_message.specs.Walks.{Reads, typed};
+ghost use Rattle.ctap_message.specs.CollectedRequests.{make_in, shown_make, assertion_in, shown_assert};
+ghost use Rattle.ctap_message.specs.MakeCredential.{make_types, make_request};
+ghost use Rattle.ctap_message.specs.GetAssertion.{assertion_types, assertion_request};
 ghost use Rattle.ctap_message.specs.Requests.{read_of, steps_of, alone as alone_of, reading_steps, LARGEST};
 ghost use Rattle.ctap_message.specs.Commands.{request_of, command_steps};
 ghost use Rattle.ctap_message.specs.Shown.{shown, asked, IsFresh, HasLengths};
@@ -134,22 +135,22 @@ fn read_make_credential<'a>(parameters: &'a [u8]) -> (Result<Request<'a>, Status
     }
     cursor.rewind();
     match read_make_again(&mut cursor) {
-        Ok(make) => (judge_make(make), cursor.steps()),
+        Ok((typed, make)) => (judge_make(typed, make), cursor.steps()),
         Err(_) => unreachable!(),
     }
 }
 
 /// The parameters of a makeCredential, up to their end.
-fn read_make_again<'a>(cursor: &mut Cursor<'a>) -> Result<Make<'a>, Fault>
+fn read_make_again<'a>(cursor: &mut Cursor<'a>) -> Result<(bool, Make<'a>), Fault>
     ensures { MatchResult result
-        (λ m. (middle : Reading) × Reads (map_told make_told) 4 (shown_make m) cursor.old middle
+        (λ r. (middle : Reading) × Reads (typed (map_of make_types) make_in) 4 (r.0, shown_make r.1) cursor.old middle
         × Ends middle cursor.new)
         (λ f. Halts 4 cursor.old cursor.new f.at f.kind
         ⊎ ((middle : Reading) × PassesOne 4 cursor.old middle × GoesOn middle cursor.new f.at f.kind)) }
 {
-    let make = read_make(cursor)?;
+    let found = read_make(cursor)?;
     cursor.end()?;
-    Ok(make)
+    Ok(found)
 }
 
 /// authenticatorGetAssertion: the parameters are checked whole, and then read by the same cursor.
@@ -166,20 +167,20 @@ fn read_get_assertion<'a>(parameters: &'a [u8]) -> (Result<Request<'a>, Status>,
     }
     cursor.rewind();
     match read_assert_again(&mut cursor) {
-        Ok(assert) => (judge_assert(assert), cursor.steps()),
+        Ok((typed, assert)) => (judge_assert(typed, assert), cursor.steps()),
         Err(_) => unreachable!(),
     }
 }
 
 /// The parameters of a getAssertion, up to their end.
-fn read_assert_again<'a>(cursor: &mut Cursor<'a>) -> Result<Assert<'a>, Fault>
+fn read_assert_again<'a>(cursor: &mut Cursor<'a>) -> Result<(bool, Assert<'a>), Fault>
     ensures { MatchResult result
-        (λ a. (middle : Reading) × Reads (map_told assert_told) 4 (shown_assert a) cursor.old middle
-        × Ends middle cursor.new)
+        (λ r. (middle : Reading) × Reads (typed (map_of assertion_types) assertion_in) 4 (r.0, shown_assert r.1)
+        cursor.old middle × Ends middle cursor.new)
         (λ f. Halts 4 cursor.old cursor.new f.at f.kind
         ⊎ ((middle : Reading) × PassesOne 4 cursor.old middle × GoesOn middle cursor.new f.at f.kind)) }
 {
-    let assert = read_assert(cursor)?;
+    let found = read_assert(cursor)?;
     cursor.end()?;
-    Ok(assert)
+    Ok(found)
 }

@@ -1,8 +1,8 @@
-use Rattle.ctap_message.specs.CollectedRequests.{shown_make, make_told}
-use Rattle.ctap_message.proofs.Collecting.{map_collected}
+use Rattle.ctap_message.specs.MakeCredential.{make_types}
+use Rattle.ctap_message.specs.CollectedRequests.{make_in, shown_make}
+use Rattle.ctap_message.proofs.Collecting.{map_read}
 use Rattle.ctap_message.proofs.make.read_make.Goals as goal
 
 pub returns : goal.returns
 returns c =
-    let h = c.in_ok-is_map.ensures in
-    (h.0, h.1, map_collected shown_make make_told h.0 c.in_ok-is_map.is_map c.both.result _ c.read_map.new.members c.both.ensures h.2 h.3 c.empty-found.ensures)
+    map_read shown_make make_types make_in 4 c.in_ok-read_map.field-0 c.unwrap_or-typed.result _ c.read_map.new.members c.args.cursor.now c.read_map.new.cursor c.unwrap_or-typed.ensures c.in_ok-read_map.ensures c.empty-found.ensures

@@ -1,8 +1,11 @@
-use Rattle.ctap_message.specs.Collected.{shown_parameter, parameter_told}
-use Rattle.ctap_message.proofs.Collecting.{map_collected, parameter_start}
+use Rattle.std.proofs.Common.{◌-◌}
+use Rattle.ctap_message.specs.Descriptors.{parameter_types}
+use Rattle.ctap_message.specs.Fields.{parameter_in}
+use Rattle.ctap_message.specs.Collected.{shown_parameter}
+use Rattle.ctap_message.proofs.Collecting.{map_read}
+use Rattle.ctap_message.proofs.Growing.{parameter_start}
 use Rattle.ctap_message.proofs.parameters.read_parameter.Goals as goal
 
 pub returns : goal.returns
 returns c =
-    let h = c.in_ok-is_map.ensures in
-    (h.0, h.1, map_collected shown_parameter parameter_told h.0 c.in_ok-is_map.is_map c.both.result _ c.read_map.new.members c.both.ensures h.2 h.3 parameter_start)
+    map_read shown_parameter parameter_types parameter_in (5 - c.args.level) c.in_ok-read_map.field-0 c.unwrap_or-typed.result _ c.read_map.new.members c.args.cursor.now c.read_map.new.cursor c.unwrap_or-typed.ensures c.in_ok-read_map.ensures parameter_start

@@ -1,8 +1,12 @@
-use Rattle.ctap_message.specs.Collected.{shown_parameters, parameters_told}
-use Rattle.ctap_message.proofs.Collecting.{array_collected, parameters_start}
+use Rattle.std.proofs.Common.{◌-◌}
+use Rattle.ctap_message.specs.Members.{map_of}
+use Rattle.ctap_message.specs.Descriptors.{parameter_types}
+use Rattle.ctap_message.specs.Fields.{parameters_in}
+use Rattle.ctap_message.specs.Collected.{shown_parameters}
+use Rattle.ctap_message.proofs.Collecting.{array_read}
+use Rattle.ctap_message.proofs.Growing.{parameters_start}
 use Rattle.ctap_message.proofs.parameters.read_parameters.Goals as goal
 
 pub returns : goal.returns
 returns c =
-    let h = c.in_ok-is_array.ensures in
-    (h.0, h.1, array_collected shown_parameters parameters_told h.0 c.in_ok-is_array.is_array c.both.result _ c.read_array.new.entries c.both.ensures h.2 h.3 parameters_start)
+    array_read shown_parameters (map_of parameter_types) parameters_in (5 - c.args.level) c.in_ok-read_array.field-0 c.unwrap_or-typed.result _ c.read_array.new.entries c.args.cursor.now c.read_array.new.cursor c.unwrap_or-typed.ensures c.in_ok-read_array.ensures parameters_start

@@ -1,8 +1,11 @@
 use Rattle.std.proofs.Common.{true, sym, ap, ◌∙◌}
-use Rattle.ctap_message.specs.Walks.{map_told}
-use Rattle.ctap_message.specs.GetAssertion.{assertion_request}
-use Rattle.ctap_message.specs.Judged.{assertion_judged}
-use Rattle.ctap_message.specs.CollectedRequests.{AssertTold, assert_told, shown_assert}
+use Rattle.std.specs.Prelude.{Bool}
+use Rattle.ctap_cbor.specs.Tree.{Trees}
+use Rattle.ctap_message.specs.Members.{map_of}
+use Rattle.ctap_message.specs.Walks.{typed}
+use Rattle.ctap_message.specs.GetAssertion.{assertion_types, assertion_request}
+use Rattle.ctap_message.specs.Judged.{AssertionParameters, assertion_judged}
+use Rattle.ctap_message.specs.CollectedRequests.{assertion_in, shown_assert}
 use Rattle.ctap_message.proofs.Asking.{refused, accepted, never, told}
 use Rattle.ctap_message.proofs.request.read_get_assertion.Goals as goal
 
@@ -27,13 +30,13 @@ returns-clause-request c =
     let ok = sym c.is_err.ensures.value ∙ c.if-is_err.false in
     let first = accepted c.args.parameters.now c.new-cursor.result c.read_whole.new.cursor c.read_whole.result c.whole_readings.ensures c.new-cursor.ensures ok c.read_whole.ensures in
     let h = c.in-Ok.ensures in
-    let t = told (map_told assert_told) c.args.parameters.now (shown_assert c.in-Ok.assert) c.read_whole.new.cursor c.rewind.new.self h.0 c.read_assert_again.new.cursor c.whole_readings.ensures first (c.rewind.ensures ∙ first.back) h.1 h.2 in
-    c.judge_assert.ensures.request ∙ ap (λ (x : AssertTold). assertion_judged true x.0 x.1.0) t.value_is ∙ sym (ap assertion_request t.tree_is)
+    let t = told (typed (map_of assertion_types) assertion_in) c.args.parameters.now (c.in-Ok.typed, shown_assert c.in-Ok.assert) c.read_whole.new.cursor c.rewind.new.self h.0 c.read_assert_again.new.cursor c.whole_readings.ensures first (c.rewind.ensures ∙ first.back) h.1 h.2 in
+    c.judge_assert.ensures.request ∙ ap (λ (x : Bool × (AssertionParameters × Trees)). assertion_judged true x.0 x.1.0) t.value_is ∙ sym (ap assertion_request t.tree_is)
 
 pub returns-clause-steps : goal.returns-clause-steps
 returns-clause-steps c =
     let ok = sym c.is_err.ensures.value ∙ c.if-is_err.false in
     let first = accepted c.args.parameters.now c.new-cursor.result c.read_whole.new.cursor c.read_whole.result c.whole_readings.ensures c.new-cursor.ensures ok c.read_whole.ensures in
     let h = c.in-Ok.ensures in
-    let t = told (map_told assert_told) c.args.parameters.now (shown_assert c.in-Ok.assert) c.read_whole.new.cursor c.rewind.new.self h.0 c.read_assert_again.new.cursor c.whole_readings.ensures first (c.rewind.ensures ∙ first.back) h.1 h.2 in
+    let t = told (typed (map_of assertion_types) assertion_in) c.args.parameters.now (c.in-Ok.typed, shown_assert c.in-Ok.assert) c.read_whole.new.cursor c.rewind.new.self h.0 c.read_assert_again.new.cursor c.whole_readings.ensures first (c.rewind.ensures ∙ first.back) h.1 h.2 in
     c.steps-in-Ok.ensures ∙ t.steps_are

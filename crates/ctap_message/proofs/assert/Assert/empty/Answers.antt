@@ -1,4 +1,4 @@
-use Rattle.ctap_message.proofs.Taking.{assert_begins}
+use Rattle.ctap_message.proofs.Growing.{assert_begins}
 use Rattle.ctap_message.proofs.assert.Assert.empty.Goals as goal
 
 pub returns : goal.returns

@@ -1,37 +1,23 @@
-use Rattle.std.proofs.Common.{◌≢◌, ℕ, ◌-◌, arith, sym, ◌∙◌}
-use Rattle.ctap_cbor.specs.Views.{part_of}
-use Rattle.ctap_message.proofs.Taking.{assert_arm, assert_other}
+use Rattle.std.proofs.Common.{◌≡◌, ◌-◌, true, rules}
+use Rattle.ctap_cbor.specs.Views.{part_of, head_of}
+use Rattle.ctap_message.specs.Members.{Number, is_key}
+use Rattle.ctap_message.specs.GetAssertion.{assertion_types}
+use Rattle.ctap_message.specs.CollectedRequests.{assertion_in, shown_assert, assert_next}
+use Rattle.ctap_message.proofs.Collecting.{adds_head}
+use Rattle.ctap_message.proofs.Growing.{assert_grows, assert_heads, assert_arm, number_key}
 use Rattle.ctap_message.proofs.assert.AssertMembers.member.Goals as goal
 
-pub returns-in-1 : goal.returns-in-1
-returns-in-1 c = assert_arm (5 - c.args.level) 1 (part_of c.args.key) c.args.self.now c.take_rp_id.new.self c.args.cursor.now c.take_rp_id.new.cursor c.take_rp_id.result (sym c.number_of.ensures ∙ c.in-1.is) c.take_rp_id.ensures
+pub returns-in-Int-eq3 : goal.returns-in-Int-eq3
+returns-in-Int-eq3 c =
+    let n : is_key (Number 3) (head_of (part_of c.args.key)) ≡ true = search rules in
+    assert_arm (5 - c.args.level) 3 (part_of c.args.key) c.args.self.now c.take_allow_list.new.self c.args.cursor.now c.take_allow_list.new.cursor c.take_allow_list.result (number_key 3 (part_of c.args.key) n) c.take_allow_list.ensures
 
-pub returns-in-2 : goal.returns-in-2
-returns-in-2 c = assert_arm (5 - c.args.level) 2 (part_of c.args.key) c.args.self.now c.take_hash.new.self c.args.cursor.now c.take_hash.new.cursor c.take_hash.result (sym c.number_of.ensures ∙ c.in-2.is) c.take_hash.ensures
+pub returns-in-Int-eq5 : goal.returns-in-Int-eq5
+returns-in-Int-eq5 c =
+    let n : is_key (Number 5) (head_of (part_of c.args.key)) ≡ true = search rules in
+    assert_arm (5 - c.args.level) 5 (part_of c.args.key) c.args.self.now c.take_options.new.self c.args.cursor.now c.take_options.new.cursor c.take_options.result (number_key 5 (part_of c.args.key) n) c.take_options.ensures
 
-pub returns-in-3 : goal.returns-in-3
-returns-in-3 c = assert_arm (5 - c.args.level) 3 (part_of c.args.key) c.args.self.now c.take_allow_list.new.self c.args.cursor.now c.take_allow_list.new.cursor c.take_allow_list.result (sym c.number_of.ensures ∙ c.in-3.is) c.take_allow_list.ensures
-
-pub returns-in-4 : goal.returns-in-4
-returns-in-4 c = assert_arm (5 - c.args.level) 4 (part_of c.args.key) c.args.self.now c.take_extensions.new.self c.args.cursor.now c.take_extensions.new.cursor c.take_extensions.result (sym c.number_of.ensures ∙ c.in-4.is) c.take_extensions.ensures
-
-pub returns-in-5 : goal.returns-in-5
-returns-in-5 c = assert_arm (5 - c.args.level) 5 (part_of c.args.key) c.args.self.now c.take_options.new.self c.args.cursor.now c.take_options.new.cursor c.take_options.result (sym c.number_of.ensures ∙ c.in-5.is) c.take_options.ensures
-
-pub returns-in-6 : goal.returns-in-6
-returns-in-6 c = assert_arm (5 - c.args.level) 6 (part_of c.args.key) c.args.self.now c.take_pin_uv_auth_param.new.self c.args.cursor.now c.take_pin_uv_auth_param.new.cursor c.take_pin_uv_auth_param.result (sym c.number_of.ensures ∙ c.in-6.is) c.take_pin_uv_auth_param.ensures
-
-pub returns-in-7 : goal.returns-in-7
-returns-in-7 c = assert_arm (5 - c.args.level) 7 (part_of c.args.key) c.args.self.now c.take_pin_uv_auth_protocol.new.self c.args.cursor.now c.take_pin_uv_auth_protocol.new.cursor c.take_pin_uv_auth_protocol.result (sym c.number_of.ensures ∙ c.in-7.is) c.take_pin_uv_auth_protocol.ensures
-
-pub returns-in_default : goal.returns-in_default
-returns-in_default c =
-    let n : ℕ = c.number_of.result in
-    let h1 : n ≢ 1 = omega arith in
-    let h2 : n ≢ 2 = omega arith in
-    let h3 : n ≢ 3 = omega arith in
-    let h4 : n ≢ 4 = omega arith in
-    let h5 : n ≢ 5 = omega arith in
-    let h6 : n ≢ 6 = omega arith in
-    let h7 : n ≢ 7 = omega arith in
-    assert_other (5 - c.args.level) n (part_of c.args.key) c.args.self.now c.args.cursor.now c.skip.new.self c.skip.result (sym c.number_of.ensures) h1 h2 h3 h4 h5 h6 h7 c.skip.ensures.passes
+pub returns-in_ok-value-in_default : goal.returns-in_ok-value-in_default
+returns-in_ok-value-in_default c =
+    adds_head shown_assert assertion_types assertion_in assert_next (5 - c.args.level) (part_of c.args.key) (part_of c.in_ok-value-in_default.value) c.put.result c.args.self.now c.put.new.self c.args.cursor.now c.whole.new.self
+    assert_grows (assert_heads (head_of (part_of c.args.key)) c.put.ensures.plain) c.in_ok-value-in_default.ensures c.put.ensures.typed c.put.ensures.value

@@ -1,11 +1,11 @@
-use Rattle.std.proofs.Common.{sym, ap, ◌∙◌}
-use Rattle.std.specs.Prelude.{◌&&◌}
-use Rattle.ctap_message.specs.Members.{is_text}
-use Rattle.ctap_message.specs.Labels.{head_of}
-use Rattle.ctap_message.proofs.Pushes.{ap2, entries_push, is_head_text}
+use Rattle.std.proofs.Common.{◌-◌, sym, ap, ◌∙◌}
+use Rattle.std.specs.Prelude.{is_some}
+use Rattle.ctap_cbor.specs.Views.{part_of}
+use Rattle.ctap_message.proofs.Naming.{copied_some}
+use Rattle.ctap_message.proofs.Growing.{texts_more}
 use Rattle.ctap_message.proofs.descriptor.TextsEntries.entry.Goals as goal
 
 pub returns : goal.returns
 returns c =
-    let h = c.in_ok-value.ensures in
-    (h.0, h.1, λ ts e. c.both-self.ensures ∙ ap2 (λ a b. a && b) e (c.is_a_text.ensures ∙ ap (λ p. is_text (head_of p)) h.2 ∙ sym (is_head_text h.0)) ∙ sym (entries_push is_text ts h.0))
+    texts_more (5 - c.args.level) (part_of c.in_ok-value.value) c.is_some.result c.args.self.now c.args.self.now c.args.cursor.now c.whole.new.self c.in_ok-value.ensures
+    (c.is_some.ensures ∙ sym (copied_some c.as_text.result) ∙ ap is_some c.as_text.ensures)

@@ -1,4 +1,4 @@
-use Rattle.ctap_message.proofs.Taking.{make_begins}
+use Rattle.ctap_message.proofs.Growing.{make_begins}
 use Rattle.ctap_message.proofs.make.Make.empty.Goals as goal
 
 pub returns : goal.returns
