@@ -10,12 +10,12 @@ use Rattle.ctap_cbor.specs.Grammar.{text, Fits, IsKey, IsAbove, Rises, IsLawful,
 use Rattle.ctap_cbor.specs.Laws.{RefusedHasNoText}
 use Rattle.ctap_cbor.specs.Refusals.{range_refusal, own_refusal, order_refusal, or_else, refusal, refusal_all, refusal_pairs}
 
-below : (n : ℕ) → n < 18446744073709551616 → nat_lt n 18446744073709551616 ≡ true
-below n h = grind (arith, nat_tests)
+pub below : (n m : ℕ) → n < m → nat_lt n m ≡ true
+below n m h = grind (arith, nat_tests)
 
 in_range : (s : Scalar) → Fits s → range_refusal s ≡ None
-in_range (Int (pos n)) h = ap (λ b. if b then None else Some Unsupported) (below n (omega arith))
-in_range (Int (negsuc n)) h = ap (λ b. if b then None else Some Unsupported) (below n (omega arith))
+in_range (Int (pos n)) h = ap (λ b. if b then None else Some Unsupported) (below n 18446744073709551616 (omega arith))
+in_range (Int (negsuc n)) h = ap (λ b. if b then None else Some Unsupported) (below n 18446744073709551616 (omega arith))
 in_range (Bytes s) h = refl
 in_range (Text s) h = refl
 in_range (Flag b) h = refl

@@ -2,16 +2,13 @@
 use Rattle.std.proofs.Common.{◌≡◌, ℕ, ◌+◌, ◌-◌, ◌<◌, Bool, true, List, Option, Some, None, refl, sym, subst}
 use Rattle.std.specs.Prelude.{◌&&◌}
 use Rattle.ctap_cbor.specs.declared.fault.Kind.{Kind}
-use Rattle.ctap_cbor.specs.Tree.{Tree, Plain, Array, Map, Trees, no_trees, Pairs, no_pairs, push, push_pair}
+use Rattle.ctap_cbor.specs.Tree.{Plain, Array, Map, Trees, no_trees, Pairs, no_pairs, push, push_pair}
 use Rattle.ctap_cbor.specs.Faults.{AKey}
 use Rattle.ctap_cbor.specs.Parts.{Part, OpensArray, OpensMap}
-use Rattle.ctap_cbor.specs.declared.item.Item.{Item}
-use Rattle.ctap_cbor.specs.declared.item.Item.TheVariants as item
-use Rattle.ctap_cbor.specs.Views.{part_of}
-use Rattle.ctap_cbor.specs.Reading.{part_of_tree, Reading, Takes, Halts, HaltsInAll, HaltsInPairs, Refuses, GivesKey}
+use Rattle.ctap_cbor.specs.Reading.{Reading, Takes, Halts, HaltsInAll, HaltsInPairs, Refuses, GivesKey}
 use Rattle.ctap_cbor.proofs.Moves.{passes_none, passes_more, pairs_none}
 use Rattle.ctap_cbor.proofs.Skipping.{given_more, key_stops, value_stops, item_stops, map_then, array_then}
-use Rattle.ctap_cbor.specs.Collecting.{InMap, InArray, Adds, AddsEntry, AddsPairs, AddsAll, ReadsMap, ReadsArray}
+use Rattle.ctap_cbor.specs.Collecting.{Adds, AddsEntry, AddsPairs, AddsAll, ReadsMap, ReadsArray}
 
 pub adds_none : {M : Type 0} (H : M → Bool → Pairs → Type 0) (room : ℕ) (m : M) (r : Reading) → AddsPairs H room 0 None true m m r r
 adds_none H room m r = (no_pairs, pairs_none room r, λ h. h)
@@ -48,32 +45,3 @@ map_read H level n last ok x y a b c t h = (Map h.0, map_then level n h.0 last a
 pub array_read : {M : Type 0} (H : M → Bool → Trees → Type 0) (level n : ℕ) (ok : Bool) (x y : M) (a b c : Reading)
     → Takes (5 - level) a b (OpensArray n) → AddsAll H (5 - (level + 1)) n ok x y b c → ReadsArray H (5 - level) (Some ok) x y a c
 array_read H level n ok x y a b c t h = (Array h.0, array_then level n h.0 a b c t h.1, (ok, refl, h.2))
-
--- a tree whose head opens none map is none
-not_map : {M : Type 0} (H : M → Bool → Pairs → Type 0) (part : Part) (m : M) (t : Tree) → ((n : ℕ) → part ≡ OpensMap n → ⊥) → part ≡ part_of_tree t → InMap H None m m t
-not_map H part m (Plain s) none e = (refl, refl)
-not_map H part m (Array ts) none e = (refl, refl)
-not_map H part m (Map ps) none e = absurd (none _ e)
-
-not_array : {M : Type 0} (H : M → Bool → Trees → Type 0) (part : Part) (m : M) (t : Tree) → ((n : ℕ) → part ≡ OpensArray n → ⊥) → part ≡ part_of_tree t → InArray H None m m t
-not_array H part m (Plain s) none e = (refl, refl)
-not_array H part m (Array ts) none e = absurd (none _ e)
-not_array H part m (Map ps) none e = (refl, refl)
-
-pub opens_map : (i : Item) → ((n : ℕ) → i ≡ item.Map n → ⊥) → (n : ℕ) → part_of i ≡ OpensMap n → ⊥
-opens_map (item.Map m) none n e = none m refl
-opens_map (item.Array m) h n e = cc
-opens_map (item.Int m) h n e = cc
-opens_map (item.Bytes m) h n e = cc
-opens_map (item.Text m) h n e = cc
-opens_map (item.Bool m) h n e = cc
-opens_map item.Null h n e = cc
-
-pub opens_array : (i : Item) → ((n : ℕ) → i ≡ item.Array n → ⊥) → (n : ℕ) → part_of i ≡ OpensArray n → ⊥
-opens_array (item.Array m) none n e = none m refl
-opens_array (item.Map m) h n e = cc
-opens_array (item.Int m) h n e = cc
-opens_array (item.Bytes m) h n e = cc
-opens_array (item.Text m) h n e = cc
-opens_array (item.Bool m) h n e = cc
-opens_array item.Null h n e = cc

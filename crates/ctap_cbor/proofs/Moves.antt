@@ -12,7 +12,7 @@ use Rattle.ctap_cbor.specs.Parts.{OpensArray, OpensMap}
 use Rattle.ctap_cbor.specs.Outcome.{InArray, AtKey, AtValue, fronts, last_key, later_keys, later_in_all, later_in_map, later_in_pairs, later_key}
 use Rattle.ctap_cbor.specs.Reading.{Reading, rest_of, counted, advance, compared, Takes, TakesKey, Passes, Halts, PassesAll, HaltsInAll, PassesPairs, HaltsAtKey, HaltsAtValue}
 
-abbrev at : List ℕ → ℕ → ℕ → Reading
+abbrev pub at : List ℕ → ℕ → ℕ → Reading
 at b p s = record { bytes = b; place = p; steps = s }
 
 pub advance_zero : (r : Reading) → r ≡ advance r 0 0

@@ -15,14 +15,7 @@ use Rattle.ctap_cbor.specs.Reading.{Reading, rest_of, advance, Passes, PassesAs,
 use Rattle.ctap_cbor.specs.Parse.{Parse, Done, Halt, parse}
 use Rattle.ctap_cbor.proofs.Items.{read_again}
 use Rattle.ctap_cbor.proofs.Again.{parse_again, halt_again}
-
-abbrev tree_of : Tree → Parse → Tree
-tree_of d (Done t rest) = t
-tree_of d (Halt os kind rest) = d
-
-abbrev rest_from : Parse → List ℕ
-rest_from (Done t rest) = rest
-rest_from (Halt os kind rest) = rest
+use Rattle.ctap_cbor.proofs.Uniqueness.{tree_of, rest_from}
 
 abbrev opens_of : List Open → Parse → List Open
 opens_of d (Done t rest) = d

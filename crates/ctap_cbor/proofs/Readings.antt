@@ -10,10 +10,8 @@ use Rattle.ctap_cbor.specs.Outcome.{Outcome, Whole, Longer, Stopped, fronts, IsO
 use Rattle.ctap_cbor.specs.Telling.{outcome_of, whole_tree}
 use Rattle.ctap_cbor.specs.Reading.{Reading, at_front, rest_of, counted, Passes, Halts, Ends, GoesOn}
 use Rattle.ctap_cbor.specs.Laws.{TellsTree, TellsNone, WholeReadings}
+use Rattle.ctap_cbor.proofs.Moves.{at}
 use Rattle.ctap_cbor.proofs.Telling.{bytes_tell}
-
-abbrev at : List ℕ → ℕ → ℕ → Reading
-at b p s = record { bytes = b; place = p; steps = s }
 
 -- the outcome is this one
 is : (b : List ℕ) (o : Outcome) → AreBytes b → IsOutcome b o → outcome_of b ≡ o

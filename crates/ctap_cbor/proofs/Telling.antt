@@ -1,8 +1,7 @@
 -- What bytes are, as a function of them.
-use Rattle.std.proofs.Common.{◌≡◌, ℕ, ◌+◌, ◌*◌, ◌<◌, ◌≤◌, Bool, true, false, List, [], ◌∷◌, ◌++◌, length, Some, refl, arith, sym, ap, subst, ◌∙◌}
+use Rattle.std.proofs.Common.{◌≡◌, ℕ, ◌+◌, ◌*◌, ◌≤◌, Bool, true, false, List, [], ◌∷◌, ◌++◌, length, Some, refl, arith, sym, ap, subst, ◌∙◌}
 use Rattle.std.specs.Prelude.{◌&&◌, if◌then◌else◌, nat_lt}
 use Rattle.std.proofs.lemmas.Bool.{and_parts, ltb-true}
-use Rattle.std.proofs.lemmas.Bool.Decides.{nat_tests}
 use Rattle.std.proofs.lemmas.List.{append-nil}
 use Rattle.ctap_cbor.specs.declared.fault.Kind.TheVariants.{Reserved}
 use Rattle.ctap_cbor.specs.Tree.{Tree, count}
@@ -13,17 +12,15 @@ use Rattle.ctap_cbor.specs.Outcome.{Outcome, Whole, Longer, Stopped, IsOutcome, 
 use Rattle.ctap_cbor.specs.Parse.{items, parse, outcome_by, ran_by}
 use Rattle.ctap_cbor.specs.Telling.{are_bytes, outcome_of, whole_tree, items_at}
 use Rattle.ctap_cbor.specs.Laws.{BytesTell, TreesAreTold, CheckStepsAreBounded, ItemsAreFound}
+use Rattle.ctap_cbor.proofs.Accepting.{below}
 use Rattle.ctap_cbor.proofs.Again.{items_again, all_ran}
 use Rattle.ctap_cbor.proofs.Sound.{parse_sound}
 use Rattle.ctap_cbor.proofs.Uniqueness.{outcome_sound, outcome_only}
 use Rattle.ctap_cbor.proofs.Bounds.{steps_bound}
 
-below : (b : ℕ) → b < 256 → nat_lt b 256 ≡ true
-below b h = grind (arith, nat_tests)
-
 pub are_bytes_true : (b : List ℕ) → AreBytes b → are_bytes b ≡ true
 are_bytes_true [] h = refl
-are_bytes_true (x ∷ bs) h = ap (λ c. c && are_bytes bs) (below x h.0) ∙ are_bytes_true bs h.1
+are_bytes_true (x ∷ bs) h = ap (λ c. c && are_bytes bs) (below x 256 h.0) ∙ are_bytes_true bs h.1
 
 pub bytes_of_test : (b : List ℕ) → are_bytes b ≡ true → AreBytes b
 bytes_of_test [] e = tt

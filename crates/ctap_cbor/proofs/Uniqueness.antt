@@ -29,11 +29,11 @@ each_text_is_one b fits = (outcome_by (parse 4 b), outcome_sound b (parse 4 b) (
 pub written_is_read_again : WrittenIsReadAgain
 written_is_read_again t b c o is = sym (outcome_only b o is) ∙ outcome_only b (Whole t) c
 
-abbrev tree_of : Tree → Parse → Tree
+abbrev pub tree_of : Tree → Parse → Tree
 tree_of d (Done t rest) = t
 tree_of d (Halt os kind rest) = d
 
-abbrev rest_from : Parse → List ℕ
+abbrev pub rest_from : Parse → List ℕ
 rest_from (Done t rest) = rest
 rest_from (Halt os kind rest) = rest
 

@@ -4,7 +4,7 @@ use Rattle.std.specs.Prelude.{if◌then◌else◌, IfErr}
 use Rattle.std.specs.Option.{ForSome}
 use Rattle.std.proofs.Math.Seq.{take-length}
 use Rattle.std.proofs.lemmas.Bool.{ne_eqb}
-use Rattle.std.proofs.lemmas.List.{append-nil, at_drop_more, drop_at, take-append-le, drop-append-le}
+use Rattle.std.proofs.lemmas.List.{at_drop_more, drop_at, take-append-le, drop-append-le}
 use Rattle.ctap_cbor.specs.declared.encoding.Span.{Span}
 use Rattle.ctap_cbor.specs.declared.fault.Kind.{Kind}
 use Rattle.ctap_cbor.specs.declared.fault.Kind.TheVariants.{TooDeep, KeyOrder, Memory}
@@ -24,9 +24,6 @@ nonzero (suc n) h = omega arith
 
 pub goes_on : (a b c : List ℕ) → Extends a b → Extends b c → Extends a c
 goes_on a b c h k = (h.0 ++ k.0, k.1 ∙ ap (λ x. x ++ k.0) h.1 ∙ append_assoc a h.0 k.0)
-
-pub stays : (a : List ℕ) → Extends a a
-stays a = ([], sym (append-nil a))
 
 -- ---- arrays
 
