@@ -111,8 +111,17 @@ class Definition:
         end = "" if self.comment.endswith((".", "?")) else "."
         lines = textwrap.wrap(self.comment[:1].upper() + self.comment[1:] + end, 113) if self.comment else []
         indent = len(self.lines[0]) - len(self.lines[0].lstrip())
-        code = (re.sub(rf"^( *){MODIFIERS.pattern}", r"\1", line[indent:]) for line in self.lines)
+        code = (re.sub(rf"^( *){MODIFIERS.pattern}", r"\1", line[indent:]) for line in self.lines[self.begins() :])
         return [f"-- {line}" for line in lines] + [line.rstrip() for line in code]
+
+    def equations(self) -> list[str]:
+        """Returns its lines that the page has, without comments: of a type all, of a function those after its type."""
+        return [line for line in self.lines[self.begins() :] if not line.strip().startswith("--")]
+
+    def begins(self) -> int:
+        """Returns the place of its first line that the page has: of a function its first equation, not its type."""
+        equation = re.compile(rf" *{re.escape(self.name)}(?: |$)(?! *:)")
+        return next((place for place, line in enumerate(self.lines) if equation.match(line)), 0)
 
 
 def free_words(equation: str) -> set[str]:
@@ -353,7 +362,7 @@ def is_public(it: Name) -> bool:
 
 
 def count(names: set[Name]) -> str:
-    lines = sum(len(held(it).code()) for it in names)
+    lines = sum(len(held(it).equations()) for it in names)
     return f"**{len(names)} definitions, {lines:,} lines, {len({it.path for it in names})} files**"
 
 
