@@ -1,14 +1,18 @@
 -- What follows from the rules of `clap` for the words of the program.
-use Rattle.std.proofs.Common.{◌≡◌, ℕ, Bool, true, false, not, ◌&&◌, List, [], ◌∷◌, Option, Some, None, is_some, codes, option_and_then, option_map, unwrap_or, Result, Ok, Err, IfOk, refl, sym, ◌∙◌, ap, subst, cond, if◌then◌else◌, ◌||◌}
+use Rattle.std.proofs.Common.{◌≡◌, ℕ, Bool, true, false, not, ◌&&◌, List, [], ◌∷◌, ◌++◌, ◌+◌, ◌<◌, ap₂, length, take, get_or, map, Option, Some, None, is_some, codes, option_and_then, option_map, unwrap_or, refl, sym, ◌∙◌, ap, subst, cond, if◌then◌else◌, ◌||◌}
 use Rattle.std.specs.List.{fold, slice_index_or}
 use Rattle.std.specs.Str.{bytes_eq}
 use Rattle.std.proofs.lemmas.Slice.Eq.{bytes_eq-Decides}
 use Rattle.clap.proofs.OnLiterals.{clap_on_literals}
-use Rattle.clap.specs.Walk.{Held, Names, Outcome, done, waits, plain, refused, Row, Rule, Step, next, trailing, subcommand, value, Text, Waiting, idle, option, positional, Walk, after_flag, after_step, arg_by_index, arg_by_long, bundle, finished, long_met, long_or_other, plain_word, settled, short_or_plain, subcommand_met, subcommand_or_other, to_positional, walk, walk_from, walked, word_met, nothing_held, first_of, rows_of}
+use Rattle.std.proofs.lemmas.List.{map-append, take_more}
+use Rattle.std.proofs.lemmas.List.Sums.{fold-append}
+use Rattle.clap.specs.Built.{AddsArg, AddsSubcommand}
+use Rattle.clap.specs.declared.builder.arg.Arg.{Arg}
+use Rattle.clap.specs.Walk.{rule_of, Held, Names, Outcome, done, waits, plain, refused, Row, Rule, Step, next, trailing, subcommand, value, Text, Waiting, idle, option, positional, Walk, after_flag, after_step, arg_by_index, arg_by_long, bundle, finished, long_met, long_or_other, plain_word, settled, short_or_plain, subcommand_met, subcommand_or_other, to_positional, walk, walk_from, walked, word_met, nothing_held, first_of, rows_of}
 use Rattle.clap.specs.Lexer.{long_of, short_of}
 use Rattle.clap.specs.Kinds.{Kinds, or_else, check_kinds}
 use Rattle.clap.specs.Faults.{fault_of, check_fault, defaults_fault, entered_fault, level_fault, other_fault, settle_fault, step_fault, turn_fault, walk_fault, word_fault, is_simple_and_free}
-use Rattle.clap.specs.Simple.{App, HasMatchesOf, Shape, is_simple, subcommand_of, argument_words, built, entered, help_shape, names_of, rows_at, shape_of, app_of, subcommand_rows_of, with_subcommand}
+use Rattle.clap.specs.Simple.{new_app, on_top, App, HasMatchesOf, Shape, is_simple, subcommand_of, argument_words, built, entered, help_shape, names_of, rows_at, shape_of, app_of, subcommand_rows_of, with_subcommand}
 use Rattle.clap.specs.Matches.{first_value, matched_of, raw_values, subcommand_name_of}
 use Rattle.clap.proofs.WalkLemmas.{first_value-rows, raw_values-rows}
 use Rattle.clap.specs.declared.builder.command.Command.{Command}
@@ -17,7 +21,9 @@ use Rattle.clap.specs.declared.parser.matches.ArgMatches.{ArgMatches}
 use Rattle.clap.specs.declared.parser.matches.Found.{Found}
 use Rattle.clap.specs.declared.error.kind.ErrorKind.TheVariants as kind
 use Rattle.hidlog.specs.declared.command_line.Form.TheVariants.{Lines}
-use Rattle.hidlog.specs.CommandLine.{AddsCommand, ask_of, asked_by, grammar, answers_to, logs_of, replay, live, check, quiet, show}
+use Rattle.hidlog.specs.declared.command_line.Name.{Name}
+use Rattle.hidlog.specs.declared.command_line.Parameter.{Parameter}
+use Rattle.hidlog.specs.CommandLine.{command, command_for, rule_for, ask_of, asked_by, grammar, answers_to, logs_of, replay, live, check, quiet, show}
 
 -- the rules of which clap's clauses speak
 is_simple_grammar : is_simple_and_free grammar ≡ true
@@ -189,20 +195,29 @@ asked_some app words m is has faultless =
 
 -- ---- what the code meets
 
--- the grammar of a program with one more command
-pub one_more : {E : Type 0} (old new : Command) (made : Result Command E) (app : App) (shape : Shape) → AddsCommand old made new
-    → IfOk made (λ sub. shape_of sub ≡ shape) → IfOk made (λ sub. (fields_of sub).has_globals ≡ false)
-    → app_of old ≡ app → app_of new ≡ with_subcommand app shape
-one_more old new (Err e) app shape adds sub_is local is = absurd adds
-one_more old new (Ok sub) app shape adds sub_is local is =
-    adds local ∙ ap (λ a. with_subcommand a (shape_of sub)) is ∙ ap (with_subcommand app) sub_is
+-- a command with one more parameter
+pub one_more : (old new : Command) (argument : Arg) (name : Text) (before : List Parameter) (parameter : Parameter) → AddsArg old argument new
+    → shape_of old ≡ command name (map rule_for before) → rule_of argument ≡ rule_for parameter → argument.global ≡ false
+    → shape_of new ≡ command name (map rule_for (before ++ parameter ∷ []))
+one_more old new argument name before parameter adds so_far rule local =
+    ap (λ (a : App). a.top) (adds.shape local)
+    ∙ ap (λ (s : Shape). record s { rules = s.rules ++ rule_of argument ∷ [] }) so_far
+    ∙ ap (λ (r : Rule). command name (map rule_for before ++ r ∷ [])) rule
+    ∙ ap (command name) (sym (map-append rule_for before (parameter ∷ [])))
 
--- the same, where there was memory for it
-pub last_one : {E : Type 0} (old : Command) (result made : Result Command E) (app : App) (shape : Shape) → IfOk result (AddsCommand old made)
-    → IfOk made (λ sub. shape_of sub ≡ shape) → IfOk made (λ sub. (fields_of sub).has_globals ≡ false)
-    → app_of old ≡ app → IfOk result (λ new. app_of new ≡ with_subcommand app shape)
-last_one old (Err e) made app shape adds sub_is local is = tt
-last_one old (Ok new) made app shape adds sub_is local is = one_more old new made app shape adds sub_is local is
+-- the program before it has commands, and with one more
+abbrev pub alone : App
+alone = on_top (λ top. record top { has_version = true; subcommand_required = true }) (new_app (codes "hidlog"))
+
+abbrev pub with_name : App → Name → App
+with_name app name = with_subcommand app (command_for name)
+
+pub one_command_more : (old sub new : Command) (names : List Name) (place : ℕ) (name : Name) → AddsSubcommand old sub new
+    → (fields_of sub).has_globals ≡ false → shape_of sub ≡ command_for (get_or names place name) → place < length names
+    → app_of old ≡ fold with_name alone (take place names) → app_of new ≡ fold with_name alone (take (place + 1) names)
+one_command_more old sub new names place name adds local shape below so_far =
+    adds.shape local ∙ ap₂ with_subcommand so_far shape
+    ∙ sym (ap (fold with_name alone) (take_more names place name below) ∙ fold-append with_name alone (take place names) (get_or names place name ∷ []))
 
 name_first : {X A B : Type 0} (f : X → A) (g : X → B) (o : Option X) → option_map (λ (p : A × B). p.0) (option_map (λ x. (f x, g x)) o) ≡ option_map f o
 name_first f g None = refl

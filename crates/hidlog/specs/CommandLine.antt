@@ -1,17 +1,19 @@
 -- Which words ask for what, by the rules of `clap`.
-use Rattle.std.specs.Prelude.{◌≡◌, ℕ, Bool, Result, IsOkAnd, true, false, List, [], ◌∷◌, Option, Some, None, codes, option_map, option_and_then, unwrap_or, map, if◌then◌else◌}
+use Rattle.std.specs.Prelude.{ℕ, Bool, true, false, List, [], ◌∷◌, Option, Some, None, codes, option_map, option_and_then, unwrap_or, map, if◌then◌else◌}
 use Rattle.std.specs.Borrow.{Bor}
 use Rattle.std.specs.Option.{option_map_or}
 use Rattle.std.specs.Str.{bytes_eq}
-use Rattle.clap.specs.Simple.{App, Shape, app_of, new_rule, new_shape, shape_of, subcommand_of, with_subcommand}
-use Rattle.clap.specs.declared.builder.command.Command.{Command}
-use Rattle.clap.specs.declared.builder.command.Command.TheViews.{out-Command as fields_of}
+use Rattle.clap.specs.Simple.{App, Shape, new_rule, new_shape, subcommand_of}
 use Rattle.clap.specs.Kinds.{Kinds}
 use Rattle.clap.specs.Faults.{fault_of}
 use Rattle.clap.specs.Walk.{Row, Rule, all_of, first_of}
 use Rattle.clap.specs.declared.builder.action.ArgAction.TheVariants.{Append, SetTrue}
 use Rattle.hidlog.specs.declared.command_line.Form.{Form}
 use Rattle.hidlog.specs.declared.command_line.Form.TheVariants.{Json, Lines, Summary}
+use Rattle.hidlog.specs.declared.command_line.Parameter.{Parameter}
+use Rattle.hidlog.specs.declared.command_line.Parameter.TheVariants.{Load, Save, All, Summary as SummaryFlag, Json as JsonFlag, Wide, Log, Logs}
+use Rattle.hidlog.specs.declared.command_line.Name.{Name}
+use Rattle.hidlog.specs.declared.command_line.Name.TheVariants as name
 use Rattle.hidlog.specs.declared.command_line.Task.{Task}
 use Rattle.hidlog.specs.declared.command_line.Task.TheVariants.{Replay, Live, Check, Quiet, Show}
 
@@ -36,6 +38,35 @@ log_paths = record (new_rule (codes "log")) { value_names = 1; action = Some App
 abbrev pub command : List ℕ → List Rule → Shape
 command name options = record (new_shape name) { rules = options }
 
+-- what may come after a command's name, as clap has it
+abbrev pub rule_for : Parameter → Rule
+rule_for Load = path_option (codes "load")
+rule_for Save = path_option (codes "save")
+rule_for All = flag (codes "all")
+rule_for SummaryFlag = flag (codes "summary")
+rule_for JsonFlag = flag (codes "json")
+rule_for Wide = flag (codes "wide")
+rule_for Log = log_path
+rule_for Logs = log_paths
+
+-- the commands' words, and what may come after them
+abbrev pub word_for : Name → List ℕ
+word_for name.Replay = codes "replay"
+word_for name.Live = codes "live"
+word_for name.Check = codes "check"
+word_for name.Quiet = codes "quiet"
+word_for name.Show = codes "show"
+
+abbrev pub parameters_for : Name → List Parameter
+parameters_for name.Replay = Load ∷ Save ∷ Log ∷ []
+parameters_for name.Live = Load ∷ Save ∷ Log ∷ []
+parameters_for name.Check = Load ∷ All ∷ Logs ∷ []
+parameters_for name.Quiet = Load ∷ Log ∷ []
+parameters_for name.Show = SummaryFlag ∷ JsonFlag ∷ Wide ∷ Log ∷ []
+
+abbrev pub command_for : Name → Shape
+command_for name = command (word_for name) (map rule_for (parameters_for name))
+
 -- the five commands, of which one is required; clap adds `help` and `--version`
 abbrev pub grammar : App
 grammar = record {
@@ -52,11 +83,6 @@ grammar = record {
 -- are a command line
 unfoldable pub answers_to : List (List ℕ) → Kinds
 answers_to words = fault_of grammar words
-
--- a program with this command more, which hands no option on to others
-abbrev pub AddsCommand : {E : Type 0} → Command → Result Command E → Command → Type 0
-AddsCommand program command more = IsOkAnd command (λ sub. (fields_of sub).has_globals ≡ false
-    → app_of more ≡ with_subcommand (app_of program) (shape_of sub))
 
 -- ---- what is asked
 

@@ -2,7 +2,7 @@
 ghost use Rattle.std.specs.Prelude.{◌≡◌, [], ◌∷◌, false, Some, codes, IfOk, IfErr, IfSome, option_map, option_and_then};
 ghost use Rattle.clap.specs.Words.{HasKind, app_of, rule_of, shape_of, subcommand_rows_of};
 ghost use Rattle.clap.specs.declared.builder.command.Command.TheViews.{out-Command as fields_of};
-ghost use Rattle.hidlog.specs.CommandLine.{AddsCommand, command, flag, grammar, log_path, log_paths, path_option};
+ghost use Rattle.hidlog.specs.CommandLine.{command_for, flag, grammar, log_path, log_paths, parameters_for, path_option, rule_for, word_for};
 ghost use Rattle.hidlog.specs.CommandLine.{answers_to, ask_of, asked_by, asks, form_of, is_set as is_found, logs_of, texts_of};
 ghost use Rattle.clap.specs.Matches.{found_of};
 ghost use Rattle.clap.specs.Walk.{rows_of};
@@ -15,7 +15,7 @@ use std::alloc::{AllocError, Global};
 const VERSION: &str = "0.2.0";
 
 /// How a log is shown.
-#[derive(Clone, Copy, Debug, PartialEq, Eq)]
+#[derive(Clone, Copy)]
 pub enum Form {
     /// Line by line.
     Lines,
@@ -26,7 +26,7 @@ pub enum Form {
 }
 
 /// What the program is asked to do, with the paths of snapshots and logs as they are.
-#[derive(Debug, Drop)]
+#[derive(Drop)]
 pub enum Task<'a> {
     /// `hidlog replay [--load F] [--save F] [FILE]`
     Replay {
@@ -59,182 +59,196 @@ pub enum Task<'a> {
     },
 }
 
-/// The option `--load F`.
-fn load<'a>(alloc: Global) -> Arg<'a>
-    ensures rule { rule_of result ≡ path_option (codes "load") }
-    ensures local { result.global ≡ false }
-{
-    Arg::new(alloc, "load").long("load").value_name("F").help(
-        "Starts with the credentials of the snapshot F, and not with none",
-    )
+/// What may come after a command's name.
+#[derive(Clone, Copy)]
+enum Parameter {
+    /// `--load F`
+    Load,
+    /// `--save F`
+    Save,
+    /// `--all`
+    All,
+    /// `--summary`
+    Summary,
+    /// `--json`
+    Json,
+    /// `--wide`
+    Wide,
+    /// The path of a log.
+    Log,
+    /// The paths of any number of logs.
+    Logs,
 }
 
-/// The option `--save F`.
-fn save<'a>(alloc: Global) -> Arg<'a>
-    ensures rule { rule_of result ≡ path_option (codes "save") }
+/// Returns an option with the path of a snapshot.
+fn path_option<'a>(alloc: Global, name: &'a str, help: &'a str) -> Arg<'a>
+    ensures rule { rule_of result ≡ path_option name.entry.now }
     ensures local { result.global ≡ false }
 {
-    Arg::new(alloc, "save").long("save").value_name("F").help(
-        "Writes a snapshot of the credentials to F at the end, unless the log has a fault; a kill within that write can \
-         lose the old one, so save to a new file and then mv it to F",
-    )
+    Arg::new(alloc, name).long(name).value_name("F").help(help)
 }
 
-/// The option `--summary`.
-fn summary<'a>(alloc: Global) -> Arg<'a>
-    ensures rule { rule_of result ≡ flag (codes "summary") }
+/// Returns an option without a value.
+fn flag<'a>(alloc: Global, name: &'a str, help: &'a str) -> Arg<'a>
+    ensures rule { rule_of result ≡ flag name.entry.now }
     ensures local { result.global ≡ false }
 {
-    Arg::new(alloc, "summary")
-        .long("summary")
+    Arg::new(alloc, name)
+        .long(name)
         .action(ArgAction::SetTrue)
-        .help("Writes a summary of the session: its transactions in a table, credentials, noise")
+        .help(help)
 }
 
-/// The option `--json`.
-fn json<'a>(alloc: Global) -> Arg<'a>
-    ensures rule { rule_of result ≡ flag (codes "json") }
-    ensures local { result.global ≡ false }
-{
-    Arg::new(alloc, "json")
-        .long("json")
-        .action(ArgAction::SetTrue)
-        .help("Writes an object of JSON a line, for scripts")
-}
-
-/// The option `--wide`.
-fn wide<'a>(alloc: Global) -> Arg<'a>
-    ensures rule { rule_of result ≡ flag (codes "wide") }
-    ensures local { result.global ≡ false }
-{
-    Arg::new(alloc, "wide")
-        .long("wide")
-        .action(ArgAction::SetTrue)
-        .help("Writes lines whole at a terminal, where they are cut at its width otherwise")
-}
-
-/// The option `--all`.
-fn all<'a>(alloc: Global) -> Arg<'a>
-    ensures rule { rule_of result ≡ flag (codes "all") }
-    ensures local { result.global ≡ false }
-{
-    Arg::new(alloc, "all")
-        .long("all")
-        .action(ArgAction::SetTrue)
-        .help("Goes on after a difference, and counts them")
-}
-
-/// The path of a log.
-fn log<'a>(alloc: Global) -> Arg<'a>
+/// Returns the path of a log.
+fn log<'a>(alloc: Global, help: &'a str) -> Arg<'a>
     ensures rule { rule_of result ≡ log_path }
     ensures local { result.global ≡ false }
 {
-    Arg::new(alloc, "log")
-        .value_name("FILE")
-        .help("The log; standard input where none is named, and for -")
+    Arg::new(alloc, "log").value_name("FILE").help(help)
 }
 
-/// The paths of any number of logs.
+/// Returns the paths of any number of logs.
 fn logs<'a>(alloc: Global) -> Arg<'a>
     ensures rule { rule_of result ≡ log_paths }
     ensures local { result.global ≡ false }
 {
-    Arg::new(alloc, "log")
-        .value_name("FILE")
-        .action(ArgAction::Append)
-        .help("The logs; standard input where none is named, and for -")
+    log(
+        alloc,
+        "The logs; standard input where none is named, and for -",
+    )
+    .action(ArgAction::Append)
 }
 
-/// The command `replay`.
-fn replay<'a>(alloc: Global) -> Result<Command<'a>, AllocError>
-    ensures shape { IfOk result (λ made. shape_of made
-        ≡ command (codes "replay") (path_option (codes "load") ∷ path_option (codes "save") ∷ log_path ∷ [])) }
+/// Returns a parameter as clap has it.
+fn argument<'a>(alloc: Global, parameter: Parameter) -> Arg<'a>
+    ensures rule { rule_of result ≡ rule_for parameter }
+    ensures local { result.global ≡ false }
+{
+    match parameter {
+        Parameter::Load => path_option(
+            alloc,
+            "load",
+            "Starts with the credentials of the snapshot F, and not with none",
+        ),
+        Parameter::Save => path_option(
+            alloc,
+            "save",
+            "Writes a snapshot of the credentials to F at the end, unless the log has a fault; a kill within that \
+             write can lose the old one, so save to a new file and then mv it to F",
+        ),
+        Parameter::All => flag(alloc, "all", "Goes on after a difference, and counts them"),
+        Parameter::Summary => flag(
+            alloc,
+            "summary",
+            "Writes a summary of the session: its transactions in a table, credentials, noise",
+        ),
+        Parameter::Json => flag(
+            alloc,
+            "json",
+            "Writes an object of JSON a line, for scripts",
+        ),
+        Parameter::Wide => flag(
+            alloc,
+            "wide",
+            "Writes lines whole at a terminal, where they are cut at its width otherwise",
+        ),
+        Parameter::Log => log(
+            alloc,
+            "The log; standard input where none is named, and for -",
+        ),
+        Parameter::Logs => logs(alloc),
+    }
+}
+
+/// The name of a command.
+#[derive(Clone, Copy)]
+enum Name {
+    Replay,
+    Live,
+    Check,
+    Quiet,
+    Show,
+}
+
+impl Name {
+    /// Returns the command's word.
+    fn word<'a>(self) -> &'a str
+        ensures { result.now ≡ word_for self }
+    {
+        match self {
+            Name::Replay => "replay",
+            Name::Live => "live",
+            Name::Check => "check",
+            Name::Quiet => "quiet",
+            Name::Show => "show",
+        }
+    }
+
+    /// Returns what help says of the command.
+    fn about<'a>(self) -> &'a str {
+        match self {
+            Name::Replay =>
+                "Replays the log: writes it with the packets that the key sends, and what it counted",
+            Name::Live => {
+                "Replays the log line by line as it comes, and says what the key needs after each input"
+            }
+            Name::Check =>
+                "Compares the packets that the log names as sent with those that the key sends",
+            Name::Quiet => "Writes the log's inputs, with a tick in place of each that is noise",
+            Name::Show => "Writes what the log's lines say, line by line",
+        }
+    }
+
+    /// Returns the command's parameters.
+    fn parameters(self) -> &'static [Parameter]
+        ensures { result.now ≡ parameters_for self }
+    {
+        match self {
+            Name::Replay | Name::Live => &[Parameter::Load, Parameter::Save, Parameter::Log],
+            Name::Check => &[Parameter::Load, Parameter::All, Parameter::Logs],
+            Name::Quiet => &[Parameter::Load, Parameter::Log],
+            Name::Show => {
+                &[
+                    Parameter::Summary,
+                    Parameter::Json,
+                    Parameter::Wide,
+                    Parameter::Log,
+                ]
+            }
+        }
+    }
+}
+
+/// Returns a command, with its parameters.
+fn command<'a>(alloc: Global, name: Name) -> Result<Command<'a>, AllocError>
+    ensures shape { IfOk result (λ made. shape_of made ≡ command_for name) }
     ensures local { IfOk result (λ made. (fields_of made).has_globals ≡ false) }
 {
-    Command::new(alloc, "replay")
-        .about(
-            "Replays the log: writes it with the packets that the key sends, and what it counted",
-        )
-        .arg(load(alloc))?
-        .arg(save(alloc))?
-        .arg(log(alloc))
-}
-
-/// The command `live`.
-fn live<'a>(alloc: Global) -> Result<Command<'a>, AllocError>
-    ensures shape { IfOk result (λ made. shape_of made
-        ≡ command (codes "live") (path_option (codes "load") ∷ path_option (codes "save") ∷ log_path ∷ [])) }
-    ensures local { IfOk result (λ made. (fields_of made).has_globals ≡ false) }
-{
-    Command::new(alloc, "live")
-        .about(
-            "Replays the log line by line as it comes, and says what the key needs after each input",
-        )
-        .arg(load(alloc))?
-        .arg(save(alloc))?
-        .arg(log(alloc))
-}
-
-/// The command `check`.
-fn check<'a>(alloc: Global) -> Result<Command<'a>, AllocError>
-    ensures shape { IfOk result (λ made. shape_of made ≡ command (codes "check")
-        (path_option (codes "load") ∷ flag (codes "all") ∷ log_paths ∷ [])) }
-    ensures local { IfOk result (λ made. (fields_of made).has_globals ≡ false) }
-{
-    Command::new(alloc, "check")
-        .about("Compares the packets that the log names as sent with those that the key sends")
-        .arg(load(alloc))?
-        .arg(all(alloc))?
-        .arg(logs(alloc))
-}
-
-/// The command `quiet`.
-fn quiet<'a>(alloc: Global) -> Result<Command<'a>, AllocError>
-    ensures shape { IfOk result (λ made. shape_of made ≡ command (codes "quiet")
-        (path_option (codes "load") ∷ log_path ∷ [])) }
-    ensures local { IfOk result (λ made. (fields_of made).has_globals ≡ false) }
-{
-    Command::new(alloc, "quiet")
-        .about("Writes the log's inputs, with a tick in place of each that is noise")
-        .arg(load(alloc))?
-        .arg(log(alloc))
-}
-
-/// The command `show`.
-fn show<'a>(alloc: Global) -> Result<Command<'a>, AllocError>
-    ensures shape { IfOk result (λ made. shape_of made ≡ command (codes "show")
-        (flag (codes "summary") ∷ flag (codes "json") ∷ flag (codes "wide") ∷ log_path ∷ [])) }
-    ensures local { IfOk result (λ made. (fields_of made).has_globals ≡ false) }
-{
-    Command::new(alloc, "show")
-        .about("Writes what the log's lines say, line by line")
-        .arg(summary(alloc))?
-        .arg(json(alloc))?
-        .arg(wide(alloc))?
-        .arg(log(alloc))
-}
-
-/// The program with one more command, where there was memory for it.
-fn with_command<'a>(
-    program: Command<'a>,
-    command: Result<Command<'a>, AllocError>,
-) -> Result<Command<'a>, AllocError>
-    ensures { IfOk result (AddsCommand program.entry command.entry) }
-{
-    program.subcommand(command?)
+    let mut command = Command::new(alloc, name.word()).about(name.about());
+    for parameter in name.parameters() {
+        command = command.arg(argument(alloc, *parameter))?;
+    }
+    Ok(command)
 }
 
 /// The command line's grammar.
 fn program<'a>(alloc: Global) -> Result<Command<'a>, AllocError>
     ensures { IfOk result (λ program. app_of program ≡ grammar) }
 {
-    let named = Command::new(alloc, "hidlog")
+    let mut program = Command::new(alloc, "hidlog")
         .version(VERSION)
         .about("Replays text logs of CTAPHID sessions on a FIDO2 security key")
         .subcommand_required(true);
-    let played = with_command(with_command(named, replay(alloc))?, live(alloc))?;
-    let read = with_command(with_command(played, check(alloc))?, quiet(alloc))?;
-    with_command(read, show(alloc))
+    for name in [
+        Name::Replay,
+        Name::Live,
+        Name::Check,
+        Name::Quiet,
+        Name::Show,
+    ] {
+        program = program.subcommand(command(alloc, name)?)?;
+    }
+    Ok(program)
 }
 
 /// Returns whether an option without a value was found.
@@ -343,6 +357,23 @@ fn alone<'a>(alloc: Global, words: &[&str]) -> Option<Task<'a>>
     }
 }
 
+/// Returns what the words ask for by the command line's grammar; or clap's answer.
+fn task_by<'a>(
+    alloc: Global,
+    program: &mut Command<'a>,
+    words: &'a [&'a str],
+) -> Result<Task<'a>, Error>
+    requires { app_of program.old ≡ grammar }
+    ensures task { IfOk result (λ task. asked_by (texts_of words.now) ≡ Some (asks task)) }
+    ensures answer { IfErr result (λ error. HasKind (answers_to (texts_of words.now)) error) }
+{
+    let matches = program.try_get_matches_from_mut(words)?;
+    match task_in(alloc, &matches)? {
+        Some(task) => Ok(task),
+        None => Err(program.error(ErrorKind::MissingSubcommand, "a command is needed")?),
+    }
+}
+
 /// What the words ask for, the first of them being the program's name; or clap's answer, which is help or
 /// says what is wrong with them.
 #[inline(never)]
@@ -354,10 +385,5 @@ pub fn task_of<'a>(alloc: Global, words: &'a [&'a str]) -> Result<Task<'a>, Erro
         return Ok(task);
     }
     let mut program = program(alloc)?;
-    let matches = program.try_get_matches_from_mut(words)?;
-    let found = task_in(alloc, &matches)?;
-    match found {
-        Some(task) => Ok(task),
-        None => Err(program.error(ErrorKind::MissingSubcommand, "a command is needed")?),
-    }
+    task_by(alloc, &mut program, words)
 }
