@@ -173,94 +173,38 @@ fn checks_stand_in_their_order(rt: HostRuntime) {
     assert_read(&rt, &CHECKS);
 }
 
-/// Each member that has to be there, of other types.
-const REQUIRED_TYPES: [Case<'static>; 13] = [
-    (&[FOUR, b"\x01\x61h", RP, USER, PARAMETERS], TYPE, None),
-    (&[FOUR, b"\x01\x01", RP, USER, PARAMETERS], TYPE, None),
-    (&[FOUR, HASH, b"\x02\x61b", USER, PARAMETERS], TYPE, None),
-    (
-        &[FOUR, HASH, b"\x02\xa1\x62id\x41b", USER, PARAMETERS],
-        TYPE,
-        None,
-    ),
-    (
-        &[
-            FOUR,
-            HASH,
-            b"\x02\xa2\x62id\x61b\x64name\x00",
-            USER,
-            PARAMETERS,
-        ],
-        TYPE,
-        None,
-    ),
-    (&[FOUR, HASH, RP, b"\x03\x41\x01", PARAMETERS], TYPE, None),
-    (
-        &[FOUR, HASH, RP, b"\x03\xa1\x62id\x611", PARAMETERS],
-        TYPE,
-        None,
-    ),
-    (
-        &[
-            FOUR,
-            HASH,
-            RP,
-            b"\x03\xa2\x62id\x41\x01\x64name\x41n",
-            PARAMETERS,
-        ],
-        TYPE,
-        None,
-    ),
-    (
-        &[
-            FOUR,
-            HASH,
-            RP,
-            b"\x03\xa2\x62id\x41\x01\x6bdisplayName\xf6",
-            PARAMETERS,
-        ],
-        TYPE,
-        None,
-    ),
-    (
-        &[
-            FOUR,
-            HASH,
-            RP,
-            USER,
-            b"\x04\xa2\x63alg\x26\x64type\x6apublic-key",
-        ],
-        TYPE,
-        None,
-    ),
-    (&[FOUR, HASH, RP, USER, b"\x04\x81\x26"], TYPE, None),
-    (
-        &[
-            FOUR,
-            HASH,
-            RP,
-            USER,
-            b"\x04\x81\xa2\x63alg\x61a\x64type\x6apublic-key",
-        ],
-        TYPE,
-        None,
-    ),
-    (
-        &[
-            FOUR,
-            HASH,
-            RP,
-            USER,
-            b"\x04\x81\xa2\x63alg\x26\x64type\x4apublic-key",
-        ],
-        TYPE,
-        None,
-    ),
+/// The members of a request with this one in place of its own, by its number.
+fn with(number: u8, member: &[u8]) -> [&[u8]; 5] {
+    match number {
+        0x01 => [FOUR, member, RP, USER, PARAMETERS],
+        0x02 => [FOUR, HASH, member, USER, PARAMETERS],
+        0x03 => [FOUR, HASH, RP, member, PARAMETERS],
+        _ => [FOUR, HASH, RP, USER, member],
+    }
+}
+
+/// Each member that has to be there, of other types, by its number.
+const REQUIRED_TYPES: [(u8, &[u8]); 13] = [
+    (0x01, b"\x01\x61h"),
+    (0x01, b"\x01\x01"),
+    (0x02, b"\x02\x61b"),
+    (0x02, b"\x02\xa1\x62id\x41b"),
+    (0x02, b"\x02\xa2\x62id\x61b\x64name\x00"),
+    (0x03, b"\x03\x41\x01"),
+    (0x03, b"\x03\xa1\x62id\x611"),
+    (0x03, b"\x03\xa2\x62id\x41\x01\x64name\x41n"),
+    (0x03, b"\x03\xa2\x62id\x41\x01\x6bdisplayName\xf6"),
+    (0x04, b"\x04\xa2\x63alg\x26\x64type\x6apublic-key"),
+    (0x04, b"\x04\x81\x26"),
+    (0x04, b"\x04\x81\xa2\x63alg\x61a\x64type\x6apublic-key"),
+    (0x04, b"\x04\x81\xa2\x63alg\x26\x64type\x4apublic-key"),
 ];
 
 #[test]
 fn a_required_parameter_of_another_type_is_refused(rt: HostRuntime) {
-    assert_read(&rt, &REQUIRED_TYPES);
+    for (number, member) in REQUIRED_TYPES.iter() {
+        assert_read(&rt, &[(&with(*number, member), TYPE, None)]);
+    }
 }
 
 /// A fifth member of another type: the list, the options, and the others.
@@ -289,50 +233,36 @@ fn an_optional_parameter_of_another_type_is_refused(rt: HostRuntime) {
     }
 }
 
-const WITHOUT_A_MEMBER: [Case<'static>; 10] = [
+/// One of the four that have to be there is left out.
+const WITHOUT_A_PARAMETER: [Case<'static>; 4] = [
     (&[THREE, RP, USER, PARAMETERS], MISSING, None),
     (&[THREE, HASH, USER, PARAMETERS], MISSING, None),
     (&[THREE, HASH, RP, PARAMETERS], MISSING, None),
     (&[THREE, HASH, RP, USER], MISSING, None),
-    (&[FOUR, HASH, b"\x02\xa0", USER, PARAMETERS], MISSING, None),
-    (&[FOUR, HASH, RP, b"\x03\xa0", PARAMETERS], MISSING, None),
-    (
-        &[FOUR, HASH, RP, USER, b"\x04\x81\xa1\x63alg\x26"],
-        MISSING,
-        None,
-    ),
-    (
-        &[FOUR, HASH, RP, USER, b"\x04\x81\xa1\x64type\x6apublic-key"],
-        MISSING,
-        None,
-    ),
-    (
-        &[
-            FIVE,
-            HASH,
-            RP,
-            USER,
-            PARAMETERS,
-            b"\x05\x81\xa1\x62id\x41\x09",
-        ],
-        MISSING,
-        None,
-    ),
-    (
-        &[
-            FIVE,
-            HASH,
-            RP,
-            USER,
-            PARAMETERS,
-            b"\x05\x81\xa1\x64type\x6apublic-key",
-        ],
-        MISSING,
-        None,
-    ),
+];
+
+/// One of those lacks a member, by its number.
+const WITHOUT_A_MEMBER: [(u8, &[u8]); 4] = [
+    (0x02, b"\x02\xa0"),
+    (0x03, b"\x03\xa0"),
+    (0x04, b"\x04\x81\xa1\x63alg\x26"),
+    (0x04, b"\x04\x81\xa1\x64type\x6apublic-key"),
+];
+
+/// Lists whose descriptor lacks a member.
+const WITHOUT_ID_OR_TYPE: [&[u8]; 2] = [
+    b"\x05\x81\xa1\x62id\x41\x09",
+    b"\x05\x81\xa1\x64type\x6apublic-key",
 ];
 
 #[test]
 fn a_parameter_that_is_not_there_is_missed(rt: HostRuntime) {
-    assert_read(&rt, &WITHOUT_A_MEMBER);
+    assert_read(&rt, &WITHOUT_A_PARAMETER);
+    for (number, member) in WITHOUT_A_MEMBER.iter() {
+        assert_read(&rt, &[(&with(*number, member), MISSING, None)]);
+    }
+    for list in WITHOUT_ID_OR_TYPE.iter() {
+        let parts: [&[u8]; 6] = [FIVE, HASH, RP, USER, PARAMETERS, list];
+        assert_read(&rt, &[(&parts, MISSING, None)]);
+    }
 }
