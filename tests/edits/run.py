@@ -147,6 +147,20 @@ class Edit:
             found.add(function)
         return frozenset(found)
 
+    @cached_property
+    def bodies(self) -> str:
+        """The text of the functions that the edit changes, with and without it."""
+        return "\n".join(body_at(self.crate, path, old) + new for path, old, new in self.pairs)
+
+    def calls(self, other: Edit) -> bool:
+        """Returns whether a function that this edit changes calls one by the name of one that the other changes."""
+        names = "|".join(sorted({it.split("::")[-1] for it in other.functions}))
+        return re.search(rf"\b({names})(::<[^>]*>)?\(", self.bodies) is not None
+
+    def meets(self, other: Edit) -> bool:
+        """Returns whether a verdict on the functions of both could be that of the other one's edit."""
+        return bool(self.functions & other.functions) or self.calls(other) or other.calls(self)
+
 
 def modules_of(path: str) -> list[str]:
     """Returns the module that a file of src/ is."""
@@ -182,6 +196,17 @@ def function_at(crate: str, path: str, old: str) -> str | None:
         if named:
             owner, modules = [named[2] + (named[1] or "")], home_of(crate, named[2]) or modules
     return "::".join([crate, *modules, *owner, name])
+
+
+def body_at(crate: str, path: str, old: str) -> str:
+    """Returns the body of the function that a text is in."""
+    text = (TOP / "crates" / crate / path).read_text(encoding="utf-8")
+    lines = text.split("\n")
+    inside = text[: text.index(old)].count("\n")
+    begin = next(it for it in range(inside, -1, -1) if FUNCTION.match(lines[it]))
+    indent = FUNCTION.match(lines[begin])[1]  # type: ignore[index]
+    end = next(it for it in range(inside, len(lines)) if lines[it] == f"{indent}}}")
+    return "\n".join(lines[begin + 1 : end])
 
 
 def edits_of(crate: str, folders: tuple[str, ...] = FOLDERS) -> list[Edit]:
@@ -374,10 +399,11 @@ def try_whole(room: Room, edit: Edit, answers: Answers) -> None:
 
 
 def first_of_each(edits: list[Edit]) -> list[Edit]:
-    """Returns edits of which no two change one function, so that each verdict is of one edit."""
+    """Returns edits of which no two change one function, or functions that call each other: each verdict is of one."""
     chosen: list[Edit] = []
-    for edit in edits:
-        if not any(it.functions & edit.functions for it in chosen):
+    # Those that meet the most others go first, so that there are fewer rounds.
+    for edit in sorted(edits, key=lambda edit: -sum(it.meets(edit) for it in edits)):
+        if not any(it.meets(edit) for it in chosen):
             chosen.append(edit)
     return chosen
 

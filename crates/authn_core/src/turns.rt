@@ -81,33 +81,16 @@ impl<T: Table<C>, const C: usize> Core<T, C> {
         ensures { Takes self.old self.new result (reply_turn self.old.core.setup self.old.core.state self.old.latest
             self.old.core.state.work (PresenceIs reply)) }
     {
-        match self.work.take() {
-            Some(
-                Job {
-                    task: Task::Resets,
-                    ..
-                },
-            ) => self.reset(reply),
-            Some(
-                Job {
-                    task: Task::Selects,
-                    ..
-                },
-            ) => self.select(reply),
-            Some(
-                Job {
-                    cid,
-                    task: Task::AsksMake(making, excluded),
-                },
-            ) => self.make_presence(cid, making, excluded, reply),
-            Some(
-                Job {
-                    cid,
-                    task: Task::AsksAssert(a),
-                },
-            ) => self.assert_presence(cid, a, reply),
-            work => {
-                self.work = work;
+        let Some(Job { cid, task }) = self.work.take() else {
+            return Turn::Ignored;
+        };
+        match task {
+            Task::Resets => self.reset(reply),
+            Task::Selects => self.select(reply),
+            Task::AsksMake(making, excluded) => self.make_presence(cid, making, excluded, reply),
+            Task::AsksAssert(a) => self.assert_presence(cid, a, reply),
+            task => {
+                self.work = Some(Job { cid, task });
                 Turn::Ignored
             }
         }
@@ -118,15 +101,13 @@ impl<T: Table<C>, const C: usize> Core<T, C> {
         ensures { Takes self.old self.new result (reply_turn self.old.core.setup self.old.core.state self.old.latest
             self.old.core.state.work (KeyIs key.now)) }
     {
-        match self.work.take() {
-            Some(
-                Job {
-                    cid,
-                    task: Task::WantsKey(making),
-                },
-            ) => self.make_key(cid, making, key),
-            work => {
-                self.work = work;
+        let Some(Job { cid, task }) = self.work.take() else {
+            return Turn::Ignored;
+        };
+        match task {
+            Task::WantsKey(making) => self.make_key(cid, making, key),
+            task => {
+                self.work = Some(Job { cid, task });
                 Turn::Ignored
             }
         }
@@ -137,21 +118,14 @@ impl<T: Table<C>, const C: usize> Core<T, C> {
         ensures { Takes self.old self.new result (reply_turn self.old.core.setup self.old.core.state self.old.latest
             self.old.core.state.work (SignatureIs signature.now)) }
     {
-        match self.work.take() {
-            Some(
-                Job {
-                    task: Task::SignsMake(making, key, _),
-                    ..
-                },
-            ) => self.make_signature(making, key, signature),
-            Some(
-                Job {
-                    task: Task::SignsAssert(a, counter, _),
-                    ..
-                },
-            ) => self.assert_signature(a, counter, signature),
-            work => {
-                self.work = work;
+        let Some(Job { cid, task }) = self.work.take() else {
+            return Turn::Ignored;
+        };
+        match task {
+            Task::SignsMake(making, key, _) => self.make_signature(making, key, signature),
+            Task::SignsAssert(a, counter, _) => self.assert_signature(a, counter, signature),
+            task => {
+                self.work = Some(Job { cid, task });
                 Turn::Ignored
             }
         }

@@ -23,7 +23,8 @@ use Rattle.clap.specs.declared.error.kind.ErrorKind.TheVariants as kind
 use Rattle.hidlog.specs.declared.command_line.Form.TheVariants.{Lines}
 use Rattle.hidlog.specs.declared.command_line.Name.{Name}
 use Rattle.hidlog.specs.declared.command_line.Parameter.{Parameter}
-use Rattle.hidlog.specs.CommandLine.{command, command_for, rule_for, ask_of, asked_by, grammar, answers_to, logs_of, replay, live, check, quiet, show}
+use Rattle.hidlog.specs.CommandLine.{command, command_for, rule_for, ask_of, asked_by, grammar, answers_to, logs_of, play, check, show}
+use Rattle.session_log.specs.declared.command.Command.TheVariants as playing
 
 -- the rules of which clap's clauses speak
 is_simple_grammar : is_simple_and_free grammar ≡ true
@@ -251,11 +252,11 @@ pub asks_of : (m : ArgMatches) (name word : Text) (rows : List Row) → subcomma
 asks_of m name word rows is named = ap (option_and_then ask_of) (is ∙ ap (λ n. Some (n, rows)) named)
 
 -- What a command alone asks for, whatever the program's name is.
-pub plain_replay : (name : Text) → asked_by (name ∷ codes "replay" ∷ []) ≡ Some (replay None None None)
+pub plain_replay : (name : Text) → asked_by (name ∷ codes "replay" ∷ []) ≡ Some (play playing.Replay None None None)
 unfolding asked_by answers_to clap_on_literals
 plain_replay name = refl
 
-pub plain_live : (name : Text) → asked_by (name ∷ codes "live" ∷ []) ≡ Some (live None None None)
+pub plain_live : (name : Text) → asked_by (name ∷ codes "live" ∷ []) ≡ Some (play playing.Live None None None)
 unfolding asked_by answers_to clap_on_literals
 plain_live name = refl
 
@@ -263,7 +264,7 @@ pub plain_check : (name : Text) → asked_by (name ∷ codes "check" ∷ []) ≡
 unfolding asked_by answers_to clap_on_literals
 plain_check name = refl
 
-pub plain_quiet : (name : Text) → asked_by (name ∷ codes "quiet" ∷ []) ≡ Some (quiet None None)
+pub plain_quiet : (name : Text) → asked_by (name ∷ codes "quiet" ∷ []) ≡ Some (play playing.Quiet None None None)
 unfolding asked_by answers_to clap_on_literals
 plain_quiet name = refl
 

@@ -4,7 +4,8 @@ use Rattle.clap.proofs.OnLiterals.{clap_on_literals}
 use Rattle.clap.specs.Kinds.{Kinds}
 use Rattle.clap.specs.declared.error.kind.ErrorKind.TheVariants.{DisplayVersion}
 use Rattle.hidlog.specs.declared.command_line.Form.TheVariants.{Json, Lines, Summary}
-use Rattle.hidlog.specs.CommandLine.{Ask, replay, live, check, quiet, show, answers_to, asked_by}
+use Rattle.hidlog.specs.CommandLine.{Ask, play, check, show, answers_to, asked_by}
+use Rattle.session_log.specs.declared.command.Command.TheVariants as playing
 
 -- what clap answers to these words after the program's name
 answers : List (List ℕ) → Kinds
@@ -19,15 +20,15 @@ version_asked : answers (codes "--version" ∷ []) ≡ DisplayVersion ∷ []
 unfolding answers
 version_asked = refl
 
-replay_alone : asked (codes "replay" ∷ []) ≡ Some (replay None None None)
+replay_alone : asked (codes "replay" ∷ []) ≡ Some (play playing.Replay None None None)
 unfolding asked
 replay_alone = refl
 
-both_options : asked (codes "replay" ∷ codes "--save" ∷ codes "new" ∷ codes "--load" ∷ codes "old" ∷ []) ≡ Some (replay (Some (codes "old")) (Some (codes "new")) None)
+both_options : asked (codes "replay" ∷ codes "--save" ∷ codes "new" ∷ codes "--load" ∷ codes "old" ∷ []) ≡ Some (play playing.Replay (Some (codes "old")) (Some (codes "new")) None)
 unfolding asked
 both_options = refl
 
-live_alone : asked (codes "live" ∷ codes "--save" ∷ codes "new" ∷ []) ≡ Some (live None (Some (codes "new")) None)
+live_alone : asked (codes "live" ∷ codes "--save" ∷ codes "new" ∷ []) ≡ Some (play playing.Live None (Some (codes "new")) None)
 unfolding asked
 live_alone = refl
 
@@ -36,7 +37,7 @@ attached : asked (codes "check" ∷ codes "--load=old" ∷ []) ≡ Some (check (
 unfolding asked
 attached = refl
 
-quiet_alone : asked (codes "quiet" ∷ []) ≡ Some (quiet None None)
+quiet_alone : asked (codes "quiet" ∷ []) ≡ Some (play playing.Quiet None None None)
 unfolding asked
 quiet_alone = refl
 
@@ -45,7 +46,7 @@ unfolding asked
 show_alone = refl
 
 -- a log may be named, before an option and after one, and several to `check` alone
-log_named : asked (codes "replay" ∷ codes "a.log" ∷ codes "--save" ∷ codes "new" ∷ []) ≡ Some (replay None (Some (codes "new")) (Some (codes "a.log")))
+log_named : asked (codes "replay" ∷ codes "a.log" ∷ codes "--save" ∷ codes "new" ∷ []) ≡ Some (play playing.Replay None (Some (codes "new")) (Some (codes "a.log")))
 unfolding asked
 log_named = refl
 
@@ -58,7 +59,7 @@ unfolding asked
 one_to_show = refl
 
 -- a log whose name begins with a hyphen comes after `--`
-hyphens_end_options : asked (codes "quiet" ∷ codes "--" ∷ codes "-a" ∷ []) ≡ Some (quiet None (Some (codes "-a")))
+hyphens_end_options : asked (codes "quiet" ∷ codes "--" ∷ codes "-a" ∷ []) ≡ Some (play playing.Quiet None None (Some (codes "-a")))
 unfolding asked
 hyphens_end_options = refl
 

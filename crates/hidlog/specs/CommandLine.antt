@@ -15,7 +15,9 @@ use Rattle.hidlog.specs.declared.command_line.Parameter.TheVariants.{Load, Save,
 use Rattle.hidlog.specs.declared.command_line.Name.{Name}
 use Rattle.hidlog.specs.declared.command_line.Name.TheVariants as name
 use Rattle.hidlog.specs.declared.command_line.Task.{Task}
-use Rattle.hidlog.specs.declared.command_line.Task.TheVariants.{Replay, Live, Check, Quiet, Show}
+use Rattle.hidlog.specs.declared.command_line.Task.TheVariants.{Play, Check, Show}
+use Rattle.session_log.specs.declared.command.Command.{Command as LogCommand}
+use Rattle.session_log.specs.declared.command.Command.TheVariants as playing
 
 -- ---- the grammar
 
@@ -88,10 +90,8 @@ answers_to words = fault_of grammar words
 
 -- what words ask for, with the paths that they have
 pub data Ask : Type 0 where
-  replay : (load save log : Option (List ℕ)) → Ask
-  live : (load save log : Option (List ℕ)) → Ask
+  play : (command : LogCommand) (load save log : Option (List ℕ)) → Ask
   check : (load : Option (List ℕ)) (all : Bool) (logs : List (List ℕ)) → Ask
-  quiet : (load log : Option (List ℕ)) → Ask
   show : (form : Form) (wide : Bool) (log : Option (List ℕ)) → Ask
 
 abbrev pub path_of : Option (Bor (List ℕ)) → Option (List ℕ)
@@ -102,10 +102,8 @@ abbrev pub texts_of : List (Bor (List ℕ)) → List (List ℕ)
 texts_of words = map (λ word. word.now) words
 
 abbrev pub asks : Task → Ask
-asks (Replay load save log) = replay (path_of load) (path_of save) (path_of log)
-asks (Live load save log) = live (path_of load) (path_of save) (path_of log)
+asks (Play p) = play p.command (path_of p.load) (path_of p.save) (path_of p.log)
 asks (Check load all logs) = check (path_of load) all (texts_of logs.items)
-asks (Quiet load log) = quiet (path_of load) (path_of log)
 asks (Show form wide log) = show form wide (path_of log)
 
 -- whether an option without a value was found
@@ -123,13 +121,13 @@ logs_of found = unwrap_or (all_of (codes "log") found) []
 -- a command that was met, and what was found for its options
 abbrev pub ask_of : List ℕ × List Row → Option Ask
 ask_of (name, found) =
-    if bytes_eq name (codes "replay") then Some (replay (first_of (codes "load") found) (first_of (codes "save") found)
-    (first_of (codes "log") found))
-    else if bytes_eq name (codes "live") then Some (live (first_of (codes "load") found)
+    if bytes_eq name (codes "replay") then Some (play playing.Replay (first_of (codes "load") found)
+    (first_of (codes "save") found) (first_of (codes "log") found))
+    else if bytes_eq name (codes "live") then Some (play playing.Live (first_of (codes "load") found)
     (first_of (codes "save") found) (first_of (codes "log") found))
     else if bytes_eq name (codes "check") then Some (check (first_of (codes "load") found)
     (is_set (codes "all") found) (logs_of found))
-    else if bytes_eq name (codes "quiet") then Some (quiet (first_of (codes "load") found)
+    else if bytes_eq name (codes "quiet") then Some (play playing.Quiet (first_of (codes "load") found) None
     (first_of (codes "log") found))
     else if bytes_eq name (codes "show") then Some (show (form_of found) (is_set (codes "wide") found)
     (first_of (codes "log") found))

@@ -9,8 +9,8 @@ use Rattle.token_session.specs.Meters.{SessionState}
 use Rattle.session_log.specs.declared.fault.LogFault.{LogFault}
 use Rattle.session_log.specs.Command.{IsCounted, RunsLog, Status, start_with, status_of}
 use Rattle.session_log.specs.declared.command.Command.{Command}
-use Rattle.session_log.specs.declared.command.Command.TheVariants.{Check, Live, Quiet, Replay}
-use Rattle.hidlog.specs.CommandLine.{Ask, answers_to, asked_by, named, replay, live, check, quiet, show}
+use Rattle.session_log.specs.declared.command.Command.TheVariants.{Check, Live}
+use Rattle.hidlog.specs.CommandLine.{Ask, answers_to, asked_by, named, play, check, show}
 use Rattle.hidlog.specs.declared.command_line.Form.{Form}
 use Rattle.hidlog.specs.declared.command_line.Form.TheVariants.{Lines}
 use Rattle.hidlog.specs.Program.{Explains, IsTold, IsWhole, LacksMemory, cannot_read_log}
@@ -74,13 +74,12 @@ module _ {D I O F : Type 0} (holds : D → List ℕ → List ℕ → Type 0) (un
 
   -- What is asked for is done. Of several logs each is compared, and the files stay as they are.
   abbrev pub Does : Ask → Status → (D × D) → (I × I) → (O × O) → (F × F) → Type 0
-  Does (replay load save log) status files input output faults = RunsCommand Replay load save log status files input output faults
-  Does (live load save log) status files input output faults = RunsCommand Live load save log status files input output faults
+  Does (play command load save log) status files input output faults =
+      RunsCommand command load save log status files input output faults
   Does (check load all []) status files input output faults = RunsCommand Check load None None status files input output faults
   Does (check load all (log ∷ [])) status files input output faults =
       RunsCommand Check load None (Some log) status files input output faults
   Does (check load all (log ∷ next ∷ logs)) status files input output faults = files.1 ≡ files.0
-  Does (quiet load log) status files input output faults = RunsCommand Quiet load None log status files input output faults
   Does (show form wide log) status files input output faults = Reads log (λ read. Shows form status files read output faults)
       status files input output faults
 

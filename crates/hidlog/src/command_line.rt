@@ -1,14 +1,16 @@
 //! The command line of the program.
-ghost use Rattle.std.specs.Prelude.{◌≡◌, [], ◌∷◌, false, Some, codes, IfOk, IfErr, IfSome, option_map, option_and_then};
+ghost use Rattle.std.specs.Prelude.{◌≡◌, [], ◌∷◌, false, Some, None, codes, IfOk, IfErr, IfSome, option_map, option_and_then};
 ghost use Rattle.clap.specs.Words.{HasKind, app_of, rule_of, shape_of, subcommand_rows_of};
 ghost use Rattle.clap.specs.declared.builder.command.Command.TheViews.{out-Command as fields_of};
 ghost use Rattle.hidlog.specs.CommandLine.{command_for, flag, grammar, log_path, log_paths, parameters_for, path_option, rule_for, word_for};
-ghost use Rattle.hidlog.specs.CommandLine.{answers_to, ask_of, asked_by, asks, form_of, is_set as is_found, logs_of, texts_of};
+ghost use Rattle.hidlog.specs.CommandLine.{answers_to, ask_of, asked_by, asks, form_of, is_set as is_found, logs_of, path_of, play, texts_of};
 ghost use Rattle.clap.specs.Matches.{found_of};
-ghost use Rattle.clap.specs.Walk.{rows_of};
+ghost use Rattle.clap.specs.Walk.{first_of, rows_of};
 
+use crate::commands::Play;
 use clap::error::ErrorKind;
 use clap::{Arg, ArgAction, ArgMatches, Command, Error};
+use session_log::Command as LogCommand;
 use std::alloc::{AllocError, Global};
 
 /// The version, which CHANGELOG.md describes.
@@ -28,28 +30,13 @@ pub enum Form {
 /// What the program is asked to do, with the paths of snapshots and logs as they are.
 #[derive(Drop)]
 pub enum Task<'a> {
-    /// `hidlog replay [--load F] [--save F] [FILE]`
-    Replay {
-        load: Option<&'a str>,
-        save: Option<&'a str>,
-        log: Option<&'a str>,
-    },
-    /// `hidlog live [--load F] [--save F] [FILE]`
-    Live {
-        load: Option<&'a str>,
-        save: Option<&'a str>,
-        log: Option<&'a str>,
-    },
+    /// `hidlog replay [--load F] [--save F] [FILE]`, the same with `live`, and `hidlog quiet [--load F] [FILE]`
+    Play(Play<'a>),
     /// `hidlog check [--load F] [--all] [FILE]..`
     Check {
         load: Option<&'a str>,
         all: bool,
         logs: Vec<&'a str>,
-    },
-    /// `hidlog quiet [--load F] [FILE]`
-    Quiet {
-        load: Option<&'a str>,
-        log: Option<&'a str>,
     },
     /// `hidlog show [--summary] [--json] [--wide] [FILE]`
     Show {
@@ -287,6 +274,23 @@ fn logs_in<'a>(alloc: Global, options: &ArgMatches<'a>) -> Result<Vec<&'a str>, 
     }
 }
 
+/// Returns what a command that plays a log asks for.
+fn play_in<'a>(
+    command: LogCommand,
+    options: &ArgMatches<'a>,
+    save: Option<&'a str>,
+) -> Task<'a>
+    ensures { asks result ≡ play command (first_of (codes "load") (rows_of (found_of options.now))) (path_of save.entry)
+        (first_of (codes "log") (rows_of (found_of options.now))) }
+{
+    Task::Play(Play {
+        command,
+        load: options.get_str("load"),
+        save,
+        log: options.get_str("log"),
+    })
+}
+
 /// What the command that was met asks for.
 fn task_in<'a>(alloc: Global, matches: &ArgMatches<'a>) -> Result<Option<Task<'a>>, AllocError>
     ensures { IfOk result (λ task. option_map asks task ≡ option_and_then ask_of (subcommand_rows_of matches.now)) }
@@ -295,25 +299,20 @@ fn task_in<'a>(alloc: Global, matches: &ArgMatches<'a>) -> Result<Option<Task<'a
         return Ok(None);
     };
     match name {
-        "replay" => Ok(Some(Task::Replay {
-            load: options.get_str("load"),
-            save: options.get_str("save"),
-            log: options.get_str("log"),
-        })),
-        "live" => Ok(Some(Task::Live {
-            load: options.get_str("load"),
-            save: options.get_str("save"),
-            log: options.get_str("log"),
-        })),
+        "replay" => {
+            let save = options.get_str("save");
+            Ok(Some(play_in(LogCommand::Replay, options, save)))
+        }
+        "live" => {
+            let save = options.get_str("save");
+            Ok(Some(play_in(LogCommand::Live, options, save)))
+        }
         "check" => Ok(Some(Task::Check {
             load: options.get_str("load"),
             all: is_set(options, "all"),
             logs: logs_in(alloc, options)?,
         })),
-        "quiet" => Ok(Some(Task::Quiet {
-            load: options.get_str("load"),
-            log: options.get_str("log"),
-        })),
+        "quiet" => Ok(Some(play_in(LogCommand::Quiet, options, None))),
         "show" => Ok(Some(Task::Show {
             form: form_in(options),
             wide: is_set(options, "wide"),
@@ -323,24 +322,35 @@ fn task_in<'a>(alloc: Global, matches: &ArgMatches<'a>) -> Result<Option<Task<'a
     }
 }
 
+/// Returns what a command that plays a log asks for where no word is behind it.
+fn plain_play<'a>(command: LogCommand) -> Task<'a>
+    ensures { asks result ≡ play command None None None }
+{
+    Task::Play(Play {
+        command,
+        load: None,
+        save: None,
+        log: None,
+    })
+}
+
 /// Returns what a word after the program's name asks for, where it is a command.
 fn plain_task<'a>(alloc: Global, program: &str, name: &str) -> Option<Task<'a>>
     ensures { IfSome result (λ task. asked_by (program.now ∷ name.now ∷ []) ≡ Some (asks task)) }
 {
-    let (load, save, log) = (None, None, None);
     match name {
-        "replay" => Some(Task::Replay { load, save, log }),
-        "live" => Some(Task::Live { load, save, log }),
+        "replay" => Some(plain_play(LogCommand::Replay)),
+        "live" => Some(plain_play(LogCommand::Live)),
         "check" => Some(Task::Check {
-            load,
+            load: None,
             all: false,
             logs: Vec::new(alloc),
         }),
-        "quiet" => Some(Task::Quiet { load, log }),
+        "quiet" => Some(plain_play(LogCommand::Quiet)),
         "show" => Some(Task::Show {
             form: Form::Lines,
             wide: false,
-            log,
+            log: None,
         }),
         _ => None,
     }

@@ -303,39 +303,11 @@ where
         (files.old, files.new) (input.old, input.new) (output.old, output.new) (faults.old, faults.new) }
 {
     match task_of(alloc, words) {
-        Ok(Task::Replay { load, save, log }) => {
-            let command = Command::Replay;
-            let play = Play {
-                command,
-                load,
-                save,
-                log,
-            };
-            play_log(&play, files, alloc, input, output, remarks, faults)
-        }
-        Ok(Task::Live { load, save, log }) => {
-            let command = Command::Live;
-            let play = Play {
-                command,
-                load,
-                save,
-                log,
-            };
-            play_log(&play, files, alloc, input, output, remarks, faults)
-        }
+        Ok(Task::Play(play)) => play_log(&play, files, alloc, input, output, remarks, faults),
         Ok(Task::Check { load, all, logs }) => {
             check_logs(
                 files, alloc, load, all, &logs, input, output, remarks, faults,
             )
-        }
-        Ok(Task::Quiet { load, log }) => {
-            let play = Play {
-                command: Command::Quiet,
-                load,
-                save: None,
-                log,
-            };
-            play_log(&play, files, alloc, input, output, remarks, faults)
         }
         // Whether lines are whole is a matter of the output.
         Ok(Task::Show { form, wide: _, log }) => show_log(
