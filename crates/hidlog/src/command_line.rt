@@ -275,11 +275,7 @@ fn logs_in<'a>(alloc: Global, options: &ArgMatches<'a>) -> Result<Vec<&'a str>, 
 }
 
 /// Returns what a command that plays a log asks for.
-fn play_in<'a>(
-    command: LogCommand,
-    options: &ArgMatches<'a>,
-    save: Option<&'a str>,
-) -> Task<'a>
+fn play_in<'a>(command: LogCommand, options: &ArgMatches<'a>, save: Option<&'a str>) -> Task<'a>
     ensures { asks result ≡ play command (first_of (codes "load") (rows_of (found_of options.now))) (path_of save.entry)
         (first_of (codes "log") (rows_of (found_of options.now))) }
 {

@@ -27,7 +27,7 @@ returns-in_ok-logs_in-in-check c =
     let found = found_of c.in-Some.options.now in
     let is = met_is c.args.matches.now c.in-Some.name.now found c.in-Some.ensures.name c.in-Some.ensures.rows in
     three_parts (λ load all logs. Some (check load all logs))
-    (path_is found (codes "load") (path_of c.get_str-in-check.result) c.get_str-in-check.ensures)
+    (path_is found (codes "load") (path_of c.get_str.result) c.get_str.ensures)
     c.is_set.ensures
     c.in_ok-logs_in-in-check.ensures
     ∙ sym (asks_of c.args.matches.now c.in-Some.name.now (codes "check") (rows_of found) is c.in-check.is)
