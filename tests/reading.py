@@ -3,7 +3,8 @@
 docs/DEFINITIONS.md.
 
     tests/reading.py            ends with 1 where the pages miss a definition, show one that isn't needed, or twice,
-                                where a text, a count or the index isn't that of today, where a definition names a type
+                                where a text, a count or the index isn't that of today, where the first page is longer
+                                than it says or takes another time, where a definition names a type
                                 or a constant of the code that isn't public, where a law doesn't speak of what it
                                 replaces, or where the prose doesn't name a library's word or a small constructor
     tests/reading.py --write    writes the definitions, the declarations, the counts and the index anew
@@ -21,6 +22,9 @@ The pages' prose is written by hand. A comment `<!-- KIND: FILE: NAMES -->`, wit
 - definitions: these definitions, each below its comment;
 - code: the declarations of types and constants of the code that definitions name; quoted: others;
 - clauses: clauses of the contract of the function that is named first, and its signature where that is named.
+
+How many words and lines the first page has at most, and the time that they take, is written by hand, so that it doesn't
+grow unseen.
 
 It needs no toolchain.
 """
@@ -61,8 +65,20 @@ BLOCK = re.compile(r"<!-- (definitions|code|quoted|clauses): (\S+): `([^`]*)` --
 SECTION = re.compile(r"^(?=## Only for )", re.MULTILINE)
 COUNTS = re.compile(r"\*\*\d+\s+definitions,\s+[\d,]+\s+lines,\s+\d+\s+files\*\*")
 MORE = re.compile(r"\*\*\d+\s+more\s+definitions\*\*\s+\(`(\w+)`\)")
+# How long the first page takes, with the rates: words and formal lines a minute.
+TIME = re.compile(
+    r"At\s+(\d+)\s+words\s+of\s+English\s+and\s+(\d+)\s+formal\s+lines\s+a\s+minute,\s+"
+    r"\*\*([\d,]+)\s+words\s+and\s+([\d,]+)\s+lines\s+take\s+(\d+)\s+minutes\*\*"
+)
+# A line of a block that is a comment alone, and a comment after a formal line.
+COMMENT = re.compile(r" *(?:--|///) (.*)")
+BESIDE = re.compile(r" -- (.*)")
+# A line of the page that has neither English nor a formula: the name of a block, or of its file.
+NAMING = re.compile(r"<!-- .*| {4}(?:--|//) crates/.*")
 DECLARED = re.compile(r"Rattle\.(\w+)\.specs\.declared\.([\w.]+?)(\.The\w+)?")
 LINKED = re.compile(r"\[(`[^`]*`)\]\([^)]*\)")
+# How a comment cites a standard, and how the pages do: sections without a name are those of CTAP 2.1.
+CITED = ((re.compile(r"CTAP 2\.1, sections? "), ""), (re.compile(r"WebAuthn Level 2, sections? "), "WebAuthn, "))
 # Between the texts of the two pages, where they are looked at as one.
 END = "\f"
 EXPORTED = r"^pub use {}::(?:\{{[^}}]*\b{}\b[^}}]*\}}|{});|^pub mod {};"
@@ -109,7 +125,10 @@ class Definition:
     def shown(self) -> list[str]:
         """Returns the definition as the page has it: its comment, and its lines without the words for the prover."""
         end = "" if self.comment.endswith((".", "?")) else "."
-        lines = textwrap.wrap(self.comment[:1].upper() + self.comment[1:] + end, 113) if self.comment else []
+        comment = self.comment[:1].upper() + self.comment[1:] + end if self.comment else ""
+        for cited, short in CITED:
+            comment = cited.sub(short, comment)
+        lines = textwrap.wrap(comment, 113)
         indent = len(self.lines[0]) - len(self.lines[0].lstrip())
         code = (re.sub(rf"^( *){MODIFIERS.pattern}", r"\1", line[indent:]) for line in self.lines[self.begins() :])
         return [f"-- {line}" for line in lines] + [line.rstrip() for line in code]
@@ -402,6 +421,34 @@ def unsaid(needs: Needs, page: str) -> list[str]:
     return found + [f"the library's {it} isn't explained" for it in sorted(needs.library - prose)]
 
 
+def extent(page: str) -> tuple[int, int]:
+    """Returns how many words of English a page has, with the comments, and how many formal lines."""
+    english, lines = list[str](), 0
+    for line in (it for it in page.splitlines() if not NAMING.fullmatch(it)):
+        alone, beside = COMMENT.fullmatch(line), BESIDE.search(line)
+        if not line.startswith("    "):
+            english.append(line)
+        elif alone:
+            english.append(alone[1])
+        else:
+            english.append(beside[1] if beside else "")
+            lines += 1
+    return sum(len(it.split()) for it in english), lines
+
+
+def overlong(page: str) -> list[str]:
+    """Returns where the page has more than it says, or where that takes another time than it says."""
+    said = TIME.search(page)
+    if said is None:
+        return ["the page doesn't say how long it takes"]
+    a_minute, lines_a_minute, most_words, most_lines, minutes = (int(it.replace(",", "")) for it in said.groups())
+    words, lines = extent(page)
+    found = [f"the page has {words} words, more than {most_words}"] if words > most_words else []
+    found += [f"the page has {lines} formal lines, more than {most_lines}"] if lines > most_lines else []
+    computed = round(most_words / a_minute + most_lines / lines_a_minute)
+    return found + ([f"that takes {computed} minutes"] if computed != minutes else [])
+
+
 def faults(needs: Needs, page: str) -> list[str]:
     """Returns what is wrong in the text of both pages."""
     found, texts = [*needs.faults], SECTION.split(page)
@@ -413,6 +460,7 @@ def faults(needs: Needs, page: str) -> list[str]:
     code = sorted(it for part in needs.parts for it in part.code)
     found += [f"{it} is named by a definition and isn't public" for it in code if not is_public(it)]
     found += unsaid(needs, page)
+    found += overlong(page.partition(END)[0])
     if len(COUNTS.findall(page)) != len(needs.parts) or {it[1] for it in MORE.finditer(page)} != set(LAWS.values()):
         found.append("the pages don't say each count once")
     if written(needs, page) != page:
@@ -454,7 +502,9 @@ def main() -> int:
         found.append("docs/DEFINITIONS.md isn't what the comments of the definitions say: tests/reading.py --write")
     for line in found:
         print(line)
-    print(f"docs/READING.md: {count(needs.parts[0].definitions).strip('*')}, {len(found)} faults")
+    words, lines = extent(texts[0])
+    counted = count(needs.parts[0].definitions).strip("*")
+    print(f"docs/READING.md: {counted}; {words} words and {lines} formal lines in all; {len(found)} faults")
     return 1 if found else 0
 
 

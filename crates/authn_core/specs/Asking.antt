@@ -7,16 +7,16 @@ use Rattle.authn_core.specs.declared.replies.Presence.{Presence}
 use Rattle.authn_core.specs.declared.replies.Presence.TheVariants.{Granted, Denied, TimedOut}
 use Rattle.authn_core.specs.State.{Resets, Turned, refuses, waits}
 
--- a reset may be asked for within so many milliseconds of the start
+-- milliseconds from the start in which a reset may be asked for
 abbrev pub RESET_LIMIT : ℕ
 RESET_LIMIT = 10000
 
--- A reset asks for the user's presence, or comes too late.
+-- A reset asks for presence, or is too late.
 abbrev pub reset_begins : List Row → (began now cid : ℕ) → Turned
 reset_begins rows began now cid =
     if nat_lt (began + RESET_LIMIT) now then refuses rows None 0x30 else waits rows None cid Resets  -- NOT_ALLOWED
 
--- What was asked for by presence alone is granted, or refused.
+-- The user's answer decides.
 abbrev pub asked_alone : (granted : Turned) → List Row → Option Waiting → Presence → Turned
 asked_alone granted rows pending Granted = granted
 asked_alone granted rows pending Denied = refuses rows pending 0x27  -- OPERATION_DENIED

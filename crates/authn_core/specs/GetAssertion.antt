@@ -12,17 +12,16 @@ use Rattle.authn_core.specs.declared.replies.Presence.{Presence}
 use Rattle.authn_core.specs.declared.replies.Presence.TheVariants.{Granted}
 use Rattle.authn_core.specs.State.{Asserting, AsksAssert, Turned, answers, refuses, waits, signs}
 
--- the row of the first id that names one of the RP
+-- the RP's row of the first id that names one
 abbrev pub find_named : (rp : List ℕ) → List Row → List (List ℕ) → Option Row
 find_named rp rows [] = None
 find_named rp rows (id ∷ others) = option_or (find (is_named rp id) rows) (find_named rp rows others)
 
--- The rows that may sign. With an allow list that has an entry of any type: the row of the first descriptor of type
--- `public-key` that names one of the RP, alone. Else the RP's discoverable rows, newest first.
+-- one row by an allow list, else the RP's discoverable ones
 abbrev pub applicable : List Row → (rp : List ℕ) → (given : Bool) → (allow : List (List ℕ)) → List Row
 applicable rows rp given allow = if given then option_to_list (find_named rp rows allow) else listed rp rows
 
--- the number of applicable rows, where the answer has it: without an allow list, and where there is more than one
+-- none with an allow list, nor below two
 abbrev pub told : (given : Bool) → ℕ → Option ℕ
 told given n = if nat_lt 1 n then (if given then None else Some n) else None
 
@@ -30,11 +29,11 @@ told given n = if nat_lt 1 n then (if given then None else Some n) else None
 abbrev pub MOST : ℕ
 MOST = 4294967295
 
--- With `presence` the user is asked, else the assertion goes on at once.
+-- With `presence` the user is asked first.
 abbrev pub begun : List Row → Option Waiting → (cid : ℕ) → Asserting → Turned
 begun rows pending cid a = if a.presence then waits rows pending cid (AsksAssert a) else signs rows pending cid a
 
--- The first of the applicable rows, by their ids, signs, and the others are pending.
+-- The first signs, the others are pending.
 abbrev pub begins : List Row → (now cid : ℕ) (hash rp : List ℕ) (presence given : Bool) → List (List ℕ) → Turned
 begins rows now cid hash rp presence given [] = refuses rows None 0x2e  -- NO_CREDENTIALS
 begins rows now cid hash rp presence given (id ∷ others) =
@@ -43,7 +42,7 @@ begins rows now cid hash rp presence given (id ∷ others) =
     (record { hash = hash; rp = rp; id = id; presence = presence; number = told given (length others + 1) })
     else refuses rows None 0x15  -- LIMIT_EXCEEDED
 
--- Where the user consents the assertion goes on, any other reply refuses.
+-- Only consent goes on.
 abbrev pub assert_asked : List Row → Option Waiting → (cid : ℕ) → Asserting → Presence → Turned
 assert_asked rows pending cid a Granted = signs rows pending cid a
 assert_asked rows pending cid a reply = refuses rows None 0x27  -- OPERATION_DENIED
@@ -53,7 +52,7 @@ abbrev pub user_in : Option Row → Option (List ℕ)
 user_in None = None
 user_in (Some row) = if row.discoverable then Some row.user.items else None
 
--- Signed, the answer is sent, and what is pending keeps this moment.
+-- The time of what is pending runs from now on.
 abbrev pub assert_signed : List Row → Option Waiting → (now : ℕ) → Asserting → (counter : ℕ) → Option (List ℕ) → Turned
 assert_signed rows pending now a counter None = refuses rows None 0x7f  -- OTHER
 assert_signed rows pending now a counter (Some sig) =
@@ -62,11 +61,11 @@ assert_signed rows pending now a counter (Some sig) =
 
 -- ---- the next one
 
--- the next assertion may be asked for within so many milliseconds of the latest answer
+-- milliseconds from the latest answer in which the next may be asked for
 abbrev pub NEXT_LIMIT : ℕ
 NEXT_LIMIT = 30000
 
--- The row with the id signs, by the first request's hash and presence. Every pending id has a row.
+-- The first request's hash and presence count. Every pending id has a row.
 abbrev pub row_signs : List Row → Option Waiting → (cid : ℕ) (hash : List ℕ) → Bool → List ℕ → Option Row → Turned
 row_signs rows pending cid hash presence id None = refuses rows None 0x30  -- NOT_ALLOWED
 row_signs rows pending cid hash presence id (Some row) =
@@ -74,13 +73,13 @@ row_signs rows pending cid hash presence id (Some row) =
     then signs rows pending cid (record { hash = hash; rp = row.rp; id = id; presence = presence; number = None })
     else refuses rows None 0x15  -- LIMIT_EXCEEDED
 
--- The first pending one signs, and the others stay pending.
+-- The first pending one signs.
 abbrev pub next_signs : List Row → Waiting → (cid : ℕ) → List (List ℕ) → Turned
 next_signs rows w cid [] = refuses rows None 0x30  -- NOT_ALLOWED
 next_signs rows w cid (id ∷ others) = row_signs rows (pending_of w.cid w.hash w.presence w.moment others) cid
     w.hash w.presence id (find (has_id id) rows)
 
--- getNextAssertion, where something is pending for the channel and the time isn't over
+-- on the channel that asked, in time
 abbrev pub next_begins : List Row → Option Waiting → (now cid : ℕ) → Turned
 next_begins rows None now cid = refuses rows None 0x30  -- NOT_ALLOWED
 next_begins rows (Some w) now cid =

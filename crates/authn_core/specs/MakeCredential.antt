@@ -15,7 +15,7 @@ use Rattle.authn_core.specs.declared.replies.NewKey.{NewKey}
 use Rattle.sha2.specs.Sha256.{sha256}
 use Rattle.authn_core.specs.State.{Making, AsksMake, WantsKey, SignsMake, Turned, answers, refuses, waits}
 
--- one of the ids names a row of the RP
+-- An id names a row of the RP.
 abbrev pub names_one : (rp : List ℕ) → List Row → List (List ℕ) → Bool
 names_one rp rows ids = list_any (λ id. is_some (find (is_named rp id) rows)) ids
 
@@ -28,32 +28,31 @@ making hash rp_id user_id name rk =
 abbrev pub make_begins : List Row → (cid : ℕ) → Making → (exclude : List (List ℕ)) → Turned
 make_begins rows cid m exclude = waits rows None cid (AsksMake m (names_one m.rp rows exclude))
 
--- there is capacity for the new row, or it replaces one
+-- There is capacity, or a row is replaced.
 abbrev pub fits : (room : ℕ) → Making → List Row → Bool
 fits room m rows = nat_lt (length rows) room || (m.discoverable && is_some (find (is_user m.rp m.user) rows))
 
--- Where a credential is excluded, any reply refuses.
+-- An excluded credential is refused after any reply.
 abbrev pub make_asked : ℕ → List Row → Option Waiting → (cid : ℕ) → Making → (excluded : Bool) → Presence → Turned
 make_asked room rows pending cid m true reply = refuses rows pending 0x19  -- CREDENTIAL_EXCLUDED
 make_asked room rows pending cid m false Granted =
     if fits room m rows then waits rows pending cid (WantsKey m) else refuses rows pending 0x28  -- KEY_STORE_FULL
 make_asked room rows pending cid m false reply = refuses rows pending 0x27  -- OPERATION_DENIED
 
--- A key with a new id goes on to the signature, of authenticator data and the hash of the client data (WebAuthn Level
--- 2, section 8.2).
+-- A new id goes on to the signature (WebAuthn Level 2, section 8.2).
 abbrev pub key_wanted : (aaguid : List ℕ) → List Row → Option Waiting → (cid : ℕ) → Making → Option NewKey → Turned
 key_wanted aaguid rows pending cid m None = refuses rows pending 0x7f  -- OTHER
 key_wanted aaguid rows pending cid m (Some key) =
     if is_some (find (has_id key.id) rows) then refuses rows pending 0x7f  -- OTHER
     else waits rows pending cid (SignsMake m key (created_bytes m.rp aaguid key.id key.x key.y ++ m.hash))
 
--- the row that is made, with the counter 0
+-- the row that is made
 abbrev pub new_row : Making → NewKey → Row
 new_row m k =
     let user : ArrayVec ℕ = record { items = m.user } in let rk = m.discoverable in
     record { rp = m.rp; id = k.id; x = k.x; y = k.y; user = user; discoverable = rk; counter = 0; name = m.name }
 
--- Signed, the row is stored and the answer sent. Nothing is pending then: the request emptied it.
+-- The row is stored, and the answer sent.
 abbrev pub make_signed : (aaguid : List ℕ) → List Row → Option Waiting → Making → NewKey → Option (List ℕ) → Turned
 make_signed aaguid rows pending m key None = refuses rows pending 0x7f  -- OTHER
 make_signed aaguid rows pending m key (Some sig) =

@@ -7,14 +7,13 @@ use Rattle.fido_authdata.specs.AuthData.{assertion_bytes}
 use Rattle.authn_core.specs.declared.replies.Presence.{Presence}
 use Rattle.authn_core.specs.declared.replies.NewKey.{NewKey}
 
--- What stays: the AAGUID, the moment of the start in milliseconds, and how many rows there is capacity for.
+-- What stays.
 pub record Setup : Type 0 where
   pub aaguid : List ℕ
   pub began : ℕ
   pub room : ℕ
 
--- A credential that is to be made: the hash of the client data, the hash of the RP id, the user handle, the user's name
--- as it is kept, and whether it is discoverable.
+-- `hash` is of the client data, `rp` of the RP id.
 pub record Making : Type 0 where
   pub hash : List ℕ
   pub rp : List ℕ
@@ -22,8 +21,7 @@ pub record Making : Type 0 where
   pub name : List ℕ
   pub discoverable : Bool
 
--- An assertion that is to be signed: the hash of the client data, the hash of the RP id, the id of the credential,
--- whether the user's presence is asked for, and the number of credentials where the answer has it.
+-- `number` is that of credentials, where the answer has it.
 pub record Asserting : Type 0 where
   pub hash : List ℕ
   pub rp : List ℕ
@@ -31,10 +29,7 @@ pub record Asserting : Type 0 where
   pub presence : Bool
   pub number : Option ℕ
 
--- What waits: a reset (`Resets`) or a selection (`Selects`) for the user's presence; a registration for presence
--- (`AsksMake`), for a key (`WantsKey`) or for its signature (`SignsMake`); a sign-in for presence (`AsksAssert`) or for
--- its signature (`SignsAssert`). An excluded registration is refused after the user's answer; `signed` are the bytes to
--- sign.
+-- What waits: `WantsKey` for a key, `Signs`.. for a signature over `signed`, the others for presence.
 pub data Task : Type 0 where
   Resets : Task
   Selects : Task
@@ -44,19 +39,18 @@ pub data Task : Type 0 where
   AsksAssert : Asserting → Task
   SignsAssert : Asserting → (counter : ℕ) → (signed : List ℕ) → Task
 
--- Waiting work: what waits, and the channel that asked.
+-- Waiting work, and the channel that asked.
 pub record Job : Type 0 where
   pub cid : ℕ
   pub task : Task
 
--- The rows in order of making, the assertions that can still be asked for, and the work that waits.
+-- What turns change.
 pub record State : Type 0 where
   pub rows : List Row
   pub pending : Option Waiting
   pub work : Option Job
 
--- A request with its channel and message, the command byte first; the replies of the caller, where None is a refusal; a
--- cancel; a drop, which isn't answered.
+-- None is a refusal. A drop isn't answered.
 pub data Event : Type 0 where
   Request : (cid : ℕ) → (bytes : List ℕ) → Event
   PresenceIs : Presence → Event
@@ -65,19 +59,19 @@ pub data Event : Type 0 where
   Cancel : Event
   Drop : Event
 
--- An answer's message; that work waits with this status; that a reply wasn't needed; that nothing is answered.
+-- What is answered, if anything.
 pub data Answer : Type 0 where
   Answered : (bytes : List ℕ) → Answer
   Waits : (status : ℕ) → Answer
   Ignored : Answer
   Nothing : Answer
 
--- What a turn leads to: the state after it, and what is answered.
+-- The state after a turn, and its answer.
 pub record Turned : Type 0 where
   pub state : State
   pub answer : Answer
 
--- 1 while a key or a signature is needed, 2 while the user's presence is (CTAP 2.1, section 11.2.9.1.7)
+-- 1 while a key or signature is needed, 2 while presence is (CTAP 2.1, section 11.2.9.1.7)
 abbrev pub status : Task → ℕ
 status (WantsKey m) = 1
 status (SignsMake m key signed) = 1
@@ -91,11 +85,11 @@ abbrev pub answers : List Row → Option Waiting → List ℕ → Turned
 answers rows pending bytes =
     record { state = record { rows = rows; pending = pending; work = None }; answer = Answered bytes }
 
--- An answer that is a status alone: a refusal, or OK.
+-- a status alone
 abbrev pub refuses : List Row → Option Waiting → ℕ → Turned
 refuses rows pending code = answers rows pending (code ∷ [])
 
--- Work begins or goes on, and waits.
+-- Work begins or goes on.
 abbrev pub waits : List Row → Option Waiting → (cid : ℕ) → Task → Turned
 waits rows pending cid task =
     let job : Job = record { cid = cid; task = task } in
@@ -109,7 +103,7 @@ ignores s = record { state = s; answer = Ignored }
 abbrev pub signing : Asserting → (counter : ℕ) → Task
 signing a counter = SignsAssert a counter (assertion_bytes a.rp a.presence counter ++ a.hash)
 
--- An assertion goes on: its row's counter is raised, and it waits for the signature.
+-- The row's counter is raised, and a signature is needed.
 abbrev pub signs : List Row → Option Waiting → (cid : ℕ) → Asserting → Turned
 signs rows pending cid a =
     let counter = counter_of a.id rows + 1 in

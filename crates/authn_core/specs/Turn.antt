@@ -13,8 +13,7 @@ use Rattle.authn_core.specs.Asking.{reset_begins, asked_alone}
 use Rattle.authn_core.specs.MakeCredential.{making, names_one, make_asked, key_wanted, make_signed}
 use Rattle.authn_core.specs.GetAssertion.{applicable, begins, assert_asked, assert_signed, next_begins}
 
--- What a request begins, where it was read, or else the status that refuses it. Each empties what is pending, except
--- for a getNextAssertion that begins work.
+-- Each request empties what is pending, except a getNextAssertion that begins work.
 abbrev pub requested : Setup → List Row → Option Waiting → (now cid : ℕ) → Result Asked ℕ → Turned
 requested u rows pending now cid (Err code) = refuses rows None code
 requested u rows pending now cid (Ok GetInfo) = answers rows None (info_answer u.aaguid)
@@ -28,8 +27,7 @@ requested u rows pending now cid (Ok (GetAssertion hash rp_id allow presence)) =
     begins rows now cid hash rp presence given (map (λ row. row.id) (applicable rows rp given (ids_of allow)))
 requested u rows pending now cid (Ok GetNextAssertion) = next_begins rows pending now cid
 
--- A reply, by what waits: one that isn't needed is ignored. A reset that is granted takes all rows out, and nothing is
--- pending then: a request emptied it.
+-- A reply to what waits; any other is ignored.
 abbrev pub replied : Setup → State → (now cid : ℕ) → Task → Event → Turned
 replied u s now cid Resets (PresenceIs reply) = asked_alone (refuses [] None 0x00) s.rows s.pending reply
 replied u s now cid Selects (PresenceIs reply) = asked_alone (refuses s.rows s.pending 0x00) s.rows s.pending reply
@@ -40,12 +38,12 @@ replied u s now cid (AsksAssert a) (PresenceIs reply) = assert_asked s.rows s.pe
 replied u s now cid (SignsAssert a counter signed) (SignatureIs sig) = assert_signed s.rows s.pending now a counter sig
 replied u s now cid task other = ignores s
 
--- a reply to the work that waits; where none waits it is ignored
+-- A reply without work is ignored.
 abbrev pub reply_turn : Setup → State → (now : ℕ) → Option Job → Event → Turned
 reply_turn u s now None reply = ignores s
 reply_turn u s now (Some job) reply = replied u s now job.cid job.task reply
 
--- the turn at a moment
+-- the turn of an event at a moment
 unfoldable pub turn : Setup → State → (now : ℕ) → Event → Turned
 turn u s now (Request cid bytes) = requested u s.rows s.pending now cid (read_of bytes)
 turn u s now Cancel = refuses s.rows None 0x2d  -- KEEPALIVE_CANCEL
@@ -59,8 +57,7 @@ pub record CoreState : Type 0 where
   pub setup : Setup
   pub state : State
 
--- What an authenticator begins with: its AAGUID, the moment in milliseconds, how many rows there is capacity for, and
--- the rows in order of making.
+-- AAGUID, moment in milliseconds, capacity, and rows in order of making.
 pub record Start : Type 0 where
   pub aaguid : List ℕ
   pub moment : ℕ
@@ -82,13 +79,12 @@ core_after core now e = record { setup = core.setup; state = (turn core.setup co
 abbrev pub core_answer : CoreState → (now : ℕ) → Event → Answer
 core_answer core now e = (turn core.setup core.state now e).answer
 
--- Waiting work as the transport sees it: the channel that asked, and the status that a KEEPALIVE carries (CTAP 2.1,
--- section 11.2.9.1.7).
+-- what a KEEPALIVE needs of waiting work (CTAP 2.1, section 11.2.9.1.7)
 pub record Work : Type 0 where
   pub cid : ℕ
   pub status : ℕ
 
--- the waiting work of an authenticator
+-- an authenticator's waiting work
 abbrev pub waiting : CoreState → Option Work
 waiting core = option_map (λ job. record { cid = job.cid; status = status job.task }) core.state.work
 

@@ -9,17 +9,17 @@ pub record IsCut (whole cut : List ℕ) : Type 0 where
   pub at_character : IsCharBoundary whole (length cut)
   pub longest : (n : ℕ) → n ≤ 64 → IsCharBoundary whole n → n ≤ length cut
 
--- a character of the text begins at a place, or the text ends there
+-- A character begins there, or the text ends.
 abbrev pub is_boundary : List ℕ → ℕ → Bool
 is_boundary text i =
     nat_le i (length text) && (nat_le (length text) i || nat_lt (slice_index text i) 128
     || nat_le 192 (slice_index text i))
 
--- the last such place up to n
+-- the last boundary up to n
 abbrev pub boundary_to : List ℕ → (n : ℕ) → ℕ
 boundary_to text zero = 0
 boundary_to text (suc i) = if is_boundary text (suc i) then suc i else boundary_to text i
 
--- a name as a row keeps it: its longest beginning that has at most 64 bytes and ends at a character
+-- the longest beginning of at most 64 bytes that ends at a character
 unfoldable pub cut : List ℕ → List ℕ
 cut name = take (boundary_to name 64) name

@@ -4,24 +4,23 @@ use Rattle.std.specs.List.{find, filter, list_any}
 use Rattle.std.specs.Str.{bytes_eq}
 use Rattle.cred_table.specs.declared.row.Row.{Row}
 
--- The row has the id.
+-- a row with the id
 abbrev pub has_id : (id : List ℕ) → Row → Bool
 has_id id row = bytes_eq row.id id
 
--- The row has the id and belongs to the RP.
+-- the RP's row with the id
 abbrev pub is_named : (rp id : List ℕ) → Row → Bool
 is_named rp id row = bytes_eq row.id id && bytes_eq row.rp rp
 
--- The row is discoverable and belongs to the RP.
+-- a discoverable row of the RP
 abbrev pub is_listed : (rp : List ℕ) → Row → Bool
 is_listed rp row = row.discoverable && bytes_eq row.rp rp
 
--- The row is the RP's discoverable one for the user.
+-- the RP's discoverable row for the user
 abbrev pub is_user : (rp user : List ℕ) → Row → Bool
 is_user rp user row = is_listed rp row && bytes_eq row.user.items user
 
--- A new row takes the place of an old one where both are discoverable, of one RP and one user handle (CTAP 2.1,
--- section 6.1.2; WebAuthn Level 2, section 6.3.2).
+-- An old row makes way for a new one (CTAP 2.1, section 6.1.2; WebAuthn Level 2, section 6.3.2).
 abbrev pub replaces : (new old : Row) → Bool
 replaces new old = new.discoverable && is_user new.rp new.user.items old
 
@@ -45,19 +44,19 @@ pub record Lawful (room : ℕ) (rows : List Row) : Type 0 where
 abbrev pub without : (id : List ℕ) → List Row → List Row
 without id rows = filter (λ row. not (has_id id row)) rows
 
--- The rows after the making of a new one: it is last, and what it replaces is gone.
+-- the rows with a new one
 abbrev pub stored : (new : Row) → List Row → List Row
 stored new rows = filter (λ old. not (replaces new old)) rows ++ new ∷ []
 
--- The row with its counter raised by one, if it has the id.
+-- the row with the id is raised
 abbrev pub raised_row : (id : List ℕ) → Row → Row
 raised_row id row = if has_id id row then record row { counter = row.counter + 1 } else row
 
--- The rows with the counter of one raised, each in its place (WebAuthn Level 2, section 6.3.3).
+-- one counter is raised (WebAuthn Level 2, section 6.3.3)
 abbrev pub raised : (id : List ℕ) → List Row → List Row
 raised id rows = map (raised_row id) rows
 
--- The discoverable rows of the RP, newest first (CTAP 2.1, section 6.2.2).
+-- the RP's discoverable rows, newest first (CTAP 2.1, section 6.2.2)
 abbrev pub listed : (rp : List ℕ) → List Row → List Row
 listed rp rows = reverse (filter (is_listed rp) rows)
 
@@ -65,11 +64,11 @@ listed rp rows = reverse (filter (is_listed rp) rows)
 abbrev pub ids : List Row → List (List ℕ)
 ids rows = map (λ row. row.id) rows
 
--- The counter of a row, 0 where there is none.
+-- a counter, or 0
 abbrev pub counter_in : Option Row → ℕ
 counter_in None = 0
 counter_in (Some row) = row.counter
 
--- The counter of the row with the id, 0 where there is none.
+-- the counter of an id's row
 abbrev pub counter_of : (id : List ℕ) → List Row → ℕ
 counter_of id rows = counter_in (find (has_id id) rows)

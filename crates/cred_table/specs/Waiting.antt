@@ -1,8 +1,7 @@
 -- Assertions that wait to be asked for (CTAP 2.1, section 6.3).
 use Rattle.std.specs.Prelude.{ℕ, length, drop, slice_get, List, [], ◌∷◌, Bool, false, Option, Some, None}
 
--- What is pending: the channel that asked, the hash of its client data, whether the user's presence was asked for, the
--- credentials' ids, and a moment. The next one may be asked for until a fixed time after this moment.
+-- What is pending on channel `cid`, over client data `hash`, for a time after `moment`.
 pub record Waiting : Type 0 where
   pub cid : ℕ
   pub hash : List ℕ
@@ -10,7 +9,7 @@ pub record Waiting : Type 0 where
   pub moment : ℕ
   pub ids : List (List ℕ)
 
--- the same with these ids, or nothing where there are none
+-- these ids, or nothing where there are none
 abbrev pub pending_of : (cid : ℕ) (hash : List ℕ) (presence : Bool) (moment : ℕ) → List (List ℕ) → Option Waiting
 pending_of cid hash presence moment [] = None
 pending_of cid hash presence moment (id ∷ ids) =
@@ -21,7 +20,7 @@ abbrev pub pending_count : Option Waiting → ℕ
 pending_count None = 0
 pending_count (Some w) = length w.ids
 
--- the same with this moment in the place of its own
+-- the same with this moment
 abbrev pub stamped : ℕ → Option Waiting → Option Waiting
 stamped at None = None
 stamped at (Some w) = Some (record w { moment = at })

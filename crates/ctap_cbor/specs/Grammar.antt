@@ -7,7 +7,7 @@ use Rattle.std.specs.declared.cmp.Ordering.TheVariants.{Less}
 use Rattle.ctap_cbor.specs.Tree.{Scalar, Int, Bytes, Text, Flag, Null, Tree, Plain, Array, Map, Trees, no_trees, tree, Pairs, no_pairs, pair, depth, count, count_pairs}
 use Rattle.ctap_cbor.specs.Head.{AreBytes, head}
 
--- the encoding of a scalar: major types 0 to 3 and 7
+-- the encoding of a scalar
 abbrev pub scalar_text : Scalar → List ℕ
 scalar_text (Int (pos n)) = head 0 n
 scalar_text (Int (negsuc n)) = head 1 n
@@ -17,7 +17,7 @@ scalar_text (Flag false) = 0xf4 ∷ []
 scalar_text (Flag true) = 0xf5 ∷ []
 scalar_text Null = 0xf6 ∷ []
 
--- the encoding of a tree: that of a scalar, or the head of major type 4 or 5 with the count, and what is inside
+-- the encoding of a tree; major types 4 and 5 say how much is inside
 abbrev mutual
   pub text : Tree → List ℕ
   text (Plain s) = scalar_text s
@@ -32,7 +32,7 @@ abbrev mutual
   pair_texts no_pairs = []
   pair_texts (pair k v ps) = text k ++ (text v ++ pair_texts ps)
 
--- what can be written: numbers of 64 bits and a sign, strings of bytes, texts in UTF-8
+-- what can be written
 abbrev pub Fits : Scalar → Type 0
 Fits (Int (pos n)) = n < 2 ^ 64
 Fits (Int (negsuc n)) = n < 2 ^ 64
@@ -41,19 +41,19 @@ Fits (Text s) = (length s < 2 ^ 64) × IsUtf8 s
 Fits (Flag b) = Unit {0}
 Fits Null = Unit {0}
 
--- a key: an integer, a byte string or a text
+-- an integer, a byte string or a text
 abbrev pub IsKey : Tree → Type 0
 IsKey (Plain (Int i)) = Unit {0}
 IsKey (Plain (Bytes s)) = Unit {0}
 IsKey (Plain (Text s)) = Unit {0}
 IsKey _ = ⊥
 
--- a key's text is above that of the key before it, in lexical order
+-- the key's text is above the one before
 abbrev pub IsAbove : Option (List ℕ) → List ℕ → Type 0
 IsAbove None key = Unit {0}
 IsAbove (Some before) key = slice_cmp nat_cmp before key ≡ Less
 
--- all keys of a map, after the key before, are of a key's type and rise
+-- The keys of a map rise.
 abbrev pub Rises : Option (List ℕ) → Pairs → Type 0
 Rises before no_pairs = Unit {0}
 Rises before (pair k v ps) = IsKey k × IsAbove before (text k) × Rises (Some (text k)) ps
@@ -73,12 +73,12 @@ abbrev mutual
   AreLawfulPairs no_pairs = Unit {0}
   AreLawfulPairs (pair k v ps) = IsLawful k × IsLawful v × AreLawfulPairs ps
 
--- The text is the encoding of the tree.
+-- The text is the tree's encoding.
 pub record IsEncoding (t : Tree) (b : List ℕ) : Type 0 where
   pub lawful : IsLawful t
   pub spelled : b ≡ text t
 
--- The text is the canonical encoding of the tree, which has at most four levels (CTAP 2.1, section 8).
+-- The same, with at most four levels (CTAP 2.1, section 8).
 pub record IsCanonical (t : Tree) (b : List ℕ) : Type 0 where
   pub enc : IsEncoding t b
   pub flat : depth t ≤ 4

@@ -4,7 +4,7 @@ use Rattle.std.specs.Prelude.{ℕ, ◌+◌, ◌-◌, ◌*◌, ◌/◌, ◌%◌, 
 use Rattle.std.specs.List.{AllByRecursion}
 use Rattle.std.specs.Int.{w16 as two_bytes, w32 as four_bytes, w64 as eight_bytes, to_be_bytes}
 
--- each of the numbers is a byte
+-- Each number is a byte.
 abbrev pub AreBytes : List ℕ → Type 0
 AreBytes bs = AllByRecursion (λ b. b < 256) bs
 

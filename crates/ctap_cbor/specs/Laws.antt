@@ -57,8 +57,7 @@ pub record BytesTell : Type 0 where
   pub told : (b : List ℕ) → AreBytes b → IsOutcome b (outcome_of b)
   pub only : (b : List ℕ) (o : Outcome) → AreBytes b → IsOutcome b o → outcome_of b ≡ o
 
--- The tree that `canonical_tree` names for bytes is the one of which they are the canonical encoding; so it names one
--- exactly where they are one's (CTAP 2.1, section 8).
+-- `canonical_tree` names a tree exactly where bytes are its canonical encoding (CTAP 2.1, section 8).
 abbrev pub TreesAreTold : Type 0
 TreesAreTold = (b : List ℕ) (t : Tree) → AreBytes b → (canonical_tree b ≡ Some t) ↔ IsCanonical t b
 

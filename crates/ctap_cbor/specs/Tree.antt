@@ -1,7 +1,7 @@
 -- Data items as trees (RFC 8949, section 2), how deep they are, and what they hold.
 use Rattle.std.specs.Prelude.{ℕ, ◌+◌, ◌^◌, ℤ, pos, Bool, true, false, nat_lt, List, Option, Some, None, if◌then◌else◌, max}
 
--- what is no array and no map; byte strings and texts by their bytes
+-- What is no array and no map.
 pub data Scalar : Type 0 where
   Int : ℤ → Scalar
   Bytes : List ℕ → Scalar
@@ -9,7 +9,7 @@ pub data Scalar : Type 0 where
   Flag : Bool → Scalar
   Null : Scalar
 
--- a scalar, an array of trees, or a map of pairs: a key and a value
+-- a scalar, an array, or a map of keys and values
 mutual
   pub data Tree : Type 0 where
     Plain : Scalar → Tree
@@ -49,7 +49,7 @@ abbrev pub is_array : Tree → Bool
 is_array (Array ts) = true
 is_array _ = false
 
--- what a tree is; None where it is something else
+-- what a tree is, None if something else
 abbrev pub as_bytes : Tree → Option (List ℕ)
 as_bytes (Plain (Bytes s)) = Some s
 as_bytes _ = None
@@ -62,7 +62,7 @@ abbrev pub as_int : Tree → Option ℤ
 as_int (Plain (Int i)) = Some i
 as_int _ = None
 
--- an integer of at least 0; 2^64-1 is the largest that there is
+-- an integer of at least 0
 abbrev pub as_uint : Tree → Option ℕ
 as_uint (Plain (Int (pos n))) = if nat_lt n (2 ^ 64) then Some n else None
 as_uint _ = None

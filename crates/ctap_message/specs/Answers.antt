@@ -8,11 +8,11 @@ use Rattle.ctap_cbor.specs.Grammar.{text}
 abbrev pub refusal : ℕ → List ℕ
 refusal status = status ∷ []
 
--- a success, status 0x00, with a map
+-- status 0x00, and a map
 abbrev pub success : Tree → List ℕ
 success map = 0x00 ∷ text map
 
--- an integer of at least 0, and below it a text, a byte string and a truth value
+-- an integer of at least 0
 abbrev pub number : ℕ → Tree
 number n = Plain (Int (pos n))
 
@@ -27,21 +27,20 @@ flag is_set = Plain (Flag is_set)
 
 -- ---- authenticatorGetInfo
 
--- rk: credentials can be discoverable; up: user presence is tested; plat: the authenticator is no part of a platform
+-- discoverable credentials, tests of presence, no platform's own authenticator
 abbrev pub options : Tree
 options =
     Map (pair (name (codes "rk")) (flag true)
     (pair (name (codes "up")) (flag true)
     (pair (name (codes "plat")) (flag false) no_pairs)))
 
--- ES256, algorithm -7, with public keys; negsuc n is the integer -1 - n
+-- ES256 is algorithm -7.
 abbrev pub es256 : Tree
 es256 =
     Map (pair (name (codes "alg")) (Plain (Int (negsuc 6)))
     (pair (name (codes "type")) (name (codes "public-key")) no_pairs))
 
--- The map, which has these members in rising order of their keys. Which it has beside versions and aaguid, and the
--- values of all but aaguid, are this project's choice.
+-- the map, its keys rising
 unfoldable pub info_tree : List ℕ → Tree
 info_tree aaguid =
     Map (pair (number 0x01) (Array (tree (name (codes "FIDO_2_0")) no_trees))  -- versions
@@ -51,55 +50,55 @@ info_tree aaguid =
     (pair (number 0x09) (Array (tree (name (codes "usb")) no_trees))  -- transports
     (pair (number 0x0a) (Array (tree es256 no_trees)) no_pairs))))))  -- algorithms
 
--- The answer of authenticatorGetInfo (CTAP 2.1, section 6.4).
+-- the answer of authenticatorGetInfo (CTAP 2.1, section 6.4)
 unfoldable pub info_answer : List ℕ → List ℕ
 info_answer aaguid = success (info_tree aaguid)
 
 -- ---- authenticatorMakeCredential
 
--- attStmt (0x03): packed self attestation (WebAuthn Level 2, section 8.2), ES256 and the signature
+-- packed self attestation (WebAuthn Level 2, section 8.2)
 abbrev pub statement : List ℕ → Tree
 statement sig =
     Map (pair (name (codes "alg")) (Plain (Int (negsuc 6)))
     (pair (name (codes "sig")) (byte_string sig) no_pairs))
 
--- the map: fmt (0x01), authData (0x02) and attStmt
+-- the map: fmt, authData, attStmt
 unfoldable pub created_tree : (auth sig : List ℕ) → Tree
 created_tree auth sig =
     Map (pair (number 0x01) (name (codes "packed"))
     (pair (number 0x02) (byte_string auth)
     (pair (number 0x03) (statement sig) no_pairs)))
 
--- The answer of authenticatorMakeCredential (CTAP 2.1, section 6.1.2), by its authenticator data and signature.
+-- the answer of authenticatorMakeCredential (CTAP 2.1, section 6.1.2)
 unfoldable pub created_answer : (auth sig : List ℕ) → List ℕ
 created_answer auth sig = success (created_tree auth sig)
 
 -- ---- authenticatorGetAssertion and authenticatorGetNextAssertion
 
--- credential (0x01): its id, and the type `public-key`
+-- the credential's descriptor
 abbrev pub credential : List ℕ → Tree
 credential id =
     Map (pair (name (codes "id")) (byte_string id)
     (pair (name (codes "type")) (name (codes "public-key")) no_pairs))
 
--- user (0x04), where it is given: its id alone
+-- the user's id alone, where it is given
 abbrev pub with_user : Option (List ℕ) → Pairs → Pairs
 with_user None rest = rest
 with_user (Some id) rest = pair (number 0x04) (Map (pair (name (codes "id")) (byte_string id) no_pairs)) rest
 
--- numberOfCredentials (0x05), where it is given
+-- numberOfCredentials, where it is given
 abbrev pub with_number : Option ℕ → Pairs
 with_number None = no_pairs
 with_number (Some n) = pair (number 0x05) (number n) no_pairs
 
--- the map: credential, authData (0x02), signature (0x03), and these
+-- the map: credential, authData, signature, user, numberOfCredentials
 unfoldable pub assertion_tree : (id auth sig : List ℕ) → (user : Option (List ℕ)) → (credentials : Option ℕ) → Tree
 assertion_tree id auth sig user credentials =
     Map (pair (number 0x01) (credential id)
     (pair (number 0x02) (byte_string auth)
     (pair (number 0x03) (byte_string sig) (with_user user (with_number credentials)))))
 
--- The answer of an assertion (CTAP 2.1, sections 6.2.2 and 6.3).
+-- the answer of an assertion (CTAP 2.1, sections 6.2.2 and 6.3)
 unfoldable pub assertion_answer : (id auth sig : List ℕ) → (user : Option (List ℕ)) → (credentials : Option ℕ) → List ℕ
 assertion_answer id auth sig user credentials = success (assertion_tree id auth sig user credentials)
 

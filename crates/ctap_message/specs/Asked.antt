@@ -2,11 +2,11 @@
 use Rattle.std.specs.Prelude.{ℕ, Bool, List}
 use Rattle.ctap_cbor.specs.Tree.{Trees}
 
--- What is asked, with the parameters that a turn needs.
+-- What is asked, with its parameters.
 pub data Asked : Type 0 where
-  -- `exclude` are the entries of excludeList; `user_name` is empty where none is given
+  -- the entries of excludeList; an empty user name where there is none
   MakeCredential : (client_data_hash rp_id user_id user_name : List ℕ) (discoverable : Bool) (exclude : Trees) → Asked
-  -- `allow_list` are the entries of allowList; `presence` is whether the user's presence is asked for
+  -- the entries of allowList; whether presence is asked for
   GetAssertion : (client_data_hash rp_id : List ℕ) (allow_list : Trees) (presence : Bool) → Asked
   GetInfo : Asked
   Reset : Asked

@@ -6,31 +6,31 @@ use Rattle.std.specs.Str.{bytes_eq}
 use Rattle.ctap_cbor.specs.Tree.{Tree, Trees, no_trees, tree, as_bytes, as_text, as_int}
 use Rattle.ctap_message.specs.Members.{Key, Name, member_as, is_some_and, is_bytes, is_text, is_int, is_flag, array_of}
 
--- the types of the members of a descriptor; other names may have any value
+-- the types of a descriptor's members
 abbrev pub descriptor_types : List (Key × (Tree → Bool))
 descriptor_types = (Name "id", is_bytes) ∷ (Name "type", is_text) ∷ (Name "transports", array_of is_text) ∷ []
 
--- the same of a credential parameter
+-- the types of a credential parameter's members
 abbrev pub parameter_types : List (Key × (Tree → Bool))
 parameter_types = (Name "alg", is_int) ∷ (Name "type", is_text) ∷ []
 
--- the same of the options
+-- the types of the options
 abbrev pub option_types : List (Key × (Tree → Bool))
 option_types = (Name "rk", is_flag) ∷ (Name "up", is_flag) ∷ (Name "uv", is_flag) ∷ []
 
--- whether it is `public-key`, the credential type that is known
+-- the credential type that is known
 abbrev pub is_public_key : Option (List ℕ) → Bool
 is_public_key = is_some_and (λ s. bytes_eq s (codes "public-key"))
 
--- the type that a descriptor or a parameter says
+-- the type of a descriptor or a parameter
 abbrev pub type_of : Tree → Option (List ℕ)
 type_of t = member_as as_text (Name "type") (Some t)
 
--- whether id and type are there
+-- Id and type are there.
 abbrev pub has_id_and_type : Tree → Bool
 has_id_and_type t = is_some (member_as as_bytes (Name "id") (Some t)) && is_some (type_of t)
 
--- the id that a descriptor names, where its type is `public-key`; one of another type names nothing
+-- the id, where the type is `public-key`
 abbrev pub id_of : Tree → Option (List ℕ)
 id_of t = if is_public_key (type_of t) then member_as as_bytes (Name "id") (Some t) else None
 
@@ -39,15 +39,15 @@ abbrev pub ids_of : Trees → List (List ℕ)
 ids_of no_trees = []
 ids_of (tree t ts) = cons_option (id_of t) (ids_of ts)
 
--- whether alg and type are there
+-- Alg and type are there.
 abbrev pub has_alg_and_type : Tree → Bool
 has_alg_and_type t = is_some (member_as as_int (Name "alg") (Some t)) && is_some (type_of t)
 
--- whether it is -7, ES256
+-- ES256 is -7.
 abbrev pub is_es256 : Option ℤ → Bool
 is_es256 (Some (negsuc n)) = n == 6
 is_es256 _ = false
 
--- whether an entry asks for ES256 keys
+-- a parameter that asks for ES256 keys
 abbrev pub asks_es256 : Tree → Bool
 asks_es256 t = is_es256 (member_as as_int (Name "alg") (Some t)) && is_public_key (type_of t)

@@ -8,7 +8,7 @@ use Rattle.ctap_message.specs.Checks.{if_all_hold}
 use Rattle.ctap_message.specs.Asked.{Asked, GetAssertion}
 use Rattle.ctap_message.specs.Descriptors.{descriptor_types, option_types, has_id_and_type}
 
--- the types of the parameters; other keys may have any value
+-- the types of the parameters
 abbrev pub assertion_types : List (Key × (Tree → Bool))
 assertion_types =
     (Number 0x01, is_text)  -- rpId
@@ -20,9 +20,7 @@ assertion_types =
     ∷ (Number 0x07, is_uint)  -- pinUvAuthProtocol
     ∷ []
 
--- What a request asks, by the tree of which its bytes are the canonical encoding: its members, the checks of them, each
--- with the status of a request that fails it and its name in section 8.2, and what is asked. Options that aren't given
--- are up true and uv false.
+-- what a tree asks, or the first failing check's status
 abbrev pub assertion_request : Option Tree → Result Asked ℕ
 assertion_request t =
     let rp_id = member_as as_text (Number 0x01) t in

@@ -8,15 +8,15 @@ use Rattle.ctap_message.specs.Checks.{if_all_hold}
 use Rattle.ctap_message.specs.Asked.{Asked, MakeCredential}
 use Rattle.ctap_message.specs.Descriptors.{descriptor_types, option_types, parameter_types, has_id_and_type, has_alg_and_type, asks_es256}
 
--- the types of the members of rp; other names may have any value
+-- the types of rp's members
 abbrev pub rp_types : List (Key × (Tree → Bool))
 rp_types = (Name "id", is_text) ∷ (Name "name", is_text) ∷ []
 
--- the same of user
+-- the types of user's members
 abbrev pub user_types : List (Key × (Tree → Bool))
 user_types = (Name "id", is_bytes) ∷ (Name "name", is_text) ∷ (Name "displayName", is_text) ∷ []
 
--- the types of the parameters; other keys may have any value
+-- the types of the parameters
 abbrev pub make_types : List (Key × (Tree → Bool))
 make_types =
     (Number 0x01, is_bytes)  -- clientDataHash
@@ -31,9 +31,7 @@ make_types =
     ∷ (Number 0x0a, is_uint)  -- enterpriseAttestation
     ∷ []
 
--- What a request asks, by the tree of which its bytes are the canonical encoding: its members, the checks of them, each
--- with the status of a request that fails it and its name in section 8.2, and what is asked. Options that aren't given
--- are rk false, up true and uv false.
+-- what a tree asks, or the first failing check's status
 abbrev pub make_request : Option Tree → Result Asked ℕ
 make_request t =
     let hash = member_as as_bytes (Number 0x01) t in

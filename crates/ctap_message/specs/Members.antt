@@ -8,12 +8,12 @@ use Rattle.ctap_cbor.specs.Tree.{Int, Text, Tree, Plain, Array, Map, Trees, no_t
 
 -- ---- members and entries
 
--- the pairs of a map, none where there is no map
+-- the pairs of a map
 abbrev pub pairs_of : Option Tree → Pairs
 pairs_of (Some (Map ps)) = ps
 pairs_of _ = no_pairs
 
--- the entries of an array, none where there is no array
+-- the entries of an array
 abbrev pub entries_of : Option Tree → Trees
 entries_of (Some (Array ts)) = ts
 entries_of _ = no_trees
@@ -29,35 +29,35 @@ is_key (Number n) (Plain (Int (pos m))) = m == n
 is_key (Name name) (Plain (Text s)) = bytes_eq s (codes name)
 is_key key _ = false
 
--- the value of the last pair with this key; no canonical map has a key twice
+-- the last one; no canonical map has a key twice
 unfoldable pub value_at : Key → Pairs → Option Tree
 value_at key no_pairs = None
 value_at key (pair k v ps) = option_or (value_at key ps) (if is_key key k then Some v else None)
 
--- the member of a map with this key; none where it has none, or there is no map
+-- the value of a map's member
 abbrev pub member : Key → Option Tree → Option Tree
 member key map = value_at key (pairs_of map)
 
--- what this member is, as `as_bytes` says it; none too where it is of another type
+-- the same as `kind` takes it
 abbrev pub member_as : {A : Type 0} → (Tree → Option A) → Key → Option Tree → Option A
 member_as kind key map = option_and_then kind (member key map)
 
--- whether each entry of an array passes a test
+-- Each entry passes.
 unfoldable pub all_entries : (Tree → Bool) → Trees → Bool
 all_entries test no_trees = true
 all_entries test (tree t ts) = test t && all_entries test ts
 
--- whether some entry does
+-- Some entry passes.
 unfoldable pub some_entry : (Tree → Bool) → Trees → Bool
 some_entry test no_trees = false
 some_entry test (tree t ts) = test t || some_entry test ts
 
--- whether there is an entry
+-- There is an entry.
 abbrev pub has_entries : Trees → Bool
 has_entries no_trees = false
 has_entries (tree t ts) = true
 
--- whether there is a value, and it passes a test
+-- There is a value, and it passes.
 abbrev pub is_some_and : {A : Type 0} → (A → Bool) → Option A → Bool
 is_some_and test None = false
 is_some_and test (Some x) = test x
@@ -83,16 +83,16 @@ is_flag t = is_some (as_flag t)
 abbrev pub array_of : (Tree → Bool) → Tree → Bool
 array_of type t = is_array t && all_entries type (entries_of (Some t))
 
--- whether each pair of a map passes a test
+-- Each pair passes.
 unfoldable pub all_pairs : (Tree → Tree → Bool) → Pairs → Bool
 all_pairs test no_pairs = true
 all_pairs test (pair k v ps) = test k v && all_pairs test ps
 
--- Whether a value has the type that is listed for its key. Where none is, it may be anything.
+-- Under a key that isn't listed a value may be anything.
 abbrev pub suits : List (Key × (Tree → Bool)) → Tree → Tree → Bool
 suits [] k v = true
 suits (t ∷ ts) k v = if is_key t.0 k then t.1 v else suits ts k v
 
--- a map whose members have the types that are listed for their keys
+-- a map whose members have the listed types
 abbrev pub map_of : List (Key × (Tree → Bool)) → Tree → Bool
 map_of types t = is_map t && all_pairs (suits types) (pairs_of (Some t))

@@ -6,13 +6,11 @@ use Rattle.ctap_message.specs.Asked.{Asked, GetInfo, Reset, GetNextAssertion, Se
 use Rattle.ctap_message.specs.MakeCredential.{make_request}
 use Rattle.ctap_message.specs.GetAssertion.{assertion_request}
 
--- What takes no parameters (CTAP 2.1, sections 6.3, 6.4, 6.6 and 6.9) asks by its command byte alone. That bytes which
--- are there are a wrong length is this project's choice.
+-- a command without parameters (CTAP 2.1, sections 6.3, 6.4, 6.6 and 6.9)
 abbrev pub alone : List ℕ → Asked → Result Asked ℕ
 alone parameters asked = if length parameters == 0 then Ok asked else Err 0x03  -- INVALID_LENGTH
 
--- What a message asks (CTAP 2.1, section 8, "Message Encoding"): its first byte names the command (section 8.1), and
--- its parameters are after it. A message without a command byte has a wrong length.
+-- what a message asks (CTAP 2.1, section 8)
 unfoldable pub read_of : List ℕ → Result Asked ℕ
 read_of [] = Err 0x03  -- INVALID_LENGTH
 read_of (byte ∷ parameters) =

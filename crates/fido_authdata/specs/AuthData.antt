@@ -4,21 +4,19 @@ use Rattle.byteorder.specs.Endian.{big_bytes}
 use Rattle.fido_authdata.specs.CoseKey.{cose_key_bytes}
 use Rattle.fido_authdata.specs.declared.auth_data.AttestedCredential.{AttestedCredential}
 
--- The flags: bit 0 says that the user was present (UP), bit 6 that attested credential data follows (AT).
+-- bit 0 is UP, user present, bit 6 AT, attested credential data
 abbrev pub flags_byte : (user_present attested : Bool) → ℕ
 flags_byte user_present attested = bit_or (if user_present then 0x01 else 0x00) (if attested then 0x40 else 0x00)
 
--- Attested credential data, section 6.5.1: the AAGUID, the length of the credential id in two bytes, the
--- credential id, the public key.
+-- attested credential data, section 6.5.1
 abbrev pub attested_bytes : (aaguid id x y : List ℕ) → List ℕ
 attested_bytes aaguid id x y = aaguid ++ big_bytes 2 (length id) ++ id ++ cose_key_bytes x y
 
--- What an assertion carries: the hash of the RP id, the flags, the signature counter.
+-- an assertion's: RP id hash, flags, signature counter
 abbrev pub assertion_bytes : (rp_hash : List ℕ) (user_present : Bool) (counter : ℕ) → List ℕ
 assertion_bytes rp_hash user_present counter = rp_hash ++ flags_byte user_present false ∷ [] ++ big_bytes 4 counter
 
--- What a new credential's attestation carries: the same with UP and AT set and the counter 0, and then
--- attested credential data.
+-- a new credential's, with the counter 0
 abbrev pub created_bytes : (rp_hash aaguid id x y : List ℕ) → List ℕ
 created_bytes rp_hash aaguid id x y =
     rp_hash ++ flags_byte true true ∷ [] ++ big_bytes 4 0 ++ attested_bytes aaguid id x y

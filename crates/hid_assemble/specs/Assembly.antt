@@ -9,7 +9,7 @@ use Rattle.hid_packet.specs.Limits.{data_room}
 use Rattle.hid_packet.specs.declared.limit.TheConstants.{INITIALIZATION_DATA, LONGEST_MESSAGE}
 use Rattle.hid_assemble.specs.declared.assembler.TheConstants.{MESSAGE_TIMEOUT}
 
--- a finished message: its channel, its command and its bytes
+-- A finished message.
 pub record Message : Type 0 where
   pub cid : ℕ
   pub cmd : ℕ

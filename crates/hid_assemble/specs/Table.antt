@@ -21,7 +21,7 @@ pub record Open : Type 0 where
   pub kept : ℕ
   pub last : ℕ
 
--- the channel that is given out last
+-- the last one that is given out
 abbrev pub LAST_CHANNEL : ℕ
 LAST_CHANNEL = 0xffff_fffe
 
@@ -29,24 +29,22 @@ LAST_CHANNEL = 0xffff_fffe
 abbrev pub is_given : ℕ → ℕ → Bool
 is_given given cid = nat_le 1 cid && nat_le cid given
 
--- Whether the number is there, and is this one. Here it is the channel of the open message, or that of waiting work.
+-- there is a number, and it is this one
 abbrev pub is_on : Option ℕ → ℕ → Bool
 is_on None cid = false
 is_on (Some busy) cid = busy == cid
 
--- whether the number is there, and is another one
+-- there is one, and it is another
 abbrev pub is_elsewhere : Option ℕ → ℕ → Bool
 is_elsewhere None cid = false
 is_elsewhere (Some busy) cid = not (busy == cid)
 
--- the first row whose test holds, or else this one
+-- the first row whose test holds
 abbrev pub first_row : List (Bool × Row) → Row → Row
 first_row [] else_row = else_row
 first_row (t ∷ ts) else_row = if t.0 then t.1 else first_row ts else_row
 
--- An initialization packet on the channel `cid`, where `current` is the channel of the open message and `work` that of
--- waiting work: each row with its test, in their order. A packet that is under none of them is Long: it opens a
--- message.
+-- `current` is the channel of the open message, `work` that of waiting work.
 unfoldable pub initialization_row : ℕ → Option ℕ → Option ℕ → ℕ → ℕ → ℕ → Row
 initialization_row given current work cid cmd len =
     let asks_for_channel = (cid == BROADCAST) && (cmd == INIT) in

@@ -14,15 +14,15 @@ pub const LAST_CHANNEL: u32 = 0xffff_fffe;
 pub enum Row {
     /// CANCEL where work waits on its channel: the work ends.
     CancelsWork,
-    /// Any other CANCEL: it changes nothing and isn't answered.
+    /// Any other CANCEL: nothing changes or is sent.
     CancelsNothing,
-    /// The channel was never given out, and it isn't an INIT on the broadcast channel.
+    /// The channel was never given out, and isn't asked for.
     NoSuchChannel,
-    /// INIT with a length other than 8. An open message of the channel is dropped.
+    /// INIT with a wrong length: its channel's open message is dropped.
     InitLength,
-    /// INIT on the broadcast channel with no channel left.
+    /// No channel is left.
     InitFull,
-    /// INIT on the broadcast channel: the next channel is given out.
+    /// The next channel is given out.
     InitNew,
     /// INIT on a given channel: its open message and its work are dropped.
     InitAgain,
@@ -34,7 +34,7 @@ pub enum Row {
     BrokenOff,
     /// A command that isn't served.
     NoSuchCommand,
-    /// Too long, or a CBOR message without a command byte.
+    /// Too long, or CBOR without a command byte.
     BadLength,
     /// The message is whole in one packet.
     Short,

@@ -16,7 +16,7 @@ abbrev pub IsLeast : (count len : ℕ) → Type 0
 IsLeast count len = ((len ≤ INITIALIZATION_DATA) × (count ≡ 0))
     ⊎ ((len ≤ data_room count) × (data_room count < len + CONTINUATION_DATA))
 
--- the data of an initialization packet and of the continuation packets after it, joined
+-- the data of a message's packets, joined
 abbrev pub joined : List ℕ → List (List ℕ) → List ℕ
 joined first others = initialization_data first ++ flat_map continuation_data others
 

@@ -19,6 +19,6 @@ KEEPALIVE = 0x3b
 abbrev pub ERROR : ℕ
 ERROR = 0x3f
 
--- the channel on which a host asks for a channel of its own
+-- the channel on which a host asks for its own
 abbrev pub BROADCAST : ℕ
 BROADCAST = 0xffff_ffff

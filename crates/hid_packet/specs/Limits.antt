@@ -2,6 +2,6 @@
 use Rattle.std.specs.Prelude.{ℕ, ◌+◌, ◌*◌}
 use Rattle.hid_packet.specs.declared.limit.TheConstants.{CONTINUATION_DATA, INITIALIZATION_DATA}
 
--- the data bytes of an initialization packet and so many continuation packets
+-- the data bytes of an initialization packet and `count` others
 abbrev pub data_room : ℕ → ℕ
 data_room count = INITIALIZATION_DATA + CONTINUATION_DATA * count

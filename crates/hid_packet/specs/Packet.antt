@@ -6,31 +6,31 @@ use Rattle.hid_packet.specs.declared.packet.View.{View}
 use Rattle.hid_packet.specs.declared.packet.View.TheVariants.{Start, More}
 use Rattle.hid_packet.specs.declared.limit.TheConstants.{CONTINUATION_DATA, INITIALIZATION_DATA}
 
--- the channel: bytes 0 to 3, big endian
+-- bytes 0 to 3
 unfoldable pub channel : List ℕ → ℕ
 channel packet = big_number 4 packet
 
--- An initialization packet has bit 7 of byte 4 set; any other packet is a continuation packet.
+-- bit 7 of byte 4; other packets are continuation packets
 unfoldable pub is_initialization : List ℕ → Bool
 is_initialization packet = nat_le 128 (slice_index packet 4)
 
--- the command of an initialization packet: the other bits of byte 4
+-- an initialization packet's command
 unfoldable pub command : List ℕ → ℕ
 command packet = slice_index packet 4 - 128
 
--- the length of the whole message, of an initialization packet: bytes 5 and 6, big endian
+-- bytes 5 and 6: the whole message's length
 unfoldable pub message_length : List ℕ → ℕ
 message_length packet = big_number 2 (drop 5 packet)
 
--- the data of an initialization packet: bytes 7 to 63
+-- bytes 7 to 63
 unfoldable pub initialization_data : List ℕ → List ℕ
 initialization_data packet = take INITIALIZATION_DATA (drop 7 packet)
 
--- the sequence number of a continuation packet: byte 4
+-- a continuation packet's number
 unfoldable pub sequence : List ℕ → ℕ
 sequence packet = slice_index packet 4
 
--- the data of a continuation packet: bytes 5 to 63
+-- bytes 5 to 63
 unfoldable pub continuation_data : List ℕ → List ℕ
 continuation_data packet = take CONTINUATION_DATA (drop 5 packet)
 

@@ -14,7 +14,7 @@ use Rattle.hid_packet.specs.declared.limit.TheConstants.{OUTBOX_CAPACITY}
 abbrev pub as_pair : Sent → ℕ × List ℕ
 as_pair s = (s.input, (s.packet).0)
 
--- the same packet alone
+-- the packet alone
 abbrev pub packet_of : Sent → List ℕ
 packet_of s = (s.packet).0
 
@@ -34,7 +34,7 @@ drive_number (Full done) = 1
 abbrev pub both_number : BothFault → ℕ
 both_number (BothFull first second) = 1
 
--- how many of so many inputs were stepped: all, but where the drive stopped
+-- how many inputs of n were stepped
 abbrev pub done_of : {A : Type 0} → ℕ → Result A DriveFault → ℕ
 done_of n (Ok x) = n
 done_of n (Err (Full done)) = done

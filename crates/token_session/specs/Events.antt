@@ -8,24 +8,24 @@ use Rattle.token_session.specs.declared.input.Input.TheVariants.{Presence, Key, 
 use Rattle.token_session.specs.Replies.{keepalive, status_of, asker, answer_packets}
 use Rattle.token_session.specs.declared.authenticator.TheConstants.{KEEPALIVE_PERIOD}
 
--- the event that a reply of the caller is
+-- the event of a caller's reply
 abbrev pub reply_in : Input → Option Event
 reply_in (Presence reply) = Some (PresenceIs reply)
 reply_in (Key key) = Some (KeyIs key)
 reply_in (Signature signature) = Some (SignatureIs signature)
 reply_in other = None
 
--- what an event, or none, makes of the authenticator
+-- the authenticator after an event, if there is one
 abbrev pub event_core : CoreState → ℕ → Option Event → CoreState
 event_core core at None = core
 event_core core at (Some e) = record core { state = (turn core.setup core.state at e).state }
 
--- what it sends
+-- what an event sends
 abbrev pub event_packets : CoreState → ℕ → Option Event → List (List ℕ)
 event_packets k at None = []
 event_packets k at (Some e) = answer_packets (asker (waiting k) e) (status_of (waiting k)) (turn k.setup k.state at e).answer
 
--- A KEEPALIVE is due 100 ms after the last, where work waits (CTAP 2.1, section 11.2.9.1.7).
+-- KEEPALIVE_PERIOD after the last, while work waits (CTAP 2.1, section 11.2.9.1.7)
 unfoldable pub keepalive_due : Option Work → ℕ → ℕ → Bool
 keepalive_due None keepalive_at at = false
 keepalive_due (Some w) keepalive_at at = nat_le (keepalive_at + KEEPALIVE_PERIOD) at

@@ -15,7 +15,7 @@ use Rattle.token_session.specs.History.{judged, sent, held, core}
 use Rattle.token_session.specs.Meters.{requests}
 use Rattle.hid_packet.specs.declared.limit.TheConstants.{LONGEST_MESSAGE}
 
--- the start of a session
+-- a session's start
 abbrev pub start_of : (aaguid : List ℕ) → (moment capacity : ℕ) → List Row → Start
 start_of aaguid moment capacity rows = record { aaguid = aaguid; moment = moment; room = capacity; rows = rows }
 
@@ -26,10 +26,7 @@ AllCarried (e ∷ past) =
     ((m : Message) → finished_at e past ≡ Some m → CarriesMessage (carriers_at e past) m.cid m.cmd m.bytes)
     × AllCarried past
 
--- After a history, newest first, in which these packets were sent: they are exactly those that its definition names;
--- each finished message is the bytes that its packets carried; the unfinished message holds at most 7609 bytes; there
--- are at most as many rows and pending assertions as the capacity; reading each request of n bytes took at most 4n + 2
--- steps.
+-- What holds after a history, newest first, in which these packets were sent.
 pub record IsAnswered (start : Start) (h : List Timed) (packets : List (List ℕ)) : Type 0 where
   pub sent : packets ≡ sent start (judged start h)
   pub carried : AllCarried (judged start h)

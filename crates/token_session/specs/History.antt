@@ -18,43 +18,41 @@ use Rattle.token_session.specs.Messages.{Begun, open_at, finished, finished_at}
 use Rattle.token_session.specs.Replies.{error, row_packets, ping_packets, request_event}
 use Rattle.token_session.specs.Events.{reply_in, event_core, event_packets, keepalive_packets, keepalive_due}
 
--- The event that a packet is to the authenticator: a CANCEL on the channel of waiting work, an INIT of length 8 there,
--- or the CBOR message that it finished.
+-- what ends work on its channel, or a finished request
 unfoldable pub packet_event : Option ℕ → Option Message → List ℕ → Option Event
 packet_event work m p =
     if is_command CANCEL p && is_on work (channel p) then Some Cancel
     else if is_command INIT p && (message_length p == 8) && is_on work (channel p) then Some Drop
     else request_event m
 
--- the event of an input: that of its packet, or a reply of the caller
+-- the event of an input
 unfoldable pub event : Option ℕ → Option Message → Input → Option Event
 event work m (Packet p) = packet_event work m p.0
 event work m other = reply_in other
 
--- the event that an input is after a history, to an authenticator in this state
+-- the event of an input after a history
 abbrev pub event_to : CoreState → Judged → List Judged → Option Event
 event_to k e past = event (working k) (finished_at e past) e.input
 
--- The authenticator after a history: its turns over the events, one after the other.
+-- the authenticator after a history
 unfoldable pub core : Start → List Judged → CoreState
 core start [] = first_state start
 core start (e ∷ past) = let before = core start past in event_core before e.at (event_to before e past)
 
--- An initialization packet is admitted on a channel that was given out, with PING or at least one byte of CBOR, where
--- nothing is open and no work waits.
+-- An initialization packet that can begin a message.
 unfoldable pub admits : ℕ → Option Begun → Option ℕ → List ℕ → Bool
 admits given o work p =
     is_initialization p && is_given given (channel p)
     && ((command p == PING) || ((command p == CBOR) && nat_le 1 (message_length p))) && is_none o && is_none work
 
--- One input after a history: its moment is no earlier than those before it, and it is admitted or not.
+-- an input after a history
 unfoldable pub judge : Start → Timed → List Judged → Judged
 judge start x past =
     let t = max (end start past) x.at in
     let admitted = is_packet (admits (given past) (open_at past t) (working (core start past))) x.input in
     record { at = t; input = x.input; admitted = admitted }
 
--- all inputs of a history, judged one after the other
+-- all inputs, in order
 unfoldable pub judged : Start → List Timed → List Judged
 judged start [] = []
 judged start (x ∷ past) = judge start x (judged start past) ∷ judged start past
@@ -64,14 +62,13 @@ abbrev pub cut_packets : Option Begun → List (List ℕ)
 cut_packets None = []
 cut_packets (Some b) = error (channel b.packet) 0x05
 
--- The packets of a continuation packet: ERROR 0x04 where it is on the open message's channel with another number than
--- the one that is due.
+-- ERROR 0x04 where another number is due
 abbrev pub continuation_error : Option Begun → List ℕ → List (List ℕ)
 continuation_error None p = []
 continuation_error (Some b) p =
     if (channel b.packet == channel p) && not (sequence p == length b.own) then error (channel p) 0x04 else []
 
--- the packets of a packet's row in the reply table
+-- of a packet's row in the reply table
 unfoldable pub table_packets : ℕ → Option Begun → Option ℕ → Input → List (List ℕ)
 table_packets g o work (Packet p) =
     let current = option_map (λ b. channel b.packet) o in
@@ -80,7 +77,7 @@ table_packets g o work (Packet p) =
     else continuation_error o p.0
 table_packets g o work other = []
 
--- The packets of service: those of the reply table's row, the answer to a finished PING, and those of the event.
+-- of the row, of a PING, of the event
 unfoldable pub service_packets : Start → Judged → List Judged → List (List ℕ)
 service_packets start e past =
     let o = open_at past e.at in
@@ -89,8 +86,7 @@ service_packets start e past =
     table_packets (given past) o (working k) e.input ++ ping_packets m
     ++ event_packets k e.at (event (working k) m e.input)
 
--- The packets of time, where the last KEEPALIVE was sent at `latest`: ERROR 0x05 for a message whose time is over; else
--- a KEEPALIVE where work waits and the last one was sent 100 ms ago or more.
+-- a time-out, else a KEEPALIVE that is due
 unfoldable pub time_packets : Start → List Judged → (latest t : ℕ) → List (List ℕ)
 time_packets start past latest t =
     let before = open_at past (end start past) in
@@ -98,7 +94,7 @@ time_packets start past latest t =
     if is_some before && is_none (open_at past t) then cut_packets before
     else if keepalive_due work latest t then keepalive_packets work else []
 
--- the moment of the last input that sent a KEEPALIVE, 0 without one
+-- when the last KEEPALIVE was sent, or 0
 unfoldable pub last_keepalive : Start → List Judged → ℕ
 last_keepalive start [] = 0
 last_keepalive start (e ∷ past) =
@@ -106,7 +102,7 @@ last_keepalive start (e ∷ past) =
     let packets = time_packets start past latest e.at ++ service_packets start e past in
     if list_any (is_command KEEPALIVE) packets then e.at else latest
 
--- What an input sends: the packets of time, and then those of service.
+-- packets of time, then of service
 unfoldable pub sent_at : Start → Judged → List Judged → List (List ℕ)
 sent_at start e past = time_packets start past (last_keepalive start past) e.at ++ service_packets start e past
 
@@ -115,6 +111,6 @@ unfoldable pub sent : Start → List Judged → List (List ℕ)
 sent start [] = []
 sent start (e ∷ past) = sent start past ++ sent_at start e past
 
--- the data bytes that are held of the open message
+-- the data bytes of the open message
 unfoldable pub held : Start → List Judged → ℕ
 held start h = unwrap_or (option_map (λ b. data_room (length b.own)) (open_at h (end start h))) 0

@@ -9,14 +9,13 @@ use Rattle.authn_core.specs.Turn.{Start}
 use Rattle.token_session.specs.declared.input.Input.{Input}
 use Rattle.token_session.specs.declared.input.Input.TheVariants.{Packet}
 
--- An input as it is judged when it comes: its moment, which is no earlier than any before it, and whether it is an
--- admitted initialization packet.
+-- An input, its moment, no earlier than any before, and whether it is `admitted`.
 pub record Judged : Type 0 where
   pub at : ℕ
   pub input : Input
   pub admitted : Bool
 
--- the moment of the last input, that of the start without one
+-- the last moment so far
 abbrev pub end : Start → List Judged → ℕ
 end start [] = start.moment
 end start (e ∷ past) = e.at
@@ -31,19 +30,18 @@ abbrev pub is_packet : (List ℕ → Bool) → Input → Bool
 is_packet test (Packet p) = test p.0
 is_packet test other = false
 
--- A packet that asks for a channel, which is then given out: an INIT of length 8 on the broadcast channel (CTAP 2.1,
--- section 11.2.9.1.3).
+-- This INIT is given a channel (CTAP 2.1, section 11.2.9.1.3).
 unfoldable pub asks_channel : List ℕ → Bool
 asks_channel p = is_command INIT p && (message_length p == 8) && (channel p == BROADCAST)
 
--- How many channels were given out: they are the channels 1 to this number.
+-- how many channels were given out
 unfoldable pub given : List Judged → ℕ
 given h = min (count_by (λ e. is_packet asks_channel e.input) h) LAST_CHANNEL
 
--- A channel's own packet: one on it, except for CANCEL.
+-- a packet on the channel, except CANCEL
 unfoldable pub is_own : ℕ → Judged → Bool
 is_own cid e = is_packet (λ p. (cid == channel p) && not (is_command CANCEL p)) e.input
 
--- a channel's own packets among those that came later
+-- a channel's own packets
 unfoldable pub own : ℕ → List Judged → List Judged
 own cid later = filter (is_own cid) later

@@ -12,20 +12,19 @@ use Rattle.hid_assemble.specs.declared.table.Row.TheVariants.{NoSuchChannel, Ini
 use Rattle.authn_core.specs.State.{Event, Request, Answer, Answered, Waits}
 use Rattle.authn_core.specs.Turn.{Work}
 
--- The INIT answer on a channel, which names the channel that the host is to use: its nonce, that channel, version 2 of
--- the protocol, version 1.0.0 of the device, and the capabilities CBOR and NMSG (CTAP 2.1, section 11.2.9.1.3).
+-- The answer to INIT: nonce, channel, protocol 2, device 1.0.0, CBOR and NMSG (CTAP 2.1, section 11.2.9.1.3).
 unfoldable pub greeting : (on cid : ℕ) → (nonce : List ℕ) → List (List ℕ)
 greeting on cid nonce = written on INIT (nonce ++ big_bytes 4 cid ++ 2 ∷ 1 ∷ 0 ∷ 0 ∷ 0x0c ∷ [])
 
--- ERROR, with its code (CTAP 2.1, section 11.2.9.1.6)
+-- an ERROR (CTAP 2.1, section 11.2.9.1.6)
 abbrev pub error : ℕ → ℕ → List (List ℕ)
 error cid code = written cid ERROR (code ∷ [])
 
--- KEEPALIVE, with the present status (CTAP 2.1, section 11.2.9.1.7)
+-- a KEEPALIVE (CTAP 2.1, section 11.2.9.1.7)
 abbrev pub keepalive : ℕ → ℕ → List (List ℕ)
 keepalive cid status = written cid KEEPALIVE (status ∷ [])
 
--- The packets that answer an initialization packet under a row, except for those of a finished message and of work.
+-- what a row itself sends
 unfoldable pub row_packets : ℕ → List ℕ → Row → List (List ℕ)
 row_packets given p NoSuchChannel = error (channel p) 0x0b
 row_packets given p InitLength = error (channel p) 0x03
@@ -39,7 +38,7 @@ row_packets given p NoSuchCommand = error (channel p) 0x01
 row_packets given p BadLength = error (channel p) 0x03
 row_packets given p _ = []
 
--- A finished PING is answered by itself (CTAP 2.1, section 11.2.9.1.4).
+-- A PING is answered by itself (CTAP 2.1, section 11.2.9.1.4).
 abbrev pub ping_packets : Option Message → List (List ℕ)
 ping_packets None = []
 ping_packets (Some m) = if m.cmd == PING then written m.cid PING m.bytes else []
@@ -49,16 +48,16 @@ abbrev pub request_event : Option Message → Option Event
 request_event None = None
 request_event (Some m) = if m.cmd == CBOR then Some (Request m.cid m.bytes) else None
 
--- the present status of waiting work
+-- the status of waiting work
 abbrev pub status_of : Option Work → Option ℕ
 status_of work = option_map (λ w. w.status) work
 
--- the channel to which an event's answer goes: the request's own, or that of the waiting work
+-- where an answer goes
 abbrev pub asker : Option Work → Event → Option ℕ
 asker work (Request cid bytes) = Some cid
 asker work e = option_map (λ w. w.cid) work
 
--- An answer goes out as a CBOR message; work that begins, or whose status changes, sends a KEEPALIVE.
+-- Work that begins, or changes its status, sends a KEEPALIVE.
 unfoldable pub answer_packets : Option ℕ → Option ℕ → Answer → List (List ℕ)
 answer_packets (Some cid) before (Answered bytes) = written cid CBOR bytes
 answer_packets (Some cid) before (Waits status) = if is_on before status then [] else keepalive cid status
