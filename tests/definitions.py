@@ -19,10 +19,9 @@ CITES = re.compile(rf"({'|'.join(map(re.escape, STANDARDS))}), sections? ({NUMBE
 ENCODING = re.compile(r"CTAP 2\.1, \"Message Encoding\"")
 INTRO = """# Definitions by section of the standard
 
-Where you read a section of a standard and ask what this repository makes of it, look here. A file alone is about the
-section as a whole; names are the definitions that state it. [READING.md](READING.md) has those that the headline needs
-in an order to read. `tests/reading.py --write` writes this page from the comments above the definitions, and
-`tests/reading.py` fails where it differs.
+What this repository makes of a section. A file alone is about the section as a whole; names are the definitions that
+state it. [READING.md](READING.md) has those that the headline needs in an order to read. `tests/reading.py --write`
+writes this page from comments, and `tests/reading.py` fails where it differs.
 """
 
 
