@@ -48,7 +48,7 @@ without id rows = filter (λ row. not (has_id id row)) rows
 abbrev pub stored : (new : Row) → List Row → List Row
 stored new rows = filter (λ old. not (replaces new old)) rows ++ new ∷ []
 
--- the row with the id is raised
+-- the row with the id has its counter raised
 abbrev pub raised_row : (id : List ℕ) → Row → Row
 raised_row id row = if has_id id row then record row { counter = row.counter + 1 } else row
 

@@ -68,7 +68,7 @@ continuation_error None p = []
 continuation_error (Some b) p =
     if (channel b.packet == channel p) && not (sequence p == length b.own) then error (channel p) 0x04 else []
 
--- of a packet's row in the reply table
+-- the packets of a packet's row
 unfoldable pub table_packets : ℕ → Option Begun → Option ℕ → Input → List (List ℕ)
 table_packets g o work (Packet p) =
     let current = option_map (λ b. channel b.packet) o in
@@ -77,7 +77,7 @@ table_packets g o work (Packet p) =
     else continuation_error o p.0
 table_packets g o work other = []
 
--- of the row, of a PING, of the event
+-- the packets of the row, of a PING, of the event
 unfoldable pub service_packets : Start → Judged → List Judged → List (List ℕ)
 service_packets start e past =
     let o = open_at past e.at in
