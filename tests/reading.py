@@ -4,39 +4,47 @@ docs/DEFINITIONS.md.
 
     tests/reading.py            ends with 1 where the pages miss a definition, show one that isn't needed, or twice,
                                 where a text, a count or the index isn't that of today, where the first page is longer
-                                than it says or takes another time, where a definition names a type
+                                than it says, takes another time or more than an hour, where a definition names a type
                                 or a constant of the code that isn't public, where a law doesn't speak of what it
-                                replaces, or where the prose doesn't name a library's word or a small constructor
+                                replaces, where a packet depends on what is set aside, or where the prose doesn't name
+                                a library's word or a small constructor
     tests/reading.py --write    writes the definitions, the declarations, the counts and the index anew
     tests/reading.py --list     prints what is needed, by files
 
 From the headline, the clause `answered` of `drive_new`, it follows each name that a definition uses, through the `use`
-lines, to the definition itself. Two things shorten the way:
+lines, to the definition itself. Three things shorten the way:
 
 - LAWS: in the place of a definition that computes, the reader reads the statement of a law that says what it is.
 - APART: what is needed only by such a field of the headline is in a section of its own of READING_MORE.md, and is
   counted apart. No packet depends on it.
+- ASIDE: so is a definition whose value only goes into a field that is only copied: no packet depends on that either.
 
 The pages' prose is written by hand. A comment `<!-- KIND: FILE: NAMES -->`, with the names in backquotes, is followed by
 
 - definitions: these definitions, each below its comment;
-- code: the declarations of types and constants of the code that definitions name; quoted: others;
+- code: the types and constants of the code that definitions name; quoted: others; documented: their own text;
 - clauses: clauses of the contract of the function that is named first, and its signature where that is named.
 
-How many words and lines the first page has at most, and the time that they take, is written by hand, so that it doesn't
-grow unseen.
+A type is shown in a line: a record's fields, a data type's constructors with their arguments. The type of a field or an
+argument is left out where it is in PLAIN or has the same name. A record with parameters, or of statements, is shown as
+it is.
+
+How many words the first page has at most, and the time that they take read aloud, is written by hand, so that it
+doesn't grow unseen.
 
 It needs no toolchain.
 """
 
 from __future__ import annotations
 
+import math
 import re
 import sys
 import textwrap
 from collections.abc import Iterator
 from dataclasses import dataclass, field
 from functools import cache
+from itertools import groupby
 from pathlib import Path
 
 import definitions
@@ -48,6 +56,8 @@ HEADLINE = TOP / "crates" / "token_session" / "src" / "driving.rt"
 RECORD = "IsAnswered"
 # Fields of the headline's record, in the order of their sections.
 APART = ("carried", "steps")
+# A definition whose value only goes into this field, and the definitions that it needs alone: the section after those.
+ASIDE = {"cut": "name"}
 # A definition, and the law that is read in its place: a function of src/laws.rt in the definition's crate.
 LAWS = {"canonical_tree": "trees_are_told", "outcome_of": "bytes_tell"}
 # Those that the first page needs. The last section of the second needs the others.
@@ -61,20 +71,21 @@ TOKEN = re.compile(r"[^\s(){}\[\],.;:]+")
 FIELDS = re.compile(r"(?<=[\w)])\.[a-z]\w*|^ +pub \w+ :|(?<=[{;])\s*[a-z]\w* =(?= )", re.MULTILINE)
 # (a b : T), λ x., let x =
 BINDERS = re.compile(r"\(([a-z][\w ]*) :|λ \(?([a-z][\w ]*?)[.:]|let (\w+) ")
-BLOCK = re.compile(r"<!-- (definitions|code|quoted|clauses): (\S+): `([^`]*)` -->\n(.*?)<!-- end -->", re.DOTALL)
-SECTION = re.compile(r"^(?=## Only for )", re.MULTILINE)
-COUNTS = re.compile(r"\*\*\d+\s+definitions,\s+[\d,]+\s+lines,\s+\d+\s+files\*\*")
-MORE = re.compile(r"\*\*\d+\s+more\s+definitions\*\*\s+\(`(\w+)`\)")
-# How long the first page takes, with the rates: words and formal lines a minute.
-TIME = re.compile(
-    r"At\s+(\d+)\s+words\s+of\s+English\s+and\s+(\d+)\s+formal\s+lines\s+a\s+minute,\s+"
-    r"\*\*([\d,]+)\s+words\s+and\s+([\d,]+)\s+lines\s+take\s+(\d+)\s+minutes\*\*"
+BLOCK = re.compile(
+    r"<!-- (definitions|code|documented|quoted|clauses): (\S+): `([^`]*)` -->\n(.*?)<!-- end -->", re.DOTALL
 )
-# A line of a block that is a comment alone, and a comment after a formal line.
-COMMENT = re.compile(r" *(?:--|///) (.*)")
-BESIDE = re.compile(r" -- (.*)")
-# A line of the page that has neither English nor a formula: the name of a block, or of its file.
-NAMING = re.compile(r"<!-- .*| {4}(?:--|//) crates/.*")
+SECTION = re.compile(r"^(?=## Only for )", re.MULTILINE)
+COUNTS = re.compile(r"\*\*\d+\s+definitions,\s+[\d,]+\s+lines,\s+\d+\s+files?\*\*")
+MORE = re.compile(r"\*\*\d+\s+more\s+definitions\*\*\s+\(`(\w+)`\)")
+# How long the first page takes, with the rate in words a minute: the mean of reading aloud in Brysbaert's review.
+TIME = re.compile(r"At\s+(\d+)\s+words\s+a\s+minute,.*?\*\*([\d,]+)\s+words\s+take\s+(\d+)\s+minutes\*\*", re.DOTALL)
+RATE, MOST_MINUTES = 183, 60
+# A line of the page that isn't seen.
+UNSEEN = re.compile(r"<!-- .* -->")
+# The types of a field or an argument that are left out; in the code those of numbers, and bool.
+PLAIN = {"ℕ", "List ℕ", "Bool"}
+PLAIN_CODE = re.compile(r"[ui]\d+|usize|bool")
+STATES = re.compile(r"[≡≤<→]")
 DECLARED = re.compile(r"Rattle\.(\w+)\.specs\.declared\.([\w.]+?)(\.The\w+)?")
 LINKED = re.compile(r"\[(`[^`]*`)\]\([^)]*\)")
 # How a comment cites a standard, and how the pages do: sections without a name are those of CTAP 2.1.
@@ -129,18 +140,77 @@ class Definition:
         for cited, short in CITED:
             comment = cited.sub(short, comment)
         lines = textwrap.wrap(comment, 113)
+        return [f"-- {line}" for line in lines] + self.body()
+
+    def body(self) -> list[str]:
+        """Returns what the page has below its comment: of a function the lines after its type."""
+        compact = self.compact()
+        if compact:
+            return compact
         indent = len(self.lines[0]) - len(self.lines[0].lstrip())
         code = (re.sub(rf"^( *){MODIFIERS.pattern}", r"\1", line[indent:]) for line in self.lines[self.begins() :])
-        return [f"-- {line}" for line in lines] + [line.rstrip() for line in code]
+        return [line.rstrip() for line in code]
+
+    def compact(self) -> list[str]:
+        """Returns a data type, or a record of what is no statement, in one line or a few."""
+        head = re.fullmatch(r"\s*(?:\w+ )*?(record|data) (\S+) : Type 0 where", self.lines[0])
+        if head is None:
+            return []
+        split = [line.strip().removeprefix("pub ").partition(" : ") for line in self.lines[1:]]
+        if head[1] == "data":
+            parts = (" ".join([name, *arguments(of)]) for name, _, of in split)
+            notes = (line.strip() for line in self.lines[1:])
+            return one_of(f"data {head[2]}:", [it if it.startswith("--") else part for it, part in zip(notes, parts)])
+        if any(STATES.search(of) for _, _, of in split):
+            return []
+        return wrapped(" ".join([f"record {head[2]}:", *named([(name, of) for name, _, of in split])]))
 
     def equations(self) -> list[str]:
-        """Returns its lines that the page has, without comments: of a type all, of a function those after its type."""
-        return [line for line in self.lines[self.begins() :] if not line.strip().startswith("--")]
+        """Returns its lines that the page has, without comments."""
+        return [line for line in self.body() if not line.strip().startswith("--")]
 
     def begins(self) -> int:
         """Returns the place of its first line that the page has: of a function its first equation, not its type."""
         equation = re.compile(rf" *{re.escape(self.name)}(?: |$)(?! *:)")
         return next((place for place, line in enumerate(self.lines) if equation.match(line)), 0)
+
+
+def named(fields: list[tuple[str, str]]) -> list[str]:
+    """Returns fields or named arguments, those of the same type together, with the type where that isn't plain."""
+    found = list[str]()
+    for of, group in groupby(fields, key=lambda it: "" if it[1] in PLAIN or it[1].lower() == it[0] else it[1]):
+        names = " ".join(name for name, _ in group)
+        found.append(f"({names} : {of})" if of else names)
+    return found
+
+
+def arguments(of: str) -> list[str]:
+    """Returns the arguments of a constructor, of its type."""
+    found = list[str]()
+    for part in of.split(" → ")[:-1]:
+        for group in re.findall(r"\([^()]* : (?:[^()]|\([^()]*\))*\)", part) or [part]:
+            names, _, kind = group[1:-1].partition(" : ")
+            if group.startswith("(") and kind:
+                found += named([(name, kind) for name in names.split()])
+            else:
+                found.append(f"({group})" if " " in group else group)
+    return found
+
+
+def wrapped(text: str) -> list[str]:
+    """Returns the text in lines, those after the first further to the right."""
+    return textwrap.wrap(text, 113, subsequent_indent="    ", break_on_hyphens=False)
+
+
+def one_of(head: str, lines: list[str]) -> list[str]:
+    """Returns a data type of its constructors. A comment is above the one that it is about."""
+    found, text, between = list[str](), head, ""
+    for line in lines:
+        if line.startswith("--"):
+            found, text = [*found, *wrapped(text), f"  {line}"], " "
+        else:
+            text, between = f"{text} {between}{line}", "| "
+    return [*found, *wrapped(text)]
 
 
 def free_words(equation: str) -> set[str]:
@@ -240,10 +310,11 @@ def statement(path: Path, clause: re.Pattern[str], what: str) -> list[Name]:
 class Walk:
     """What the headline needs: definitions, types and constants of the code, and words of libraries.
 
-    Without what only the fields `without` need; with `laws` in the place of what they replace."""
+    Without what only the fields `without` need, and what is set `aside`; with `laws` in the place of what they
+    replace."""
 
-    def __init__(self, without: tuple[str, ...], laws: dict[str, str]) -> None:
-        self.without, self.laws = without, laws
+    def __init__(self, without: tuple[str, ...], laws: dict[str, str], aside: dict[str, str]) -> None:
+        self.without, self.laws, self.aside = without, laws, aside
         self.needed: set[Name] = set()
         self.declared: set[Name] = set()
         self.library: set[str] = set()
@@ -269,6 +340,8 @@ class Walk:
 
     def visit_word(self, path: Path, word: str) -> None:
         """Takes what a word of a definition in this file names, if anything."""
+        if word in self.aside:
+            return
         here = read(path)
         if here.holding(word):
             self.visit(Name(path, word))
@@ -308,19 +381,33 @@ class Needs:
     """The parts of the pages, the first page first, and how many more definitions a law replaces."""
 
     def __init__(self) -> None:
-        walks = [Walk(APART[place:], LAWS) for place in range(len(APART) + 1)]
+        walks = [Walk(APART[place:], LAWS, ASIDE) for place in range(len(APART) + 1)]
         main, whole = walks[0], walks[-1]
+        walks.append(Walk((), LAWS, {}))
         self.parts = [Part("on the page", main.needed, main.declared)]
-        for name, before, walk in zip(APART, walks, walks[1:]):
+        for name, before, walk in zip((*APART, *ASIDE), walks, walks[1:]):
             title = f"in the section of `{name}`"
             self.parts.append(Part(title, walk.needed - before.needed, walk.declared - before.declared))
-        self.faults, self.library = whole.faults, whole.library
+        self.faults, self.library = [*walks[-1].faults, *read_aside(main.needed)], walks[-1].library
         # The first page without laws; all of it without the last section's own law.
         read_anew = {it: law for it, law in LAWS.items() if it in PAGE_LAWS}
-        self.more = {LAWS[it]: len(Walk(APART, {}).needed - main.needed) for it in PAGE_LAWS}
+        self.more = {LAWS[it]: len(Walk(APART, {}, ASIDE).needed - main.needed) for it in PAGE_LAWS}
         self.more |= {
-            law: len(Walk((), read_anew).needed - whole.needed) for it, law in LAWS.items() if it not in PAGE_LAWS
+            law: len(Walk((), read_anew, ASIDE).needed - whole.needed)
+            for it, law in LAWS.items()
+            if it not in PAGE_LAWS
         }
+
+
+def read_aside(needed: set[Name]) -> list[str]:
+    """Returns where a definition does more with what is set aside than to put it in the field of that name."""
+    found = list[str]()
+    for word, name in ASIDE.items():
+        other = re.compile(rf"(?<![\w.])(?<!\b{name} = ){word}(?![\w.])|(?<!\b{name} = )(?<![\w.])\w+\.{name}\b")
+        for it in sorted(needed):
+            if other.search("\n".join(line.split(" -- ")[0] for line in held(it).code())):
+                found.append(f"{it} reads {word} or the field {name}, on which no packet is to depend")
+    return found
 
 
 def shown(kind: str, path: Path, names: list[str]) -> str:
@@ -331,9 +418,11 @@ def shown(kind: str, path: Path, names: list[str]) -> str:
         blocks = joined(parts)
     elif kind == "clauses":
         blocks = clauses(path, names[0], names[1:])
-    else:
+    elif kind == "documented":
         blocks = joined([declaration(path, name) for name in names])
-    mark = "--" if kind == "definitions" else "//"
+    else:
+        blocks = joined([short_declaration(path, name) for name in names])
+    mark = "//" if kind in ("clauses", "documented") else "--"
     lines = [f"{mark} {path.relative_to(TOP)}", *blocks]
     return "\n" + "".join(f"    {line}\n" if line else "\n" for line in lines) + "\n"
 
@@ -356,6 +445,38 @@ def declaration(path: Path, name: str) -> list[str]:
         return [f"({name} isn't declared)"]
     plain = LINKED.sub(r"\1", found[0])
     return [line for line in plain.splitlines() if not line.strip().startswith("#[")]
+
+
+def code_type(of: str) -> str:
+    """Returns a type of the code as definitions write it; what is plain as a number."""
+    kind = of.strip()
+    return "ℕ" if PLAIN_CODE.fullmatch(kind) else re.sub(r"^Option<(.*)>$", r"Option \1", kind)
+
+
+def short_declaration(path: Path, name: str) -> list[str]:
+    """Returns a type or a constant of the code as definitions are shown: its fields or variants, its value."""
+    lines = [line for line in declaration(path, name) if not line.strip().startswith("//")]
+    constant = re.fullmatch(r"pub const (\w+): \w+ = (.*);", lines[0])
+    if constant:
+        return [f"{constant[1]} = {constant[2]}"]
+    inside = [line.strip().removeprefix("pub ").removesuffix(",") for line in lines[1:-1]]
+    if lines[0] == f"pub struct {name} {{":
+        fields = [(it, code_type(of)) for it, _, of in (line.partition(": ") for line in inside)]
+        return wrapped(" ".join([f"record {name}:", *named(fields)]))
+    found = [re.fullmatch(r"(\w+)(?:\((\w.*)\)| \{ (.*) \})?", line) for line in inside]
+    if lines[0] != f"pub enum {name} {{" or None in found:
+        return lines
+    return one_of(f"data {name}:", [variant(it) for it in found if it])
+
+
+def variant(found: re.Match[str]) -> str:
+    """Returns a variant of the code's enum as definitions write a constructor."""
+    name, of, fields = found.groups()
+    if of:
+        kind = code_type(of)
+        return f"{name} ({kind})" if " " in kind else f"{name} {kind}"
+    split = (it.partition(": ") for it in (fields or "").split(", ") if it)
+    return " ".join([name, *named([(it, code_type(kind)) for it, _, kind in split])])
 
 
 def clauses(path: Path, function: str, names: list[str]) -> list[str]:
@@ -381,8 +502,8 @@ def is_public(it: Name) -> bool:
 
 
 def count(names: set[Name]) -> str:
-    lines = sum(len(held(it).equations()) for it in names)
-    return f"**{len(names)} definitions, {lines:,} lines, {len({it.path for it in names})} files**"
+    lines, files = sum(len(held(it).equations()) for it in names), len({it.path for it in names})
+    return f"**{len(names)} definitions, {lines:,} lines, {files} {'files' if files > 1 else 'file'}**"
 
 
 def written(needs: Needs, page: str) -> str:
@@ -401,8 +522,8 @@ def with_numbers(text: str, counted: str) -> str:
     return re.sub(r"[\d,]*\d", lambda it: next(numbers), text)
 
 
-def names_on(page: str, kind: str) -> list[Name]:
-    return [Name(TOP / it[2], name) for it in BLOCK.finditer(page) if it[1] == kind for name in it[3].split()]
+def names_on(page: str, *kinds: str) -> list[Name]:
+    return [Name(TOP / it[2], name) for it in BLOCK.finditer(page) if it[1] in kinds for name in it[3].split()]
 
 
 def differences(where: str, has: list[Name], needs: set[Name]) -> list[str]:
@@ -421,32 +542,22 @@ def unsaid(needs: Needs, page: str) -> list[str]:
     return found + [f"the library's {it} isn't explained" for it in sorted(needs.library - prose)]
 
 
-def extent(page: str) -> tuple[int, int]:
-    """Returns how many words of English a page has, with the comments, and how many formal lines."""
-    english, lines = list[str](), 0
-    for line in (it for it in page.splitlines() if not NAMING.fullmatch(it)):
-        alone, beside = COMMENT.fullmatch(line), BESIDE.search(line)
-        if not line.startswith("    "):
-            english.append(line)
-        elif alone:
-            english.append(alone[1])
-        else:
-            english.append(beside[1] if beside else "")
-            lines += 1
-    return sum(len(it.split()) for it in english), lines
+def extent(page: str) -> int:
+    """Returns how many words a page has: each word, name, number and sign between two spaces."""
+    return sum(len(it.split()) for it in page.splitlines() if not UNSEEN.fullmatch(it))
 
 
 def overlong(page: str) -> list[str]:
-    """Returns where the page has more than it says, or where that takes another time than it says."""
+    """Returns where the page has more than it says, or where that takes another time than it says, or over an hour."""
     said = TIME.search(page)
     if said is None:
         return ["the page doesn't say how long it takes"]
-    a_minute, lines_a_minute, most_words, most_lines, minutes = (int(it.replace(",", "")) for it in said.groups())
-    words, lines = extent(page)
-    found = [f"the page has {words} words, more than {most_words}"] if words > most_words else []
-    found += [f"the page has {lines} formal lines, more than {most_lines}"] if lines > most_lines else []
-    computed = round(most_words / a_minute + most_lines / lines_a_minute)
-    return found + ([f"that takes {computed} minutes"] if computed != minutes else [])
+    rate, most, minutes = (int(it.replace(",", "")) for it in said.groups())
+    words, computed = extent(page), math.ceil(most / RATE)
+    found = [f"the page has {words} words, more than {most}"] if words > most else []
+    found += [f"the page is read at {rate} words a minute, not at {RATE}"] if rate != RATE else []
+    found += [f"that takes {computed} minutes"] if computed != minutes else []
+    return found + ([f"that is over {MOST_MINUTES} minutes"] if computed > MOST_MINUTES else [])
 
 
 def faults(needs: Needs, page: str) -> list[str]:
@@ -456,7 +567,7 @@ def faults(needs: Needs, page: str) -> list[str]:
         return [*found, f"there are {len(texts) - 1} sections, and the headline has {len(APART)} fields for one"]
     for part, text in zip(needs.parts, texts):
         found += differences(part.title, names_on(text, "definitions"), part.definitions)
-        found += differences(part.title, names_on(text, "code"), part.code)
+        found += differences(part.title, names_on(text, "code", "documented"), part.code)
     code = sorted(it for part in needs.parts for it in part.code)
     found += [f"{it} is named by a definition and isn't public" for it in code if not is_public(it)]
     found += unsaid(needs, page)
@@ -502,9 +613,8 @@ def main() -> int:
         found.append("docs/DEFINITIONS.md isn't what the comments of the definitions say: tests/reading.py --write")
     for line in found:
         print(line)
-    words, lines = extent(texts[0])
     counted = count(needs.parts[0].definitions).strip("*")
-    print(f"docs/READING.md: {counted}; {words} words and {lines} formal lines in all; {len(found)} faults")
+    print(f"docs/READING.md: {counted}; {extent(texts[0])} words in all; {len(found)} faults")
     return 1 if found else 0
 
 
