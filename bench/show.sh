@@ -31,7 +31,7 @@ def request(head, byte):
     return "".join(f"> 0 {it.ljust(128, '0')}\n" for it in packets).encode()
 
 
-worked = b"".join(it.read_bytes() for it in sorted((top / "crates/worked_logs/data").glob("*/*.log")))
+worked = b"".join(it.read_bytes() for it in sorted((top / "crates/hidlog/data").glob("*/*.log")))
 (work / "worked").write_bytes(repeated(worked))
 (work / "bytes").write_bytes(repeated(request(0x59, b"\xaa")))
 (work / "controls").write_bytes(repeated(request(0x79, b"\x1b")))

@@ -17,7 +17,7 @@ stop() {
 }
 
 # The logs that a new session without credentials plays, and that are whole.
-logs=("$top"/examples/*.log "$top"/crates/worked_logs/data/capacity_64/*.log)
+logs=("$top"/examples/*.log "$top"/crates/hidlog/data/capacity_64/*.log)
 
 # Plays a log on a key that is held, in both ways, and compares with the program: play_on LOG [WORD ..]
 play_on() {
