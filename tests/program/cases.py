@@ -1,12 +1,13 @@
 #!/usr/bin/env python3
-"""Runs the program on the cases of cases.txt, and on snapshots that it loads and saves.
+"""Runs the program on the cases of cases.txt, of the folder logs and of tables.py, and on snapshots that it loads and saves.
 
     tests/program/cases.py [PROGRAM]      release/hidlog where none is named
 
 A case is a block of lines. The first is the exit status and the words. Of each further line the first sign says where it
-is: `-` in the log, `+` in what is written, `|` in both, `?` in what is said of faults. Two dots at a packet's end mean
-zeros, up to 128 digits in all. A line of a mere `!` says that the log's last line has no line feed. The log is on standard input,
-and in the file `log` too. The expected texts follow from docs/LOG_FORMAT.md and the standard.
+is: `-` in the log, `+` in what is written, `|` in both, `?` in what is said of faults. A line that begins with `#` is a
+remark. Two dots at a packet's end mean zeros, up to 128 digits in all. A line of a mere `!` says that the log's last line
+has no line feed. The log is on standard input, and in the file `log` too. The expected texts follow from
+docs/LOG_FORMAT.md and the standard.
 
 Exit status: 1 where something isn't as it should be.
 """
@@ -19,7 +20,10 @@ import tempfile
 from dataclasses import dataclass
 from pathlib import Path
 
-TOP = Path(__file__).resolve().parents[2]
+from tables import made
+
+HERE = Path(__file__).resolve().parent
+TOP = HERE.parents[1]
 PROGRAM = str(Path(sys.argv[1]).resolve() if len(sys.argv) > 1 else TOP / "release/hidlog")
 # The SHA-256 hash of `example.com`.
 RP = bytes.fromhex("a379a6f6eeafb9a55e378c118034e2751e682fab9f2d30ab13d2125586ce1947")
@@ -87,15 +91,31 @@ def saves(room: Path, old: bytes, case: str, new: bytes) -> None:
     assert (room / "new").read_bytes() == wanted, f"{case}\nisn't saved as it was loaded"
 
 
+def cases_of(file: Path) -> list[Case]:
+    """Returns the cases of a file."""
+    lines = [it for it in file.read_text(encoding="utf-8").split("\n") if not it.startswith("#")]
+    return [Case(text) for text in "\n".join(lines).strip("\n").split("\n\n")]
+
+
 def cases_of_the_file(room: Path) -> None:
     """Help, wrong words, logs with and without a fault, and files that can't be read or written."""
-    for text in (Path(__file__).parent / "cases.txt").read_text(encoding="utf-8").rstrip("\n").split("\n\n"):
+    for case in cases_of(HERE / "cases.txt"):
+        case.run(room)
+
+
+def cases_of_logs(room: Path) -> None:
+    """What each command makes of logs."""
+    files = sorted((HERE / "logs").glob("*.txt"))
+    assert len(files) == 8, f"there are {len(files)} files of cases"
+    for file in files:
+        for case in cases_of(file):
+            case.run(room)
+
+
+def cases_of_tables(room: Path) -> None:
+    """Names of numbers, items in diagnostic notation, long messages, and characters that can't be seen."""
+    for text in made():
         Case(text).run(room)
-
-
-def a_line_of_256_bytes_is_too_long(room: Path) -> None:
-    """A line has at most 255 bytes."""
-    Case("1 hidlog replay\n-" + "#" * 256 + "\n?hidlog: line 1: longer than 255 bytes").run(room)
 
 
 def a_spent_counter_answers_without_presence(room: Path) -> None:
@@ -139,7 +159,8 @@ def arguments_are_utf_8(room: Path) -> None:
 
 TESTS = [
     cases_of_the_file,
-    a_line_of_256_bytes_is_too_long,
+    cases_of_logs,
+    cases_of_tables,
     a_spent_counter_answers_without_presence,
     a_refused_signature_raises_the_counter,
     a_signature_raises_the_counter,

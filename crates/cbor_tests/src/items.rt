@@ -1,11 +1,6 @@
 //! Outside vectors, and each public call once. The vectors were worked out by hand from RFC 8949 and the rules in
 //! docs/PROFILE.md.
 
-ghost use Rattle.std.specs.Prelude.{◌≡◌, ◌≤◌, ◌++◌, [], ◌∷◌, negsuc, true, length, take};
-ghost use Rattle.ctap_cbor.specs.Tree.{Int, Bytes, Text, Flag, Null};
-ghost use Rattle.ctap_cbor.specs.Head.{head};
-ghost use Rattle.ctap_cbor.specs.Grammar.{scalar_text};
-
 use ctap_cbor::*;
 use std::process::Abort;
 use std::test::Fail;
@@ -14,7 +9,7 @@ use std::test::Fail;
 type Row<'a> = (&'a [u8], Option<(usize, Kind)>, u64);
 
 /// Texts with what a check answers.
-pub(crate) const ROWS: [Row<'static>; 29] = [
+const ROWS: [Row<'static>; 29] = [
     (b"", Some((0, Kind::Truncated)), 1),
     (b"\x00\x00", Some((1, Kind::Trailing)), 1),
     (b"\x18\x05", Some((0, Kind::NotShortest)), 2),
@@ -91,7 +86,7 @@ const UTF8: [Row<'static>; 10] = [
 ];
 
 /// The place and the kind of the fault, if there is one.
-pub(crate) fn fault_of(outcome: Result<(), Fault>) -> Option<(usize, Kind)> {
+fn fault_of(outcome: Result<(), Fault>) -> Option<(usize, Kind)> {
     match outcome {
         Ok(()) => None,
         Err(fault) => Some((fault.at, fault.kind)),
@@ -140,223 +135,26 @@ fn checks_long_text(rt: HostRuntime) {
     }
 }
 
-/// A call on a cursor, at a level of 1 to 5 where it takes one.
-#[derive(Clone, Copy)]
-enum Call {
-    Item(u8),
-    Key,
-    Skip(u8),
-    Whole(u8),
-    Map(u8),
-    Array(u8),
-    End,
-    Rewind,
-    ReadWhole,
+/// Of `[[1], true]` and a byte after it, the item is passed whole, and nothing else may follow.
+#[test]
+fn a_cursor_tells(rt: HostRuntime) {
+    let mut cursor = Cursor::new(b"\x82\x81\x01\xf5\x00");
+    let is_passed = cursor.whole(1).is_ok() && cursor.since(0) == b"\x82\x81\x01\xf5".as_slice();
+    cursor.rewind();
+    let trailing = fault_of(read_whole(&mut cursor));
+    let told = (is_passed, trailing, cursor.place(), cursor.steps());
+    assert!(rt; told == (true, Some((4, Kind::Trailing)), 4, 8));
 }
 
-/// A call, with the item that it returns, the place and the kind of its fault, and the cursor's place and steps after
-/// it. Of a map or an array that is collected the item says how many members or entries were handed on.
-type Told<'a> = (Call, Option<Item<'a>>, Option<(usize, Kind)>, (usize, u64));
-
-/// `{1: -1, 2: h'07', "a": [false, null]}`, item by item and as a whole.
-const ITEM_BY_ITEM: [Told<'static>; 13] = [
-    (Call::Item(1), Some(Item::Map(3)), None, (1, 1)),
-    (Call::Key, Some(Item::Int(1)), None, (2, 2)),
-    (Call::Item(2), Some(Item::Int(-1)), None, (3, 3)),
-    (Call::Key, Some(Item::Int(2)), None, (4, 5)),
-    (Call::Item(2), Some(Item::Bytes(b"\x07")), None, (6, 7)),
-    (Call::Key, Some(Item::Text("a")), None, (8, 11)),
-    (Call::Item(2), Some(Item::Array(2)), None, (9, 12)),
-    (Call::Item(3), Some(Item::Bool(false)), None, (10, 13)),
-    (Call::Item(3), Some(Item::Null), None, (11, 14)),
-    (Call::End, None, None, (11, 15)),
-    (Call::Rewind, None, None, (0, 15)),
-    (Call::Skip(1), None, None, (11, 29)),
-    (Call::End, None, None, (11, 30)),
-];
-
-/// `[[1], true]` and a byte after it.
-const WHOLE_ITEMS: [Told<'static>; 7] = [
-    (Call::Whole(1), Some(Item::Array(2)), None, (4, 4)),
-    (Call::End, None, Some((4, Kind::Trailing)), (4, 4)),
-    (Call::Rewind, None, None, (0, 4)),
-    (Call::Item(1), Some(Item::Array(2)), None, (1, 5)),
-    (Call::Skip(2), None, None, (3, 7)),
-    (Call::Rewind, None, None, (0, 7)),
-    (Call::ReadWhole, None, Some((4, Kind::Trailing)), (4, 11)),
-];
-
-/// `[{1: h'07', 2: []}, [0, {}]]` and 0 after it.
-const COLLECTED: [Told<'static>; 7] = [
-    (Call::Item(1), Some(Item::Array(2)), None, (1, 1)),
-    (Call::Map(2), Some(Item::Map(2)), None, (7, 8)),
-    (Call::Map(2), None, None, (10, 11)),
-    (Call::Rewind, None, None, (0, 11)),
-    (Call::Array(1), Some(Item::Array(2)), None, (10, 22)),
-    (Call::Array(1), None, None, (11, 23)),
-    (Call::End, None, None, (11, 24)),
-];
-
-/// After a fault the cursor is after what counts as passed.
-const TRUNCATED: [Told<'static>; 1] = [(Call::Skip(1), None, Some((1, Kind::Truncated)), (3, 4))];
-
-const RESERVED: [Told<'static>; 1] = [(Call::Skip(1), None, Some((1, Kind::Reserved)), (2, 2))];
-
-const NOT_SHORTEST: [Told<'static>; 1] = [(
-    Call::Skip(1),
-    None,
-    Some((1, Kind::NotShortest)),
-    (4, 4),
-)];
-
-const NOT_UTF8: [Told<'static>; 1] = [(Call::Skip(1), None, Some((1, Kind::NotUtf8)), (3, 3))];
-
-const KEY_ORDER: [Told<'static>; 1] = [(Call::Skip(1), None, Some((3, Kind::KeyOrder)), (4, 5))];
-
-/// Texts with calls on a cursor.
-const LISTS: [(&[u8], &[Told<'static>]); 8] = [
-    (
-        b"\xa3\x01\x20\x02\x41\x07\x61\x61\x82\xf4\xf6",
-        &ITEM_BY_ITEM,
-    ),
-    (b"\x82\x81\x01\xf5\x00", &WHOLE_ITEMS),
-    (b"\x82\xa2\x01\x41\x07\x02\x80\x82\x00\xa0\x00", &COLLECTED),
-    (b"\x82\x62\x61", &TRUNCATED),
-    (b"\x82\x1c\x00", &RESERVED),
-    (b"\x82\x19\x00\x05\x00", &NOT_SHORTEST),
-    (b"\x82\x61\xff\x00", &NOT_UTF8),
-    (b"\xa2\x01\x00\x00\x00", &KEY_ORDER),
-];
-
-/// Calls on a cursor: the bytes of the key before, if there was one.
-#[derive(Drop)]
-struct Walk<'a> {
-    cursor: Cursor<'a>,
-    previous: Option<&'a [u8]>,
-}
-
-impl<'a> Walk<'a> {
-    /// A call that returns an item.
-    fn item(&mut self, rt: &impl Abort, call: Call) -> Result<Option<Item<'a>>, Fault> {
-        match call {
-            Call::Item(level) => Ok(Some(self.cursor.item(level_of(rt, level))?)),
-            Call::Whole(level) => Ok(Some(self.cursor.whole(level_of(rt, level))?)),
-            Call::Key => {
-                let key = self.cursor.key(self.previous)?;
-                self.previous = Some(key.bytes);
-                Ok(Some(key.item))
-            }
-            _ => self.collected(rt, call),
-        }
-    }
-
-    /// A call that collects members or entries.
-    fn collected(&mut self, rt: &impl Abort, call: Call) -> Result<Option<Item<'a>>, Fault> {
-        let mut counted = Counted { count: 0 };
-        match call {
-            Call::Map(level) => {
-                let read = read_map(&mut counted, &mut self.cursor, level_of(rt, level))?;
-                assert!(rt; read != Some(false));
-                Ok(read.is_some().then_some(Item::Map(counted.count)))
-            }
-            Call::Array(level) => {
-                let read = read_array(&mut counted, &mut self.cursor, level_of(rt, level))?;
-                assert!(rt; read != Some(false));
-                Ok(read.is_some().then_some(Item::Array(counted.count)))
-            }
-            _ => self.passed(rt, call),
-        }
-    }
-
-    /// A call that returns nothing.
-    fn passed(&mut self, rt: &impl Abort, call: Call) -> Result<Option<Item<'a>>, Fault> {
-        match call {
-            Call::Skip(level) => self.cursor.skip(level_of(rt, level))?,
-            Call::End => self.cursor.end()?,
-            Call::ReadWhole => read_whole(&mut self.cursor)?,
-            _ => self.cursor.rewind(),
-        }
-        Ok(None)
-    }
-}
-
-/// The level, which has to be one that a cursor takes.
-fn level_of(rt: &impl Abort, level: u8) -> u8
-    ensures low { 1 ≤ result }
-    ensures high { result ≤ 5 }
-{
-    assert!(rt; 1 <= level);
-    assert!(rt; level <= 5);
-    level
-}
-
-/// Makes calls on a cursor over a text, and asserts what each says.
-fn assert_told(rt: &impl Abort, bytes: &[u8], calls: &[Told<'_>]) {
-    let mut walk = Walk {
-        cursor: Cursor::new(bytes),
-        previous: None,
-    };
-    for (place, (call, item, fault, after)) in calls.iter().enumerate() {
-        let told = match walk.item(rt, *call) {
-            Ok(item) => (item, None),
-            Err(fault) => (None, Some((fault.at, fault.kind))),
-        };
-        let stands = (walk.cursor.place(), walk.cursor.steps());
-        assert!(rt;
-            (told, stands) == ((*item, *fault), *after),
-            "{bytes:?}, call {place}"
-        );
-        assert!(rt; bytes.starts_with(walk.cursor.since(0)));
-    }
-}
+/// `{-1: 65536, "ä": [h'07', true, null, -2^64]}`, each sort of item once, and a byte that was there before.
+const SAMPLE: &[u8; 25] = b"\xa2\x20\x1a\x00\x01\x00\x00\x62\xc3\xa4\x84\x41\x07\xf5\xf6\
+    \x3b\xff\xff\xff\xff\xff\xff\xff\xff\xee";
 
 #[test]
-fn cursors_tell(rt: HostRuntime) {
-    for (bytes, calls) in LISTS.iter() {
-        assert_told(&rt, bytes, calls);
-    }
-}
-
-/// How many members or entries there are.
-#[derive(Drop)]
-struct Counted {
-    count: u64,
-}
-
-impl<'a> Members<'a> for Counted {
-    ghost Holds = { λ _ _ _. Unit {0} };
-
-    fn member(
-        &mut self,
-        cursor: &mut Cursor<'a>,
-        _key: Item<'a>,
-        level: u8,
-    ) -> Result<bool, Fault> {
-        self.count = self.count.saturating_add(1);
-        cursor.skip(level)?;
-        Ok(true)
-    }
-}
-
-impl<'a> Entries<'a> for Counted {
-    ghost HoldsAll = { λ _ _ _. Unit {0} };
-
-    fn entry(&mut self, cursor: &mut Cursor<'a>, level: u8) -> Result<bool, Fault> {
-        self.count = self.count.saturating_add(1);
-        cursor.skip(level)?;
-        Ok(true)
-    }
-}
-
-/// Writes each sort of item once: `{-1: 65536, "ä": [h'07', true, null, -2^64]}`.
-fn write_sample(out: &mut [u8]) -> usize
-    requires { 24 ≤ length out.old }
-    ensures { take result out.new ≡ head 5 2 ++ scalar_text (Int (negsuc 0)) ++ head 0 0x1_0000
-        ++ scalar_text (Text (0xc3 ∷ 0xa4 ∷ []))
-        ++ head 4 4 ++ scalar_text (Bytes (7 ∷ [])) ++ scalar_text (Flag true) ++ scalar_text Null
-        ++ scalar_text (Int (negsuc 0xffff_ffff_ffff_ffff)) }
-{
-    let mut sink = Sink::new(out);
+fn writes_shortest(rt: HostRuntime) {
+    let mut buffer = [0xee; 25];
+    let mut sink = Sink::new(&mut buffer);
+    let is_empty = sink.is_empty();
     sink.map(2);
     sink.int(-1);
     sink.uint(0x1_0000);
@@ -366,41 +164,9 @@ fn write_sample(out: &mut [u8]) -> usize
     sink.flag(true);
     sink.null();
     sink.int(-18446744073709551616);
-    sink.len()
-}
-
-/// What it writes, and a byte that was there before.
-const SAMPLE: &[u8; 25] = b"\xa2\x20\x1a\x00\x01\x00\x00\x62\xc3\xa4\x84\x41\x07\xf5\xf6\
-    \x3b\xff\xff\xff\xff\xff\xff\xff\xff\xee";
-
-#[test]
-fn writes_shortest(rt: HostRuntime) {
-    let mut buffer = [0xee; 25];
-    let is_empty = Sink::new(&mut buffer).is_empty();
-    let len = write_sample(&mut buffer);
+    let len = sink.len();
     assert!(rt; (is_empty, len, buffer) == (true, 24, *SAMPLE));
     assert_checks(&rt, &[(&SAMPLE[..24], None, 28)]);
-}
-
-/// The kinds in the order of their numbers.
-const KINDS: [Kind; 10] = [
-    Kind::Truncated,
-    Kind::Reserved,
-    Kind::NotShortest,
-    Kind::TooDeep,
-    Kind::KeyType,
-    Kind::KeyOrder,
-    Kind::NotUtf8,
-    Kind::Unsupported,
-    Kind::Trailing,
-    Kind::Memory,
-];
-
-#[test]
-fn kinds_have_numbers(rt: HostRuntime) {
-    for (place, kind) in KINDS.iter().enumerate() {
-        assert!(rt; usize::from(kind.number()) == place + 1);
-    }
 }
 
 #[test]

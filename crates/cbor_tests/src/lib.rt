@@ -7,6 +7,4 @@ mod items;
 #[cfg(test)]
 mod page;
 #[cfg(test)]
-mod taking;
-#[cfg(test)]
 mod values;

@@ -1,23 +1,14 @@
-//! Values: the rows again, refusals, and refused memory.
+//! Values: what is decoded and encoded, refusals, and refused memory.
 //!
-//! With ample memory each call is made once and succeeds. The tests `decodes_after_refused_memory` and
-//! `encodes_after_refused_memory` are for allocations that fail: whichever it is, the answer is Memory, nothing else
-//! changes, and the same call with memory succeeds. `tests/refused_memory.sh` has each of the first allocations fail in
-//! turn.
+//! With ample memory each call is made once and succeeds. The test `decodes_and_encodes_after_refused_memory` is for
+//! allocations that fail: whichever it is, the answer is Memory, nothing else changes, and the same call with memory
+//! succeeds. `tests/refused_memory.sh` has each of the first allocations fail in turn.
 
-use crate::items::{ROWS, fault_of, long_text};
+use crate::items::long_text;
 use ctap_cbor::*;
 use std::alloc::{AllocError, Global};
 use std::process::Abort;
 use std::test::Fail;
-
-#[test]
-fn decodes_rows(rt: HostRuntime) {
-    for (bytes, fault, _) in ROWS.iter() {
-        let got = decode_value(rt.alloc(), bytes).map(|_| ());
-        assert!(rt; fault_of(got) == *fault, "{bytes:?}");
-    }
-}
 
 /// `{1: [h'07', "a"], -1: {"b": true}, "c": null}`: each type of value once.
 const SAMPLE: &[u8] = b"\xa3\x01\x82\x41\x07\x61\x61\x20\xa1\x61\x62\xf5\x61\x63\xf6";
@@ -69,35 +60,38 @@ fn encoded(rt: &impl Abort, value: &Value, out: &mut Vec<u8>) -> Result<(), Kind
 }
 
 #[test]
-fn decodes_after_refused_memory(rt: HostRuntime) -> Result<(), Fail> {
+fn decodes_and_encodes_after_refused_memory(rt: HostRuntime) -> Result<(), Fail> {
     let value = decoded(&rt, rt.alloc(), SAMPLE)?;
     let mut out = Vec::new(rt.alloc());
     encoded(&rt, &value, &mut out)?;
-    assert!(rt; out.as_slice() == SAMPLE);
-    Ok(())
-}
-
-#[test]
-fn encodes_after_refused_memory(rt: HostRuntime) -> Result<(), Fail> {
-    let mut out = Vec::new(rt.alloc());
     encoded(&rt, &Value::Int(0x1_0000_0000), &mut out)?;
-    encoded(&rt, &Value::Bool(true), &mut out)?;
-    assert!(rt; out.as_slice() == b"\x1b\x00\x00\x00\x01\x00\x00\x00\x00\xf5".as_slice());
+    let rest = out.as_slice().strip_prefix(SAMPLE);
+    assert!(rt; rest == Some(b"\x1b\x00\x00\x00\x01\x00\x00\x00\x00".as_slice()));
     Ok(())
 }
 
-fn one_byte(alloc: Global) -> Result<Vec<u8>, AllocError> {
-    let mut out = Vec::new(alloc);
-    out.push(0xee)?;
-    Ok(out)
+/// A value that is encoded: an integer; `{1: null, second: null}`, where the second key is true if it isn't an integer;
+/// or an array of so many levels.
+#[derive(Clone, Copy)]
+enum Sample {
+    Int(i128),
+    Pair(Option<i128>),
+    Nested(usize),
+}
+
+impl Sample {
+    fn value(self, alloc: Global) -> Result<Value, AllocError> {
+        match self {
+            Sample::Int(number) => Ok(Value::Int(number)),
+            Sample::Pair(second) => pair_of(alloc, second),
+            Sample::Nested(levels) => nested(alloc, levels),
+        }
+    }
 }
 
 /// `{1: null, second: null}`, where the second key is true if it isn't an integer.
 fn pair_of(alloc: Global, second: Option<i128>) -> Result<Value, AllocError> {
-    let second = match second {
-        Some(number) => Value::Int(number),
-        None => Value::Bool(true),
-    };
+    let second = second.map_or(Value::Bool(true), Value::Int);
     let mut pairs = Vec::new(alloc);
     pairs.push((Value::Int(1), Value::Null))?;
     pairs.push((second, Value::Null))?;
@@ -114,65 +108,37 @@ fn nested(alloc: Global, levels: usize) -> Result<Value, AllocError> {
     Ok(value)
 }
 
-/// What encoding answers, and what a vector then holds that had the byte ee.
-type Encoded<'a> = (Result<(), Kind>, &'a [u8]);
-
-/// Asserts what encoding answers after one byte, and what the vector then holds.
-fn assert_encoded(
-    rt: &impl Abort,
-    alloc: Global,
-    value: &Value,
-    expected: Encoded<'_>,
-) -> Result<(), Fail> {
-    let mut out = one_byte(alloc)?;
-    let answer = encode_value(value, &mut out);
-    assert!(rt; (answer, out.as_slice()) == expected);
-    Ok(())
-}
-
-const INTEGERS: [(i128, Encoded<'static>); 3] = [
-    (18446744073709551616, (Err(Kind::Unsupported), b"\xee")),
-    (-18446744073709551617, (Err(Kind::Unsupported), b"\xee")),
+/// Values, what encoding each answers, and what a vector then holds that had the byte ee.
+const ENCODED: [(Sample, Result<(), Kind>, &[u8]); 8] = [
     (
-        -18446744073709551616,
-        (Ok(()), b"\xee\x3b\xff\xff\xff\xff\xff\xff\xff\xff"),
+        Sample::Int(18446744073709551616),
+        Err(Kind::Unsupported),
+        b"\xee",
     ),
+    (
+        Sample::Int(-18446744073709551617),
+        Err(Kind::Unsupported),
+        b"\xee",
+    ),
+    (
+        Sample::Int(-18446744073709551616),
+        Ok(()),
+        b"\xee\x3b\xff\xff\xff\xff\xff\xff\xff\xff",
+    ),
+    (Sample::Pair(Some(0)), Err(Kind::KeyOrder), b"\xee"),
+    (Sample::Pair(Some(1)), Err(Kind::KeyOrder), b"\xee"),
+    (Sample::Pair(None), Err(Kind::KeyType), b"\xee"),
+    (Sample::Nested(5), Err(Kind::TooDeep), b"\xee"),
+    (Sample::Nested(4), Ok(()), b"\xee\x81\x81\x81\x80"),
 ];
 
 #[test]
-fn takes_integers_of_64_bits(rt: HostRuntime) -> Result<(), Fail> {
-    for (number, expected) in INTEGERS.iter() {
-        assert_encoded(&rt, rt.alloc(), &Value::Int(*number), *expected)?;
-    }
-    Ok(())
-}
-
-/// Keys behind the key 1.
-const KEYS: [(Option<i128>, Kind); 3] = [
-    (Some(0), Kind::KeyOrder),
-    (Some(1), Kind::KeyOrder),
-    (None, Kind::KeyType),
-];
-
-#[test]
-fn refuses_keys(rt: HostRuntime) -> Result<(), Fail> {
-    for (second, kind) in KEYS.iter() {
-        let value = pair_of(rt.alloc(), *second)?;
-        assert_encoded(&rt, rt.alloc(), &value, (Err(*kind), b"\xee"))?;
-    }
-    Ok(())
-}
-
-const LEVELS: [(usize, Encoded<'static>); 2] = [
-    (5, (Err(Kind::TooDeep), b"\xee")),
-    (4, (Ok(()), b"\xee\x81\x81\x81\x80")),
-];
-
-#[test]
-fn takes_four_levels(rt: HostRuntime) -> Result<(), Fail> {
-    for (levels, expected) in LEVELS.iter() {
-        let value = nested(rt.alloc(), *levels)?;
-        assert_encoded(&rt, rt.alloc(), &value, *expected)?;
+fn encodes_or_refuses(rt: HostRuntime) -> Result<(), Fail> {
+    for (sample, answer, bytes) in ENCODED.iter() {
+        let value = sample.value(rt.alloc())?;
+        let mut out = b"\xee".to_vec(rt.alloc())?;
+        let encoded = encode_value(&value, &mut out);
+        assert!(rt; (encoded, out.as_slice()) == (*answer, *bytes));
     }
     Ok(())
 }

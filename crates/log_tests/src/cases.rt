@@ -1,15 +1,13 @@
-//! Worked cases, each a difference from a log to what a command writes for it.
+//! Worked cases, each a log and what a command writes for it.
 //!
-//! A case is a block of lines, and an empty line is between two. The first is the command, with the text of the
-//! fault, if there is one, after a colon. Of each further line the first sign says where it is: `-` in the log,
-//! `+` in what is written, `|` in both. Two dots at its end mean zeros, up to 128 digits in all. A line of a
-//! mere `!` says that the log's last line has no line feed.
+//! Of each line the first sign says where it is: `-` in the log, `+` in what is written, `|` in both. Two dots at its
+//! end mean zeros, up to 128 digits in all. Most cases are in tests/program/, where the program plays them; here are
+//! those that need a reader, a writer or a capacity of their own.
 ghost use Rattle.std.specs.Prelude.{◌<◌, ◌-◌, ◌^◌};
 
-use session_log::{LogFault, SliceIn, Source, Target, ToWrite, check, live, quiet, replay};
-use session_show::{Summary, put_json_fault, show, show_json, summarize};
+use session_log::{LogFault, Source, Target, check, live, quiet, replay};
+use session_show::{Summary, show, show_json, summarize};
 use std::alloc::{AllocError, Global};
-use std::process::Abort;
 use token_session::Session;
 
 /// Writes a log's summary, also of a log with a fault.
@@ -27,24 +25,8 @@ fn summarized<S: Source, T: Target>(reader: &mut S, writer: &mut T) -> Result<()
     }
 }
 
-/// Writes a log as JSON, with the object of its fault.
-fn shown_as_json<S: Source, T: Target>(reader: &mut S, writer: &mut T) -> Result<(), LogFault>
-    requires read { S.failed reader.old < 2 ^ 64 - 1 }
-    requires write { T.failed writer.old < 2 ^ 64 - 1 }
-{
-    let result = show_json(reader, writer);
-    match result {
-        Ok(()) | Err(LogFault::Write) => result,
-        Err(fault) => match put_json_fault(writer, &fault) {
-            Ok(()) => result,
-            Err(_) => Err(LogFault::Write),
-        },
-    }
-}
-
 /// Plays a log by a command, on a new session.
 pub fn play<S: Source, T: Target>(
-    alloc: Global,
     command: &str,
     reader: &mut S,
     writer: &mut T,
@@ -59,7 +41,7 @@ pub fn play<S: Source, T: Target>(
         "check" => check(reader, writer, &mut session),
         "quiet" => quiet(reader, writer, &mut session),
         "summary" => summarized(reader, writer),
-        "json" => shown_as_json(reader, writer),
+        "json" => show_json(reader, writer),
         _ => show(reader, writer),
     }
 }
@@ -90,34 +72,7 @@ pub fn texts(alloc: Global, lines: &str) -> Result<(String, String), AllocError>
             push_line(&mut log, line)?;
         } else if let Some(line) = marked.strip_prefix('+') {
             push_line(&mut text, line)?;
-        } else if marked == "!" {
-            log.pop();
         }
     }
     Ok((log, text))
-}
-
-/// What is answered and written for the case's log has to be as the case says.
-pub fn assert_case<R: Abort>(rt: &R, alloc: Global, case: &str) -> Result<(), AllocError> {
-    let (head, lines) = case.split_once('\n').unwrap_or((case, ""));
-    let (command, fault) = head.split_once(": ").unwrap_or((head, ""));
-    let (log, text) = texts(alloc, lines)?;
-    let mut written = Vec::new(alloc);
-    let reader = &mut SliceIn::new(log.as_bytes());
-    let answer = play(alloc, command, reader, &mut ToWrite::new(&mut written));
-    let told = match &answer {
-        Ok(()) => String::new(alloc),
-        Err(fault) => format!(in alloc; "{fault}")?,
-    };
-    let same = told.as_str() == fault && written.as_slice() == text.as_bytes();
-    assert!(rt; same, "{case}\nleft: {answer:?}");
-    Ok(())
-}
-
-/// Each of these cases has to be as it says.
-pub fn assert_cases<R: Abort>(rt: &R, alloc: Global, cases: &str) -> Result<(), AllocError> {
-    for case in cases.split("\n\n") {
-        assert_case(rt, alloc, case)?;
-    }
-    Ok(())
 }

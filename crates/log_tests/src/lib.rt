@@ -3,26 +3,16 @@
 #![tactic(auto)]
 
 #[cfg(test)]
+mod capacities;
+#[cfg(test)]
 mod cases;
 #[cfg(test)]
-mod checking;
-#[cfg(test)]
-mod living;
-#[cfg(test)]
-mod naming;
+mod faults;
 #[cfg(test)]
 mod page;
 #[cfg(test)]
-mod quieting;
-#[cfg(test)]
 mod reading;
-#[cfg(test)]
-mod replaying;
-#[cfg(test)]
-mod scripting;
 #[cfg(test)]
 mod showing;
 #[cfg(test)]
 mod streams;
-#[cfg(test)]
-mod summarizing;

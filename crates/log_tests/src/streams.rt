@@ -1,6 +1,5 @@
 //! Readers and writers that fail in mid-stream, and when a log is read and written.
 use crate::cases::{play, texts};
-use crate::replaying::METERS;
 use arrayvec::ArrayVec;
 use session_log::{FromRead, LogFault, SliceIn, SliceOut, Source, Target, ToWrite};
 use std::alloc::{AllocError, Global};
@@ -10,6 +9,8 @@ use std::process::Abort;
 
 type Text = ArrayVec<u8, 1024>;
 
+const METERS: &str = "= held 0 rows 0 pending 0 requests 0 bytes 0 steps 0";
+
 /// An INIT and a PING, replayed.
 const REPLAYED: &str = "\
 |> 0 ffffffff8600080001020304050607..
@@ -17,6 +18,21 @@ const REPLAYED: &str = "\
 |> 5 00000001810003616263..
 +< 00000001810003616263..
 += held 0 rows 0 pending 0 requests 0 bytes 0 steps 0";
+
+/// The summary of a PING.
+const SUMMARY: &str = "\
+-> 0 00000001810000..
+-< 00000001810000..
++  line  channel   command                        status                            user ms  KEEPALIVEs  RP id
++     1  00000001  PING                           answered                                -           0
++credentials made: 0
++credentials used: 0
++credentials excluded: 0
++requests refused: 0
++messages refused by ERROR: 0
++continuation packets of no open message: 0
++CANCELs for which nothing waited: 0
++replies for which nothing waited: 0";
 
 /// A reader that yields at most `step` bytes a call, and may fail after its last one.
 #[derive(Drop)]
@@ -119,10 +135,12 @@ fn assert_read<R: Abort>(
         fails,
     };
     let mut reader = FromRead::new(reader);
-    let answer = play(alloc, command, &mut reader, &mut ToWrite::new(&mut written));
-    assert_eq!(rt; answer, wanted.0);
-    assert_eq!(rt; written.len(), wanted.1);
-    assert!(rt; whole.as_bytes().starts_with(written.as_slice()));
+    let answer = play(command, &mut reader, &mut ToWrite::new(&mut written));
+    let is_front = whole.as_bytes().starts_with(written.as_slice());
+    assert!(rt;
+        is_front && (answer, written.len()) == wanted,
+        "{command}, {given}"
+    );
     Ok(())
 }
 
@@ -152,7 +170,7 @@ pub fn assert_written<R: Abort>(
             calls,
         };
         let reader = &mut SliceIn::new(log.as_bytes());
-        let answer = play(alloc, command, reader, &mut ToWrite::new(&mut narrow));
+        let answer = play(command, reader, &mut ToWrite::new(&mut narrow));
         let wanted = if calls < text.len() {
             Err(LogFault::Write)
         } else {
@@ -172,7 +190,10 @@ fn writers_fail(rt: HostRuntime) -> Result<(), AllocError> {
     assert_written(&rt, alloc, "check", "-t 5\n+same 1 inputs 0 packets")?;
     assert_written(&rt, alloc, "quiet", "|t 7\n|t 8")?;
     let lived = format!(in alloc; "|t 5\n+# need nothing\n|t 7\n+# need nothing\n+{METERS}")?;
-    assert_written(&rt, alloc, "live", lived.as_str())
+    assert_written(&rt, alloc, "live", lived.as_str())?;
+    assert_written(&rt, alloc, "summary", SUMMARY)?;
+    let ticked = "-t 7\n+{\"line\":1,\"kind\":\"tick\",\"moment\":7}";
+    assert_written(&rt, alloc, "json", ticked)
 }
 
 /// When so many pieces of a log were asked for, so much was written, and all in so many calls.
@@ -193,17 +214,9 @@ fn assert_watched<R: Abort>(
         taken: &taken,
         calls: &calls,
     });
-    let answer = play(
-        alloc,
-        command,
-        &mut FromRead::new(&mut watching),
-        &mut writer,
-    );
-    assert_eq!(rt; answer, Ok(()));
-    assert_eq!(rt;
-        (watching.seen.as_slice(), taken.get(), calls.get()),
-        wanted
-    );
+    let answer = play(command, &mut FromRead::new(&mut watching), &mut writer);
+    let told = (watching.seen.as_slice(), taken.get(), calls.get());
+    assert!(rt; answer.is_ok() && told == wanted, "{command}");
 }
 
 #[test]
@@ -224,35 +237,34 @@ fn a_line_is_answered_before_more_is_read(rt: HostRuntime) -> Result<(), AllocEr
 }
 
 #[test]
-fn failures_are_counted(rt: HostRuntime) {
+fn failed_writes_are_counted(rt: HostRuntime) {
     let mut room = [0; 4];
     let mut target = SliceOut::new(&mut room);
-    let put = [
-        target.put(b"abc").ok(),
-        target.put(b"def").ok(),
-        target.put(b"").ok(),
-        target.put(b"ef").ok(),
-    ];
-    assert_eq!(rt;
-        (put, target.failures()),
-        ([Some(3), Some(1), Some(0), None], 1)
-    );
-    assert!(rt; target.written() == b"abcd".as_slice());
-    let mut source = FromRead::new(Drip {
-        rest: b"a",
-        step: 1,
-        fails: true,
-    });
-    let mut out = [0; 2];
-    let got = (source.get(&mut out).ok(), source.get(&mut out).ok());
-    assert_eq!(rt; (got, source.failures()), ((Some(1), None), 1));
-    let mut source = SliceIn::new(b"abc");
-    let got = source.get(&mut out).ok();
-    assert_eq!(rt; (got, out, source.failures()), (Some(2), *b"ab", 0));
-    let mut target = ToWrite::new(Narrow {
+    let (some, few) = (target.put(b"abc").ok(), target.put(b"def").ok());
+    let (none, full) = (target.put(b"").ok(), target.put(b"ef").ok());
+    let failed = target.failures();
+    let mut narrow = ToWrite::new(Narrow {
         taken: ArrayVec::new(),
         step: 0,
         calls: 9,
     });
-    assert_eq!(rt; (target.put(b"a").ok(), target.failures()), (None, 1));
+    let told = (narrow.put(b"a").ok(), narrow.failures(), failed);
+    let put = (some, few, none, full);
+    assert!(rt; put == (Some(3), Some(1), Some(0), None) && told == (None, 1, 1));
+    assert!(rt; target.written() == b"abcd".as_slice());
+}
+
+#[test]
+fn failed_reads_are_counted(rt: HostRuntime) {
+    let mut out = [0; 2];
+    let mut drip = FromRead::new(Drip {
+        rest: b"a",
+        step: 1,
+        fails: true,
+    });
+    let (one, none) = (drip.get(&mut out).ok(), drip.get(&mut out).ok());
+    let mut slice = SliceIn::new(b"abc");
+    let (two, failed) = (slice.get(&mut out).ok(), slice.failures());
+    let told = (one, none, drip.failures(), two, failed, out);
+    assert!(rt; told == (Some(1), None, 1, Some(2), 0, *b"ab"));
 }

@@ -10,5 +10,3 @@ mod assembler_page;
 mod outbox;
 #[cfg(test)]
 mod packet_page;
-#[cfg(test)]
-mod packets;

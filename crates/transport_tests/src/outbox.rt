@@ -1,48 +1,15 @@
 //! An outbox yields the packets of what was put, also where its ring of bytes goes around its end.
 
 use hid_packet::laws::written_packets_are_the_fewest;
-use hid_packet::{Fragments, Outbox, Packet};
+use hid_packet::{Fragments, Outbox, Packet, packets_for};
 use std::process::Abort;
 
-/// Takes packets, and asserts that they are these.
-fn take_each(rt: &impl Abort, outbox: &mut Outbox, packets: Fragments<'_>) {
-    for expected in packets {
+/// Takes the packets of a message on channel 1 with command 1, and asserts that they are those that are written for it.
+fn take(rt: &impl Abort, outbox: &mut Outbox, bytes: &[u8; 127]) {
+    for expected in Fragments::new(1, 1, bytes) {
         assert!(rt; outbox.pop() == Some(expected));
     }
-}
-
-/// Takes the packets of a message on channel 1 with command 1, and asserts that they are those that are written for it.
-fn take(rt: &impl Abort, outbox: &mut Outbox, bytes: &[u8]) {
-    take_each(
-        rt,
-        outbox,
-        Fragments::new(1, 1, &bytes[..bytes.len().min(7609)]),
-    );
     assert!(rt; outbox.is_empty());
-}
-
-#[test]
-fn messages_at_the_limits_of_packets(rt: HostRuntime) {
-    written_packets_are_the_fewest();
-    let bytes = [0xa5; 7609];
-    for len in [0, 57, 58, 116, 117, 7609] {
-        let mut outbox = Outbox::new();
-        outbox.put_message(1, 1, &bytes[..len]);
-        take(&rt, &mut outbox, &bytes[..len]);
-    }
-}
-
-#[test]
-fn a_full_outbox_is_emptied(rt: HostRuntime) {
-    written_packets_are_the_fewest();
-    let single = Packet([0x33; 64]);
-    let mut outbox = Outbox::new();
-    outbox.put_message(1, 1, &[9; 7609]);
-    outbox.put_packet(single);
-    assert!(rt; outbox.len() == 130);
-    take_each(&rt, &mut outbox, Fragments::new(1, 1, &[9; 7609]));
-    assert!(rt; outbox.pop() == Some(single));
-    assert!(rt; outbox.pop() == None);
 }
 
 /// The ring has 8320 bytes, which 127 doesn't divide: so the messages begin at each of its places once, and its end
@@ -60,4 +27,12 @@ fn the_ring_ends_at_each_place_of_a_message(rt: HostRuntime) {
         outbox.put_message(1, 1, &bytes);
         take(&rt, &mut outbox, &bytes);
     }
+}
+
+#[test]
+fn packets_are_put(rt: HostRuntime) {
+    let mut outbox = Outbox::new();
+    outbox.put_packet(Packet::default());
+    let count = outbox.len();
+    assert!(rt; count == 1 && outbox.pop() == Some(Packet([0; 64])) && packets_for(7609) == 129);
 }

@@ -1,4 +1,0 @@
-use Rattle.cbor_tests.proofs.taking.IntegersMembers.member.Goals as goal
-
-pub returns : goal.returns
-returns c = let h = c.in_ok-value.ensures in (h.0, h.1, λ ok ps k e held. tt)

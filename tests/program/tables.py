@@ -1,0 +1,258 @@
+"""Cases that are made from tables, and those that have characters that can't be seen.
+
+Each is a text as cases.txt has it. The tables are those of CTAP 2.1, RFC 8949 and docs/LOG_FORMAT.md.
+"""
+
+from __future__ import annotations
+
+from typing import Iterator
+
+COUNTS = "= held 0 rows 0 pending 0 requests 0 bytes 0 steps 0"
+
+# Statuses with their names (CTAP 2.1, section 8.2), and some numbers that have none.
+STATUSES = """\
+00 CTAP2_OK
+01 CTAP1_ERR_INVALID_COMMAND
+02 CTAP1_ERR_INVALID_PARAMETER
+03 CTAP1_ERR_INVALID_LENGTH
+04 CTAP1_ERR_INVALID_SEQ
+05 CTAP1_ERR_TIMEOUT
+06 CTAP1_ERR_CHANNEL_BUSY
+0a CTAP1_ERR_LOCK_REQUIRED
+0b CTAP1_ERR_INVALID_CHANNEL
+11 CTAP2_ERR_CBOR_UNEXPECTED_TYPE
+12 CTAP2_ERR_INVALID_CBOR
+14 CTAP2_ERR_MISSING_PARAMETER
+15 CTAP2_ERR_LIMIT_EXCEEDED
+17 CTAP2_ERR_FP_DATABASE_FULL
+18 CTAP2_ERR_LARGE_BLOB_STORAGE_FULL
+19 CTAP2_ERR_CREDENTIAL_EXCLUDED
+21 CTAP2_ERR_PROCESSING
+22 CTAP2_ERR_INVALID_CREDENTIAL
+23 CTAP2_ERR_USER_ACTION_PENDING
+24 CTAP2_ERR_OPERATION_PENDING
+25 CTAP2_ERR_NO_OPERATIONS
+26 CTAP2_ERR_UNSUPPORTED_ALGORITHM
+27 CTAP2_ERR_OPERATION_DENIED
+28 CTAP2_ERR_KEY_STORE_FULL
+2b CTAP2_ERR_UNSUPPORTED_OPTION
+2c CTAP2_ERR_INVALID_OPTION
+2d CTAP2_ERR_KEEPALIVE_CANCEL
+2e CTAP2_ERR_NO_CREDENTIALS
+2f CTAP2_ERR_USER_ACTION_TIMEOUT
+30 CTAP2_ERR_NOT_ALLOWED
+31 CTAP2_ERR_PIN_INVALID
+32 CTAP2_ERR_PIN_BLOCKED
+33 CTAP2_ERR_PIN_AUTH_INVALID
+34 CTAP2_ERR_PIN_AUTH_BLOCKED
+35 CTAP2_ERR_PIN_NOT_SET
+36 CTAP2_ERR_PUAT_REQUIRED
+37 CTAP2_ERR_PIN_POLICY_VIOLATION
+39 CTAP2_ERR_REQUEST_TOO_LARGE
+3a CTAP2_ERR_ACTION_TIMEOUT
+3b CTAP2_ERR_UP_REQUIRED
+3c CTAP2_ERR_UV_BLOCKED
+3d CTAP2_ERR_INTEGRITY_FAILURE
+3e CTAP2_ERR_INVALID_SUBCOMMAND
+3f CTAP2_ERR_UV_INVALID
+40 CTAP2_ERR_UNAUTHORIZED_PERMISSION
+7f CTAP1_ERR_OTHER
+13
+38
+41
+e0
+ff
+"""
+
+# The authenticator's commands with their names (section 6), and some numbers that have none.
+COMMANDS = """\
+01 authenticatorMakeCredential
+02 authenticatorGetAssertion
+04 authenticatorGetInfo
+06 authenticatorClientPIN
+07 authenticatorReset
+08 authenticatorGetNextAssertion
+09 authenticatorBioEnrollment
+0a authenticatorCredentialManagement
+0b authenticatorSelection
+0c authenticatorLargeBlobs
+0d authenticatorConfig
+00
+03
+05
+40
+ff
+"""
+
+# Codes of ERROR with their names (section 11.2.9.1.6), and one that has none.
+ERRORS = """\
+01 ERR_INVALID_CMD
+02 ERR_INVALID_PAR
+03 ERR_INVALID_LEN
+04 ERR_INVALID_SEQ
+05 ERR_MSG_TIMEOUT
+06 ERR_CHANNEL_BUSY
+0a ERR_LOCK_REQUIRED
+0b ERR_INVALID_CHANNEL
+7f ERR_OTHER
+07
+"""
+
+# CTAPHID's commands with what is shown of a message of 65535 bytes that begins with a0.
+CTAPHID = {
+    0x01: "PING 65535",
+    0x03: "MSG 65535",
+    0x04: "LOCK 65535",
+    0x06: "INIT 65535",
+    0x08: "WINK 65535",
+    0x10: "CBOR 65535",
+    0x11: "CANCEL 65535",
+    0x3B: "KEEPALIVE 65535 a0",
+    0x3F: "ERROR 65535 a0",
+}
+
+# Texts with the characters at both ends of each range that is escaped, as bytes of CBOR.
+HIDDEN = """\
+64c280c29f \\u0080\\u009f
+62c2a0 \u00a0
+62c2ad \\u00ad
+62d89c \\u061c
+66e2808be2808f \\u200b\\u200f
+63e28090 \u2010
+66e280a8e280ae \\u2028\\u202e
+63e280af \u202f
+66e281a0e281af \\u2060\\u206f
+63efbbbf \\ufeff
+66efbfb9efbfbb \\ufff9\\ufffb
+63efbfbd \ufffd
+68f3a08080f3a081bf \\u{0e0000}\\u{0e007f}
+64f09f9982 🙂
+"""
+
+# Items, each with its diagnostic notation: those of RFC 8949, appendix A, and then the first bounds of what is escaped,
+# four levels, and keys of each type.
+ITEMS = """\
+00 0
+1864 100
+1b000000e8d4a51000 1000000000000
+1bffffffffffffffff 18446744073709551615
+3bffffffffffffffff -18446744073709551616
+20 -1
+3863 -100
+f4 false
+f5 true
+f6 null
+40 h''
+4401020304 h'01020304'
+60 ""
+6449455446 "IETF"
+62225c "\\"\\\\"
+62c3bc "ü"
+63e6b0b4 "水"
+64f0908591 "𐅑"
+80 []
+83010203 [1, 2, 3]
+8301820203820405 [1, [2, 3], [4, 5]]
+a0 {}
+a201020304 {1: 2, 3: 4}
+a26161016162820203 {"a": 1, "b": [2, 3]}
+826161a161626163 ["a", {"b": "c"}]
+6400090a1f "\\u0000\\u0009\\u000a\\u001f"
+65207e7fc2a0 " ~\\u007f\u00a0"
+8282a12081f680a0 [[{-1: [null]}, []], {}]
+a320f441abf5612ff6 {-1: false, h'ab': true, "/": null}
+"""
+
+# Requests of one packet, 05 a command that has no name. Faults are counted from the byte after the first one.
+REQUESTS = """\
+2d 2d
+01 01  authenticatorMakeCredential
+0500 05 0
+050000 05 fault 9 at 1  Trailing: bytes after the item
+02a202000100 02 fault 6 at 3  authenticatorGetAssertion  KeyOrder: a map's key that isn't above the one before it
+05a1f500 05 fault 5 at 1  KeyType: a map's key that is no integer, byte string or text
+05818181818100 05 fault 4 at 4  TooDeep: an array or a map within four others
+0562c3 05 fault 1 at 0  Truncated: the item ends early
+ff1805 ff fault 3 at 0  NotShortest: a number or a length that has a shorter encoding
+05f90000 05 fault 8 at 0  Unsupported: a tag, a float or a simple value
+051c 05 fault 2 at 0  Reserved: a length that is reserved or indefinite
+0561ff 05 fault 7 at 0  NotUtf8: a text that isn't UTF-8
+"""
+
+# Lines with characters that can't be seen, and of 255 and 256 bytes.
+LINES = [
+    "1 hidlog replay\n-t 5\r\n?hidlog: line 1: not a log line\n"
+    "?  byte 4 is a carriage return: lines end with a line feed alone (tr -d '\\r' drops the others)",
+    "1 hidlog replay\n-\r\n?hidlog: line 1: not a log line\n"
+    "?  byte 1 is a carriage return: lines end with a line feed alone (tr -d '\\r' drops the others)",
+    "1 hidlog replay\n-\ufefft 5\n?hidlog: line 1: not a log line\n?  byte 1 begins a byte order mark: a log has none",
+    "1 hidlog replay\n|t 5\n-\x20\n?hidlog: line 2: not a log line\n?  byte 1 is ' ', which fits no log line here",
+    f"0 hidlog replay\n|{'#' * 255}\n!\n+{COUNTS}",
+    f"1 hidlog replay\n-{'#' * 256}\n!\n?hidlog: line 1: longer than 255 bytes",
+    f"1 hidlog replay\n-{'x' * 255}\n!\n?hidlog: line 1: not a log line\n?  byte 1 is 'x', which fits no log line here",
+    f"1 hidlog replay\n-{'x' * 256}\n!\n?hidlog: line 1: longer than 255 bytes",
+]
+# Of what `live` reads, comments that say what was needed before are dropped, and no others.
+COMMENTS = [
+    "0 hidlog live\n|#\n|#\x20\n|# need\n|# needs\n|#need key\n|# Need key\n|# signed\n|# signedness\n|#  need key\n"
+    f"|# a need\n+{COUNTS}",
+    "0 hidlog live\n-# need\x20\n-# need nothing\n-# need more\n-# need\x20\x20\n-# signed\x20\n-# signed 00\n-# signed xx\n"
+    "|t 5\n+# need nothing\n"
+    "-# need\x20\n-# need nothing\n-# need more\n-# need\x20\x20\n-# signed\x20\n-# signed 00\n-# signed xx\n!\n"
+    f"+{COUNTS}",
+]
+# Comments as they are shown.
+SHOWN = [
+    '0 hidlog show\n-# alice "registers" \\ \x1b[31m\x9b\u202e\u2066\ufeff\U000e0041ü\n-#\n'
+    '+1 # alice "registers" \\ \\u001b[31m\\u009b\\u202e\\u2066\\ufeff\\u{0e0041}ü\n+2 #',
+    '0 hidlog show --json\n-# "a" \\ \x1b\x9b\u202eü\U000e0041\n'
+    '+{"line":1,"kind":"comment","text":"# \\"a\\" \\\\ \\u001b\\u009b\\u202eü\\udb40\\udc41"}',
+]
+
+
+def rows(table: str) -> Iterator[tuple[str, str]]:
+    """Yields the first word of each line, and the rest."""
+    for line in table.rstrip("\n").split("\n"):
+        first, _, rest = line.partition(" ")
+        yield first, rest
+
+
+def named(name: str) -> str:
+    """Returns what is written for a name at a line's end."""
+    return f"  {name}" if name else ""
+
+
+def message(data: str, shown: str) -> str:
+    """Returns the case of a CBOR message of one packet of a host."""
+    length = len(data) // 2
+    return f"0 hidlog show\n-> 0 0000000190{length:04x}{data}..\n+1 > 0 00000001 CBOR {length}\n+1   request {shown}"
+
+
+def long_message(length: int, end: str) -> str:
+    """Returns the case of a message of the key in 129 packets: a byte string of zeros after its first byte."""
+    first = f"-< 0000000190{length:04x}0059{length - 4:04x}..\n+1 < 00000001 CBOR {length}\n"
+    rest = (f"-< 00000001{number:02x}..\n+{number + 2} < 00000001 +{number}\n" for number in range(128))
+    return ("0 hidlog show\n" + first + "".join(rest) + end).rstrip("\n")
+
+
+def made() -> Iterator[str]:
+    """Yields the cases."""
+    for number, name in rows(STATUSES):
+        head = f"0 hidlog show\n-< 00000001900001{number}..\n+1 < 00000001 CBOR 1\n"
+        yield f"{head}+1   answer {number}{named(name)}"
+    for number, name in rows(COMMANDS):
+        yield message(number, number + named(name))
+    for number, name in rows(ERRORS):
+        yield f"0 hidlog show\n-< 00000001bf0001{number}..\n+1 < 00000001 ERROR 1 {number}{named(name)}"
+    for command in range(128):
+        shown = CTAPHID.get(command, f"0x{command:02x} 65535")
+        yield f"0 hidlog show\n-< 0123abcd{command | 128:02x}ffffa0..\n+1 < 0123abcd {shown}"
+    for item, text in rows(HIDDEN):
+        yield message(f"05{item}", f'05 "{text}"')
+    for item, text in rows(ITEMS):
+        yield message(f"05{item}", f"05 {text}")
+    for request, text in rows(REQUESTS):
+        yield message(request, text)
+    yield long_message(7609, f"+129   answer 00 h'{'0' * 15210}'  CTAP2_OK")
+    yield long_message(7610, "")
+    yield from [*LINES, *COMMENTS, *SHOWN]
