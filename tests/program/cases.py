@@ -1,5 +1,5 @@
 #!/usr/bin/env python3
-"""Runs the program on the cases of cases.txt, of the folder logs and of tables.py, and on snapshots that it loads and saves.
+"""Runs the program on the cases of cases.txt, of the folder logs and of tables.py, on snapshots, and on changed requests.
 
     tests/program/cases.py [PROGRAM]      release/hidlog where none is named
 
@@ -20,6 +20,12 @@ import tempfile
 from dataclasses import dataclass
 from pathlib import Path
 
+from changed import (
+    a_registration_cut_short_is_refused,
+    changed_requests,
+    large_heads_long_keys_and_deep_values,
+    three_hosts_in_every_order,
+)
 from tables import made
 
 HERE = Path(__file__).resolve().parent
@@ -142,6 +148,11 @@ def a_signature_raises_the_counter(room: Path) -> None:
     saves(room, b"\x01", case, b"\x02\x08\x60")
 
 
+def each_byte_of_requests_changed(room: Path) -> None:
+    """Whatever a host sends in place of a registration or a sign-in, it is answered, and the next host is greeted."""
+    changed_requests(room, snapshot(1, 0xA7, b"\x00"))
+
+
 def nothing_is_saved_after_a_fault(room: Path) -> None:
     """A fault of the log leaves the file of --save as it was."""
     said = "?hidlog: line 2: not a log line\n?  byte 4 is '5', which fits no log line here"
@@ -166,6 +177,10 @@ TESTS = [
     a_signature_raises_the_counter,
     nothing_is_saved_after_a_fault,
     arguments_are_utf_8,
+    a_registration_cut_short_is_refused,
+    large_heads_long_keys_and_deep_values,
+    three_hosts_in_every_order,
+    each_byte_of_requests_changed,
 ]
 
 
