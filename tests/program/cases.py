@@ -26,6 +26,11 @@ from changed import (
     large_heads_long_keys_and_deep_values,
     three_hosts_in_every_order,
 )
+from snapshots import (
+    each_byte_of_a_snapshot_changed,
+    snapshots_are_loaded_or_refused,
+    snapshots_are_saved_as_version_2,
+)
 from tables import made
 
 HERE = Path(__file__).resolve().parent
@@ -181,6 +186,9 @@ TESTS = [
     large_heads_long_keys_and_deep_values,
     three_hosts_in_every_order,
     each_byte_of_requests_changed,
+    snapshots_are_loaded_or_refused,
+    snapshots_are_saved_as_version_2,
+    each_byte_of_a_snapshot_changed,
 ]
 
 
