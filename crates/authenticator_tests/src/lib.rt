@@ -3,21 +3,19 @@
 #![tactic(auto)]
 
 #[cfg(test)]
-mod auth_data;
-#[cfg(test)]
 mod auth_data_page;
+#[cfg(test)]
+mod calls;
 #[cfg(test)]
 mod core_page;
 #[cfg(test)]
 mod message_page;
 #[cfg(test)]
-mod messages;
-#[cfg(test)]
 mod names;
 #[cfg(test)]
 mod pending;
 #[cfg(test)]
-mod snapshots;
+mod saving;
 #[cfg(test)]
 mod table_page;
 #[cfg(test)]

@@ -1,140 +1,87 @@
-//! Drives and noise, worked out by hand.
+//! Lists of inputs that are driven, and the calls of a session.
 
-use crate::transport::{INIT, PING_100, error, held, pad, pong_100, step, two_channels};
 use arrayvec::ArrayVec;
-use authn_core::{Config, Presence};
-use cred_table::Store;
+use authn_core::{Config, Need};
+use cred_table::{Store, Table};
+use hid_packet::Packet;
 use token_session::{
-    BothFault, DriveFault, Input, Sent, Session, Timed, drive, drive_both, drive_new,
+    BothFault, DriveFault, Input, Meters, Sent, Session, Timed, drive, drive_both, drive_new,
 };
 
-fn came(bytes: &[u8]) -> Input {
-    Input::Packet(pad(bytes))
+/// What is counted where nothing was asked.
+const NOTHING: Meters = Meters {
+    held: 0,
+    rows: 0,
+    pending: 0,
+    requests: 0,
+    bytes: 0,
+    steps: 0,
+};
+
+/// A packet with these first bytes, and zeros after them.
+fn came(front: &[u8; 15]) -> Input {
+    let mut packet = [0; 64];
+    packet[..15].copy_from_slice(front);
+    Input::Packet(Packet(packet))
 }
 
-fn at(at: u64, input: Input) -> Timed {
-    Timed { at, input }
-}
-
-/// INIT on the broadcast channel.
-fn init() -> Timed {
-    at(0, came(&INIT))
-}
-
-/// A PING on channel 1.
-fn ping() -> Timed {
-    at(5, came(&[0, 0, 0, 1, 0x81, 0, 3, b'a', b'b', b'c']))
+/// INIT on the broadcast channel, and a PING of eight bytes on channel 1.
+fn inputs() -> [Timed; 2] {
+    let init = came(b"\xff\xff\xff\xff\x86\x00\x08nonce...");
+    let ping = came(b"\x00\x00\x00\x01\x81\x00\x08pingping");
+    [Timed { at: 0, input: init }, Timed { at: 5, input: ping }]
 }
 
 #[test]
-fn drives_with_room(rt: HostRuntime) {
+fn a_session_is_driven(rt: HostRuntime) {
     let mut session = Session::<4>::bare([0; 16], 0);
     let mut sent = ArrayVec::<Sent, 132>::new();
-    let first = drive(&mut session, &[init(), ping()], &mut sent);
-    let second = drive(&mut session, &[ping()], &mut sent);
-    assert!(rt; (first, second) == (Ok(held(0)), Ok(held(0))));
-    assert!(rt; sent.iter().map(|sent| sent.input).eq([0, 1, 0]));
+    let driven = drive(&mut session, &inputs(), &mut sent);
+    let are_answered = sent.iter().map(|sent| sent.input).eq([0, 1]);
+    assert!(rt; driven == Ok(NOTHING) && session.meters() == NOTHING && are_answered);
+    let cancel = came(b"\x00\x00\x00\x01\x91\x00\x00\x00\x00\x00\x00\x00\x00\x00\x00");
+    let noise = (session.noise(5, &cancel), session.noise(5, &Input::Tick));
+    let held = (session.held(), session.credentials(), session.pending());
+    assert!(rt; noise == (true, false) && held == (0, 0, 0) && session.need() == Need::None);
+    assert!(rt; session.table().len() == 0);
 }
 
 #[test]
-fn drives_that_stop(rt: HostRuntime) {
+fn a_list_without_room_stops_a_drive(rt: HostRuntime) {
     let mut session = Session::<4>::bare([0; 16], 0);
     let mut sent = ArrayVec::<Sent, 130>::new();
-    let full = drive(&mut session, &[init(), ping()], &mut sent);
-    assert!(rt; (full, sent.len()) == (Err(DriveFault::Full { done: 1 }), 1));
-    assert!(rt; full.map_err(|fault| fault.number()) == Err(1));
+    let full = drive(&mut session, &inputs(), &mut sent);
+    let number = full.map_err(|fault| fault.number());
+    assert!(rt; full == Err(DriveFault::Full { done: 1 }) && sent.len() == 1 && number == Err(1));
 }
 
-/// A new key answers INIT, and counts a list that held other packets anew.
 #[test]
-fn drives_a_new_key(rt: HostRuntime) {
+fn a_new_key_is_driven(rt: HostRuntime) {
     let mut sent = ArrayVec::<Sent, 132>::new();
-    for _ in 0..2 {
-        let config = Config { aaguid: [0; 16] };
-        let meters = drive_new::<4, 132>(config, Store::new(), 0, &[init(), ping()], &mut sent);
-        assert!(rt; meters == Ok(held(0)));
-        assert!(rt; sent.iter().map(|sent| sent.input).eq([0, 1]));
-    }
+    let config = Config { aaguid: [0; 16] };
+    let driven = drive_new::<4, 132>(config, Store::new(), 0, &inputs(), &mut sent);
+    assert!(rt; driven == Ok(NOTHING) && sent.len() == 2);
 }
 
-/// Moments with packets on channels 1 and 2, and whether each is noise while a message is open on channel 1. 500 ms
-/// after its last packet it is no longer open.
-const RULINGS: [(u64, &[u8], bool); 7] = [
-    (499, BUSY, true),
-    (499, &[0, 0, 0, 1, 0], false),
-    (499, &[0, 0, 0, 2, 0], true),
-    (499, &[0, 0, 0, 1, 0x91], true),
-    (499, &[0, 0, 0, 1, 0x83], false),
-    (500, BUSY, false),
-    (500, &[0, 0, 0, 1, 0], true),
-];
-
-/// A PING of a byte on channel 2.
-const BUSY: &[u8] = &[0, 0, 0, 2, 0x81, 0, 1, b'a'];
-
 #[test]
-fn noise(rt: HostRuntime) {
-    let mut session = two_channels(&rt);
-    assert!(rt; !session.noise(0, &came(BUSY)));
-    step(&rt, &mut session, 0, &PING_100, &[]);
-    for (at, bytes, is_noise) in RULINGS.iter() {
-        assert!(rt;
-            session.noise(*at, &came(bytes)) == *is_noise,
-            "{bytes:?} at {at}"
-        );
-    }
-    let reply = Input::Presence(Presence::Granted);
-    let rulings = (session.noise(499, &Input::Tick), session.noise(499, &reply));
-    assert!(rt; rulings == (false, true));
-}
-
-/// The last packet of the PING of 100 bytes.
-const LAST: [u8; 5] = [0, 0, 0, 1, 0];
-
-#[test]
-fn two_drives(rt: HostRuntime) {
-    let mut first = two_channels(&rt);
-    let mut second = two_channels(&rt);
-    let inputs = [
-        at(0, came(&PING_100)),
-        at(10, came(BUSY)),
-        at(20, came(&LAST)),
-    ];
-    let quiet = [
-        at(0, came(&PING_100)),
-        at(10, Input::Tick),
-        at(20, came(&LAST)),
-    ];
-    let mut sent = ArrayVec::<Sent, 140>::new();
-    let mut quiet_sent = ArrayVec::<Sent, 140>::new();
+fn two_sessions_are_driven(rt: HostRuntime) {
+    let mut first = Session::<4>::bare([0; 16], 0);
+    let mut second = Session::<4>::bare([0; 16], 0);
+    let mut sent = ArrayVec::<Sent, 132>::new();
+    let mut other = ArrayVec::<Sent, 132>::new();
+    let inputs = inputs();
     let both = drive_both(
         &mut first,
         &mut second,
         &inputs,
-        &quiet,
+        &inputs[..1],
         &mut sent,
-        &mut quiet_sent,
+        &mut other,
     );
-    assert!(rt; both == Ok((held(57), held(57))));
-    let answer = pong_100().map(|packet| Sent { input: 2, packet });
-    assert!(rt; quiet_sent.as_slice() == answer.as_slice());
-    assert!(rt; sent.len() == 3);
-    assert!(rt; (sent[0].input, sent[0].packet) == (1, error(2, 6)));
-    assert!(rt; sent.as_slice()[1..] == answer[..]);
-}
-
-#[test]
-fn two_drives_that_stop(rt: HostRuntime) {
-    let mut first = Session::<4>::bare([0; 16], 0);
-    let mut second = Session::<4>::bare([0; 16], 0);
-    let mut sent = ArrayVec::<Sent, 130>::new();
-    let mut other = ArrayVec::<Sent, 130>::new();
-    let inputs = [init(), ping()];
-    let both = drive_both(&mut first, &mut second, &inputs, &[], &mut sent, &mut other);
-    let expected = BothFault::Full {
+    assert!(rt; both == Ok((NOTHING, NOTHING)) && sent.len() == 2 && other.len() == 1);
+    let full = BothFault::Full {
         first: 1,
         second: 0,
     };
-    assert!(rt; both == Err(expected));
-    assert!(rt; expected.number() == 1);
+    assert!(rt; full.number() == 1);
 }

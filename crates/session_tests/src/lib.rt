@@ -3,14 +3,6 @@
 #![tactic(auto)]
 
 #[cfg(test)]
-mod counters;
-#[cfg(test)]
 mod driving;
 #[cfg(test)]
-mod hostile;
-#[cfg(test)]
 mod page;
-#[cfg(test)]
-mod registration;
-#[cfg(test)]
-mod transport;

@@ -1,0 +1,41 @@
+//! The calls of `ctap_message` and `fido_authdata` that the examples on their pages leave out.
+
+use ctap_message::{
+    Command, Request, Status, read_request, write_assertion, write_created, write_status,
+};
+use fido_authdata::{AuthData, cose_key};
+
+/// An authenticatorGetAssertion for `example.com` that allows the credential 09.
+const ASSERT: &[u8] = b"\x02\xa3\x01\x6bexample.com\x02\x58\x20\
+    \x22\x22\x22\x22\x22\x22\x22\x22\x22\x22\x22\x22\x22\x22\x22\x22\
+    \x22\x22\x22\x22\x22\x22\x22\x22\x22\x22\x22\x22\x22\x22\x22\x22\
+    \x03\x81\xa2\x62id\x41\x09\x64type\x6apublic-key";
+
+/// The list has 23 bytes, and the five of its second key are read once more.
+#[test]
+fn a_list_is_walked(rt: HostRuntime) {
+    let request = read_request(ASSERT).0;
+    let Ok(Request::Assert { mut allow, .. }) = request else {
+        panic!(rt; "it is refused");
+    };
+    let is_given = allow.is_given();
+    let ids = (allow.next(), allow.next());
+    assert!(rt; is_given && ids == (Some(b"\x09".as_slice()), None) && allow.steps() == 28);
+    assert!(rt; Command::named(0x0b).is_some());
+}
+
+#[test]
+fn answers_are_written(rt: HostRuntime) {
+    let (id, x, y) = ([0xaa; 32], [0xbb; 32], [0xcc; 32]);
+    let made = AuthData::created(&[0xa3; 32], &[0; 16], &id, &x, &y).bytes();
+    let created = write_created(made.as_slice(), &[0xdd; 70]);
+    let asserted = write_assertion(&id, &[0xa3; 37], &[0xdd; 70], None, None);
+    let refused = write_status(Status::KEEPALIVE_CANCEL);
+    let lens = (
+        made.len(),
+        cose_key(&x, &y).len(),
+        created.len(),
+        asserted.len(),
+    );
+    assert!(rt; lens == (164, 77, 260, 170) && refused.as_slice() == b"\x2d".as_slice());
+}
