@@ -14,14 +14,12 @@ const ASSERT: &[u8] = b"\x02\xa3\x01\x6bexample.com\x02\x58\x20\
 /// The list has 23 bytes, and the five of its second key are read once more.
 #[test]
 fn a_list_is_walked(rt: HostRuntime) {
-    let request = read_request(ASSERT).0;
-    let Ok(Request::Assert { mut allow, .. }) = request else {
-        panic!(rt; "it is refused");
-    };
-    let is_given = allow.is_given();
-    let ids = (allow.next(), allow.next());
-    assert!(rt; is_given && ids == (Some(b"\x09".as_slice()), None) && allow.steps() == 28);
-    assert!(rt; Command::named(0x0b).is_some());
+    let mut is_walked = false;
+    if let Ok(Request::Assert { mut allow, .. }) = read_request(ASSERT).0 {
+        let is_first = allow.is_given() && allow.next() == Some(b"\x09".as_slice());
+        is_walked = is_first && allow.next().is_none() && allow.steps() == 28;
+    }
+    assert!(rt; is_walked && Command::named(0x02).is_some());
 }
 
 #[test]

@@ -30,7 +30,8 @@ fn each_call<T: Table<2>>(rt: &impl Abort, table: &mut T) {
     let counter = table.find(&A).map(|row| row.counter);
     assert!(rt; counter == Some(0));
     let raised = table.raise(&A);
-    let (row, taken) = (made(B), table.find(&B).is_some());
+    let row = made(B);
+    let taken = table.find(&row.id).is_some();
     assert!(rt; !taken);
     assert!(rt; table.same_user(&row.rp, row.user.as_slice()) == Some(A));
     table.replace(&A, row);

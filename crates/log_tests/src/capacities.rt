@@ -7,7 +7,7 @@ use std::alloc::{AllocError, Global};
 use std::process::Abort;
 use token_session::Session;
 
-/// One place: another user finds no room, the same user replaces.
+/// One place: another user finds no place, the same user replaces.
 const ONE_PLACE: &str = "\
 |> 0 ffffffff8600080001020304050607..
 |< ffffffff860011000102030405060700000001020100000c..
@@ -69,7 +69,7 @@ const ONE_PLACE: &str = "\
 |< 00000001024101..
 |= held 57 rows 1 pending 0 requests 4 bytes 319 steps 702";
 
-/// Room for two credentials: a third user finds none, the first user's credential is replaced, and an id is not made
+/// Capacity for two credentials: a third user finds none, the first user's credential is replaced, and an id is not made
 /// twice.
 const FULL_TABLE: &str = "\
 |> 0 ffffffff8600080001020304050607..

