@@ -75,7 +75,8 @@ class Sampler:
             if not self.is_below(process.pid, parents):
                 continue
             key = (process.pid, process.began)
-            if key not in self.checks:
+            # A process that was only forked still has its parent's words, so it is looked at again.
+            if self.checks.get(key) is None:
                 self.checks[key] = check_of(process)
             check = self.checks[key]
             if check is not None:

@@ -10,9 +10,10 @@ An edit is a file with the lines `file:`, `old:` and `new:`, in a folder named f
 are taken as `rt ci` built them (crates/*/out/rlib): run that first, or beside this, where a crate waits until those below
 it are proved.
 
-A proof sees of another function its contract alone. So a crate's edits are tried together, one in a function, and the
-prover says of each function whether it is proved; a function that is refused only since it calls an edited one is tried
-in a later round. An edit outside functions is tried alone, in a check of its whole crate.
+A proof sees of another function its contract alone. So a crate's edits are tried together, one in a function, with all
+other functions left out (source.py): the prover takes these by their contracts, which `rt ci` proves. A function that is
+refused only since it calls an edited one is tried in a later round. An edit outside functions is tried alone, in a check
+of its whole crate. With --all each function is first shown to be proved in the same way without its edit.
 
 The edits are put in place in a folder of the run's own, which is removed at the end; nothing changes here. A line is
 printed for each edit, and at the end 'N passed, M failed'. The status is 0 only if all passed.
@@ -32,19 +33,15 @@ import threading
 import time
 from concurrent.futures import ThreadPoolExecutor
 from dataclasses import dataclass
-from functools import cache, cached_property
 from pathlib import Path
 from types import FrameType
 
-TOP = Path(__file__).resolve().parent.parent.parent
-PARTS = ("src", "specs", "proofs")
-FOLDERS = ("gate", "release")
-NAMES = re.compile(r"[A-Za-z0-9_-][A-Za-z0-9_.-]*\.edit")
-FUNCTION = re.compile(r"( *)(?:pub(?:\([a-z]+\))? )?(?:const )?fn (\w+)")
-OWNER = re.compile(r"(?:impl(?:<[^{]*?>)? (?:(\w+)[^{]* for )?|(?:pub )?trait )(\w+)")
-CONTRACT = re.compile(r"\b(ensures|requires|invariant|ghost)\b")
-# A function is refused for what it calls, or for a type of its contract, and not for its own body.
-MASKED = ", which is not proved"
+from edits import CRATES, FOLDERS, PARTS, TOP, Crate, Edit, below, edits_of, first_of_each
+from source import FUNCTION, Function, leave_out, proofs_of
+
+# What the prover says of a function that it proves, given the contracts of those that are left out.
+PROVED = re.compile(r"proved|no holes|depends on a hole")
+# What it says of one that it refuses. Of others it could not tell, which says nothing.
 REFUSED = re.compile(r"no proof|not proved")
 VERDICT = re.compile(r"fn (\S+): (.*)")
 # What `rt ci` prints of a library that it has built, or has from an earlier run, and what it prints last.
@@ -55,164 +52,6 @@ printing = threading.Lock()
 # The prover's processes, and the folder of this run's copies.
 running: set[subprocess.Popen[str]] = set()
 copies = Path(tempfile.gettempdir()) / f"edits-{os.getpid()}"
-
-
-@dataclass(frozen=True)
-class Crate:
-    """A line of crates.txt: a crate's name, whether it is a static library, and the libraries that it names."""
-
-    name: str
-    is_static: bool
-    uses: tuple[str, ...]
-
-    @property
-    def folder(self) -> Path:
-        return TOP / "crates" / self.name
-
-    @property
-    def root(self) -> str:
-        return "src/main.rt" if (self.folder / "src/main.rt").is_file() else "src/lib.rt"
-
-
-def read_crates() -> dict[str, Crate]:
-    """Returns the crates of crates.txt by name, in its order."""
-    crates = {}
-    for line in (TOP / "crates.txt").read_text(encoding="utf-8").splitlines():
-        left, _, right = line.partition(":")
-        if line.strip() and not line.startswith("#"):
-            name, *kinds = left.split()
-            crates[name] = Crate(name, "staticlib" in kinds, tuple(right.split()))
-    return crates
-
-
-CRATES = read_crates()
-
-
-def below(crate: Crate) -> list[str]:
-    """Returns the repository's libraries that a crate stands on, those of its libraries too."""
-    found: list[str] = []
-    for name in crate.uses:
-        if name in CRATES:
-            found += [it for it in [*below(CRATES[name]), name] if it not in found]
-    return found
-
-
-@dataclass(frozen=True)
-class Edit:
-    """One edit: its file, and the crate that it changes."""
-
-    file: Path
-    crate: str
-
-    @property
-    def name(self) -> str:
-        return f"{self.crate}/{self.file.name}"
-
-    @cached_property
-    def pairs(self) -> list[tuple[str, str, str]]:
-        """Each text that is replaced: the path in the crate, the old text and the new one."""
-        path, old, found = "", "", []
-        for line in self.file.read_text(encoding="utf-8").split("\n"):
-            if line.startswith("file: "):
-                path = line.removeprefix("file: ").strip()
-            elif line.startswith("old: "):
-                old = line.removeprefix("old: ")
-            elif line.startswith("new:"):
-                found.append((path, old, line.removeprefix("new:").removeprefix(" ")))
-        return found
-
-    def misfit(self) -> str | None:
-        """Returns why the edit can't be applied to the crate as it is here, if it can't."""
-        if not NAMES.fullmatch(self.file.name):
-            return "its name is not one of letters, digits, _, - and . that ends in .edit"
-        texts: dict[str, str] = {}
-        for path, old, new in self.pairs:
-            whole = TOP / "crates" / self.crate / path
-            if path.partition("/")[0] not in PARTS or not whole.is_file():
-                return f"there is no file {path} below src/, specs/ or proofs/"
-            text = texts.setdefault(path, whole.read_text(encoding="utf-8"))
-            if not old or text.count(old) != 1:
-                return f"an 'old:' text is in {path} {text.count(old)} times, and not once: {old.strip()}"
-            texts[path] = text.replace(old, new)
-        return None if self.pairs else "it has no 'old:' and 'new:' pair"
-
-    @cached_property
-    def functions(self) -> frozenset[str]:
-        """The paths of the functions that the edit changes: none where it changes something else too."""
-        found = set()
-        for path, old, new in self.pairs:
-            function = None if CONTRACT.search(old + new) else function_at(self.crate, path, old)
-            if not path.startswith("src/") or not function:
-                return frozenset()
-            found.add(function)
-        return frozenset(found)
-
-    @cached_property
-    def bodies(self) -> str:
-        """The text of the functions that the edit changes, with and without it."""
-        return "\n".join(body_at(self.crate, path, old) + new for path, old, new in self.pairs)
-
-    def calls(self, other: Edit) -> bool:
-        """Returns whether a function that this edit changes calls one by the name of one that the other changes."""
-        names = "|".join(sorted({it.split("::")[-1] for it in other.functions}))
-        return re.search(rf"\b({names})(::<[^>]*>)?\(", self.bodies) is not None
-
-    def meets(self, other: Edit) -> bool:
-        """Returns whether a verdict on the functions of both could be that of the other one's edit."""
-        return bool(self.functions & other.functions) or self.calls(other) or other.calls(self)
-
-
-def modules_of(path: str) -> list[str]:
-    """Returns the module that a file of src/ is."""
-    parts = path.removeprefix("src/").removesuffix(".rt").split("/")
-    return [it for it in parts if it not in ("lib", "main", "mod")]
-
-
-@cache
-def home_of(crate: str, type_name: str) -> list[str] | None:
-    """Returns the module that declares a type: the prover names methods by it, wherever they are written."""
-    folder = TOP / "crates" / crate
-    declared = re.compile(rf"^(?:pub(?:\([a-z]+\))? )?(?:struct|enum) {type_name}\b", re.MULTILINE)
-    for file in (folder / "src").rglob("*.rt"):
-        if declared.search(file.read_text(encoding="utf-8")):
-            return modules_of(str(file.relative_to(folder)))
-    return None
-
-
-def function_at(crate: str, path: str, old: str) -> str | None:
-    """Returns the function that a text is in, as the prover names it: by crate, module, type with trait, and name."""
-    text = (TOP / "crates" / crate / path).read_text(encoding="utf-8")
-    lines = text[: text.index(old) + len(old)].split("\n")
-    if lines[-1].startswith("}") or not lines[-1].startswith((" ", "fn ", "pub fn ")):
-        return None
-    at = next((it for it in reversed(range(len(lines))) if FUNCTION.match(lines[it])), None)
-    if at is None or any(it.startswith("}") for it in lines[at:]):
-        return None
-    indent, name = FUNCTION.match(lines[at]).groups()  # type: ignore[union-attr]
-    modules, owner = modules_of(path), []
-    if indent:
-        head = next(it for it in reversed(lines[:at]) if it and not it.startswith((" ", "}", "/", "w", "{")))
-        named = OWNER.match(head)
-        if named:
-            owner, modules = [named[2] + (named[1] or "")], home_of(crate, named[2]) or modules
-    return "::".join([crate, *modules, *owner, name])
-
-
-def body_at(crate: str, path: str, old: str) -> str:
-    """Returns the body of the function that a text is in."""
-    text = (TOP / "crates" / crate / path).read_text(encoding="utf-8")
-    lines = text.split("\n")
-    inside = text[: text.index(old)].count("\n")
-    begin = next(it for it in range(inside, -1, -1) if FUNCTION.match(lines[it]))
-    indent = FUNCTION.match(lines[begin])[1]  # type: ignore[index]
-    end = next(it for it in range(inside, len(lines)) if lines[it] == f"{indent}}}")
-    return "\n".join(lines[begin + 1 : end])
-
-
-def edits_of(crate: str, folders: tuple[str, ...] = FOLDERS) -> list[Edit]:
-    """Returns the crate's edits in these folders."""
-    found = [TOP / "tests" / "edits" / it / crate for it in folders]
-    return [Edit(file, crate) for folder in found if folder.is_dir() for file in sorted(folder.iterdir())]
 
 
 def apply_all() -> int:
@@ -256,17 +95,15 @@ class Room:
             # A copy, since `rt ci` puts at its end what was there before.
             shutil.copytree(rlib_of(name), self.libraries / rlib_of(name).name, copy_function=link_or_copy)
         self.kit = Path(shutil.which("rt") or "rt").resolve().parent.parent
-        for part in PARTS:
-            if (crate.folder / part).is_dir():
-                shutil.copytree(crate.folder / part, self.folder / part)
 
-    def put(self, edits: list[Edit]) -> None:
-        """Puts these edits in place, and takes back those before."""
+    def put(self, edits: list[Edit], tried: list[Function] | None = None) -> None:
+        """Copies the crate and puts these edits in place. Where functions are tried, all others are left out."""
         for part in PARTS:
-            for file in (self.crate.folder / part).rglob("*"):
-                copy = self.folder / file.relative_to(self.crate.folder)
-                if file.is_file() and copy.read_bytes() != file.read_bytes():
-                    copy.write_bytes(file.read_bytes())
+            if (self.crate.folder / part).is_dir():
+                shutil.rmtree(self.folder / part, ignore_errors=True)
+                shutil.copytree(self.crate.folder / part, self.folder / part)
+        if tried:
+            leave_out(self.crate.folder, self.folder, tried)
         for edit in edits:
             for path, old, new in edit.pairs:
                 file = self.folder / path
@@ -283,7 +120,7 @@ class Room:
         words += ["--antt-project", f"{kit}/rattle/logic/antt-project.json", "--logic-built", f"{kit}/logic_built"]
         words += ["--crate-type", "staticlib"] if crate.is_static else []
         words += ["--incremental", str(self.kept), "--jobs", "1"]
-        return words + [it for name in only for it in ("--only", name)]
+        return words + ["--allow-holes"] * bool(only) + [it for name in only for it in ("--only", name)]
 
     def name_at(self, path: str, line: int) -> str | None:
         """Returns the name of the function that a line of the edited text is in."""
@@ -315,14 +152,20 @@ def is_of(name: str, function: str) -> bool:
     )
 
 
-def reason(lines: list[str], room: Room, function: str) -> str:
+def is_own(path: str, line: int, room: Room, functions: list[Function]) -> bool:
+    """Returns whether a line of a file is in the text or the proof of one of these functions."""
+    for function in functions:
+        folders = [f"{it.relative_to(room.folder)}/" for it in proofs_of(room.folder, function)]
+        in_text = path == function.path and room.name_at(path, line) == function.name.split("::")[-1]
+        if in_text or path.startswith(tuple(folders)):
+            return True
+    return False
+
+
+def reason(lines: list[str], room: Room, function: Function) -> str:
     """Returns the first line that says why the prover refuses a function: of its text, or of its proof."""
-    proof = "proofs/" + "/".join(function.split("::")[1:]) + "/"
-    for line in lines:
-        place = PLACE.match(line)
-        if place and (place[1].startswith(proof) or room.name_at(place[1], int(place[2])) == function.split("::")[-1]):
-            return line[:160]
-    return ""
+    places = ((line, it) for line in lines if (it := PLACE.match(line)))
+    return next((line[:160] for line, it in places if is_own(it[1], int(it[2]), room, [function])), "")
 
 
 def unread(lines: list[str], files: set[str]) -> str | None:
@@ -336,6 +179,19 @@ def unread(lines: list[str], files: set[str]) -> str | None:
             and not re.match(r"`[^`]*`: (?!.*(is not in scope|has no field))", place[3])
         ):
             return line[:200]
+    return None
+
+
+def stray(lines: list[str], verdicts: dict[str, str], room: Room, tried: list[Function]) -> str | None:
+    """Returns a refusal that no edit explains, if there is one: then those of the edited functions say nothing."""
+    for line in lines:
+        place = PLACE.match(line)
+        if place and place[3] and not place[1].startswith("src/") and not is_own(place[1], int(place[2]), room, tried):
+            return line[:200]
+    for name, verdict in verdicts.items():
+        is_edited = any(is_of(name, it.name) for it in tried)
+        if not is_edited and not PROVED.match(verdict) and not any(f"`{it.name}`" in verdict for it in tried):
+            return f"fn {name}: {verdict[:160]}"
     return None
 
 
@@ -353,33 +209,38 @@ class Answers:
 
 def try_round(room: Room, edits: list[Edit], answers: Answers) -> list[Edit]:
     """Tries edits of different functions together. Returns those that a later round has to try."""
-    room.put(edits)
-    status, lines = room.check([function for it in edits for function in it.functions])
-    files = {path for it in edits for path, _, _ in it.pairs}
-    bad = unread(lines, files)
+    tried = [function for it in edits for function in it.functions]
+    room.put(edits, tried)
+    status, lines = room.check([it.name for it in tried])
+    verdicts = {found[1]: found[2] for line in lines if (found := VERDICT.match(line))}
+    bad = unread(lines, {path for it in edits for path, _, _ in it.pairs})
     if status not in (0, 1) or bad or not lines[-1].startswith("only="):
+        bad = f"the prover can't read it: {bad or lines[-1][:200]}"
+    if bad := bad or stray(lines, verdicts, room, tried):
         if len(edits) > 1:
             for edit in edits:
                 try_round(room, [edit], answers)
         else:
-            answers.say(edits[0], False, f"BAD EDIT: the prover can't read it: {bad or lines[-1][:200]}")
+            answers.say(edits[0], False, f"BAD EDIT: {bad}")
         return []
-    verdicts = {it[1]: it[2] for line in lines if (it := VERDICT.match(line))}
     later = []
     for edit in edits:
-        told = {it: verdict for it, verdict in verdicts.items() if any(is_of(it, own) for own in edit.functions)}
-        own = [it for it, verdict in told.items() if REFUSED.match(verdict) and MASKED not in verdict]
+        others = [f"`{it.name}`" for it in tried if it not in edit.functions]
+        told = {it: verdict for it, verdict in verdicts.items() if any(is_of(it, own.name) for own in edit.functions)}
+        refused = {it: verdict for it, verdict in told.items() if REFUSED.match(verdict)}
+        own = [it for it, verdict in refused.items() if not any(other in verdict for other in others)]
         if own:
-            why = reason(lines, room, own[0])
+            why = next((it for function in edit.functions if (it := reason(lines, room, function))), "")
             answers.say(edit, True, f"refused: {why or told[own[0]][:160]}")
-        elif not told:
-            answers.say(edit, False, f"NOT TRIED: the prover has no verdict for {', '.join(edit.functions)}")
-        elif all(it == "proved" for it in told.values()) or len(edits) == 1:
+        elif refused:
+            # It calls another function that is edited here.
+            later.append(edit)
+        elif told and all(PROVED.match(it) for it in told.values()):
             answers.say(edit, False, f"NOT REFUSED: {', '.join(told)} is still proved with this edit")
         else:
-            later.append(edit)
+            names = ", ".join(it.name for it in edit.functions)
+            answers.say(edit, False, f"NOT TRIED: the prover has no verdict on {names}: {told}"[:300])
     if later == edits:
-        # Each is refused for what it calls, which isn't edited: alone it has its answer.
         later = [it for edit in edits for it in try_round(room, [edit], answers)]
     return later
 
@@ -398,25 +259,29 @@ def try_whole(room: Room, edit: Edit, answers: Answers) -> None:
         answers.say(edit, False, what)
 
 
-def first_of_each(edits: list[Edit]) -> list[Edit]:
-    """Returns edits of which no two change one function, or functions that call each other: each verdict is of one."""
-    chosen: list[Edit] = []
-    # Those that meet the most others go first, so that there are fewer rounds.
-    for edit in sorted(edits, key=lambda edit: -sum(it.meets(edit) for it in edits)):
-        if not any(it.meets(edit) for it in chosen):
-            chosen.append(edit)
-    return chosen
+def unproved(room: Room, edits: list[Edit]) -> list[str]:
+    """Returns those of the edited functions that aren't proved without an edit: then a refusal would say nothing."""
+    tried = [function for it in edits for function in it.functions]
+    room.put([], tried)
+    lines = room.check([it.name for it in tried])[1]
+    proved = {told[1] for line in lines if (told := VERDICT.match(line)) and PROVED.match(told[2])}
+    return [it.name for it in tried if it.name not in proved]
 
 
-def try_crate(name: str, edits: list[Edit]) -> int:
-    """Tries edits of a crate, prints a line for each, and returns how many were refused."""
+def try_crate(name: str, edits: list[Edit], is_shown: bool) -> int:
+    """Tries edits of a crate, prints a line for each, and returns how many were refused.
+    Where `is_shown` says so, each function is first to be proved without its edit."""
     answers = Answers({})
     room = Room(CRATES[name], copies / name)
     left = [it for it in edits if it.functions]
     while left:
         chosen = first_of_each(left)
-        later = try_round(room, chosen, answers)
-        left = later + [it for it in left if it not in chosen]
+        left = [it for it in left if it not in chosen]
+        missed = unproved(room, chosen) if is_shown else []
+        for edit in [it for it in chosen if any(function.name in missed for function in it.functions)]:
+            answers.say(edit, False, "NOT TRIED: without it the function isn't proved either")
+            chosen.remove(edit)
+        left = (try_round(room, chosen, answers) if chosen else []) + left
     for edit in edits:
         if not edit.functions:
             try_whole(room, edit, answers)
@@ -457,14 +322,14 @@ class Beside:
             time.sleep(1)
 
 
-def try_in_turn(name: str, edits: list[Edit], beside: Beside | None, turns: threading.Semaphore) -> int:
+def try_in_turn(name: str, edits: list[Edit], is_shown: bool, beside: Beside | None, turns: threading.Semaphore) -> int:
     """Tries edits of a crate once its libraries are there and a processor is free."""
     if why := beside and beside.await_libraries(name):
         with printing:
             print("\n".join(f"{it.name}: {why}" for it in edits), flush=True)
         return 0
     with turns:
-        return try_crate(name, edits)
+        return try_crate(name, edits, is_shown)
 
 
 def end_on_signal(number: int, _: FrameType | None) -> None:
@@ -508,7 +373,7 @@ def main() -> int:
     copies.mkdir()
     try:
         with ThreadPoolExecutor(len(order)) as pool:
-            passed = sum(pool.map(lambda it: try_in_turn(it, chosen[it], beside, turns), order))
+            passed = sum(pool.map(lambda it: try_in_turn(it, chosen[it], given.all, beside, turns), order))
     finally:
         shutil.rmtree(copies, ignore_errors=True)
     tried = sum(map(len, chosen.values()))

@@ -1,15 +1,15 @@
 -- From one item or pair that is written to the next, by what is left to be written.
-use Rattle.std.proofs.Common.{◌≡◌, ℕ, zero, suc, ◌+◌, ◌-◌, ◌<◌, ◌≤◌, ◌^◌, true, false, List, [], ◌∷◌, ◌++◌, length, get_or, take, drop, Option, Some, None, Result, Ok, Err, refl, arith, sym, ap, subst, ◌∙◌, append_assoc, length-append, length-drop}
+use Rattle.std.proofs.Common.{◌≡◌, ℕ, zero, suc, ◌+◌, ◌-◌, ◌<◌, ◌≤◌, ◌^◌, true, false, List, [], ◌∷◌, ◌++◌, length, get_or, take, drop, Option, Some, None, Result, Ok, Err, refl, arith, sym, ap, subst, ◌∙◌, append_assoc, append-nil, length-append, length-drop}
 use Rattle.std.specs.Prelude.{if◌then◌else◌, IfErr}
 use Rattle.std.specs.Option.{ForSome}
 use Rattle.std.proofs.Math.Seq.{take-length}
 use Rattle.std.proofs.lemmas.Bool.{ne_eqb}
-use Rattle.std.proofs.lemmas.List.{at_drop_more, drop_at, take-append-le, drop-append-le}
+use Rattle.std.proofs.lemmas.List.{at_drop_more, drop_at, take-append-le, drop-append-le, drop_all}
 use Rattle.ctap_cbor.specs.declared.encoding.Span.{Span}
 use Rattle.ctap_cbor.specs.declared.fault.Kind.{Kind}
 use Rattle.ctap_cbor.specs.declared.fault.Kind.TheVariants.{TooDeep, KeyOrder, Memory}
 use Rattle.ctap_cbor.specs.declared.value.Value.{Value}
-use Rattle.ctap_cbor.specs.Tree.{Tree, Array, Map, Trees, tree, Pairs, pair, depth_all, depth_pairs, count, count_pairs}
+use Rattle.ctap_cbor.specs.Tree.{Tree, Array, Map, Trees, no_trees, tree, Pairs, no_pairs, pair, depth_all, depth_pairs, count, count_pairs}
 use Rattle.ctap_cbor.specs.Head.{head}
 use Rattle.ctap_cbor.specs.Grammar.{text, texts, pair_texts, Rises, AreLawful, AreLawfulPairs}
 use Rattle.ctap_cbor.specs.Faults.{AKey, is_above}
@@ -34,6 +34,27 @@ pub record ItemsLeft (room : ℕ) (all rest : Trees) (start now : List ℕ) : Ty
   pub lawful : AreLawful rest → AreLawful all
   pub flat : depth_all rest ≤ room → depth_all all ≤ room
   pub extends : Extends start now
+
+-- all are left before the first
+pub items_first : (room : ℕ) (all : Trees) (start : List ℕ) → ItemsLeft room all all start start
+items_first room all start = record { spelled = refl; refused = refl; lawful = λ l. l; flat = λ d. d; extends = ([], sym (append-nil start)) }
+
+items_next : (room : ℕ) (all rest : Trees) (t : Tree) (start a b : List ℕ) → ItemsLeft room all (tree t rest) start a → Writes room t a b → ItemsLeft room all rest start b
+items_next room all rest t start a b h u = record {
+  spelled = ap (λ x. x ++ texts rest) u.appended ∙ append_assoc a (text t) (texts rest) ∙ h.spelled;
+  refused = ap (λ x. or_else x (refusal_all room rest)) (sym u.accepted) ∙ h.refused;
+  lawful = λ l. h.lawful (u.lawful, l);
+  flat = λ d. h.flat (omega (arith, u.flat));
+  extends = goes_on start a b h.extends (text t, u.appended);
+}
+
+items_end : (room : ℕ) (all : Trees) (start now : List ℕ) → ItemsLeft room all no_trees start now → WritesAll room all start now
+items_end room all start now h = record {
+  accepted = sym h.refused;
+  lawful = h.lawful tt;
+  flat = h.flat (omega arith);
+  appended = sym (append-nil now) ∙ h.spelled;
+}
 
 pub item_gives_up : (room : ℕ) (all rest : Trees) (t : Tree) (start a b : List ℕ) (kind : Kind) → ItemsLeft room all (tree t rest) start a → FailsWith kind (refusal room t) a b → FailsWith kind (refusal_all room all) start b
 item_gives_up room all rest t start a b kind h g = (λ no. sym h.refused ∙ ap (λ x. or_else x (refusal_all room rest)) (g.0 no), goes_on start a b h.extends g.1)
@@ -69,6 +90,19 @@ pairs_next room all rest k v last start a b c h w above u = record {
   extends = goes_on start b c (goes_on start a b h.extends (text k, w.appended)) (text v, u.appended);
 }
 
+-- all are left before the first
+pub pairs_first : (room : ℕ) (all : Pairs) (start : List ℕ) → PairsLeft room all all None start start
+pairs_first room all start = record { spelled = refl; refused = refl; rises = λ r. r; lawful = λ l. l; flat = λ d. d; extends = ([], sym (append-nil start)) }
+
+pairs_end : (room : ℕ) (all : Pairs) (last : Option (List ℕ)) (start now : List ℕ) → PairsLeft room all no_pairs last start now → WritesPairs room all start now
+pairs_end room all last start now h = record {
+  accepted = sym h.refused;
+  rises = h.rises tt;
+  lawful = h.lawful tt;
+  flat = h.flat (omega arith);
+  appended = sym (append-nil now) ∙ h.spelled;
+}
+
 pub key_gives_up : (room : ℕ) (all rest : Pairs) (k v : Tree) (last : Option (List ℕ)) (start a b : List ℕ) (kind : Kind) → PairsLeft room all (pair k v rest) last start a → FailsWith kind (own_refusal k) a b → FailsWith kind (refusal_pairs room None all) start b
 key_gives_up room all rest k v last start a b kind h g = (λ no. sym h.refused ∙ ap (λ x. or_else x (after_key room last k v rest)) (g.0 no), goes_on start a b h.extends g.1)
 
@@ -96,6 +130,12 @@ drop_item xs i x lt is = at_drop_more (λ l. l) xs i x lt ∙ ap (λ y. y ∷ dr
 items_here : (room : ℕ) (vs : List Value) (i : ℕ) (v : Value) (start a : List ℕ) → i < length vs → v ≡ get_or vs i v → ItemsLeft room (trees_of vs) (trees_of (drop i vs)) start a → ItemsLeft room (trees_of vs) (tree (tree_of v) (trees_of (drop (i + 1) vs))) start a
 items_here room vs i v start a lt is h = subst (λ xs. ItemsLeft room (trees_of vs) (trees_of xs) start a) (drop_item vs i v lt is) h
 
+pub item_here : (room : ℕ) (vs : List Value) (i : ℕ) (v : Value) (start a b : List ℕ) → i < length vs → v ≡ get_or vs i v → ItemsLeft room (trees_of vs) (trees_of (drop i vs)) start a → Writes room (tree_of v) a b → ItemsLeft room (trees_of vs) (trees_of (drop (i + 1) vs)) start b
+item_here room vs i v start a b lt is h u = items_next room (trees_of vs) (trees_of (drop (i + 1) vs)) (tree_of v) start a b (items_here room vs i v start a lt is h) u
+
+pub items_done : (room : ℕ) (vs : List Value) (i : ℕ) (start now : List ℕ) → length vs ≤ i → ItemsLeft room (trees_of vs) (trees_of (drop i vs)) start now → WritesAll room (trees_of vs) start now
+items_done room vs i start now all h = items_end room (trees_of vs) start now (subst (λ xs. ItemsLeft room (trees_of vs) (trees_of xs) start now) (drop_all i vs all) h)
+
 pub item_stops_here : (room : ℕ) (vs : List Value) (i : ℕ) (v : Value) (start a b : List ℕ) (kind : Kind) → i < length vs → v ≡ get_or vs i v → ItemsLeft room (trees_of vs) (trees_of (drop i vs)) start a → FailsWith kind (refusal room (tree_of v)) a b → FailsWith kind (refusal_all room (trees_of vs)) start b
 item_stops_here room vs i v start a b kind lt is h g = item_gives_up room (trees_of vs) (trees_of (drop (i + 1) vs)) (tree_of v) start a b kind (items_here room vs i v start a lt is h) g
 
@@ -114,6 +154,17 @@ above_here a b key previous n h e len =
     ap (λ x. is_above (AKey (last_text x previous)) (drop n x)) e
     ∙ ap (λ x. is_above (AKey x) (drop n (a ++ key))) (last_stays a key previous h)
     ∙ ap (is_above (AKey (last_text a previous))) (drop_at a key n (sym len))
+
+-- there is none before the first key
+pub no_span : (n : ℕ) → ForSome None (λ (s : Span). (s.start ≤ s.end) × (s.end ≤ n))
+no_span n s is = absurd (let clash : ⊥ = cc in clash)
+
+-- a span, and where the key begins, are within what is written after it
+pub span_stays : (a b out key : List ℕ) (previous : Option Span) → ForSome previous (λ s. (s.start ≤ s.end) × (s.end ≤ length a)) → b ≡ a ++ key → out ≡ b → ForSome previous (λ s. (s.start ≤ s.end) × (s.end ≤ length out))
+span_stays a b out key previous h e f s is = ((h s is).0, omega (arith, (h s is).1, ap length f, ap length e, length-append a key))
+
+pub start_within : (a b out key : List ℕ) (n : ℕ) → n ≡ length a → b ≡ a ++ key → out ≡ b → n ≤ length out
+start_within a b out key n first e f = omega (arith, ap length f, ap length e, length-append a key)
 
 -- the span of a key that was written
 pub key_span : (a b c key more : List ℕ) (s : Span) → b ≡ a ++ key → c ≡ b ++ more → s.start ≡ length a → s.end ≡ length b → text_at c s ≡ key
@@ -136,6 +187,9 @@ span_within a b c key more s e f first last =
 
 pairs_here : (room : ℕ) (vs : List (Value × Value)) (i : ℕ) (v : Value × Value) (last : Option (List ℕ)) (start a : List ℕ) → i < length vs → v ≡ get_or vs i v → PairsLeft room (pairs_of vs) (pairs_of (drop i vs)) last start a → PairsLeft room (pairs_of vs) (pair (tree_of v.0) (tree_of v.1) (pairs_of (drop (i + 1) vs))) last start a
 pairs_here room vs i v last start a lt is h = subst (λ xs. PairsLeft room (pairs_of vs) (pairs_of xs) last start a) (drop_item vs i v lt is) h
+
+pub pairs_done : (room : ℕ) (vs : List (Value × Value)) (i : ℕ) (last : Option (List ℕ)) (start now : List ℕ) → length vs ≤ i → PairsLeft room (pairs_of vs) (pairs_of (drop i vs)) last start now → WritesPairs room (pairs_of vs) start now
+pairs_done room vs i last start now all h = pairs_end room (pairs_of vs) last start now (subst (λ xs. PairsLeft room (pairs_of vs) (pairs_of xs) last start now) (drop_all i vs all) h)
 
 pub key_stops_here : (room : ℕ) (vs : List (Value × Value)) (i : ℕ) (v : Value × Value) (last : Option (List ℕ)) (start a b : List ℕ) (kind : Kind) → i < length vs → v ≡ get_or vs i v → PairsLeft room (pairs_of vs) (pairs_of (drop i vs)) last start a → FailsWith kind (own_refusal (tree_of v.0)) a b → FailsWith kind (refusal_pairs room None (pairs_of vs)) start b
 key_stops_here room vs i v last start a b kind lt is h g = key_gives_up room (pairs_of vs) (pairs_of (drop (i + 1) vs)) (tree_of v.0) (tree_of v.1) last start a b kind (pairs_here room vs i v last start a lt is h) g

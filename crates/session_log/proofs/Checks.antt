@@ -1,13 +1,15 @@
 -- How a check ends.
-use Rattle.std.proofs.Common.{◌≡◌, ℕ, ◌+◌, true, List, [], ◌∷◌, Option, Some, None, is_some, Result, Err, inr, refl, sym, ap, ◌∙◌, subst}
+use Rattle.std.proofs.Common.{◌≡◌, ℕ, ◌+◌, ◌==◌, Bool, true, false, not, cond, List, [], ◌∷◌, Option, Some, None, is_some, Result, Err, inr, refl, sym, ap, ◌∙◌, subst}
 use Rattle.std.specs.Io.KnownBytes.{Consumes}
 use Rattle.std.proofs.KnownBytes.{Appends-nil, Keeps-refl}
+use Rattle.std.specs.Cmp.Lexicographic.{pointwise}
+use Rattle.std.specs.Option.{option_eq}
 use Rattle.hid_packet.specs.declared.packet.Packet.{Packet}
 use Rattle.token_session.specs.Meters.{SessionState}
 use Rattle.session_log.specs.declared.line.Line.{Line}
 use Rattle.session_log.specs.declared.fault.LogFault.{LogFault}
 use Rattle.session_log.specs.declared.fault.LogFault.TheVariants.{Differs}
-use Rattle.session_log.specs.Check.{Compared, due_packets, missing_of, stops_compared, moves_compared, check_machine}
+use Rattle.session_log.specs.Check.{Compared, after_first, due_packets, differs_from, missing_of, stops_compared, moves_compared, check_machine}
 use Rattle.session_log.specs.Ending.{Ending, Done, Refused, Unread, Unwritten, ended_by, ending_of, read_fails, write_fails}
 use Rattle.session_log.specs.Log.{playing, fault_by, after_by, text_by}
 use Rattle.session_log.specs.Replay.{IsPlayed, Plays, PlaysLine, Makes, Closes, Reaches, ReadsTo}
@@ -38,6 +40,35 @@ differs_silently taken failed n c line writer l k m f is stops same =
 pub is_missing : (o : Option Packet) (rest : List (List ℕ)) (f : LogFault) → true ≡ is_some o → missing_of (due_packets o rest) f ≡ Some f
 is_missing None rest f h = cc
 is_missing (Some p) rest f h = refl
+
+-- no packet is due
+pub is_silent : {A : Type 0} (o : Option A) → false ≡ is_some o → o ≡ None
+is_silent None h = refl
+is_silent (Some x) h = cc
+
+-- the packet of a line is the next that is due, or isn't
+same_as : (b : Bool) (f : LogFault) → false ≡ not b → cond b None (Some f) ≡ None
+same_as true f h = refl
+same_as false f h = cc
+
+other_than : (b : Bool) (f : LogFault) → true ≡ not b → cond b None (Some f) ≡ Some f
+other_than true f h = cc
+other_than false f h = refl
+
+pub is_next : (eq : Packet → Packet → Bool) (o : Option Packet) (rest : List (List ℕ)) (p : Packet) (f : LogFault) → ((q : Packet) → eq q p ≡ pointwise ◌==◌ q.0 p.0)
+    → false ≡ not (option_eq eq o (Some p)) → differs_from (due_packets o rest) p.0 f ≡ None
+is_next eq None rest p f compares h = cc
+is_next eq (Some q) rest p f compares h = same_as (pointwise ◌==◌ q.0 p.0) f (h ∙ ap not (compares q))
+
+pub is_other : (eq : Packet → Packet → Bool) (o : Option Packet) (rest : List (List ℕ)) (p : Packet) (f : LogFault) → ((q : Packet) → eq q p ≡ pointwise ◌==◌ q.0 p.0)
+    → true ≡ not (option_eq eq o (Some p)) → differs_from (due_packets o rest) p.0 f ≡ Some f
+is_other eq None rest p f compares h = refl
+is_other eq (Some q) rest p f compares h = other_than (pointwise ◌==◌ q.0 p.0) f (h ∙ ap not (compares q))
+
+-- what is due after it
+pub after_next : (eq : Packet → Packet → Bool) (o : Option Packet) (rest : List (List ℕ)) (p : Packet) → false ≡ not (option_eq eq o (Some p)) → after_first (due_packets o rest) ≡ rest
+after_next eq None rest p h = cc
+after_next eq (Some q) rest p h = refl
 
 -- a fault ended the lines
 pub fails_so : {S A : Type 0} (world : World S) (left left' taken taken' : Option (List ℕ)) (s s' t : S) (r : Result A LogFault) (e : LogFault) → r ≡ Err e → s ≡ s'

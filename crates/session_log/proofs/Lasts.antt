@@ -1,5 +1,5 @@
 -- How far was read where a line is faulty.
-use Rattle.std.proofs.Common.{◌≡◌, ℕ, suc, ◌+◌, ◌≤◌, ◌^◌, List, [], ◌∷◌, ◌++◌, length, take, drop, Option, Some, Result, Ok, Err, inl, inr, ◌⊎◌, IfErr, refl, sym, ap, ◌∙◌, subst, arith, add-one, append-nil, length-append, take-append-drop}
+use Rattle.std.proofs.Common.{◌≡◌, ℕ, suc, ◌+◌, ◌≤◌, ◌^◌, List, [], ◌∷◌, ◌++◌, length, take, drop, Option, Some, Result, Ok, Err, inl, inr, IfErr, refl, sym, ap, ◌∙◌, subst, arith, append-nil, length-append, take-append-drop}
 use Rattle.std.specs.Io.KnownBytes.{Consumes}
 use Rattle.session_log.specs.declared.fault.LogFault.{LogFault}
 use Rattle.session_log.specs.declared.fault.LogFault.TheVariants.{BadLine, TooLong, Differs, Read, Write, TooManyLines, Memory}
@@ -7,9 +7,8 @@ use Rattle.session_log.specs.Ending.{ended_by, ending_of}
 use Rattle.session_log.specs.World.{World}
 use Rattle.session_log.specs.Lines.{pieces, all_but_last, last_of, whole_lines, last_piece}
 use Rattle.session_log.specs.Log.{Played, played, prefixed, fault_at}
-use Rattle.session_log.specs.Said.{said}
 use Rattle.session_log.specs.Window.{HasLine, Stops}
-use Rattle.session_log.specs.Replay.{IsNear, IsOfLine, IsShown, PlaysLine, Reaches, ReadsTo}
+use Rattle.session_log.specs.Replay.{IsNear, IsOfLine, IsShown, PlaysLine, ReadsTo}
 use Rattle.session_log.proofs.Cutting.{first_piece, one_piece, pieces_some, front_of, last_is}
 use Rattle.session_log.proofs.Exits.{short_in_front}
 use Rattle.session_log.proofs.Through.{Through, played_faulty, said_fault}

@@ -6,6 +6,7 @@ pub mod Cutting
 pub mod Through
 pub mod Exits
 pub mod Failures
+pub mod Silent
 pub mod Lasts
 pub mod Worlds
 pub mod Histories

@@ -1,5 +1,5 @@
 -- Lists of packets.
-use Rattle.std.proofs.Common.{◌≡◌, ℕ, List, [], ◌∷◌, ◌++◌, sym, ◌∙◌, ap, subst, append-nil}
+use Rattle.std.proofs.Common.{ℕ, List, [], ◌∷◌, ◌++◌}
 use Rattle.session_log.specs.Text.{IsPacket, ArePackets}
 
 pub ArePackets-snoc : (packets : List (List ℕ)) (packet : List ℕ) → ArePackets packets → IsPacket packet → ArePackets (packets ++ packet ∷ [])

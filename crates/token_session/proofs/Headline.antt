@@ -110,3 +110,29 @@ pub room_named : (places : ℕ) (old : List Sent) (s t : SessionState) (xs : Lis
 room_named places old s t xs done none is had =
     subst (λ (v : SessionState). HadRoom places [] v xs done) is
     (subst (λ (o : List Sent). HadRoom places (map as_pair o) s xs done) none had)
+
+-- A run of a new session, by what a drive says of it.
+pub record IsNamed (start : Start) (places : ℕ) (xs : List Timed) (result : Result Meters DriveFault) (new : List Sent) : Type 0 where
+  pub answered : IsAnswered start (reverse (take (done_of (length xs) result) xs)) (map packet_of new)
+  pub numbers : map as_pair new ≡ sent_from 0 start [] (take (done_of (length xs) result) xs)
+  pub meters : IfOk result (λ meters. meters ≡ meters_of start (judged start (reverse xs)))
+  pub room : HadRoom places [] (session_of start []) xs (done_of (length xs) result)
+
+pub run_named : (start : Start) (places : ℕ) (xs : List Timed) (result : Result Meters DriveFault) (s t : SessionState) (old new : List Sent)
+    → old ≡ [] → s ≡ session_of start []
+    → ArriveWhole (take (done_of (length xs) result) xs)
+    → ((from : Start) (h : List Timed) → StandsAfter s from h → StandsAfter t from (onto (take (done_of (length xs) result) xs) h))
+    → ((from : Start) (h : List Timed) → StandsAfter s from h → map as_pair new ≡ map as_pair old ++ sent_from 0 from h (take (done_of (length xs) result) xs))
+    → IfOk result (λ meters. meters ≡ t.meters)
+    → HadRoom places (map as_pair old) s xs (done_of (length xs) result)
+    → ((h : List Timed) → ArriveWhole h → IsAnswered start h (turns_send start h))
+    → IsNamed start places xs result new
+unfolding judged
+run_named start places xs result s t old new none begun whole after sends meters room answers =
+    let numbers = only_new old (map as_pair new) (sent_from 0 start [] (take (done_of (length xs) result) xs)) (sends start [] begun) none in
+    record {
+      answered = run_answered start (take (done_of (length xs) result) xs) new whole numbers (answers (reverse (take (done_of (length xs) result) xs)));
+      numbers = numbers;
+      meters = meters_named start xs result t (after start [] begun) meters;
+      room = room_named places old s (session_of start []) xs (done_of (length xs) result) none begun room;
+    }

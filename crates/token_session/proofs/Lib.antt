@@ -14,6 +14,7 @@ pub mod Serving
 pub mod Turning
 pub mod Metering
 mod Rows
+pub mod Sizes
 pub mod Carrying
 pub mod Answering
 pub mod Noted

@@ -11,8 +11,8 @@ use Rattle.hid_assemble.proofs.ByCommand.{begin_row, by_command, init_row}
 use Rattle.hid_assemble.specs.Assembly.{Message, given_after, message_after, open_after}
 use Rattle.hid_assemble.specs.declared.table.Row.TheVariants.{BadLength, BrokenOff, BusyElsewhere, BusyHere, CancelsNothing, CancelsWork, InitAgain, InitFull, InitLength, InitNew, Long, NoSuchChannel, NoSuchCommand, Short}
 use Rattle.hid_packet.specs.Commands.{BROADCAST, CANCEL, CBOR, INIT, PING}
-use Rattle.hid_packet.specs.Packet.{Fields, channel, command, continuation, continuation_data, fields, initialization, initialization_data, is_initialization, message_length, sequence}
-use Rattle.token_session.specs.Inputs.{Judged, asks_channel, is_own, packet}
+use Rattle.hid_packet.specs.Packet.{Fields, channel, command, continuation, continuation_data, initialization, initialization_data, is_initialization, message_length, sequence}
+use Rattle.token_session.specs.Inputs.{Judged, asks_channel, is_own}
 use Rattle.token_session.specs.Messages.{Begun, finished, finished_long, is_last, is_long, is_next}
 use Rattle.token_session.specs.History.{admits, packet_event}
 use Rattle.token_session.specs.Messages.{as_open}

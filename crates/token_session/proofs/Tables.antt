@@ -1,5 +1,5 @@
 -- The reply table over packets, as a history has it, and over fields, as the composed turn has it, send the same.
-use Rattle.std.proofs.Common.{◌≡◌, ℕ, Bool, true, false, cond, not, ◌&&◌, ◌==◌, nat_lt, List, [], ◌∷◌, ◌+◌, length, Option, Some, None, option_map, refl, ◌∙◌, ap}
+use Rattle.std.proofs.Common.{◌≡◌, ℕ, Bool, true, false, cond, not, ◌&&◌, ◌==◌, nat_lt, List, [], ◌+◌, length, Option, Some, None, option_map, refl, ◌∙◌, ap}
 use Rattle.hid_assemble.specs.Table.{Begins, Continues, initialization_row, continuation_row, ruling_of}
 use Rattle.hid_assemble.specs.declared.table.Row.{Row}
 use Rattle.hid_assemble.specs.declared.table.Row.TheVariants.{NoSuchChannel}

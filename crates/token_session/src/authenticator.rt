@@ -1,4 +1,5 @@
 ghost use Rattle.std.specs.Prelude.{◌≡◌, ◌+◌, ◌≤◌, ◌++◌, [], List, Some, Ok, IfSome, MatchResult, length, max, min, option_map, if◌then◌else◌};
+ghost use Rattle.hid_assemble.specs.Table.{is_on};
 ghost use Rattle.ctap_message.specs.Requests.{steps_of, LARGEST};
 ghost use Rattle.cred_table.specs.declared.row.Row.{Row as AnyRow};
 ghost use Rattle.cred_table.specs.Snapshots.{Loads, Refuses};
@@ -64,6 +65,13 @@ fn turn_of<const C: usize>(core: &mut Core<Store<C>, C>, now: u64, event: &Event
     ensures { IsTaken core.old core.new (answer_of result) now (event_of event.now) }
 {
     core.take(now, event)
+}
+
+/// Returns whether work waits with this status.
+fn has_status(work: Option<Work>, status: KeepaliveStatus) -> bool
+    ensures { result ≡ is_on (status_of (option_map work_of work)) (status_number status) }
+{
+    matches!(work, Some(waiting) if waiting.status == status)
 }
 
 fn put_keepalive(outbox: &mut Outbox, cid: u32, status: KeepaliveStatus)
@@ -216,7 +224,7 @@ impl<const C: usize> Authenticator<C> {
         match turn {
             Turn::Answer(answer) => outbox.put_message(cid, CBOR, answer.as_slice()),
             Turn::Waits(status) => {
-                if work.map(|work| work.status) != Some(*status) {
+                if !has_status(work, *status) {
                     put_keepalive(outbox, cid, *status);
                     self.keepalive_at = now;
                 }

@@ -1,4 +1,4 @@
-use Rattle.std.proofs.Common.{ℕ, ◌≡◌, ◌∙◌, refl, sym, ap, arith, drop, length}
+use Rattle.std.proofs.Common.{ℕ, ◌≡◌, ◌∙◌, refl, sym, ap, arith, drop, length, ◌≤◌}
 use Rattle.ctap_cbor.specs.declared.value.Value.TheFolds.{fold-roll-Value}
 use Rattle.ctap_cbor.specs.declared.value.Value.TheOpen as layer
 use Rattle.ctap_cbor.specs.declared.value.Value.TheVariants.{rolls-Map}
@@ -11,8 +11,14 @@ use Rattle.ctap_cbor.specs.Grammar.{text, texts, pair_texts}
 use Rattle.ctap_cbor.specs.Faults.{AKey, is_above}
 use Rattle.ctap_cbor.specs.Values.{tree_step, tree_of, trees_of, pairs_of}
 use Rattle.ctap_cbor.specs.Writes.{last_text}
-use Rattle.ctap_cbor.proofs.Written.{array_written, array_fails, map_written, map_fails, item_stops_here, key_stops_here, order_stops_here, value_stops_here, pair_here, above_here, span_within, item_short_here, key_short_here, value_short_here, front_short, short_beyond, array_short, map_short, if_memory}
+use Rattle.ctap_cbor.proofs.Written.{array_written, array_fails, map_written, map_fails, item_stops_here, key_stops_here, order_stops_here, value_stops_here, pair_here, above_here, span_within, item_short_here, key_short_here, value_short_here, front_short, short_beyond, array_short, map_short, if_memory, items_first, item_here, items_done, pairs_first, pairs_done, no_span, span_stays, start_within}
 use Rattle.ctap_cbor.proofs.encoding.+write.Goals as goal
+
+same : (a : ℕ) → a ≤ a
+same a = omega arith
+
+on : (a b c : ℕ) → a ≤ b → b ≤ c → a ≤ c
+on a b c h k = omega arith
 
 -- ---- a value
 
@@ -150,3 +156,63 @@ write_pairs-loop-pair-preserved t c =
       span = span_within a b c.write_value.new.out.items (text (tree_of v.0)) (text (tree_of v.1)) record { start = c.len-start.result; end = c.len.result } w.appended u.appended start end;
       left = pair_here c.args.room c.args.pairs.now c.loop-pair.pair-index v (last_text a c.loop-pair.previous) c.args.out.now.items a b c.write_value.new.out.items record { start = c.len-start.result; end = c.len.result } c.loop-pair-test.true c.pair-item.is c.loop-pair.invariant.left w (sym asked ∙ told) u start end;
     }
+
+pub write_items-loop-item-init : goal.write_items-loop-item-init
+write_items-loop-item-init t c = record { left = items_first c.args.room (trees_of c.args.items.now) c.args.out.now.items; grows = same (vec_capacity c.args.out.now) }
+
+pub write_items-loop-item-preserved : goal.write_items-loop-item-preserved
+write_items-loop-item-preserved t c = record {
+  left = item_here c.args.room c.args.items.now c.loop-item.item-index c.item-item.result c.args.out.now.items c.loop-item.out.items c.write_value.new.out.items c.loop-item-test.true c.item-item.is c.loop-item.invariant.left c.in_ok-write_value.ensures.writes;
+  grows = on (vec_capacity c.args.out.now) (vec_capacity c.loop-item.out) (vec_capacity c.write_value.new.out) c.loop-item.invariant.grows c.write_value.ensures.grows;
+}
+
+pub write_items-returns-clause-writes : goal.write_items-returns-clause-writes
+write_items-returns-clause-writes t c = items_done c.args.room c.args.items.now c.loop-item.item-index c.args.out.now.items c.loop-item.out.items c.loop-item-test.false c.loop-item.invariant.left
+
+pub write_items-returns-clause-grows : goal.write_items-returns-clause-grows
+write_items-returns-clause-grows t c = c.loop-item.invariant.grows
+
+pub write_items-returns-in_err-write_value-clause-grows : goal.write_items-returns-in_err-write_value-clause-grows
+write_items-returns-in_err-write_value-clause-grows t c = on (vec_capacity c.args.out.now) (vec_capacity c.loop-item.out) (vec_capacity c.write_value.new.out) c.loop-item.invariant.grows c.write_value.ensures.grows
+
+pub write_pairs-loop-pair-init : goal.write_pairs-loop-pair-init
+write_pairs-loop-pair-init t c = record { span = no_span (length c.args.out.now.items); grows = same (vec_capacity c.args.out.now); left = pairs_first c.args.room (pairs_of c.args.pairs.now) c.args.out.now.items }
+
+pub write_pairs-returns-clause-writes : goal.write_pairs-returns-clause-writes
+write_pairs-returns-clause-writes t c = pairs_done c.args.room c.args.pairs.now c.loop-pair.pair-index (last_text c.loop-pair.out.items c.loop-pair.previous) c.args.out.now.items c.loop-pair.out.items c.loop-pair-test.false c.loop-pair.invariant.left
+
+pub write_pairs-returns-clause-grows : goal.write_pairs-returns-clause-grows
+write_pairs-returns-clause-grows t c = c.loop-pair.invariant.grows
+
+pub write_pairs-returns-in_err-write_key-clause-grows : goal.write_pairs-returns-in_err-write_key-clause-grows
+write_pairs-returns-in_err-write_key-clause-grows t c = on (vec_capacity c.args.out.now) (vec_capacity c.loop-pair.out) (vec_capacity c.write_key.new.out) c.loop-pair.invariant.grows c.write_key.ensures.grows
+
+pub write_pairs-returns-then-not-is_above_last-clause-grows : goal.write_pairs-returns-then-not-is_above_last-clause-grows
+write_pairs-returns-then-not-is_above_last-clause-grows t c = on (vec_capacity c.args.out.now) (vec_capacity c.loop-pair.out) (vec_capacity c.write_key.new.out) c.loop-pair.invariant.grows c.write_key.ensures.grows
+
+pub write_pairs-returns-in_err-write_value-clause-grows : goal.write_pairs-returns-in_err-write_value-clause-grows
+write_pairs-returns-in_err-write_value-clause-grows t c = on (vec_capacity c.args.out.now) (vec_capacity c.write_key.new.out) (vec_capacity c.write_value.new.out) (on (vec_capacity c.args.out.now) (vec_capacity c.loop-pair.out) (vec_capacity c.write_key.new.out) c.loop-pair.invariant.grows c.write_key.ensures.grows) c.write_value.ensures.grows
+
+pub write_array-returns-in_err-write_head-clause-grows : goal.write_array-returns-in_err-write_head-clause-grows
+write_array-returns-in_err-write_head-clause-grows t c = c.write_head.ensures.grows
+
+pub write_map-returns-in_err-write_head-clause-grows : goal.write_map-returns-in_err-write_head-clause-grows
+write_map-returns-in_err-write_head-clause-grows t c = c.write_head.ensures.grows
+
+pub write_array-returns-clause-grows : goal.write_array-returns-clause-grows
+write_array-returns-clause-grows t c = on (vec_capacity c.args.out.now) (vec_capacity c.write_head.new.out) (vec_capacity c.write_items.new.out) c.write_head.ensures.grows c.write_items.ensures.grows
+
+pub write_map-returns-clause-grows : goal.write_map-returns-clause-grows
+write_map-returns-clause-grows t c = on (vec_capacity c.args.out.now) (vec_capacity c.write_head.new.out) (vec_capacity c.write_pairs.new.out) c.write_head.ensures.grows c.write_pairs.ensures.grows
+
+pub write_pairs-is_above_last-requires-clause-span : goal.write_pairs-is_above_last-requires-clause-span
+write_pairs-is_above_last-requires-clause-span t c = span_stays c.loop-pair.out.items c.write_key.new.out.items c.deref.result.now (text (tree_of c.pair-item.result.0)) c.loop-pair.previous c.loop-pair.invariant.span c.in_ok-write_key.ensures.writes.appended c.deref.ensures.value
+
+pub write_pairs-is_above_last-requires-clause-start : goal.write_pairs-is_above_last-requires-clause-start
+write_pairs-is_above_last-requires-clause-start t c = start_within c.loop-pair.out.items c.write_key.new.out.items c.deref.result.now (text (tree_of c.pair-item.result.0)) c.len-start.result (c.len-start.ensures ∙ c.loop-pair.out.ok.0) c.in_ok-write_key.ensures.writes.appended c.deref.ensures.value
+
+pub write_pairs-bounds-pairs-pair-index : goal.write_pairs-bounds-pairs-pair-index
+write_pairs-bounds-pairs-pair-index t c = c.loop-pair-test.true
+
+pub write_items-bounds-items-item-index : goal.write_items-bounds-items-item-index
+write_items-bounds-items-item-index t c = c.loop-item-test.true

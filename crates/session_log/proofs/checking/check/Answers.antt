@@ -1,4 +1,4 @@
-use Rattle.std.proofs.Common.{◌≡◌, Err, refl, ap, ◌∙◌, subst}
+use Rattle.std.proofs.Common.{◌≡◌, ◌<◌, ◌-◌, ◌^◌, ℕ, Err, refl, sym, ap, ◌∙◌, subst, arith}
 use Rattle.std.proofs.lemmas.Result.{err_from_is_err_and}
 use Rattle.session_log.specs.Check.{Compared, begun, check_machine, compared, due_packets}
 use Rattle.session_log.specs.Ending.{Ending, ended_by, ending_of, read_fails, write_fails}
@@ -134,3 +134,14 @@ returns-clause-history g c =
     let taken = g.T.Target.taken in
     checks_history (left c.args.reader.now) (left c.play_all.new.reader) (taken c.args.writer.now) (taken c.finish.new.writer) c.args.session.now c.play_all.new.session (ending_of c.finish.result)
     (IsAllRead left g.S.Source.ended c.play_all.new.reader) (returns-clause-checked g c) (returns-clause-reach g c)
+
+pub new-player-requires : goal.new-player-requires
+new-player-requires g c = tt
+
+pub finish-requires-clause-write : goal.finish-requires-clause-write
+finish-requires-clause-write g c = subst (λ (k : ℕ). k < 2 ^ 64 - 1) (sym c.in_ok-play_all.ensures.writes) c.requires.write
+
+pub finish-requires-clause-found : goal.finish-requires-clause-found
+finish-requires-clause-found g c =
+    let ready = c.in_ok-play_all.ensures.ready in
+    omega (arith, ready.1, ready.2.0, ready.2.1)

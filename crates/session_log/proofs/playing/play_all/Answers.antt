@@ -1,4 +1,4 @@
-use Rattle.std.proofs.Common.{rules, ◌≡◌, ◌<◌, ◌+◌, ◌-◌, ◌^◌, ℕ, List, [], ◌∷◌, ◌++◌, length, length-append, Err, refl, sym, ap, ◌∙◌, subst, arith}
+use Rattle.std.proofs.Common.{◌≡◌, ◌<◌, ◌+◌, ◌-◌, ◌^◌, ℕ, List, [], ◌∷◌, ◌++◌, length, length-append, Err, refl, sym, ap, ◌∙◌, subst, arith}
 use Rattle.std.specs.Io.KnownBytes.{Consumes}
 use Rattle.std.proofs.KnownBytes.{Consumes-nil, Appends-nil}
 use Rattle.std.proofs.lemmas.Result.{err_from_is_err_and}
@@ -41,7 +41,7 @@ play-requires g c =
     let line = c.split_at-in-Some.result.0.now in
     let cut = cut_twice w c.as_slice.result.now text line c.in-Some.end c.as_slice.ensures.value c.split_at.ensures.front c.split_at-in-Some.ensures.front in
     let unfailed : g.T.Target.failed c.lines.writer < 2 ^ 64 - 1 = subst (λ (k : ℕ). k < 2 ^ 64 - 1) (sym c.lines.invariant.writes) c.requires.write in (
-      search rules,
+      assumption,
       (unfailed, (short_in_front w line c.lines.number c.in-Some.end has cut.1, (text_of_line w text line c.in-Some.end has.feed cut, (has.counted, c.lines.invariant.ready)))),
     )
 
@@ -54,7 +54,7 @@ play-requires-2 g c =
     let cut = last_line_of w c.end_line.new.self text line c.len-end.result c.len-end.ensures.value c.end_line.ensures c.as_slice-text.ensures.value c.split_at-2.ensures.front in
     let some : 0 < length w = some_left (length w) (λ e. cc (c.if-is_empty.ensures.1 (is_nil w e))) in
     let unfailed : g.T.Target.failed c.lines.writer < 2 ^ 64 - 1 = subst (λ (k : ℕ). k < 2 ^ 64 - 1) (sym c.lines.invariant.writes) c.requires.write in (
-      search rules,
+      assumption,
       (unfailed, (subst (λ (l : List ℕ). length l < 256) (sym cut.1) unfinished.0.short, (cut.0 ∙ ap ended (sym cut.1), (in_count c.lines.number w unfinished.0.counted some, c.lines.invariant.ready)))),
     )
 
@@ -206,9 +206,6 @@ returns g c =
       writes = counts_on (failed c.lines.writer) (failed c.args.writer.now) _ _ c.lines.invariant.writes
           (plays_counts world taken failed c.lines.number s t w (c.lines.writer, c.play-2.new.writer) (ending_of r) played);
     }
-
-pub next_line-requires : goal.next_line-requires
-next_line-requires g c = subst (λ (k : ℕ). k < 2 ^ 64 - 1) (sym c.lines.invariant.reads) c.requires.read
 
 pub overflow_add-end : goal.overflow_add-end
 overflow_add-end g c =

@@ -1,4 +1,4 @@
-use Rattle.std.proofs.Common.{◌≡◌, true, Ok, Err, refl, sym, ap, ◌∙◌, subst}
+use Rattle.std.proofs.Common.{◌≡◌, ◌<◌, ◌-◌, ◌^◌, ℕ, true, Ok, Err, refl, sym, ap, ◌∙◌, subst}
 use Rattle.std.specs.Io.KnownBytes.{Appends}
 use Rattle.std.proofs.lemmas.Result.{err_from_is_err_and}
 use Rattle.token_session.specs.declared.input.Meters.{Meters}
@@ -185,3 +185,12 @@ returns-clause-history g c =
     let taken = g.T.Target.taken in
     replays_history (left c.args.reader.now) (left c.play_all.new.reader) (taken c.args.writer.now) (taken c.put_meters.new.writer) c.args.session.now c.play_all.new.session (Ok c.meters-meters.result)
     (IsAllRead left g.S.Source.ended c.play_all.new.reader) (returns-clause-replayed g c) (returns-clause-reach g c)
+
+pub new-player-requires : goal.new-player-requires
+new-player-requires g c = tt
+
+pub meters-meters-requires : goal.meters-meters-requires
+meters-meters-requires g c = assumption
+
+pub put_meters-requires : goal.put_meters-requires
+put_meters-requires g c = subst (λ (k : ℕ). k < 2 ^ 64 - 1) (sym c.in_ok-play_all.ensures.writes) c.requires.write

@@ -1,4 +1,4 @@
-use Rattle.std.proofs.Common.{rules, ◌≡◌, ◌++◌, length, take, map, ◌∙◌, ap, refl, sym, append-nil, arith, below_more}
+use Rattle.std.proofs.Common.{◌≡◌, ◌++◌, length, take, map, ◌∙◌, ap, refl, sym, append-nil, arith, below_more}
 use Rattle.std.proofs.lemmas.List.{length-map}
 use Rattle.arrayvec.specs.ArrayVec.{array_vec_len}
 use Rattle.token_session.specs.Drive.{as_pair}
@@ -49,4 +49,13 @@ pub bounds-inputs-i : goal.bounds-inputs-i
 bounds-inputs-i g c = c.loop-i-test.true
 
 pub step-requires : goal.step-requires
-step-requires g c = (search rules, c.loop-i.invariant.empty)
+step-requires g c = (search, c.loop-i.invariant.empty)
+
+pub has_room-requires : goal.has_room-requires
+has_room-requires g c = search
+
+pub take_all-requires : goal.take_all-requires
+take_all-requires g c = (search, omega (arith, c.if-not-has_room.ensures, c.step.ensures.few))
+
+pub meters-requires : goal.meters-requires
+meters-requires g c = search

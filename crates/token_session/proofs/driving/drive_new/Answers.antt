@@ -1,18 +1,21 @@
-use Rattle.std.proofs.Common.{[], take, length}
-use Rattle.token_session.specs.Drive.{done_of}
-use Rattle.token_session.specs.History.{judged}
-use Rattle.token_session.proofs.Headline.{meters_named, only_new, room_named, run_answered}
+use Rattle.std.proofs.Common.{List}
+use Rattle.token_session.specs.declared.input.Timed.{Timed}
+use Rattle.token_session.proofs.Headline.{run_named}
+use Rattle.token_session.proofs.Sizes.{session_small}
 use Rattle.token_session.proofs.driving.drive_new.Goals as goal
 
 pub returns : goal.returns
-unfolding judged
 returns g c =
-    let xs = take (done_of (length c.args.inputs.now) c.drive.result) c.args.inputs.now in
-    let numbers = only_new _ _ _ (c.drive.ensures.sent _ [] c.new-session.ensures) c.clear.ensures in
-    record {
-      answered = run_answered _ xs _ c.drive.ensures.whole numbers (c.every_history_is_answered.ensures _ _ c.args.rows.lawful);
-      numbers = numbers;
-      meters = meters_named _ c.args.inputs.now c.drive.result _ (c.drive.ensures.after _ [] c.new-session.ensures) c.drive.ensures.meters;
-      full = c.drive.ensures.full;
-      room = room_named _ _ _ _ _ _ c.clear.ensures c.new-session.ensures c.drive.ensures.run.room;
-    }
+    let r = run_named _ g.row.N c.args.inputs.now c.drive.result c.new-session.result c.drive.new.session c.clear.new.self.items c.drive.new.sent.items
+    c.clear.ensures c.new-session.ensures c.drive.ensures.whole c.drive.ensures.after c.drive.ensures.sent c.drive.ensures.meters c.drive.ensures.run.room
+    (λ (h : List Timed). c.every_history_is_answered.ensures _ h c.args.rows.lawful) in
+    record { answered = r.answered; numbers = r.numbers; meters = r.meters; full = c.drive.ensures.full; room = r.room }
+
+pub clear-requires : goal.clear-requires
+clear-requires g c = search
+
+pub new-session-requires : goal.new-session-requires
+new-session-requires g c = (search, search session_small)
+
+pub drive-requires : goal.drive-requires
+drive-requires g c = (search session_small, search)

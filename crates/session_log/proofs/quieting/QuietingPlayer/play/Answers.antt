@@ -1,10 +1,11 @@
-use Rattle.std.proofs.Common.{◌≡◌, Bool, cond, Some, refl, sym, ◌∙◌, ap}
+use Rattle.std.proofs.Common.{◌≡◌, Bool, cond, Some, None, refl, sym, ◌∙◌, ap}
 use Rattle.session_log.specs.Session.{quiet_machine}
 use Rattle.session_log.specs.Said.{said, says}
 use Rattle.session_log.specs.Text.{ended, tick_text}
-use Rattle.session_log.specs.declared.line.Line.TheVariants.{Input, Comment}
+use Rattle.session_log.specs.declared.line.Line.TheVariants.{Input, Sent, Comment, Count}
 use Rattle.session_log.proofs.Exits.{writes_for}
 use Rattle.session_log.proofs.Failures.{on_any, puts_own}
+use Rattle.session_log.proofs.Silent.{says_nothing, writes_nothing}
 use Rattle.session_log.proofs.quieting.QuietingPlayer.play.Goals as goal
 
 pub returns-in-Some-Comment-clause-played : goal.returns-in-Some-Comment-clause-played
@@ -53,3 +54,80 @@ returns-else-noise-clause-own g c =
 
 pub returns-else-noise-clause-next : goal.returns-else-noise-clause-next
 returns-else-noise-clause-next g c = on_any c.put_text-else-noise.result c.drop_packets.ensures
+
+pub kind_of-requires : goal.kind_of-requires
+kind_of-requires g c = tt
+
+pub is_packet-requires : goal.is_packet-requires
+is_packet-requires g c = tt
+
+pub read_timed-requires : goal.read_timed-requires
+read_timed-requires g c = tt
+
+pub put_text-requires : goal.put_text-requires
+put_text-requires g c = c.requires.write
+
+pub returns-in-Some-Count : goal.returns-in-Some-Count
+returns-in-Some-Count g c =
+    let s = c.args.session.now in
+    let line = c.args.line.now in
+    let is : said line ≡ Some Count = c.in-Some-Count.ensures ∙ ap says c.in-Some-Count.field-0-is in
+    record {
+      played = writes_nothing quiet_machine g.T.Target.taken g.T.Target.failed c.args.number s s line c.args.writer.now Count is refl refl tt refl;
+      own = tt;
+      next = c.requires.ready;
+    }
+
+pub returns-in-Some-Sent : goal.returns-in-Some-Sent
+returns-in-Some-Sent g c =
+    let s = c.args.session.now in
+    let line = c.args.line.now in
+    let packet = c.if-is_packet.ensures in
+    let is : said line ≡ Some (Sent packet.0) = c.in-Some-Sent.ensures ∙ ap says c.in-Some-Sent.field-0-is ∙ packet.1 in
+    record {
+      played = writes_nothing quiet_machine g.T.Target.taken g.T.Target.failed c.args.number s s line c.args.writer.now (Sent packet.0) is refl refl tt refl;
+      own = tt;
+      next = c.requires.ready;
+    }
+
+pub returns-in_default : goal.returns-in_default
+returns-in_default g c =
+    let line = c.args.line.now in
+    let is : said line ≡ None = c.in-Some-Input.ensures ∙ ap says c.in-Some-Input.field-0-is ∙ c.in_default.ensures in
+    record {
+      played = says_nothing quiet_machine g.T.Target.taken g.T.Target.failed c.args.number c.args.session.now line c.args.writer.now is;
+      own = refl;
+      next = tt;
+    }
+
+pub returns-in-None : goal.returns-in-None
+returns-in-None g c =
+    let line = c.args.line.now in
+    let is : said line ≡ None = c.in-Some-Sent.ensures ∙ ap says c.in-Some-Sent.field-0-is ∙ c.if-is_packet.ensures in
+    record {
+      played = says_nothing quiet_machine g.T.Target.taken g.T.Target.failed c.args.number c.args.session.now line c.args.writer.now is;
+      own = refl;
+      next = tt;
+    }
+
+pub returns-in-None-2 : goal.returns-in-None-2
+returns-in-None-2 g c = record {
+  played = says_nothing quiet_machine g.T.Target.taken g.T.Target.failed c.args.number c.args.session.now c.args.line.now c.args.writer.now c.in-None.ensures;
+  own = refl;
+  next = tt;
+}
+
+pub put_text-requires-else-noise : goal.put_text-requires-else-noise
+put_text-requires-else-noise g c = c.requires.write
+
+pub drop_packets-requires : goal.drop_packets-requires
+drop_packets-requires g c = tt
+
+pub put_tick-requires : goal.put_tick-requires
+put_tick-requires g c = c.requires.write
+
+pub step-requires : goal.step-requires
+step-requires g c = (assumption, c.requires.ready)
+
+pub noise-noise-requires : goal.noise-noise-requires
+noise-noise-requires g c = assumption

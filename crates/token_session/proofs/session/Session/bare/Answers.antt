@@ -4,6 +4,7 @@ use Rattle.token_session.specs.Machine.{start_state}
 use Rattle.token_session.proofs.Metering.{begins, bounded_first}
 use Rattle.token_session.proofs.Passing.{whole}
 use Rattle.token_session.proofs.Turning.{at_most}
+use Rattle.token_session.proofs.Sizes.{authenticator_in_session}
 use Rattle.token_session.proofs.session.Session.bare.Goals as goal
 
 pub returns : goal.returns
@@ -15,3 +16,6 @@ returns g c =
 
 pub invariant_of-result : goal.invariant_of-result
 invariant_of-result g c = (at_most _ _ (ap (λ (v : Authenticator g.row.C). v.core.latest) c.bare.ensures), bounded_first _ _ c.first_meters.ensures)
+
+pub bare-requires : goal.bare-requires
+bare-requires g c = (search authenticator_in_session, (c.requires.some, c.requires.few))

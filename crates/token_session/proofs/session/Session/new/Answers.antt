@@ -4,6 +4,7 @@ use Rattle.token_session.specs.Machine.{start_state}
 use Rattle.token_session.proofs.Metering.{begins, bounded_first}
 use Rattle.token_session.proofs.Passing.{whole}
 use Rattle.token_session.proofs.Turning.{at_most}
+use Rattle.token_session.proofs.Sizes.{authenticator_in_session, core_in_session}
 use Rattle.token_session.proofs.session.Session.new.Goals as goal
 
 pub returns : goal.returns
@@ -18,3 +19,12 @@ invariant_of-result g c = (at_most _ _ (ap (λ (v : Authenticator g.row.C). v.co
 
 pub overflow_cast-rows : goal.overflow_cast-rows
 overflow_cast-rows g c = let few = c.credentials-rows.ensures.few in omega (arith, few.0, few.1)
+
+pub new-authenticator-requires : goal.new-authenticator-requires
+new-authenticator-requires g c = (search, search authenticator_in_session)
+
+pub credentials-rows-requires-room-T-Table : goal.credentials-rows-requires-room-T-Table
+credentials-rows-requires-room-T-Table g c κs = search
+
+pub credentials-rows-requires : goal.credentials-rows-requires
+credentials-rows-requires g c = search core_in_session

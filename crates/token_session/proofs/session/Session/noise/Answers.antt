@@ -2,6 +2,7 @@ use Rattle.std.proofs.Common.{ap, ◌∙◌}
 use Rattle.token_session.specs.Meters.{SessionState}
 use Rattle.token_session.proofs.Noise.{noise_now, noise_is_named}
 use Rattle.token_session.proofs.Metering.{machine_after}
+use Rattle.token_session.proofs.Sizes.{authenticator_in_session}
 use Rattle.token_session.proofs.session.Session.noise.Goals as goal
 
 pub returns-clause-state : goal.returns-clause-state
@@ -13,3 +14,6 @@ pub returns-clause-history : goal.returns-clause-history
 returns-clause-history g c = λ start h b.
     returns-clause-state g c
     ∙ noise_is_named (c.args.self.now).machine start h (record { at = c.args.at; input = c.args.input.now }) (machine_after _ start h b)
+
+pub is_noise-requires : goal.is_noise-requires
+is_noise-requires g c = search authenticator_in_session

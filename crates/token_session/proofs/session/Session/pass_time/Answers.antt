@@ -1,10 +1,11 @@
-use Rattle.std.proofs.Common.{rules, ◌≡◌, ◌≤◌, ◌++◌, List, ℕ, [], length, cond, sym, ◌∙◌, ap, arith}
+use Rattle.std.proofs.Common.{◌≡◌, ◌≤◌, ◌++◌, List, ℕ, [], length, cond, sym, ◌∙◌, ap, arith}
 use Rattle.authn_core.specs.Turn.{waiting}
 use Rattle.token_session.specs.Events.{keepalive_due, keepalive_packets}
 use Rattle.token_session.specs.Machine.{Turn}
 use Rattle.token_session.specs.Meters.{SessionState}
 use Rattle.token_session.specs.Replies.{error}
 use Rattle.token_session.proofs.Passing.{whole, late_turn, timely_turn}
+use Rattle.token_session.proofs.Sizes.{authenticator_in_session}
 use Rattle.token_session.proofs.session.Session.pass_time.Goals as goal
 
 sent_none : (ps : List (List ℕ)) → ps ≡ [] → length ps ≤ 1
@@ -17,7 +18,7 @@ pub put_error-requires : goal.put_error-requires
 put_error-requires g c = sent_none _ c.requires.sent
 
 pub pass_time-requires : goal.pass_time-requires
-pass_time-requires g c = (search rules, sent_none _ c.requires.sent)
+pass_time-requires g c = (search authenticator_in_session, sent_none _ c.requires.sent)
 
 pub invariant_of-self : goal.invariant_of-self
 invariant_of-self g c =

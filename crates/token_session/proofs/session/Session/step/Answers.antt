@@ -1,4 +1,4 @@
-use Rattle.std.proofs.Common.{rules, ◌≡◌, ℕ, ◌≤◌, List, length, max, refl, subst, sym, ap, ◌∙◌, arith}
+use Rattle.std.proofs.Common.{◌≡◌, ℕ, ◌≤◌, List, length, max, refl, subst, sym, ap, ◌∙◌, arith}
 use Rattle.token_session.proofs.Few.{time_few, turn_few}
 use Rattle.token_session.proofs.Runs.{step_sends}
 use Rattle.token_session.proofs.Serving.{step_turn}
@@ -8,11 +8,12 @@ use Rattle.token_session.specs.declared.input.Timed.{Timed}
 use Rattle.token_session.specs.Meters.{AreBounded, SessionState}
 use Rattle.token_session.specs.Readings.{reading_in, with_reading}
 use Rattle.token_session.specs.Machine.{Turn, served}
+use Rattle.token_session.proofs.Sizes.{core_in_session, table_in_session}
 use Rattle.token_session.proofs.session.Session.step.Goals as goal
 
 pub serve-reading-requires : goal.serve-reading-requires
 serve-reading-requires g c =
-    (search rules, subst (λ (ps : List (List ℕ)). length ps ≤ 1) (sym c.pass_time.ensures.packets) (time_few (c.args.self.now).machine c.max-now.result))
+    (search, subst (λ (ps : List (List ℕ)). length ps ≤ 1) (sym c.pass_time.ensures.packets) (time_few (c.args.self.now).machine c.max-now.result))
 
 pub overflow_cast-rows : goal.overflow_cast-rows
 overflow_cast-rows g c = let few = c.credentials-rows.ensures.few in omega (arith, few.0, few.1)
@@ -59,3 +60,21 @@ pub returns-clause-sent : goal.returns-clause-sent
 returns-clause-sent g c = λ start h b.
     returns-clause-packets g c
     ∙ step_sends (c.args.self.now).machine start h (record { at = c.args.at; input = c.args.input }) (machine_after _ start h b)
+
+later : (latest at now to : ℕ) → latest ≡ now → to ≡ max latest at → now ≤ to
+later latest at now to e m = omega arith
+
+pub pass_time-requires : goal.pass_time-requires
+pass_time-requires g c = (search, (c.requires, later _ c.args.at _ _ (ap (λ (v : SessionState). v.machine.now) c.self.view_is) c.max-now.ensures))
+
+pub credentials-rows-requires-room-T-Table : goal.credentials-rows-requires-room-T-Table
+credentials-rows-requires-room-T-Table g c κs = search table_in_session
+
+pub credentials-rows-requires : goal.credentials-rows-requires
+credentials-rows-requires g c = search core_in_session
+
+pub pending-pending-requires-room-T-Table : goal.pending-pending-requires-room-T-Table
+pending-pending-requires-room-T-Table g c κs = search table_in_session
+
+pub pending-pending-requires : goal.pending-pending-requires
+pending-pending-requires g c = search core_in_session
