@@ -10,7 +10,7 @@ from concurrent.futures import ThreadPoolExecutor
 from pathlib import Path
 from typing import Callable, Sequence
 
-from running import AGAIN, EXAMPLES, INIT, PROGRAM, run, wants
+from running import AGAIN, EXAMPLES, INIT, PROGRAM, run, run_in_parts, wants
 
 # ---- what differs, for a person
 
@@ -176,6 +176,20 @@ def all_differences_are_counted(room: Path) -> None:
     said = run(["check", "--all", str(room / "log"), str(AGAIN), str(EXAMPLES / "registration.log")])
     assert f"{room}/log: 25 inputs with differences, the first 20 are said\n" in said.stderr.decode(), said
     assert f"{AGAIN}: line " in said.stderr.decode() and said.stdout.startswith(str(EXAMPLES).encode()), said
+
+
+def differences_are_the_same_in_parts(_: Path) -> None:
+    """A log that comes through a pipe in parts has the same differences as one that was there at once."""
+    ping = packet("00000001810003616263")
+    many = INIT + INIT_SENT + "".join(f"> 5 {ping}\n< {ping[:-1]}1\n" for _ in range(25)).encode() + b"t 5x\n"
+    cut = (EXAMPLES / "failing/counter_stays.log").read_bytes()
+    for words in (["check"], ["check", "--all"], ["check", "--all", "-"]):
+        for log in (many, cut):
+            whole = run(words, log)
+            assert whole.returncode == 1 and b": differs at packet " in whole.stderr, whole
+            for part in (61, 263, 4096):
+                said = run_in_parts(words, log, part)
+                assert (said.returncode, said.stdout, said.stderr) == (1, b"", whole.stderr), (part, said, whole)
 
 
 def notes_are_said(room: Path) -> None:
@@ -349,6 +363,7 @@ TESTS: list[Callable[[Path], None]] = [
     a_long_pipe_is_named,
     standard_input_that_was_read_before,
     all_differences_are_counted,
+    differences_are_the_same_in_parts,
     notes_are_said,
     lines_are_cut_at_a_terminal,
     characters_are_cut_whole,

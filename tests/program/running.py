@@ -2,8 +2,11 @@
 
 from __future__ import annotations
 
+import fcntl
 import subprocess
 import sys
+import termios
+import time
 from pathlib import Path
 from typing import Callable, Optional, Sequence
 
@@ -36,6 +39,29 @@ def run(
         return subprocess.run(command, input=log, capture_output=True, preexec_fn=before, timeout=60)
     with open(stdin, "rb") as file:
         return subprocess.run(command, stdin=file, capture_output=True, preexec_fn=before, timeout=60)
+
+
+def run_in_parts(words: Sequence[str], log: bytes, part: int) -> Said:
+    """Runs the program on a log through a pipe, so many bytes at a time, each part once the one before was read."""
+    with subprocess.Popen(
+        [PROGRAM, *words], stdin=subprocess.PIPE, stdout=subprocess.PIPE, stderr=subprocess.PIPE, bufsize=0
+    ) as program:
+        assert program.stdin is not None
+        for start in range(0, len(log), part):
+            try:
+                program.stdin.write(log[start : start + part])
+                while program.poll() is None and unread(program.stdin.fileno()):
+                    time.sleep(0.0002)
+            except BrokenPipeError:
+                break
+        output, faults = program.communicate(timeout=60)
+        return Said(program.args, program.returncode, output, faults)
+
+
+def unread(pipe: int) -> int:
+    """Returns how many bytes of a pipe wait for its reader."""
+    count = fcntl.ioctl(pipe, termios.FIONREAD, bytes(4))
+    return int.from_bytes(count, sys.byteorder)
 
 
 def wants(said: Said, status: int, faults: bytes, output: Optional[bytes] = None) -> None:

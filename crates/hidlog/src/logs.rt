@@ -6,7 +6,8 @@ use crate::seen::Seen;
 use crate::streams::Patient;
 use session_log::{Failed, FromRead, Source};
 use std::fs::{self, File};
-use std::io::{self, BufReader, Cursor, Error, IsTerminal, Read, Stdin, Write};
+use std::io::{self, BufReader, Chain, Cursor, Error, IsTerminal, Read, Stdin, Write};
+use std::mem;
 
 /// A source that can be pointed at a file.
 pub trait Logs: Source {
@@ -35,8 +36,10 @@ pub trait Logs: Source {
     /// Returns the error at which reading failed.
     fn failure(&self) -> Option<&Error>;
 
-    /// Returns the log from its front once more, where it is a file or short. This one stays where it is.
-    fn again(&self) -> Option<Self::Again>;
+    /// Returns the log from its front once more, where it is a file or what was read of it is short. What is left of one
+    /// that can't be read twice, as a pipe, is read by what is returned, and no more by this one.
+    fn again(&mut self) -> Option<Self::Again>
+        ensures { Self.failed self.new ≡ Self.failed self.old };
 
     /// Returns what was seen of the log so far.
     fn seen(&self) -> &Seen;
@@ -49,8 +52,6 @@ pub enum Stream {
     Standard(Stdin),
     /// A file that is named.
     Named(File),
-    /// What was kept of a log.
-    Kept(Cursor<Vec<u8>>),
 }
 
 impl Read for Stream {
@@ -58,10 +59,12 @@ impl Read for Stream {
         match self {
             Stream::Standard(input) => input.read(buf),
             Stream::Named(file) => file.read(buf),
-            Stream::Kept(bytes) => bytes.read(buf),
         }
     }
 }
+
+/// What was kept of a log, and after it what was left to read.
+pub type FromFront = Chain<Cursor<Vec<u8>>, Patient<Stream>>;
 
 /// The path of standard input.
 const STANDARD_INPUT: &str = "/dev/stdin";
@@ -268,7 +271,7 @@ impl Source for HostLog<'_> {
 }
 
 impl Logs for HostLog<'_> {
-    type Again = FromRead<BufReader<Patient<Stream>>>;
+    type Again = FromRead<BufReader<FromFront>>;
 
     ghost opened = { λ _ _ _. Unit {0} };
 
@@ -301,13 +304,19 @@ impl Logs for HostLog<'_> {
         self.stream.failure()
     }
 
-    fn again(&self) -> Option<FromRead<BufReader<Patient<Stream>>>> {
-        let stream = match (&self.path, self.seen.kept()) {
-            (Some(path), _) => Stream::Named(open_file(self.rt, path.as_str()).ok()?.0),
-            (None, Some(kept)) => Stream::Kept(Cursor::new(kept.clone().ok()?)),
+    fn again(&mut self) -> Option<FromRead<BufReader<FromFront>>> {
+        let (kept, rest) = match (&self.path, self.seen.take_kept()) {
+            (Some(path), _) => {
+                let file = open_file(self.rt, path.as_str()).ok()?.0;
+                (Vec::new(self.rt.alloc()), Patient::new(Stream::Named(file)))
+            }
+            (None, Some(kept)) => {
+                let spent = Patient::new(Stream::Standard(self.rt.stdin()));
+                (kept, mem::replace(&mut self.stream, spent))
+            }
             (None, None) => return None,
         };
-        let reader = BufReader::new(self.rt.alloc(), Patient::new(stream)).ok()?;
+        let reader = BufReader::new(self.rt.alloc(), Cursor::new(kept).chain(rest)).ok()?;
         Some(FromRead::new(reader))
     }
 

@@ -48,7 +48,7 @@ type Output<'a> = Patient<Printer<'a, HostRuntime>>;
 fn say_more<E: Target>(
     rt: &HostRuntime,
     words: &[&str],
-    input: &HostLog<'_>,
+    input: &mut HostLog<'_>,
     remarks: &Remarks,
     faults: &mut Faults<E>,
 )
@@ -74,7 +74,7 @@ fn say_more<E: Target>(
 fn say_differences<E: Target>(
     rt: &HostRuntime,
     words: &[&str],
-    input: &HostLog<'_>,
+    input: &mut HostLog<'_>,
     remarks: &Remarks,
     told: &Told,
     faults: &mut Faults<E>,
@@ -126,7 +126,7 @@ fn play<'a, E: Target>(
         faults,
     );
     if faults.failures() == 0 {
-        say_more(rt, words, &input, &remarks, faults);
+        say_more(rt, words, &mut input, &remarks, faults);
     }
     ended
 }

@@ -83,8 +83,8 @@ impl Seen {
         self.ends_line
     }
 
-    /// Returns all bytes, where they are kept.
-    pub fn kept(&self) -> Option<&Vec<u8>> {
-        self.kept.as_ref()
+    /// Returns all bytes, where they are kept, and keeps no more.
+    pub fn take_kept(&mut self) -> Option<Vec<u8>> {
+        self.kept.take()
     }
 }
