@@ -1,6 +1,7 @@
 pub mod Sends
 pub mod Moments
 pub mod Digits
+pub mod Zeros
 pub mod Gathering
 pub mod Cutting
 pub mod Through

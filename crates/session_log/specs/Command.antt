@@ -8,7 +8,7 @@ use Rattle.token_session.specs.Meters.{SessionState, StandsAfter}
 use Rattle.session_log.specs.declared.command.Command.{Command}
 use Rattle.session_log.specs.declared.command.Command.TheVariants.{Check, Live, Quiet, Replay}
 use Rattle.session_log.specs.declared.fault.LogFault.{LogFault}
-use Rattle.session_log.specs.Check.{Compared, begun, check_history}
+use Rattle.session_log.specs.Check.{begun, check_history}
 use Rattle.session_log.specs.Ending.{ending_of, read_fails, write_fails}
 use Rattle.session_log.specs.Replay.{Makes, ReadsTo}
 use Rattle.session_log.specs.Session.{history, live_history, quiet_history}

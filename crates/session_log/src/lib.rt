@@ -18,6 +18,7 @@
 mod checking;
 mod command;
 mod fault;
+mod hexadecimal;
 pub mod laws;
 mod line;
 mod lines;

@@ -3,8 +3,9 @@ ghost use Rattle.std.specs.Prelude.{◌≡◌, ◌<◌, ◌≤◌, ◌-◌, ◌/
 ghost use Rattle.std.specs.Str.Parse.{AllDigits, digits_value};
 ghost use Rattle.hid_packet.specs.declared.packet.Packet.{Packet as AnyPacket};
 ghost use Rattle.session_log.specs.Letters.{space};
-ghost use Rattle.session_log.specs.Said.{bytes_of, first_field, input_by, input_line, key_of, key_said, moment, presence_said, said, says, sent_line, signature_of, signature_said, tick_line, timed_line};
+ghost use Rattle.session_log.specs.Said.{first_field, input_by, input_line, key_of, key_said, moment, presence_said, said, says, sent_line, signature_of, signature_said, tick_line, timed_line};
 
+use crate::hexadecimal::read_bytes;
 use authn_core::{NewKey, Presence, Signature};
 use hid_packet::Packet;
 use token_session::{Input, Timed};
@@ -63,17 +64,6 @@ fn read_moment(digits: &[u8]) -> Option<u64>
         return None;
     }
     read_digits(digits)
-}
-
-/// The bytes that twice as many hexadecimal digits write, in either case.
-fn read_bytes<const N: usize>(digits: &[u8]) -> Option<[u8; N]>
-    ensures { result ≡ bytes_of N digits.now }
-{
-    let mut bytes = [0; N];
-    match hex::decode_to_slice(digits, &mut bytes) {
-        Ok(()) => Some(bytes),
-        Err(_) => None,
-    }
 }
 
 /// Where the first space is.

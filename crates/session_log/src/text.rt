@@ -11,6 +11,7 @@ ghost use Rattle.session_log.specs.Text.{ArePackets, IsPacket, ended, sent_text,
 ghost use Rattle.session_log.specs.Streams.{PutsLine};
 
 use crate::fault::LogFault;
+use crate::hexadecimal::write_digits;
 use crate::target::{Target, put_all};
 use arrayvec::ArrayVec;
 use authn_core::Need;
@@ -47,8 +48,8 @@ fn push_packet(text: &mut Text, packet: Packet)
     ensures short { length text.new.items ≤ length text.old.items + SENT_LINE }
     ensures packet { IsPacket packet.0 }
 {
-    let mut digits = [0; 128];
-    let _ = hex::encode_to_slice(packet.0.as_slice(), &mut digits);
+    let mut digits = [b'0'; 128];
+    write_digits(packet.0.as_slice(), &mut digits);
     let _ = text.try_extend_from_slice(b"< ");
     let _ = text.try_extend_from_slice(&digits);
     text.push(b'\n');
