@@ -178,18 +178,18 @@ def all_differences_are_counted(room: Path) -> None:
     assert f"{AGAIN}: line " in said.stderr.decode() and said.stdout.startswith(str(EXAMPLES).encode()), said
 
 
-def differences_are_the_same_in_parts(_: Path) -> None:
-    """A log that comes through a pipe in parts has the same differences as one that was there at once."""
+def parts_of_a_log_are_read_on(_: Path) -> None:
+    """Each command makes the same of a log that comes through a pipe in parts as of one that was there at once."""
     ping = packet("00000001810003616263")
     many = INIT + INIT_SENT + "".join(f"> 5 {ping}\n< {ping[:-1]}1\n" for _ in range(25)).encode() + b"t 5x\n"
-    cut = (EXAMPLES / "failing/counter_stays.log").read_bytes()
-    for words in (["check"], ["check", "--all"], ["check", "--all", "-"]):
-        for log in (many, cut):
-            whole = run(words, log)
-            assert whole.returncode == 1 and b": differs at packet " in whole.stderr, whole
+    logs = [many, *((EXAMPLES / name).read_bytes() for name in ("registration.log", "failing/counter_stays.log"))]
+    for words in "check", "check --all", "check --all -", "replay", "live", "quiet", "show", "show --json":
+        for log in logs:
+            whole = run(words.split(), log)
             for part in (61, 263, 4096):
-                said = run_in_parts(words, log, part)
-                assert (said.returncode, said.stdout, said.stderr) == (1, b"", whole.stderr), (part, said, whole)
+                said = run_in_parts(words.split(), log, part)
+                same = said.returncode == whole.returncode and said.stdout == whole.stdout
+                assert same and said.stderr == whole.stderr, (part, said, whole)
 
 
 def notes_are_said(room: Path) -> None:
@@ -363,7 +363,7 @@ TESTS: list[Callable[[Path], None]] = [
     a_long_pipe_is_named,
     standard_input_that_was_read_before,
     all_differences_are_counted,
-    differences_are_the_same_in_parts,
+    parts_of_a_log_are_read_on,
     notes_are_said,
     lines_are_cut_at_a_terminal,
     characters_are_cut_whole,

@@ -107,17 +107,12 @@ def a_pipe_needs_its_reader(room: Path) -> None:
     fifo = room / "fifo"
     os.mkfifo(fifo)
     wants(run(["replay", "--save", str(fifo)]), 2, lacks(room, str(fifo), "Broken pipe (os error 32)"), COUNTS)
-    with subprocess.Popen(["cat", str(fifo)], stdout=subprocess.PIPE) as reader:
-        while not any(os.path.samefile(fifo, f"/proc/{reader.pid}/fd/{fd}") for fd in open_files(reader.pid)):
-            # The reader's open waits for a writer, so it is never seen as open: a moment has to do.
-            time.sleep(0.2)
-            break
+    reader = os.open(fifo, os.O_RDONLY | os.O_NONBLOCK)
+    try:
         wants(run(["replay", "--save", str(fifo)]), 0, b"", COUNTS)
-        assert reader.stdout is not None and reader.stdout.read() == bytes.fromhex("a201020280")
-
-
-def open_files(pid: int) -> list[str]:
-    return [fd for fd in os.listdir(f"/proc/{pid}/fd") if os.path.exists(f"/proc/{pid}/fd/{fd}")]
+        assert os.read(reader, 100) == bytes.fromhex("a201020280")
+    finally:
+        os.close(reader)
 
 
 def saved_whole(room: Path) -> bytes:
