@@ -98,6 +98,17 @@ class Driver:
         return self.call(f"/execute/{'async' if waits else 'sync'}", {"script": script, "args": words})
 
 
+def wait_for(port: int) -> None:
+    """Waits up to a minute until something listens at a port of this machine."""
+    for _ in range(600):
+        try:
+            socket.create_connection(("127.0.0.1", port)).close()
+            return
+        except ConnectionRefusedError:
+            time.sleep(0.1)
+    raise TimeoutError(f"nothing listens at port {port}")
+
+
 @pytest.fixture(scope="module")
 def browser() -> Iterator[Driver]:
     """A page of a secure origin, with Chromium's own virtual authenticator."""
@@ -110,7 +121,7 @@ def browser() -> Iterator[Driver]:
         port = free.getsockname()[1]
     process = subprocess.Popen(["chromedriver", f"--port={port}"], stdout=subprocess.DEVNULL, stderr=subprocess.DEVNULL)
     try:
-        time.sleep(1)
+        wait_for(port)
         driver = Driver(port)
         driver.call("/url", {"url": f"http://localhost:{server.server_address[1]}/"})
         yield driver
