@@ -42,13 +42,6 @@ pub trait Entries<'a> {
             (λ f. Halts (5 - level) cursor.old cursor.new f.at f.kind) };
 }
 
-/// Returns whether both hold. Neither spares the other.
-fn both(a: bool, b: bool) -> bool
-    ensures { result ≡ (a && b) }
-{
-    a && b
-}
-
 /// Takes so many pairs. Returns whether each was taken.
 fn read_pairs<'a, M: Members<'a>>(
     members: &mut M,
@@ -69,7 +62,7 @@ fn read_pairs<'a, M: Members<'a>>(
         let key = cursor.key(previous)?;
         previous = Some(key.bytes);
         let taken = members.member(cursor, key.item, level)?;
-        ok = both(ok, taken);
+        ok &= taken;
     }
     Ok(ok)
 }
@@ -90,7 +83,7 @@ fn read_entries<'a, M: Entries<'a>>(
     let mut ok = true;
     for done in 0..count {
         let taken = entries.entry(cursor, level)?;
-        ok = both(ok, taken);
+        ok &= taken;
     }
     Ok(ok)
 }

@@ -11,7 +11,7 @@ ghost use Rattle.ctap_message.specs.Fields.{descriptor_in, named_id, is_whole_de
 ghost use Rattle.ctap_message.specs.Collected.{shown_descriptor, descriptor_next, IsPlainName, listing_in, shown_listing, list_in, shown_list};
 
 use crate::descriptors::Descriptors;
-use crate::item::{both, is_public_key};
+use crate::item::is_public_key;
 use ctap_cbor::{Cursor, Entries, Fault, Item, Members, read_array, read_map};
 
 /// Entries that are to be texts.
@@ -61,7 +61,7 @@ impl<'a> Descriptor<'a> {
     fn is_whole(&self) -> bool
         ensures { result ≡ is_whole_descriptor (shown_descriptor self.now) }
     {
-        both(self.id.is_some(), self.kind.is_some())
+        self.id.is_some() && self.kind.is_some()
     }
 
     /// Takes a member that isn't the list of transports. Returns whether it has its type.
@@ -133,7 +133,7 @@ impl<'a> Entries<'a> for Listing {
 
     fn entry(&mut self, cursor: &mut Cursor<'a>, level: u8) -> Result<bool, Fault> {
         let (typed, descriptor) = read_descriptor(cursor, level)?;
-        self.is_whole = both(self.is_whole, descriptor.is_whole());
+        self.is_whole &= descriptor.is_whole();
         self.given = true;
         Ok(typed)
     }

@@ -8,20 +8,6 @@ ghost use Rattle.ctap_message.specs.Descriptors.{is_public_key as is_known_type}
 
 use ctap_cbor::Item;
 
-/// Returns whether both hold. Neither spares the other.
-pub(crate) fn both(a: bool, b: bool) -> bool
-    ensures { result ≡ (a && b) }
-{
-    a && b
-}
-
-/// Returns whether one or the other holds.
-pub(crate) fn either(a: bool, b: bool) -> bool
-    ensures { result ≡ (a || b) }
-{
-    a || b
-}
-
 /// Returns whether an item is a map.
 pub(crate) fn is_a_map(item: Item<'_>) -> bool
     ensures { result ≡ is_map (head_of (part_of item.entry)) }

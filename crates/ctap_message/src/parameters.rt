@@ -9,7 +9,7 @@ ghost use Rattle.ctap_message.specs.Descriptors.{parameter_types, is_es256};
 ghost use Rattle.ctap_message.specs.Fields.{parameter_in, is_whole_parameter, names_es256, parameters_in};
 ghost use Rattle.ctap_message.specs.Collected.{shown_parameter, parameter_next, shown_parameters};
 
-use crate::item::{both, either, is_public_key};
+use crate::item::is_public_key;
 use ctap_cbor::{Cursor, Entries, Fault, Item, Members, read_array, read_map};
 
 /// ES256 as a COSE algorithm.
@@ -47,14 +47,14 @@ impl<'a> Parameter<'a> {
     fn is_whole(&self) -> bool
         ensures { result ≡ is_whole_parameter (shown_parameter self.now) }
     {
-        both(self.alg.is_some(), self.kind.is_some())
+        self.alg.is_some() && self.kind.is_some()
     }
 
     /// Returns whether it names ES256 for public keys.
     fn names_es256(&self) -> bool
         ensures { result ≡ names_es256 (shown_parameter self.now) }
     {
-        both(is_es256_alg(self.alg), is_public_key(self.kind))
+        is_es256_alg(self.alg) && is_public_key(self.kind)
     }
 }
 
@@ -106,8 +106,8 @@ impl<'a> Entries<'a> for Parameters {
 
     fn entry(&mut self, cursor: &mut Cursor<'a>, level: u8) -> Result<bool, Fault> {
         let (typed, parameter) = read_parameter(cursor, level)?;
-        self.is_whole = both(self.is_whole, parameter.is_whole());
-        self.has_es256 = either(self.has_es256, parameter.names_es256());
+        self.is_whole &= parameter.is_whole();
+        self.has_es256 |= parameter.names_es256();
         Ok(typed)
     }
 }

@@ -1,4 +1,4 @@
-use Rattle.std.proofs.Common.{◌-◌, arith, ◌≡◌, subst}
+use Rattle.std.proofs.Common.{◌-◌, ◌&&◌, refl, arith, ◌≡◌, subst}
 use Rattle.std.proofs.lemmas.Result.{err_from_is_err_and}
 use Rattle.ctap_cbor.specs.Collecting.{AddsAll}
 use Rattle.ctap_cbor.proofs.Collecting.{all_none, all_more, entry_ends}
@@ -8,7 +8,7 @@ pub loop-done-init : goal.loop-done-init
 loop-done-init g c = all_none g.M.Entries.HoldsAll (5 - c.args.level) c.args.entries.now c.args.cursor.now
 
 pub loop-done-preserved : goal.loop-done-preserved
-loop-done-preserved g c = all_more g.M.Entries.HoldsAll (5 - c.args.level) c.loop-done.done c.loop-done.ok c.in_ok-taken.taken c.both-ok.result c.args.entries.now c.loop-done.entries c.entry.new.self c.args.cursor.now c.loop-done.cursor c.entry.new.cursor c.loop-done.invariant c.in_ok-taken.ensures c.both-ok.ensures
+loop-done-preserved g c = all_more g.M.Entries.HoldsAll (5 - c.args.level) c.loop-done.done c.loop-done.ok c.in_ok-taken.taken (c.loop-done.ok && c.in_ok-taken.taken) c.args.entries.now c.loop-done.entries c.entry.new.self c.args.cursor.now c.loop-done.cursor c.entry.new.cursor c.loop-done.invariant c.in_ok-taken.ensures refl
 
 pub returns-in_err-taken : goal.returns-in_err-taken
 returns-in_err-taken g c =

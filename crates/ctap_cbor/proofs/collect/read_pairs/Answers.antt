@@ -1,4 +1,4 @@
-use Rattle.std.proofs.Common.{◌-◌, arith, ◌≡◌, subst}
+use Rattle.std.proofs.Common.{◌-◌, ◌&&◌, refl, arith, ◌≡◌, subst}
 use Rattle.std.proofs.lemmas.Result.{err_from_is_err_and}
 use Rattle.std.specs.Option.{option_copied}
 use Rattle.ctap_cbor.specs.Views.{part_of}
@@ -11,7 +11,7 @@ loop-done-init g c = adds_none g.M.Members.Holds (5 - c.args.level) c.args.membe
 
 pub loop-done-preserved : goal.loop-done-preserved
 loop-done-preserved g c =
-    adds_more g.M.Members.Holds (5 - c.args.level) c.loop-done.done (option_copied c.loop-done.previous) c.loop-done.ok c.in_ok-taken.taken c.both-ok.result c.args.members.now c.loop-done.members c.member.new.self c.args.cursor.now c.loop-done.cursor c.key.new.self c.member.new.cursor (part_of c.in_ok-key.key.item) c.in_ok-key.key.bytes.now c.loop-done.invariant c.in_ok-key.ensures.gives c.in_ok-taken.ensures c.both-ok.ensures
+    adds_more g.M.Members.Holds (5 - c.args.level) c.loop-done.done (option_copied c.loop-done.previous) c.loop-done.ok c.in_ok-taken.taken (c.loop-done.ok && c.in_ok-taken.taken) c.args.members.now c.loop-done.members c.member.new.self c.args.cursor.now c.loop-done.cursor c.key.new.self c.member.new.cursor (part_of c.in_ok-key.key.item) c.in_ok-key.key.bytes.now c.loop-done.invariant c.in_ok-key.ensures.gives c.in_ok-taken.ensures refl
 
 pub returns-in_err-key : goal.returns-in_err-key
 returns-in_err-key g c =
