@@ -151,6 +151,7 @@ fn without_string<'a>(major: u8, info: u8, argument: u64) -> Item<'a>
 }
 
 /// The bytes as text, where they are UTF-8.
+#[inline(always)]
 fn text_of(bytes: &[u8]) -> Option<&str>
     ensures { MatchOption result (is_utf8 bytes.now ≡ false) (λ t. (t.now ≡ bytes.now) × (is_utf8 bytes.now ≡ true)) }
 {
