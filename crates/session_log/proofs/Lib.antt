@@ -14,6 +14,7 @@ pub mod Histories
 pub mod Fields
 pub mod Spelled
 pub mod Rows
+pub mod Firsts
 pub mod Feeds
 pub mod Sound
 pub mod Again

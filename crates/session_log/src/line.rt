@@ -8,6 +8,7 @@ ghost use Rattle.session_log.specs.Said.{first_field, input_by, input_line, key_
 use crate::hexadecimal::read_bytes;
 use authn_core::{NewKey, Presence, Signature};
 use hid_packet::Packet;
+use memchr::memchr;
 use token_session::{Input, Timed};
 
 /// What one line of a log says.
@@ -71,7 +72,7 @@ fn first_space(fields: &[u8]) -> Option<usize>
     ensures value { result ≡ position (λ b. b == space) fields.now }
     ensures within { IfSome result (λ end. end < length fields.now) }
 {
-    fields.iter().position(|b| *b == b' ')
+    memchr(b' ', fields)
 }
 
 /// The parts before and after the first space.
