@@ -1,6 +1,6 @@
 //! Answers, and those that are a status alone.
 
-ghost use Rattle.std.specs.Prelude.{◌≡◌, ◌∷◌, ◌≤◌, length};
+ghost use Rattle.std.specs.Prelude.{◌≡◌, ◌∷◌, replicate};
 ghost use Rattle.ctap_message.specs.Answers.{refusal};
 
 use crate::status::Status;
@@ -21,12 +21,10 @@ pub fn write_status(status: Status) -> Answer
     answer
 }
 
-/// The answer of a success with the bytes of a map.
-pub(crate) fn write_success(map: &[u8]) -> Answer
-    requires { length map.now ≤ LONGEST_MAP }
-    ensures { result.items ≡ 0x00 ∷ map.now }
+/// Returns an answer of zeros: the status of a success, and space for the longest map. A map is written where it is
+/// returned, so that it isn't copied.
+pub(crate) fn zeroed_answer() -> Answer
+    ensures { result.items ≡ 0x00 ∷ replicate LONGEST_MAP 0x00 }
 {
-    let mut answer = write_status(Status::OK);
-    answer.try_extend_from_slice(map).unwrap();
-    answer
+    Answer::from([0x00; 1 + LONGEST_MAP])
 }

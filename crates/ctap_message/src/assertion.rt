@@ -8,7 +8,7 @@ ghost use Rattle.ctap_cbor.specs.Tree.{no_pairs};
 ghost use Rattle.ctap_cbor.specs.Writing.{room_of, Appends, SameBuffer};
 ghost use Rattle.ctap_message.specs.Answers as spec;
 
-use crate::answer::{Answer, LONGEST_MAP, write_success};
+use crate::answer::{Answer, LONGEST_MAP, zeroed_answer};
 use crate::created::put_bytes;
 use ctap_cbor::Sink;
 
@@ -28,9 +28,10 @@ pub fn write_assertion(
     requires user { ForSome user (λ u. length u.now ≤ 64) }
     ensures { result.items ≡ spec.assertion_answer id.now auth.now sig.now (option_copied user.entry) number }
 {
-    let mut map = [0; LONGEST_MAP];
-    let len = assertion_into(&mut map, id, auth, sig, user, number);
-    write_success(&map[..len])
+    let mut answer = zeroed_answer();
+    let len = assertion_into(&mut answer.as_mut_slice()[1..], id, auth, sig, user, number);
+    answer.truncate(1 + len);
+    answer
 }
 
 /// Writes the map to the front of a buffer, and returns its length.

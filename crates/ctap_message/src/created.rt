@@ -6,7 +6,7 @@ ghost use Rattle.ctap_cbor.specs.Grammar.{text};
 ghost use Rattle.ctap_cbor.specs.Writing.{room_of, Appends, SameBuffer};
 ghost use Rattle.ctap_message.specs.Answers as spec;
 
-use crate::answer::{Answer, LONGEST_MAP, write_success};
+use crate::answer::{Answer, LONGEST_MAP, zeroed_answer};
 use crate::info::ES256;
 use ctap_cbor::Sink;
 
@@ -18,9 +18,10 @@ pub fn write_created(auth: &[u8], sig: &[u8]) -> Answer
     requires sig { length sig.now ≤ 72 }
     ensures { result.items ≡ spec.created_answer auth.now sig.now }
 {
-    let mut map = [0; LONGEST_MAP];
-    let len = created_into(&mut map, auth, sig);
-    write_success(&map[..len])
+    let mut answer = zeroed_answer();
+    let len = created_into(&mut answer.as_mut_slice()[1..], auth, sig);
+    answer.truncate(1 + len);
+    answer
 }
 
 /// Writes the map to the front of a buffer, and returns its length.

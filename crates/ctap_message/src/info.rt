@@ -6,7 +6,7 @@ ghost use Rattle.ctap_cbor.specs.Writing.{room_of, Appends, SameBuffer};
 ghost use Rattle.ctap_message.specs.Answered as parts;
 ghost use Rattle.ctap_message.specs.Answers as spec;
 
-use crate::answer::{Answer, LONGEST_MAP, write_success};
+use crate::answer::{Answer, zeroed_answer};
 use ctap_cbor::Sink;
 
 /// The version that is supported.
@@ -21,13 +21,16 @@ pub(crate) const ES256: i128 = -7;
 /// The answer of authenticatorGetInfo (CTAP 2.1, section 6.4), 81 bytes: status 0x00 and the map
 /// `{1: ["FIDO_2_0"], 3: aaguid, 4: {"rk": true, "up": true, "plat": false}, 5: 7609, 9: ["usb"],
 /// 10: [{"alg": -7, "type": "public-key"}]}` in canonical CBOR.
+// It isn't inlined, so that no other turn pays for the space of this answer.
+#[inline(never)]
 #[tactic(auto, unfolding(crate::specs::Answers::info_answer))]
 pub fn write_info(aaguid: &[u8; 16]) -> Answer
     ensures { result.items ≡ spec.info_answer aaguid.now }
 {
-    let mut map = [0; LONGEST_MAP];
-    let len = info_into(&mut map, aaguid);
-    write_success(&map[..len])
+    let mut answer = zeroed_answer();
+    let len = info_into(&mut answer.as_mut_slice()[1..], aaguid);
+    answer.truncate(1 + len);
+    answer
 }
 
 /// Writes the map to the front of a buffer, and returns its length.
