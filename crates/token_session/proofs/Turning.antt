@@ -10,8 +10,14 @@ use Rattle.authn_core.specs.Views.{IsTurn, steps_after}
 use Rattle.token_session.specs.Effects.{request_in}
 use Rattle.token_session.specs.Events.{event_packets}
 use Rattle.token_session.specs.Machine.{answer_keeps_alive, event_keeps_alive}
-use Rattle.token_session.specs.Readings.{IsTaken}
 use Rattle.token_session.specs.Replies.{answer_packets, asker, keepalive, status_of}
+
+-- An event was taken at a moment that is no earlier than the latest.
+pub record IsTaken (old new : Held) (said : Answer) (now : ℕ) (e : Event) : Type 0 where
+  pub core : new.core ≡ core_after old.core now e
+  pub answer : said ≡ core_answer old.core now e
+  pub latest : new.latest ≤ now
+  pub steps : IfSome (request_in (Some e)) (λ m. new.last_steps ≡ min (steps_of m) LARGEST)
 
 pub at_most : (a b : ℕ) → a ≡ b → a ≤ b
 at_most a b e = omega arith

@@ -1,8 +1,7 @@
 -- What reading a request took, as the code hands it on until it is counted. Contracts of private functions alone name
 -- it.
-use Rattle.std.specs.Prelude.{◌≡◌, ◌≤◌, ℕ, ◌+◌, ◌-◌, List, length, max, min, Option, Some, None, IfSome, option_map}
-use Rattle.authn_core.specs.State.{Event, Answer}
-use Rattle.authn_core.specs.Turn.{Held, core_after, core_answer}
+use Rattle.std.specs.Prelude.{ℕ, ◌+◌, ◌-◌, List, length, max, min, Option, Some, None, option_map}
+use Rattle.authn_core.specs.State.{Event}
 use Rattle.ctap_message.specs.Requests.{steps_of, LARGEST}
 use Rattle.token_session.specs.declared.authenticator.Reading.{Reading}
 use Rattle.token_session.specs.declared.input.Meters.{Meters}
@@ -26,13 +25,6 @@ bytes_read (Some reading) = reading.bytes
 abbrev pub steps_taken : Option Reading → ℕ
 steps_taken None = 0
 steps_taken (Some reading) = reading.steps
-
--- An event was taken at a moment that is no earlier than the latest.
-pub record IsTaken (old new : Held) (said : Answer) (now : ℕ) (e : Event) : Type 0 where
-  pub core : new.core ≡ core_after old.core now e
-  pub answer : said ≡ core_answer old.core now e
-  pub latest : new.latest ≤ now
-  pub steps : IfSome (request_in (Some e)) (λ m. new.last_steps ≡ min (steps_of m) LARGEST)
 
 -- the meters with what one input added
 unfoldable pub with_reading : Meters → (held rows pending : ℕ) → Option Reading → Meters

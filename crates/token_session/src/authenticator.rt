@@ -8,7 +8,7 @@ ghost use Rattle.authn_core.specs.Views.{answer_of, event_of, first_held, status
 ghost use Rattle.token_session.specs.Replies.{keepalive, asker, status_of, answer_packets};
 ghost use Rattle.token_session.specs.Events.{event_core, event_packets, keepalive_due, keepalive_packets};
 ghost use Rattle.token_session.specs.Machine.{answer_keeps_alive, event_keeps_alive};
-ghost use Rattle.token_session.specs.Readings.{IsTaken, reading_in};
+ghost use Rattle.token_session.specs.Readings.{reading_in};
 ghost use Rattle.token_session.specs.Effects.{request_in};
 ghost use Rattle.hid_packet.specs.declared.limit.TheConstants.{LONGEST_MESSAGE, OUTBOX_CAPACITY};
 
@@ -57,14 +57,6 @@ fn reading_of(event: &Event<'_>, steps: u64) -> Option<Reading>
         Event::Presence(_) | Event::Key(_) | Event::Signature(_) | Event::Cancel | Event::Drop =>
             None,
     }
-}
-
-/// Takes the turn of an event, which came at `now`, no earlier than any before it.
-fn turn_of<const C: usize>(core: &mut Core<Store<C>, C>, now: u64, event: &Event<'_>) -> Turn
-    requires { core.old.latest ≤ now }
-    ensures { IsTaken core.old core.new (answer_of result) now (event_of event.now) }
-{
-    core.take(now, event)
 }
 
 /// Returns whether work waits with this status.
@@ -194,7 +186,7 @@ impl<const C: usize> Authenticator<C> {
         };
         let work = self.core.work();
         let asker = asker_of(event, work);
-        let turn = turn_of(&mut self.core, now, event);
+        let turn = self.core.take(now, event);
         let steps = self.core.last_steps();
         self.send(now, asker, work, &turn, outbox);
         reading_of(event, steps)
