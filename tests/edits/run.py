@@ -41,7 +41,7 @@ from source import FUNCTION, Function, leave_out, proofs_of
 
 # What the prover says of a function that it proves, given the contracts of those that are left out.
 PROVED = re.compile(r"proved|no holes|depends on a hole")
-# What it says of one that it refuses. Of others it could not tell, which says nothing.
+# What it says of one that it refuses. Of others it has no verdict, which shows nothing.
 REFUSED = re.compile(r"no proof|not proved")
 VERDICT = re.compile(r"fn (\S+): (.*)")
 # What `rt ci` prints of a library that it has built, or has from an earlier run, and what it prints last.
