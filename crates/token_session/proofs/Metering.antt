@@ -9,8 +9,6 @@ use Rattle.authn_core.specs.Turn.{Start}
 use Rattle.token_session.specs.declared.input.Timed.{Timed}
 use Rattle.token_session.specs.declared.input.Meters.{Meters}
 use Rattle.token_session.specs.Effects.{request_in}
-use Rattle.token_session.specs.Readings.{with_reading, reading_in, reading_of}
-use Rattle.token_session.specs.declared.authenticator.Reading.{Reading}
 use Rattle.token_session.specs.Inputs.{Judged, end, given}
 use Rattle.token_session.specs.Messages.{Begun, open_at, open_among}
 use Rattle.token_session.specs.History.{judged, judge, held, core, last_keepalive}
@@ -19,7 +17,7 @@ use Rattle.token_session.specs.Messages.{as_open}
 use Rattle.token_session.specs.Law.{named, event_at, IsAfter}
 use Rattle.cred_table.specs.Waiting.{pending_count}
 use Rattle.std.specs.List.{cons_option}
-use Rattle.token_session.specs.Meters.{AreBounded, peak_rows, peak_pending, metered_by, requests, peak_held, meters_of, one_more, bytes_in, steps_in, metered, SessionState, StandsAfter, stepped, session_of}
+use Rattle.token_session.specs.Meters.{AreBounded, peak_rows, peak_pending, metered_by, requests, peak_held, meters_of, counted, metered, SessionState, StandsAfter, stepped, session_of}
 use Rattle.token_session.proofs.Runs.{turn_after}
 
 -- the bytes held are those that the history names
@@ -34,29 +32,32 @@ held_named start h = go (open_at h (end start h))
 capped : (n k m : ℕ) → m ≡ k + n → min m LARGEST ≡ min (min n LARGEST + k) LARGEST
 capped n k m e = omega arith
 
-count_more : (e : Option Event) (rs : List (List ℕ)) → length (cons_option (request_in e) rs) ≡ one_more (request_in e) + length rs
-count_more None rs = omega arith
-count_more (Some (Request cid bytes)) rs = omega arith
-count_more (Some other) rs = omega arith
+-- the meters of these requests
+abbrev totals : (held rows pending : ℕ) → List (List ℕ) → Meters
+totals held rows pending rs = record {
+  held = held;
+  rows = rows;
+  pending = pending;
+  requests = min (length rs) LARGEST;
+  bytes = min (sum_by (λ bytes. length bytes - 1) rs) LARGEST;
+  steps = min (sum_by steps_of rs) LARGEST;
+}
 
-sum_more : (e : Option Event) (rs : List (List ℕ)) → sum_by (λ bytes. length bytes - 1) (cons_option (request_in e) rs) ≡ bytes_in (request_in e) + sum_by (λ bytes. length bytes - 1) rs
-sum_more None rs = omega arith
-sum_more (Some (Request cid bytes)) rs = sum_by-cons (λ (b : List ℕ). length b - 1) bytes rs
-sum_more (Some other) rs = omega arith
-
-steps_more : (e : Option Event) (rs : List (List ℕ)) → sum_by steps_of (cons_option (request_in e) rs) ≡ steps_in (request_in e) + sum_by steps_of rs
-steps_more None rs = omega arith
-steps_more (Some (Request cid bytes)) rs = sum_by-cons steps_of bytes rs
-steps_more (Some other) rs = omega arith
+counted_more : (request : Option (List ℕ)) (held rows pending : ℕ) (rs : List (List ℕ)) → counted (totals held rows pending rs) request ≡ totals held rows pending (cons_option request rs)
+unfolding counted
+counted_more None held rows pending rs = refl
+counted_more (Some m) held rows pending rs =
+    let counts = sym (capped (length rs) 1 (length (m ∷ rs)) (omega arith)) in
+    let sums = sym (capped (sum_by (λ bytes. length bytes - 1) rs) (length m - 1) _ (sum_by-cons (λ (b : List ℕ). length b - 1) m rs)) in
+    let steps = sym (capped (sum_by steps_of rs) (steps_of m) _ (sum_by-cons steps_of m rs)) in
+    λ i. record { held = held; rows = rows; pending = pending; requests = counts i; bytes = sums i; steps = steps i }
 
 pub meters_more : (start : Start) (e : Judged) (h : List Judged) → metered (meters_of start h) (held start (e ∷ h)) (length (core start (e ∷ h)).state.rows) (pending_count (core start (e ∷ h)).state.pending) (request_in (event_at start e h))
     ≡ meters_of start (e ∷ h)
 unfolding meters_of metered requests peak_held peak_rows peak_pending
 meters_more start e h =
-    let counts = sym (capped (length (requests start h)) (one_more (request_in (event_at start e h))) _ (count_more (event_at start e h) (requests start h))) in
-    let sums = sym (capped (sum_by (λ bytes. length bytes - 1) (requests start h)) (bytes_in (request_in (event_at start e h))) _ (sum_more (event_at start e h) (requests start h))) in
-    let steps = sym (capped (sum_by steps_of (requests start h)) (steps_in (request_in (event_at start e h))) _ (steps_more (event_at start e h) (requests start h))) in
-    λ i. record { held = max (peak_held start h) (held start (e ∷ h)); rows = peak_rows start (e ∷ h); pending = peak_pending start (e ∷ h); requests = counts i; bytes = sums i; steps = steps i }
+    ap (λ (m : Meters). record m { held = max m.held (held start (e ∷ h)); rows = max m.rows (length (core start (e ∷ h)).state.rows); pending = max m.pending (pending_count (core start (e ∷ h)).state.pending) })
+    (counted_more (request_in (event_at start e h)) (peak_held start h) (peak_rows start h) (peak_pending start h) (requests start h))
 
 -- A session that stands after a history stands after the longer one.
 pub stands_longer : (s : SessionState) (start : Start) (h : List Timed) (x : Timed) → StandsAfter s start h → StandsAfter (stepped s x) start (x ∷ h)
@@ -73,23 +74,15 @@ stands_longer s start h x b =
           ∙ meters_more start e (judged start h)) i;
     }
 
--- What reading a message took is counted as the meters count the message.
-counted_is : (m : Meters) (held rows pending : ℕ) (request : Option (List ℕ)) → with_reading m held rows pending (option_map reading_of request) ≡ metered m held rows pending request
-unfolding with_reading metered
-counted_is m held rows pending None = refl
-counted_is m held rows pending (Some message) = refl
-
 -- A turn of the machine, counted, is a step of the session.
-pub stepped_is : (m n : State) (k l : Meters) (s : SessionState) (x : Timed) (request : Option Reading) (held rows pending : ℕ) → record { machine = m; meters = k } ≡ s
-    → n ≡ (turn m x).state → request ≡ reading_in (turn m x).event
-    → held ≡ held_bytes n.current → rows ≡ length n.core.state.rows → pending ≡ pending_count n.core.state.pending → l ≡ with_reading k held rows pending request
-    → record { machine = n; meters = l } ≡ stepped s x
-unfolding stepped
-stepped_is m n k l s x request held rows pending is state finished held_is rows_are pending_is more =
-    let same : l ≡ metered_by k (turn m x) =
-    more ∙ (λ i. with_reading k (held_is i) (rows_are i) (pending_is i) (finished i))
-    ∙ counted_is k (held_bytes n.current) (length n.core.state.rows) (pending_count n.core.state.pending) (request_in (turn m x).event)
-    ∙ ap (λ (v : State). metered k (held_bytes v.current) (length v.core.state.rows) (pending_count v.core.state.pending) (request_in (turn m x).event)) state in
+pub stepped_is : (m n : State) (k l : Meters) (s : SessionState) (x : Timed) (held rows pending : ℕ) → record { machine = m; meters = k } ≡ s
+    → n ≡ (turn m x).state → l ≡ counted k (request_in (turn m x).event)
+    → held ≡ max l.held (held_bytes n.current) → rows ≡ max l.rows (length n.core.state.rows) → pending ≡ max l.pending (pending_count n.core.state.pending)
+    → record { machine = n; meters = record l { held = held; rows = rows; pending = pending } } ≡ stepped s x
+unfolding stepped metered
+stepped_is m n k l s x held rows pending is state finished held_is rows_are pending_is =
+    let most : Meters → State → Meters = λ m v. record m { held = max m.held (held_bytes v.current); rows = max m.rows (length v.core.state.rows); pending = max m.pending (pending_count v.core.state.pending) } in
+    let same = (λ i. record l { held = held_is i; rows = rows_are i; pending = pending_is i }) ∙ (λ i. most (finished i) (state i)) in
     rw (← is) (λ i. record { machine = state i; meters = same i })
 
 -- the session at its start
@@ -119,8 +112,7 @@ unfolding session_of
 session_held start h = held_named start h
 
 -- The meters stay bounded, where each message takes at most four steps for each byte after the first and two more.
-pub counted_bounded : (each : (m : List ℕ) → steps_of m ≤ 4 * (length m - 1) + 2) (m : Meters) (held rows pending : ℕ) (e : Option Event) → AreBounded m → AreBounded (with_reading m held rows pending (reading_in e))
-unfolding with_reading
-counted_bounded each m held rows pending None h = omega arith
-counted_bounded each m held rows pending (Some (Request cid bytes)) h = let few = each bytes in omega arith
-counted_bounded each m held rows pending (Some other) h = omega arith
+pub counted_bounded : (each : (m : List ℕ) → steps_of m ≤ 4 * (length m - 1) + 2) (m : Meters) (request : Option (List ℕ)) → AreBounded m → AreBounded (counted m request)
+unfolding counted
+counted_bounded each m None h = h
+counted_bounded each m (Some bytes) h = let few = each bytes in omega arith

@@ -1,5 +1,6 @@
 -- Time passes: a message is given up, or the authenticator may send a KEEPALIVE.
-use Rattle.std.proofs.Common.{◌≡◌, ℕ, ◌+◌, Bool, true, false, cond, List, [], Option, Some, None, option_map, refl, ap, nat_le}
+use Rattle.std.proofs.Common.{◌≡◌, ℕ, ◌+◌, ◌-◌, ◌≤◌, ◌<◌, Bool, true, false, cond, List, [], Option, Some, None, option_map, refl, ap, nat_le, arith}
+use Rattle.std.proofs.lemmas.Bool.Decides.{nat_tests}
 use Rattle.hid_assemble.specs.Table.{Open}
 use Rattle.hid_assemble.specs.Assembly.{Assembly, is_overdue, still_open}
 use Rattle.authn_core.specs.Turn.{CoreState, waiting}
@@ -37,12 +38,12 @@ whole n a k b = record { now = n; given = a.given; current = a.current; core = k
 abbrev pub passed_to : Assembly → ℕ → Assembly
 passed_to a t = record { given = a.given; current = still_open a.current t; finished = a.finished }
 
-due_or_not : (due : Bool) (t g b : ℕ) (c : Option Open) (k : CoreState) (ps : List (List ℕ))
-    → ◌≡◌ {A = Turn} (cond due (record { state = record { now = t; given = g; current = c; core = k; keepalive_at = t }; packets = ps; event = None })
-    (record { state = record { now = t; given = g; current = c; core = k; keepalive_at = b }; packets = []; event = None }))
-    (record { state = record { now = t; given = g; current = c; core = k; keepalive_at = cond due t b }; packets = cond due ps []; event = None })
-due_or_not true t g b c k ps = refl
-due_or_not false t g b c k ps = refl
+-- whether a KEEPALIVE is due, by the time since the last
+pub due : (t last gap : ℕ) → gap ≡ t - last → 100 ≤ gap → nat_le (last + 100) t ≡ true
+due t last gap e h = grind (arith, nat_tests)
+
+pub early : (t last gap : ℕ) → gap ≡ t - last → gap < 100 → nat_le (last + 100) t ≡ false
+early t last gap e h = grind (arith, nat_tests)
 
 module _ (n b t : ℕ) (a d : Assembly) (k : CoreState) (v : State) (is : whole n a k b ≡ v) (kept : d ≡ passed_to a t) where
   pub late_turn : (x : ℕ) → Some x ≡ cond (is_overdue a.current t) (option_map (λ m. m.cid) a.current) None
@@ -53,9 +54,14 @@ module _ (n b t : ℕ) (a d : Assembly) (k : CoreState) (v : State) (is : whole 
       let late : is_overdue a.current t ≡ true = l.late in
       rw (← is, kept, late, l.packets) refl
 
-  pub timely_turn : None ≡ cond (is_overdue a.current t) (option_map (λ m. m.cid) a.current) None
-      → time_passed v t ≡ record { state = whole t d k (cond (keepalive_due (waiting k) b t) t b); packets = cond (keepalive_due (waiting k) b t) (keepalive_packets (waiting k)) []; event = None }
-  unfolding time_passed
-  timely_turn r =
-      let late : is_overdue a.current t ≡ false = in_time_at a.current t r in
-      rw (← is, kept, late) (due_or_not (keepalive_due (waiting k) b t) t a.given b a.current k (keepalive_packets (waiting k)))
+  -- where no message is overdue
+  module _ (r : None ≡ cond (is_overdue a.current t) (option_map (λ m. m.cid) a.current) None) where
+    pub due_turn : keepalive_due (waiting k) b t ≡ true → time_passed v t ≡ record { state = whole t d k t; packets = keepalive_packets (waiting k); event = None }
+    unfolding time_passed
+    due_turn due =
+        let late : is_overdue a.current t ≡ false = in_time_at a.current t r in rw (← is, kept, late, due) refl
+
+    pub quiet_turn : keepalive_due (waiting k) b t ≡ false → time_passed v t ≡ record { state = whole t d k b; packets = []; event = None }
+    unfolding time_passed
+    quiet_turn due =
+        let late : is_overdue a.current t ≡ false = in_time_at a.current t r in rw (← is, kept, late, due) refl

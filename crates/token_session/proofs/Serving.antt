@@ -1,5 +1,5 @@
 -- A packet that is served by its verdict is the composed turn.
-use Rattle.std.proofs.Common.{◌≡◌, ℕ, ◌+◌, ◌≤◌, List, ◌++◌, length, max, Option, refl, subst, sym, arith, length-append}
+use Rattle.std.proofs.Common.{◌≡◌, ℕ, ◌+◌, ◌≤◌, List, ◌++◌, length, max, Option, append_assoc, cond, refl, subst, sym, ◌∙◌, ap, arith, length-append}
 use Rattle.hid_packet.specs.declared.packet.Packet.{Packet as Packet64}
 use Rattle.hid_packet.specs.Packet.{fields}
 use Rattle.hid_assemble.specs.declared.verdict.Verdict.{Verdict}
@@ -11,9 +11,9 @@ use Rattle.authn_core.specs.Turn.{CoreState, working}
 use Rattle.token_session.specs.declared.input.Input.{Input}
 use Rattle.token_session.specs.declared.input.Input.TheVariants.{Packet, Tick, Presence, Key, Signature}
 use Rattle.token_session.specs.declared.input.Timed.{Timed}
-use Rattle.token_session.specs.Machine.{State, Turn, time_passed, turn, served, happens}
-use Rattle.token_session.specs.Events.{event_packets}
-use Rattle.token_session.specs.Effects.{assembly_after, input_event, input_verdict, verdict_packets, verdict_event}
+use Rattle.token_session.specs.Machine.{State, Turn, event_keeps_alive, time_passed, turn, served, happens}
+use Rattle.token_session.specs.Events.{event_core, event_packets}
+use Rattle.token_session.specs.Effects.{assembly_after, input_event, input_verdict, request_in, verdict_packets, verdict_event}
 use Rattle.token_session.proofs.Few.{served_few}
 use Rattle.token_session.proofs.Effects.{effects}
 use Rattle.token_session.proofs.Passing.{whole}
@@ -39,6 +39,23 @@ module _ (n b : ℕ) (a d : Assembly) (k : CoreState) (v : State) (early : List 
   input_turn (Presence r) ed eV eE = rw (← e, eE, eV, ed) refl
   input_turn (Key r) ed eV eE = rw (← e, eE, eV, ed) refl
   input_turn (Signature r) ed eV eE = rw (← e, eE, eV, ed) refl
+
+  -- what is left after it, what it sent, and what it finished
+  pub record IsServed (i : Input) (left : State) (sent : List (List ℕ)) : Type 0 where
+    pub state : left ≡ (served v early i).state
+    pub packets : sent ≡ (served v early i).packets
+    pub request : request_in E ≡ request_in (served v early i).event
+
+  pub is_served : (i : Input) → d ≡ assembly_after a n w i → V ≡ input_verdict a w i → E ≡ input_event i V B
+      → (k' : CoreState) (b' : ℕ) (old out : List (List ℕ)) → k' ≡ event_core k n E → b' ≡ cond (event_keeps_alive k n E) n b
+      → old ≡ early ++ verdict_packets V B → out ≡ old ++ event_packets k n E → IsServed i (whole n d k' b') out
+  is_served i ed eV eE k' b' old out ek eb eo es =
+      let turn = input_turn i ed eV eE in
+      record {
+        state = (λ j. whole n d (ek j) (eb j)) ∙ ap (λ (t : Turn). t.state) turn;
+        packets = es ∙ ap (λ (ps : List (List ℕ)). ps ++ event_packets k n E) eo ∙ append_assoc early _ _ ∙ ap (λ (t : Turn). t.packets) turn;
+        request = ap (λ (t : Turn). request_in t.event) turn;
+      }
 
   -- there is room for all that it sends
   pub input_few : (i : Input) → d ≡ assembly_after a n w i → V ≡ input_verdict a w i → E ≡ input_event i V B

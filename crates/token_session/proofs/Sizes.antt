@@ -15,26 +15,17 @@ after m n b h = omega arith
 padded : (k e b : ℕ) → up k e < b → e < b
 padded k e b h = before e (pad k e) b h
 
-pub authenticator_in_session : (x b : ℕ) → up 8 (up 8 (7664 + x) + 32) < b → x < b
-authenticator_in_session x b h = after 7664 x b (padded 8 (7664 + x) b (before (up 8 (7664 + x)) 32 b (padded 8 (up 8 (7664 + x) + 32) b h)))
+pub core_in_session : (x b : ℕ) → up 8 (up 8 (up 8 (7664 + x) + 8) + 32) < b → x < b
+core_in_session x b h =
+    let moment = padded 8 (up 8 (7664 + x) + 8) b (before (up 8 (up 8 (7664 + x) + 8)) 32 b (padded 8 (up 8 (up 8 (7664 + x) + 8) + 32) b h)) in
+    after 7664 x b (padded 8 (7664 + x) b (before (up 8 (7664 + x)) 8 b moment))
 
-pub core_in_authenticator : (x b : ℕ) → up 8 (up 8 (0 + x) + 8) < b → x < b
-core_in_authenticator x b h = after 0 x b (padded 8 (0 + x) b (before (up 8 (0 + x)) 8 b (padded 8 (up 8 (0 + x) + 8) b h)))
-
-pub core_in_session : (x b : ℕ) → up 8 (up 8 (7664 + up 8 (up 8 (0 + x) + 8)) + 32) < b → x < b
-core_in_session x b h = core_in_authenticator x b (authenticator_in_session (up 8 (up 8 (0 + x) + 8)) b h)
-
--- the table is in the authenticator's core
-pub table_in_core : (x y b : ℕ) → up 8 (up 8 (up 8 (40 + x) + y) + 544) < b → x < b
-table_in_core x y b h =
-    let sum = padded 8 (up 8 (40 + x) + y) b (before (up 8 (up 8 (40 + x) + y)) 544 b (padded 8 (up 8 (up 8 (40 + x) + y) + 544) b h)) in
+-- the table is in the authenticator
+pub table_in_session : (x y b : ℕ) → up 8 (up 8 (up 8 (7664 + up 8 (up 8 (up 8 (40 + x) + y) + 544)) + 8) + 32) < b → x < b
+table_in_session x y b h =
+    let core = core_in_session _ b h in
+    let sum = padded 8 (up 8 (40 + x) + y) b (before (up 8 (up 8 (40 + x) + y)) 544 b (padded 8 (up 8 (up 8 (40 + x) + y) + 544) b core)) in
     after 40 x b (padded 8 (40 + x) b (before (up 8 (40 + x)) y b sum))
-
-pub table_in_authenticator : (x y b : ℕ) → up 8 (up 8 (0 + up 8 (up 8 (up 8 (40 + x) + y) + 544)) + 8) < b → x < b
-table_in_authenticator x y b h = table_in_core x y b (core_in_authenticator _ b h)
-
-pub table_in_session : (x y b : ℕ) → up 8 (up 8 (7664 + up 8 (up 8 (0 + up 8 (up 8 (up 8 (40 + x) + y) + 544)) + 8)) + 32) < b → x < b
-table_in_session x y b h = table_in_core x y b (core_in_session _ b h)
 
 -- what is padded is at most the alignment longer
 up_1 : (e m : ℕ) → e ≤ m → up 1 e ≤ m + 1
@@ -60,13 +51,12 @@ times k n few = from 0 (n * k) (256 * k) (mul-le-mul_right k few)
 
 -- a session of so few credentials, by the size of a row and of a pending assertion
 pub session_small : (n : ℕ) → n ≤ 256
-    → up 8 (up 8 (7664 + up 8 (up 8 (0 + up 8 (up 8 (up 8 (40 + up 8 (up 8 (0 + up 8 (up 2 (up 2 (up 2 (up 2 (0 + n * 296) + 128) + 4) + 4) + 4)) + 8))
-    + up 8 (48 + up 8 (up 1 (up 8 (0 + up 1 (0 + n * 32)) + 8) + 0))) + 544)) + 8)) + 32) < 2 ^ 63
+    → up 8 (up 8 (up 8 (7664 + up 8 (up 8 (up 8 (40 + up 8 (up 8 (0 + up 8 (up 2 (up 2 (up 2 (up 2 (0 + n * 296) + 128) + 4) + 4) + 4)) + 8))
+    + up 8 (48 + up 8 (up 1 (up 8 (0 + up 1 (0 + n * 32)) + 8) + 0))) + 544)) + 8) + 32) < 2 ^ 63
 session_small n few =
     let row = up_2 _ _ (more 128 _ _ (up_2 _ _ (times 296 n few))) in
     let rows = up_8 _ _ (more 4 _ _ (up_2 _ _ (more 4 _ _ (up_2 _ _ (more 4 _ _ row))))) in
     let table = up_8 _ _ (more 8 _ _ (up_8 _ _ (from 0 _ _ rows))) in
     let waiting = up_8 _ _ (more 0 _ _ (up_1 _ _ (more 8 _ _ (up_8 _ _ (from 0 _ _ (up_1 _ _ (times 32 n few))))))) in
     let core = up_8 _ _ (more 544 _ _ (up_8 _ _ (both _ _ _ _ (up_8 _ _ (from 40 _ _ table)) (up_8 _ _ (from 48 _ _ waiting))))) in
-    let authenticator = up_8 _ _ (more 8 _ _ (up_8 _ _ (from 0 _ _ core))) in
-    lt_of_le_of_lt (up_8 _ _ (more 32 _ _ (up_8 _ _ (from 7664 _ _ authenticator)))) (omega arith)
+    lt_of_le_of_lt (up_8 _ _ (more 32 _ _ (up_8 _ _ (more 8 _ _ (up_8 _ _ (from 7664 _ _ core)))))) (omega arith)

@@ -7,7 +7,6 @@ pub mod History
 pub mod Law
 pub mod Effects
 pub mod Meters
-pub mod Readings
 pub mod Carried
 pub mod Noise
 pub mod Drive

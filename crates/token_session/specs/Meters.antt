@@ -43,29 +43,21 @@ meters_of start h = record {
   steps = min (sum_by steps_of (requests start h)) LARGEST;
 }
 
--- What a turn adds: the bytes, rows and pending assertions held after it, and the request that it finished, if it did:
--- one request, its bytes after the command byte, and the steps that reading it takes.
-abbrev pub one_more : Option (List ℕ) → ℕ
-one_more None = 0
-one_more (Some message) = 1
-
-abbrev pub bytes_in : Option (List ℕ) → ℕ
-bytes_in None = 0
-bytes_in (Some message) = length message - 1
-
-abbrev pub steps_in : Option (List ℕ) → ℕ
-steps_in None = 0
-steps_in (Some message) = steps_of message
-
-unfoldable pub metered : Meters → (held rows pending : ℕ) → Option (List ℕ) → Meters
-metered m held rows pending request = record {
-  held = max m.held held;
-  rows = max m.rows rows;
-  pending = max m.pending pending;
-  requests = min (m.requests + one_more request) LARGEST;
-  bytes = min (m.bytes + bytes_in request) LARGEST;
-  steps = min (m.steps + steps_in request) LARGEST;
+-- The totals with a request that was finished, if one was: one more, its bytes after the command byte, and the steps that
+-- reading it takes.
+unfoldable pub counted : Meters → Option (List ℕ) → Meters
+counted m None = m
+counted m (Some message) = record m {
+  requests = min (m.requests + 1) LARGEST;
+  bytes = min (m.bytes + (length message - 1)) LARGEST;
+  steps = min (m.steps + steps_of message) LARGEST;
 }
+
+-- the meters after a turn, with the bytes, rows and pending assertions held after it
+unfoldable pub metered : Meters → (held rows pending : ℕ) → Option (List ℕ) → Meters
+metered m held rows pending request =
+    let n = counted m request in
+    record n { held = max n.held held; rows = max n.rows rows; pending = max n.pending pending }
 
 -- Reading took at most four steps for each byte after a command byte, and two for each request.
 abbrev pub AreBounded : Meters → Type 0

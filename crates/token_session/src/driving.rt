@@ -1,11 +1,10 @@
 //! Inputs driven through a session, and through two.
-ghost use Rattle.std.specs.Prelude.{◌≡◌, ℕ, ◌+◌, ◌<◌, ◌≤◌, ◌++◌, ◌⊎◌, List, ◌∷◌, [], length, map, reverse, take, IfErr, IfOk, MatchBool, Result, Ok, Err};
+ghost use Rattle.std.specs.Prelude.{◌≡◌, ℕ, ◌+◌, ◌<◌, ◌≤◌, ◌++◌, ◌⊎◌, List, ◌∷◌, [], length, map, reverse, take, IfErr, IfOk};
 ghost use Rattle.arrayvec.specs.ArrayVec.{array_vec_len};
 ghost use Rattle.authn_core.specs.Turn.{Start};
 ghost use Rattle.token_session.specs.declared.input.Timed.{Timed as OneInput};
 ghost use Rattle.token_session.specs.Carried.{ArriveWhole, IsWhole};
 ghost use Rattle.token_session.specs.Drive.{as_pair, packet_of, both_number, drive_number, done_in, done_of, first_done, second_done, HadRoom, IsDriven};
-ghost use Rattle.token_session.specs.declared.driving.BothFault.TheVariants.{Full as BothFull};
 ghost use Rattle.token_session.specs.Headline.{IsAnswered, start_of};
 ghost use Rattle.token_session.specs.Law.{numbered, onto, sent_from};
 ghost use Rattle.token_session.specs.History.{judged};
@@ -38,6 +37,14 @@ impl DriveFault {
         match self {
             DriveFault::Full { .. } => 1,
         }
+    }
+
+    /// Returns how many inputs were stepped.
+    fn done(self) -> usize
+        ensures { result ≡ done_in self }
+    {
+        let DriveFault::Full { done } = self;
+        done
     }
 }
 
@@ -72,14 +79,6 @@ fn take_all<const N: usize>(outbox: &mut Outbox, number: u64, sent: &mut ArrayVe
             packet,
         });
     }
-}
-
-/// Whether there is capacity for all that one more input may send.
-fn has_room<const N: usize>(sent: &ArrayVec<Sent, N>) -> bool
-    ensures { MatchBool result (array_vec_len sent.now + OUTBOX_CAPACITY ≤ N)
-        (N < array_vec_len sent.now + OUTBOX_CAPACITY) }
-{
-    sent.remaining_capacity() >= OUTBOX_CAPACITY
 }
 
 /// A packet has 64 bytes. It does nothing.
@@ -123,7 +122,7 @@ pub fn drive<const C: usize, const N: usize>(
 {
     let mut outbox = Outbox::new();
     for (i, timed) in inputs.iter().enumerate() {
-        if !has_room(sent) {
+        if sent.remaining_capacity() < OUTBOX_CAPACITY {
             return Err(DriveFault::Full { done: i });
         }
         known_input(&timed.input);
@@ -166,28 +165,6 @@ pub fn drive_new<const C: usize, const N: usize>(
     drive(&mut session, inputs, sent)
 }
 
-/// The fault of a drive as that of the first of two.
-fn in_first(fault: DriveFault) -> BothFault
-    ensures { result ≡ BothFull (done_in fault) 0 }
-{
-    let DriveFault::Full { done } = fault;
-    BothFault::Full {
-        first: done,
-        second: 0,
-    }
-}
-
-/// The fault of a drive as that of the second of two.
-fn in_second(first: usize, fault: DriveFault) -> BothFault
-    ensures { result ≡ BothFull first (done_in fault) }
-{
-    let DriveFault::Full { done } = fault;
-    BothFault::Full {
-        first,
-        second: done,
-    }
-}
-
 /// Drives one session, and then another. Where the second list of inputs has ticks in place of noise of
 /// the first, the sessions end alike, and the second list of packets has just those of the first, less
 /// what was sent in service of the noise.
@@ -221,10 +198,16 @@ pub fn drive_both<const C: usize, const N: usize>(
 {
     let meters = match drive(first, inputs, sent) {
         Ok(meters) => meters,
-        Err(fault) => return Err(in_first(fault)),
+        Err(fault) => return Err(BothFault::Full {
+            first: fault.done(),
+            second: 0,
+        }),
     };
     match drive(second, quiet, quiet_sent) {
         Ok(quiet_meters) => Ok((meters, quiet_meters)),
-        Err(fault) => Err(in_second(inputs.len(), fault)),
+        Err(fault) => Err(BothFault::Full {
+            first: inputs.len(),
+            second: fault.done(),
+        }),
     }
 }

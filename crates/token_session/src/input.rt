@@ -1,4 +1,10 @@
-use authn_core::{NewKey, Presence, Signature};
+ghost use Rattle.std.specs.Prelude.{◌≡◌, Some, IfSome, min};
+ghost use Rattle.ctap_message.specs.Requests.{steps_of, LARGEST};
+ghost use Rattle.authn_core.specs.Views.{event_of};
+ghost use Rattle.token_session.specs.Effects.{request_in};
+ghost use Rattle.token_session.specs.Meters.{counted};
+
+use authn_core::{Event, NewKey, Presence, Signature};
 use hid_packet::Packet;
 
 /// What comes in.
@@ -45,4 +51,20 @@ pub struct Meters {
     pub bytes: u64,
     /// The steps that reading them took, at most 2^64-1.
     pub steps: u64,
+}
+
+impl Meters {
+    /// Counts an event, if it is a request, with the steps that reading it took.
+    #[tactic(auto, unfolding(crate::specs::Meters::counted))]
+    pub(crate) fn count(&mut self, event: &Event<'_>, steps: u64)
+        requires { IfSome (request_in (Some (event_of event.now))) (λ m. steps ≡ min (steps_of m) LARGEST) }
+        ensures { self.new ≡ counted self.old (request_in (Some (event_of event.now))) }
+    {
+        if let Event::Request { message, .. } = event {
+            let read = (message.len() as u64).saturating_sub(1);
+            self.requests = self.requests.saturating_add(1);
+            self.bytes = self.bytes.saturating_add(read);
+            self.steps = self.steps.saturating_add(steps);
+        }
+    }
 }

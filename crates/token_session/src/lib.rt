@@ -19,14 +19,13 @@
 //! ```
 #![tactic(auto)]
 
-mod authenticator;
 mod driving;
 mod input;
 pub mod laws;
 mod service;
 mod session;
 
-pub use authenticator::KEEPALIVE_PERIOD;
 pub use driving::{BothFault, DriveFault, drive, drive_both, drive_new};
 pub use input::{Input, Meters, Sent, Timed};
+pub use service::KEEPALIVE_PERIOD;
 pub use session::Session;

@@ -1,21 +1,26 @@
-//! What an input comes to: the packets of the transport, and the event that the authenticator takes.
-ghost use Rattle.std.specs.Prelude.{◌≡◌, ◌≤◌, ◌++◌, Some, IfSome, length, option_map};
+//! What an input comes to: the packets of the transport, the event that the authenticator takes, and the packets of its
+//! turn.
+ghost use Rattle.std.specs.Prelude.{◌≡◌, ◌+◌, ◌≤◌, ◌++◌, length, option_map};
 ghost use Rattle.hid_assemble.specs.Assembly.{still_open};
 ghost use Rattle.hid_assemble.specs.Codes.{code_number};
-ghost use Rattle.authn_core.specs.Views.{event_of};
-ghost use Rattle.token_session.specs.Replies.{error, greeting};
+ghost use Rattle.authn_core.specs.Views.{answer_of, event_of, status_number, work_of};
+ghost use Rattle.token_session.specs.Replies.{answer_packets, asker, channel_of, error, greeting, keepalive, status_of};
+ghost use Rattle.token_session.specs.Machine.{answer_keeps_alive};
 ghost use Rattle.token_session.specs.Noise.{is_noise_among};
-ghost use Rattle.token_session.specs.Effects.{assembly_after, input_event, input_verdict, request_in, verdict_packets};
-ghost use Rattle.hid_packet.specs.declared.limit.TheConstants.{LONGEST_MESSAGE};
+ghost use Rattle.token_session.specs.Effects.{assembly_after, input_event, input_verdict, verdict_packets};
+ghost use Rattle.hid_packet.specs.declared.limit.TheConstants.{LONGEST_MESSAGE, OUTBOX_CAPACITY};
 
-use crate::authenticator::Authenticator;
 use crate::input::Input;
 use arrayvec::ArrayVec;
-use authn_core::Event;
+use authn_core::{Core, Event, KeepaliveStatus, Turn, Work};
 use byteorder::{BigEndian, ByteOrder};
+use cred_table::Store;
 use hid_assemble::{Assembler, ErrorCode, Verdict};
 use hid_packet::Outbox;
-use hid_packet::command::{CBOR, ERROR, INIT, PING};
+use hid_packet::command::{CBOR, ERROR, INIT, KEEPALIVE, PING};
+
+/// How long after the last KEEPALIVE the next is due while work waits, in milliseconds.
+pub const KEEPALIVE_PERIOD: u64 = 100;
 
 /// What an INIT answer says of the device: version 2 of the protocol, version 1.0.0 of the device, and
 /// the capabilities CBOR and NMSG (CTAP 2.1, section 11.2.9.1.3).
@@ -28,6 +33,14 @@ pub(crate) fn put_error(outbox: &mut Outbox, cid: u32, code: ErrorCode)
     ensures { outbox.new ≡ outbox.old ++ error cid (code_number code) }
 {
     outbox.put_message(cid, ERROR, &[code.number()]);
+}
+
+/// Sends a KEEPALIVE.
+pub(crate) fn put_keepalive(outbox: &mut Outbox, cid: u32, status: KeepaliveStatus)
+    requires { length outbox.old + length (keepalive cid (status_number status)) ≤ OUTBOX_CAPACITY }
+    ensures { outbox.new ≡ outbox.old ++ keepalive cid (status_number status) }
+{
+    outbox.put_message(cid, KEEPALIVE, &[status.number()]);
 }
 
 /// Answers an INIT on the channel `on` with the channel that its host is to use.
@@ -45,18 +58,18 @@ fn put_greeting(outbox: &mut Outbox, on: u32, channel: u32, nonce: &[u8; 8])
     outbox.put_message(on, INIT, answer.as_slice());
 }
 
-/// Hands the transport an input. Returns its verdict on a packet; it lets every other input be.
+/// Hands the transport an input, while this work waits. Returns its verdict on a packet; it lets every other input be.
 pub(crate) fn admit(
     assembler: &mut Assembler,
     now: u64,
     input: &Input,
-    working: Option<u32>,
+    work: Option<Work>,
 ) -> Verdict
-    ensures verdict { result ≡ input_verdict assembler.old working input.now }
-    ensures state { assembler.new ≡ assembly_after assembler.old now working input.now }
+    ensures verdict { result ≡ input_verdict assembler.old (channel_of (option_map work_of work)) input.now }
+    ensures state { assembler.new ≡ assembly_after assembler.old now (channel_of (option_map work_of work)) input.now }
 {
     match input {
-        Input::Packet(packet) => assembler.accept(now, packet, working),
+        Input::Packet(packet) => assembler.accept(now, packet, work.map(|work| work.cid)),
         Input::Tick | Input::Presence(_) | Input::Key(_) | Input::Signature(_) => Verdict::Ignored,
     }
 }
@@ -85,9 +98,7 @@ pub(crate) fn event_in<'a>(
     verdict: Verdict,
     message: &'a [u8],
 ) -> Option<Event<'a>>
-    requires short { length message.now ≤ LONGEST_MESSAGE }
-    ensures event { option_map event_of result ≡ input_event input.now verdict message.now }
-    ensures short { IfSome (request_in (option_map event_of result)) (λ m. length m ≤ LONGEST_MESSAGE) }
+    ensures { option_map event_of result ≡ input_event input.now verdict message.now }
 {
     match input {
         Input::Packet(_) => match verdict {
@@ -107,21 +118,53 @@ pub(crate) fn event_in<'a>(
     }
 }
 
+/// Sends what the turn of an event returned to the channel that asked: a request's own, or that of the `work` that waited
+/// before the turn. Returns whether that was a KEEPALIVE.
+#[tactic(auto, unfolding(crate::specs::Replies::answer_packets, crate::specs::Machine::answer_keeps_alive))]
+pub(crate) fn send(outbox: &mut Outbox, event: &Event<'_>, work: Option<Work>, turn: &Turn) -> bool
+    requires { length outbox.old + length (answer_packets (asker (option_map work_of work) (event_of event.now))
+        (status_of (option_map work_of work)) (answer_of turn.now)) ≤ OUTBOX_CAPACITY }
+    ensures keepalive { result ≡ answer_keeps_alive (asker (option_map work_of work) (event_of event.now))
+        (status_of (option_map work_of work)) (answer_of turn.now) }
+    ensures packets { outbox.new ≡ outbox.old ++ answer_packets (asker (option_map work_of work) (event_of event.now))
+        (status_of (option_map work_of work)) (answer_of turn.now) }
+{
+    let asker = match event {
+        Event::Request { cid, .. } => Some(*cid),
+        Event::Presence(_) | Event::Key(_) | Event::Signature(_) | Event::Cancel | Event::Drop =>
+            work.map(|work| work.cid),
+    };
+    let Some(cid) = asker else {
+        return false;
+    };
+    match turn {
+        Turn::Answer(answer) => outbox.put_message(cid, CBOR, answer.as_slice()),
+        Turn::Waits(status) => {
+            if !matches!(work, Some(waiting) if waiting.status == *status) {
+                put_keepalive(outbox, cid, *status);
+                return true;
+            }
+        }
+        Turn::Ignored | Turn::Nothing => {}
+    }
+    false
+}
+
 /// Returns whether an input is noise when time has passed to `now`.
 pub(crate) fn is_noise<const C: usize>(
     assembler: &Assembler,
-    authenticator: &Authenticator<C>,
+    core: &Core<Store<C>, C>,
     now: u64,
     input: &Input,
 ) -> bool
     ensures { result ≡ is_noise_among assembler.now.given (still_open assembler.now.current now)
-        authenticator.now.core.core input.now }
+        core.now.core input.now }
 {
     match input {
-        Input::Packet(packet) => assembler.is_noise(now, packet, authenticator.working()),
+        Input::Packet(packet) => assembler.is_noise(now, packet, core.work().map(|work| work.cid)),
         Input::Tick => false,
-        Input::Presence(_) => !authenticator.core.need().is_presence(),
-        Input::Key(_) => !authenticator.core.need().is_key(),
-        Input::Signature(_) => !authenticator.core.need().is_sign(),
+        Input::Presence(_) => !core.need().is_presence(),
+        Input::Key(_) => !core.need().is_key(),
+        Input::Signature(_) => !core.need().is_sign(),
     }
 }

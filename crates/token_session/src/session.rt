@@ -9,16 +9,17 @@ ghost use Rattle.authn_core.specs.Turn.{Start};
 ghost use Rattle.token_session.specs.declared.input.Timed.{Timed as OneInput};
 ghost use Rattle.token_session.specs.History.{judge, judged, held};
 ghost use Rattle.token_session.specs.Law.{sent_now};
-ghost use Rattle.token_session.specs.Meters.{AreBounded, SessionState, StandsAfter, stepped, sent_by, session_of};
+ghost use Rattle.token_session.specs.Effects.{request_in};
+ghost use Rattle.token_session.specs.Meters.{AreBounded, SessionState, StandsAfter, counted, stepped, sent_by, session_of};
 ghost use Rattle.token_session.specs.Machine.{time_passed, served};
-ghost use Rattle.token_session.specs.Readings.{reading_in, with_reading};
 ghost use Rattle.token_session.specs.Noise.{is_noise_at, is_noise_after};
 ghost use Rattle.hid_packet.specs.declared.limit.TheConstants.{OUTBOX_CAPACITY};
 
-use crate::authenticator::{Authenticator, Reading};
 use crate::input::{Input, Meters};
-use crate::service::{admit, event_in, is_noise, put_error, put_verdict};
-use authn_core::{Config, Need};
+use crate::service::{
+    KEEPALIVE_PERIOD, admit, event_in, is_noise, put_error, put_keepalive, put_verdict, send,
+};
+use authn_core::{Config, Core, Need};
 use cred_table::{SnapshotFault, Store, Table};
 use ctap_message::laws::steps_are_bounded;
 use hid_assemble::{Assembler, ErrorCode};
@@ -32,7 +33,9 @@ pub struct Session<const C: usize> {
     /// The greatest moment of its start and its inputs.
     latest: u64,
     assembler: Assembler,
-    authenticator: Authenticator<C>,
+    core: Core<Store<C>, C>,
+    /// The moment of the last KEEPALIVE.
+    keepalive_at: u64,
     meters: Meters,
 }
 
@@ -48,30 +51,13 @@ impl<const C: usize> Model for Session<C> {
         now = s.latest;
         given = s.assembler.given;
         current = s.assembler.current;
-        core = s.authenticator.core.core;
-        keepalive_at = s.authenticator.keepalive_at;
+        core = s.core.core;
+        keepalive_at = s.keepalive_at;
       };
       meters = s.meters;
     } };
 
-    ghost invariant = { λ s. (s.authenticator.core.latest ≤ s.latest) × AreBounded s.meters };
-}
-
-/// Returns the meters after an input, with what is held now and what reading the request took that it finished.
-#[tactic(auto, unfolding(crate::specs::Readings::with_reading))]
-fn count(meters: Meters, held: u16, rows: u16, pending: u16, request: Option<Reading>) -> Meters
-    ensures { result ≡ with_reading meters held rows pending request }
-{
-    let mut counted = meters;
-    counted.held = meters.held.max(held);
-    counted.rows = meters.rows.max(rows);
-    counted.pending = meters.pending.max(pending);
-    if let Some(reading) = request {
-        counted.requests = meters.requests.saturating_add(1);
-        counted.bytes = meters.bytes.saturating_add(u64::from(reading.bytes));
-        counted.steps = meters.steps.saturating_add(reading.steps);
-    }
-    counted
+    ghost invariant = { λ s. (s.core.latest ≤ s.latest) × AreBounded s.meters };
 }
 
 /// Returns the meters at a start with so many credentials.
@@ -99,13 +85,13 @@ impl<const C: usize> Session<C> {
           rows = ⟦<Store<C> as Table<C>>⟧.rows rows.entry;
         }) [] }
     {
-        let authenticator = Authenticator::new(config, rows, start);
-        let rows = authenticator.core.credentials() as u16;
+        let credentials = rows.len() as u16;
         Session {
             latest: start,
             assembler: Assembler::new(),
-            authenticator,
-            meters: first_meters(rows),
+            core: Core::new(config, rows, start),
+            keepalive_at: 0,
+            meters: first_meters(credentials),
         }
     }
 
@@ -118,12 +104,7 @@ impl<const C: usize> Session<C> {
         requires few { C ≤ 256 }
         ensures { result ≡ session_of (record { aaguid = aaguid; moment = start; room = C; rows = [] }) [] }
     {
-        Session {
-            latest: start,
-            assembler: Assembler::new(),
-            authenticator: Authenticator::bare(Config { aaguid }, start),
-            meters: first_meters(0),
-        }
+        Session::new(Config { aaguid }, Store::new(), start)
     }
 
     /// Begins anew at the moment `start`, in milliseconds, with the credentials of a snapshot in place of its own. No
@@ -134,15 +115,12 @@ impl<const C: usize> Session<C> {
             × (self.new ≡ session_of (record { aaguid = config.aaguid; moment = start; room = C; rows = rows }) []))
             (λ fault. Refuses C snapshot.now fault × (self.new ≡ self.old)) }
     {
-        match self.authenticator.load(config, snapshot, start) {
-            Ok(()) => {
-                self.latest = start;
-                self.assembler = Assembler::new();
-                self.meters = first_meters(self.authenticator.core.credentials() as u16);
-                Ok(())
-            }
-            Err(fault) => Err(fault),
-        }
+        self.core.load(config, snapshot, start)?;
+        self.latest = start;
+        self.assembler = Assembler::new();
+        self.keepalive_at = 0;
+        self.meters = first_meters(self.core.credentials() as u16);
+        Ok(())
     }
 
     /// Takes one input that came at `at`, in milliseconds, and puts the packets to send into the
@@ -160,14 +138,12 @@ impl<const C: usize> Session<C> {
         ensures sent { (start : Start) (h : List OneInput) → StandsAfter self.old start h
             → outbox.new ≡ sent_now start h (record { at = at; input = input }) }
     {
-        steps_are_bounded();
         let now = self.latest.max(at);
         self.pass_time(now, outbox);
-        let reading = self.serve(input, outbox);
-        let held = self.assembler.held();
-        let rows = self.authenticator.core.credentials() as u16;
-        let pending = self.authenticator.core.pending() as u16;
-        self.meters = count(self.meters, held, rows, pending, reading);
+        self.serve(input, outbox);
+        self.meters.held = self.meters.held.max(self.assembler.held());
+        self.meters.rows = self.meters.rows.max(self.core.credentials() as u16);
+        self.meters.pending = self.meters.pending.max(self.core.pending() as u16);
     }
 
     /// Whether this input at `at` would be noise: when time has passed to `at`, it would change nothing more. Noise is
@@ -183,7 +159,7 @@ impl<const C: usize> Session<C> {
             (judged start h) }
     {
         let now = self.latest.max(at);
-        is_noise(&self.assembler, &self.authenticator, now, input)
+        is_noise(&self.assembler, &self.core, now, input)
     }
 
     /// How many data bytes are held of the open message, at most 7550.
@@ -202,7 +178,7 @@ impl<const C: usize> Session<C> {
         ensures value { needed result ≡ needs self.now.machine.core.state.work }
         ensures sized { IsNeed (needed result) }
     {
-        self.authenticator.core.need()
+        self.core.need()
     }
 
     /// The number of credentials, at most `C`.
@@ -210,7 +186,7 @@ impl<const C: usize> Session<C> {
         ensures value { result ≡ length self.now.machine.core.state.rows }
         ensures limit { result ≤ C }
     {
-        self.authenticator.core.credentials()
+        self.core.credentials()
     }
 
     /// The number of pending assertions, at most `C`.
@@ -218,14 +194,14 @@ impl<const C: usize> Session<C> {
         ensures value { result ≡ pending_count self.now.machine.core.state.pending }
         ensures limit { result ≤ C }
     {
-        self.authenticator.core.pending()
+        self.core.pending()
     }
 
     /// The credentials.
     pub fn table(&self) -> &Store<C>
         ensures { ⟦<Store<C> as Table<C>>⟧.rows result.now ≡ self.now.machine.core.state.rows }
     {
-        self.authenticator.core.table()
+        self.core.table()
     }
 
     /// What the session has held and served. Reading its requests took at most four steps for each byte after a command
@@ -246,26 +222,38 @@ impl<const C: usize> Session<C> {
         ensures packets { outbox.new ≡ (time_passed self.old.machine at).packets }
     {
         self.latest = at;
-        match self.assembler.pass(at) {
-            Some(cid) => put_error(outbox, cid, ErrorCode::MessageTimeout),
-            None => self.authenticator.pass_time(at, outbox),
+        if let Some(cid) = self.assembler.pass(at) {
+            return put_error(outbox, cid, ErrorCode::MessageTimeout);
+        }
+        let Some(work) = self.core.work() else {
+            return;
+        };
+        if at.saturating_sub(self.keepalive_at) >= KEEPALIVE_PERIOD {
+            self.keepalive_at = at;
+            put_keepalive(outbox, work.cid, work.status);
         }
     }
 
-    /// Serves an input after the packets of time. Returns what reading the request took that it finished, if it
-    /// finished one.
-    fn serve(&mut self, input: Input, outbox: &mut Outbox) -> Option<Reading>
+    /// Serves an input after the packets of time.
+    fn serve(&mut self, input: Input, outbox: &mut Outbox)
         requires { length outbox.old ≤ 1 }
         ensures state { self.new.machine ≡ (served self.old.machine outbox.old input).state }
-        ensures meters { self.new.meters ≡ self.old.meters }
+        ensures meters { self.new.meters
+            ≡ counted self.old.meters (request_in (served self.old.machine outbox.old input).event) }
         ensures packets { outbox.new ≡ (served self.old.machine outbox.old input).packets }
-        ensures reading { result ≡ reading_in (served self.old.machine outbox.old input).event }
     {
-        let working = self.authenticator.working();
-        let verdict = admit(&mut self.assembler, self.latest, &input, working);
+        steps_are_bounded();
+        let work = self.core.work();
+        let verdict = admit(&mut self.assembler, self.latest, &input, work);
         let message = self.assembler.message();
         put_verdict(outbox, verdict, message);
-        let event = event_in(&input, verdict, message);
-        self.authenticator.take(self.latest, &event, outbox)
+        let Some(event) = event_in(&input, verdict, message) else {
+            return;
+        };
+        let turn = self.core.take(self.latest, &event);
+        self.meters.count(&event, self.core.last_steps());
+        if send(outbox, &event, work, &turn) {
+            self.keepalive_at = self.latest;
+        }
     }
 }

@@ -5,12 +5,12 @@ use Rattle.token_session.specs.Drive.{as_pair}
 use Rattle.token_session.proofs.Drives.{driven_more, whole_more, sends_more, room_here, driven_stands, driven_follows}
 use Rattle.token_session.proofs.driving.drive.Goals as goal
 
-pub returns-then-not-has_room : goal.returns-then-not-has_room
-returns-then-not-has_room g c = record {
+pub returns-then-remaining_capacity-lt-OUTBOX_CAPACITY : goal.returns-then-remaining_capacity-lt-OUTBOX_CAPACITY
+returns-then-remaining_capacity-lt-OUTBOX_CAPACITY g c = record {
   run = record { state = c.loop-i.invariant.state; packets = c.loop-i.invariant.packets; room = c.loop-i.invariant.room };
   meters = tt;
   whole = c.loop-i.invariant.whole;
-  full = (c.loop-i-test.true, omega (arith, c.if-not-has_room.ensures));
+  full = (c.loop-i-test.true, omega (arith, c.if-remaining_capacity-lt-OUTBOX_CAPACITY.true, c.remaining_capacity.ensures));
   after = λ start h b. c.loop-i.invariant.state ∙ driven_stands (take c.loop-i.i c.args.inputs.now) _ start h b;
   sent = λ start h b. c.loop-i.invariant.packets ∙ ap (λ q. map as_pair c.args.sent.now.items ++ q) (driven_follows (take c.loop-i.i c.args.inputs.now) _ start 0 h b);
 }
@@ -32,7 +32,7 @@ loop-i-preserved g c = record {
   state = driven_more c.args.inputs.now c.loop-i.i _ _ _ c.index-inputs-i.result _ c.loop-i-test.true c.index-inputs-i.is c.step.ensures.state c.loop-i.invariant.state;
   packets = sends_more c.args.inputs.now c.loop-i.i _ _ _ _ _ _ c.index-inputs-i.result _ c.loop-i-test.true c.index-inputs-i.is c.take_all.ensures.sent c.step.ensures.packets c.loop-i.invariant.state c.loop-i.invariant.packets;
   whole = whole_more c.args.inputs.now c.loop-i.i c.index-inputs-i.result _ c.loop-i-test.true c.index-inputs-i.is c.loop-i.invariant.whole c.known_input.ensures;
-  room = below_more _ _ c.loop-i.invariant.room (room_here (map as_pair c.loop-i.sent.items) _ g.row.N c.loop-i.invariant.packets (let n : length (map as_pair c.loop-i.sent.items) ≡ array_vec_len c.loop-i.sent = simp length-map in omega (arith, c.if-not-has_room.ensures)));
+  room = below_more _ _ c.loop-i.invariant.room (room_here (map as_pair c.loop-i.sent.items) _ g.row.N c.loop-i.invariant.packets (let n : length (map as_pair c.loop-i.sent.items) ≡ array_vec_len c.loop-i.sent = simp length-map in omega (arith, c.if-remaining_capacity-lt-OUTBOX_CAPACITY.false, c.remaining_capacity.ensures)));
   empty = c.take_all.ensures.empty;
 }
 
@@ -51,11 +51,8 @@ bounds-inputs-i g c = c.loop-i-test.true
 pub step-requires : goal.step-requires
 step-requires g c = (search, c.loop-i.invariant.empty)
 
-pub has_room-requires : goal.has_room-requires
-has_room-requires g c = search
-
 pub take_all-requires : goal.take_all-requires
-take_all-requires g c = (search, omega (arith, c.if-not-has_room.ensures, c.step.ensures.few))
+take_all-requires g c = (search, omega (arith, c.if-remaining_capacity-lt-OUTBOX_CAPACITY.false, c.remaining_capacity.ensures, c.step.ensures.few))
 
 pub meters-requires : goal.meters-requires
 meters-requires g c = search

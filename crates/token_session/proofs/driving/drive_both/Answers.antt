@@ -3,17 +3,16 @@ use Rattle.token_session.proofs.Drives.{drives_alike}
 use Rattle.token_session.proofs.driving.drive_both.Goals as goal
 
 pub returns-in-Err-clause-first : goal.returns-in-Err-clause-first
-returns-in-Err-clause-first g c = rw c.in_first.ensures c.in-Err.ensures.run
+returns-in-Err-clause-first g c = rw c.done.ensures c.in-Err.ensures.run
 
 pub returns-in-Err-clause-second : goal.returns-in-Err-clause-second
-returns-in-Err-clause-second g c =
-    rw c.in_first.ensures (record { state = refl; packets = sym (append-nil _); room = λ j less. absurd (omega arith) })
+returns-in-Err-clause-second g c = record { state = refl; packets = sym (append-nil _); room = λ j less. absurd (omega arith) }
 
 pub returns-in-Err-clause-meters : goal.returns-in-Err-clause-meters
 returns-in-Err-clause-meters g c = tt
 
 pub returns-in-Err-clause-full : goal.returns-in-Err-clause-full
-returns-in-Err-clause-full g c = rw c.in_first.ensures (inl (c.in-Err.ensures.full.0, c.in-Err.ensures.full.1, refl))
+returns-in-Err-clause-full g c = rw c.done.ensures (inl (c.in-Err.ensures.full.0, c.in-Err.ensures.full.1, refl))
 
 pub returns-in-Err-clause-alike : goal.returns-in-Err-clause-alike
 returns-in-Err-clause-alike g c = λ start h k b b' q longer. tt
@@ -31,10 +30,10 @@ returns-in-Ok-drive g c = record {
 
 pub returns-in-Err-drive : goal.returns-in-Err-drive
 returns-in-Err-drive g c = record {
-  first = rw c.in_second.ensures c.in-Ok.ensures.run;
-  second = rw c.in_second.ensures c.in-Err-drive.ensures.run;
+  first = c.in-Ok.ensures.run;
+  second = rw c.done-in-Err-drive.ensures c.in-Err-drive.ensures.run;
   meters = tt;
-  full = rw c.in_second.ensures (inr (refl, c.in-Err-drive.ensures.full.0, c.in-Err-drive.ensures.full.1));
+  full = rw c.done-in-Err-drive.ensures (inr (refl, c.in-Err-drive.ensures.full.0, c.in-Err-drive.ensures.full.1));
   alike = λ start h k b b' q longer. tt;
 }
 
