@@ -1,5 +1,5 @@
 -- A finished CBOR message is a request, and its answer is all that is sent for it.
-use Rattle.std.proofs.Common.{◌≡◌, ℕ, ◌≤◌, ◌==◌, ◌⊎◌, inl, inr, ◌&&◌, ◌||◌, true, nat_le, List, [], ◌∷◌, length, max, Option, Some, None, option_map, Ok, refl, sym, ◌∙◌, ap, subst, arith}
+use Rattle.std.proofs.Common.{◌≡◌, ℕ, ◌≤◌, ◌==◌, ◌⊎◌, inl, inr, ◌&&◌, ◌||◌, true, nat_le, List, [], ◌∷◌, ◌++◌, length, max, Option, Some, None, option_map, Ok, refl, sym, ◌∙◌, ap, subst, arith}
 use Rattle.std.proofs.lemmas.Bool.Decides.{nat_tests}
 use Rattle.ctap_message.specs.Answers.{info_answer}
 use Rattle.ctap_message.specs.Asked.{GetInfo}
@@ -8,7 +8,7 @@ use Rattle.authn_core.specs.State.{Event, Request}
 use Rattle.authn_core.specs.Turn.{Start, working, waiting}
 use Rattle.authn_core.proofs.Facts.{info_answered}
 use Rattle.hid_assemble.specs.Table.{Begins, Continues, Open, Ruling, is_given, ruling_of}
-use Rattle.hid_assemble.specs.Assembly.{Message, message_after}
+use Rattle.hid_assemble.specs.Assembly.{Message, bytes_of, message_after}
 use Rattle.hid_assemble.specs.declared.table.Row.TheVariants.{Short}
 use Rattle.hid_assemble.specs.declared.table.Continuation.TheVariants.{Whole}
 use Rattle.hid_packet.specs.Carries.{Carries, IsLeast}
@@ -16,38 +16,38 @@ use Rattle.hid_packet.specs.Commands.{CBOR, PING}
 use Rattle.hid_packet.specs.declared.packet.Packet.{Packet as Packet64}
 use Rattle.hid_packet.specs.Message.{written}
 use Rattle.hid_packet.specs.Packet.{Fields, fields}
-use Rattle.token_session.specs.Carried.{}
 use Rattle.token_session.specs.Inputs.{Judged, end, given}
 use Rattle.token_session.specs.Messages.{finished_at, finished, open_at}
-use Rattle.token_session.specs.History.{admits, core, event, judge, judged, packet_event, service_packets}
+use Rattle.token_session.specs.History.{admits, core, event, judge, judged, packet_event, service_packets, table_packets}
 use Rattle.token_session.specs.Messages.{as_open}
-use Rattle.token_session.specs.Machine.{event_after, ruling_packets}
+use Rattle.token_session.specs.Effects.{verdict_event, verdict_packets}
+use Rattle.hid_assemble.specs.Verdicts.{ruling_verdict}
+use Rattle.hid_assemble.specs.declared.verdict.Verdict.{Verdict}
+use Rattle.hid_assemble.specs.declared.verdict.Verdict.TheVariants.{Finished}
 use Rattle.token_session.specs.Events.{event_core, event_packets}
-use Rattle.token_session.specs.Replies.{answer_packets, asker, ping_packets, request_event, status_of}
+use Rattle.token_session.specs.Replies.{answer_packets, asker, ping_packets, status_of}
 use Rattle.token_session.specs.declared.input.Input.{Input}
 use Rattle.token_session.specs.declared.input.Input.TheVariants.{Packet}
 use Rattle.token_session.specs.declared.input.Timed.{Timed}
 use Rattle.token_session.proofs.Follows.{Good, good_judged, judged_at, safe_at}
-use Rattle.token_session.proofs.Tables.{table_same}
+use Rattle.token_session.proofs.Tables.{table_sends}
 use Rattle.token_session.proofs.Serve.{Serves, new_open}
 use Rattle.token_session.proofs.Continuing.{serves}
 
--- A row that finishes a message sends nothing of its own, and the message is the event.
-record Ends (g : ℕ) (w : Option ℕ) (f : Fields) (m : Message) (r : Ruling) : Type 0 where
-  quiet : ruling_packets g f r ≡ []
-  asks : event_after w f (Some m) r ≡ request_event (Some m)
-
-ends : (g : ℕ) (w : Option ℕ) (o : Option Open) (f : Fields) (m : Message) (r : Ruling) → message_after o f r ≡ Some m → Ends g w f m r
-unfolding message_after ruling_packets event_after
-ends g w o f m (Begins Short) h = record { quiet = refl; asks = refl }
-ends g w o f m (Continues Whole) h = record { quiet = refl; asks = refl }
+-- the verdict on a packet that finishes a message
+ends : (g : ℕ) (w : Option ℕ) (o : Option Open) (f : Fields) (m : Message) (r : Ruling) → message_after o f r ≡ Some m → ruling_verdict g w f (Some m) r ≡ Finished m.cid m.cmd
+unfolding message_after ruling_verdict
+ends g w o f m (Begins Short) h = refl
+ends g w o f m (Continues Whole) h = refl
 ends g w o f m other h = cc
 
-asked : (m : Message) → m.cmd ≡ CBOR → request_event (Some m) ≡ Some (Request m.cid m.bytes)
-asked m h = rw h refl
+-- such a verdict sends nothing of its own, and is the message's event
+record Asks (m : Message) (v : Verdict) : Type 0 where
+  quiet : verdict_packets v m.bytes ≡ []
+  asks : verdict_event v m.bytes ≡ Some (Request m.cid m.bytes)
 
-no_ping : (m : Message) → m.cmd ≡ CBOR → ping_packets (Some m) ≡ []
-no_ping m h = rw h refl
+asked : (m : Message) (v : Verdict) → m.cmd ≡ CBOR → v ≡ Finished m.cid m.cmd → Asks m v
+asked m v h e = rw (e, h) (record { quiet = refl; asks = refl })
 
 request_at : (start : Start) (t : ℕ) (h : List Judged) (i : Input) (m : Message) → Good start h → end start h ≤ t
     → finished (open_at h t) (judged_at start t h i).admitted i ≡ Some m → m.cmd ≡ CBOR
@@ -61,10 +61,12 @@ request_at start t h (Packet x) m good le fin is =
     let row = ruling_of g (option_map as_open o) w f in
     let s : Serves g o w t x.0 f (new_open g o w t x.0 (Packet x)) (finished o (admits g o w x.0) (Packet x)) row = serves g o w t x (safe_at start t h good le) in
     let after : message_after (option_map as_open o) f row ≡ Some m = sym s.message ∙ fin in
-    let e : Ends g w f m row = ends g w (option_map as_open o) f m row after in
-    let happened : packet_event w (Some m) x.0 ≡ event_after w f (Some m) row = subst (λ v. packet_event w v x.0 ≡ event_after w f v row) after s.event in
-    let asks : packet_event w (Some m) x.0 ≡ Some (Request m.cid m.bytes) = happened ∙ e.asks ∙ asked m is in
-    rw (table_same g o w x, e.quiet, fin, no_ping m is, asks) refl
+    let a = asked m _ is (ends g w (option_map as_open o) f m row after) in
+    let sends : table_packets g o w (Packet x) ++ ping_packets (Some m) ≡ [] =
+    subst (λ v. table_packets g o w (Packet x) ++ ping_packets v ≡ verdict_packets (ruling_verdict g w f v row) (bytes_of v)) after (table_sends g o w x) ∙ a.quiet in
+    let asks : packet_event w (Some m) x.0 ≡ Some (Request m.cid m.bytes) =
+    subst (λ v. packet_event w v x.0 ≡ verdict_event (ruling_verdict g w f v row) (bytes_of v)) after s.event ∙ a.asks in
+    rw (fin, sends, asks) refl
 request_at start t h other m good le fin is = cc
 
 -- The AAGUID after every history is that of the start.

@@ -14,7 +14,7 @@ use Rattle.token_session.specs.Inputs.{Judged, asks_channel, is_own, packet}
 use Rattle.token_session.specs.Messages.{Begun, finished, finished_long, is_last, is_next, packets_of}
 use Rattle.token_session.specs.History.{admits, packet_event}
 use Rattle.token_session.specs.Messages.{as_open, last_at}
-use Rattle.token_session.specs.Machine.{event_after}
+use Rattle.hid_assemble.specs.Verdicts.{ruling_verdict}
 use Rattle.token_session.specs.Replies.{request_event}
 use Rattle.token_session.specs.declared.input.Input.TheVariants.{Packet}
 use Rattle.hid_packet.specs.declared.packet.Packet.{Packet as Packet64}
@@ -30,7 +30,7 @@ no_event_more w m p st = rw st refl
 
 more_none : (g : ℕ) (w : Option ℕ) (t : ℕ) (x : Packet64) → is_initialization x.0 ≡ false
     → Serves g None w t x.0 (goes x.0) (new_open g None w t x.0 (Packet x)) (finished None (admits g None w x.0) (Packet x)) (Continues Stray)
-unfolding open_after message_after event_after
+unfolding open_after message_after ruling_verdict
 more_none g w t x st =
     refused_row g w t x (goes x.0) (Continues Stray) (λ a. true_or_false (is_initialization x.0) a.start st) (no_channel_more g x.0 st) refl refl (no_event_more w None x.0 st)
 
@@ -76,7 +76,7 @@ and_second false b h = refl
 whole_row : (g : ℕ) (b : Begun) (t : ℕ) (x : Packet64) → is_initialization x.0 ≡ false → (channel b.packet == channel x.0) ≡ true → (sequence x.0 == length b.own) ≡ true
     → nat_lt (57 + 59 * (length b.own + 1)) (message_length b.packet) ≡ false
     → Serves g (Some b) None t x.0 (goes x.0) (new_open g (Some b) None t x.0 (Packet x)) (finished (Some b) (admits g (Some b) None x.0) (Packet x)) (Continues Whole)
-unfolding open_after message_after event_after finished finished_long
+unfolding open_after message_after ruling_verdict finished finished_long
 whole_row g b t x st h n l =
     let p = x.0 in
     let adm = never_admitted g b None p in
@@ -91,7 +91,7 @@ whole_row g b t x st h n l =
 more_open : (g : ℕ) (b : Begun) (t : ℕ) (x : Packet64) → is_initialization x.0 ≡ false
     → Serves g (Some b) None t x.0 (goes x.0) (new_open g (Some b) None t x.0 (Packet x)) (finished (Some b) (admits g (Some b) None x.0) (Packet x))
     (Continues (continuation_row (Some (as_open b)) (channel x.0) (sequence x.0)))
-unfolding continuation_row open_after message_after event_after
+unfolding continuation_row open_after message_after ruling_verdict
 more_open g b t x st =
     let p = x.0 in
     let P : Continuation → Type 0 = λ c. Serves g (Some b) None t p (goes p) (new_open g (Some b) None t p (Packet x)) (finished (Some b) (admits g (Some b) None p) (Packet x)) (Continues c) in

@@ -1,21 +1,23 @@
 -- One input sends at most 130 packets.
-use Rattle.std.proofs.Common.{◌∙◌, ◌≡◌, ℕ, ◌+◌, ◌≤◌, ◌==◌, Bool, true, false, cond, suc, List, [], ◌∷◌, ◌++◌, append-nil, length, take, Option, Some, None, refl, ap, arith, length-append}
+use Rattle.std.proofs.Common.{◌∙◌, ◌≡◌, ℕ, ◌+◌, ◌≤◌, ◌==◌, Bool, true, false, cond, suc, List, [], ◌∷◌, ◌++◌, append-nil, length, max, Option, Some, None, refl, ap, arith, length-append}
 use Rattle.std.proofs.lemmas.List.{drop_all}
 use Rattle.hid_packet.proofs.Carrying.{few_written}
 use Rattle.token_session.proofs.Serve.{cond_case, is_eq}
 use Rattle.authn_core.proofs.Facts.{drop_answers_nothing}
 use Rattle.authn_core.specs.State.{Answer, Answered, Cancel, Drop, Event, Nothing, Request, Waits, Ignored}
-use Rattle.authn_core.specs.Turn.{CoreState, Work, working, waiting}
-use Rattle.hid_assemble.specs.Table.{Begins, Continues, Open, Ruling, is_on, ruling_of}
-use Rattle.hid_assemble.specs.Assembly.{Message, is_overdue, message_after}
-use Rattle.hid_assemble.specs.declared.table.Row.TheVariants.{BadLength, BrokenOff, BusyElsewhere, BusyHere, CancelsWork, InitAgain, InitFull, InitLength, InitNew, NoSuchChannel, NoSuchCommand, Short}
-use Rattle.hid_assemble.specs.declared.table.Continuation.TheVariants.{Whole, WrongNumber}
-use Rattle.hid_packet.specs.Commands.{BROADCAST, CBOR, ERROR, INIT, KEEPALIVE, PING}
+use Rattle.authn_core.specs.Turn.{CoreState, Work, waiting, working}
+use Rattle.hid_assemble.specs.Table.{Open, is_on}
+use Rattle.hid_assemble.specs.Assembly.{Assembly, accepted, is_overdue}
+use Rattle.hid_assemble.specs.Verdicts.{verdict}
+use Rattle.hid_packet.specs.Packet.{fields}
+use Rattle.hid_assemble.specs.declared.verdict.Verdict.{Verdict}
+use Rattle.hid_assemble.specs.declared.verdict.Verdict.TheVariants.{Ignored as Unanswered, Kept, Finished, Refuse, Greet, GreetAndDrop, CancelWork}
+use Rattle.token_session.specs.Effects.{verdict_event, verdict_packets}
+use Rattle.hid_packet.specs.Commands.{CBOR, ERROR, INIT, KEEPALIVE, PING}
 use Rattle.hid_packet.specs.Message.{continuation_packets, written}
-use Rattle.hid_packet.specs.Packet.{Fields, channel_of, data_of, fields}
-use Rattle.token_session.specs.Machine.{State, Turn, event_after, ruling_packets, overdue_packets, time_passed, served, turn}
+use Rattle.token_session.specs.Machine.{State, Turn, overdue_packets, time_passed, served, turn}
 use Rattle.token_session.specs.Events.{reply_in, event_packets, keepalive_due, keepalive_packets}
-use Rattle.token_session.specs.Replies.{answer_packets, asker, greeting, ping_packets, request_event, status_of}
+use Rattle.token_session.specs.Replies.{answer_packets, asker, greeting, status_of}
 use Rattle.token_session.specs.declared.input.Input.{Input}
 use Rattle.token_session.specs.declared.input.Input.TheVariants.{Packet}
 use Rattle.token_session.specs.declared.input.Timed.{Timed}
@@ -48,41 +50,29 @@ nothing_sent (Some c) s = refl
 pub drop_sends_nothing : (k : CoreState) (t : ℕ) → event_packets k t (Some Drop) ≡ []
 drop_sends_nothing k t = ap (answer_packets (asker (waiting k) Drop) (status_of (waiting k))) (drop_answers_nothing k t) ∙ nothing_sent (asker (waiting k) Drop) (status_of (waiting k))
 
-message_few : (k : CoreState) (t : ℕ) (m : Option Message) → length (ping_packets m ++ event_packets k t (request_event m)) ≤ 129
-message_few k t None = omega arith
-message_few k t (Some m) = go (m.cmd == PING) (m.cmd == CBOR) (λ p c. let a : m.cmd ≡ 1 = is_eq m.cmd 1 p in let b : m.cmd ≡ 16 = is_eq m.cmd 16 c in omega arith)
+message_few : (k : CoreState) (t cid cmd : ℕ) (bytes : List ℕ) → length (cond (cmd == PING) (written cid PING bytes) [] ++ event_packets k t (cond (cmd == CBOR) (Some (Request cid bytes)) None)) ≤ 129
+message_few k t cid cmd bytes = go (cmd == PING) (cmd == CBOR) (λ p c. let a : cmd ≡ 1 = is_eq cmd 1 p in let b : cmd ≡ 16 = is_eq cmd 16 c in omega arith)
   where
-    go : (p c : Bool) → (p ≡ true → c ≡ true → ⊥) → length (cond p (written m.cid PING m.bytes) [] ++ event_packets k t (cond c (Some (Request m.cid m.bytes)) None)) ≤ 129
+    go : (p c : Bool) → (p ≡ true → c ≡ true → ⊥) → length (cond p (written cid PING bytes) [] ++ event_packets k t (cond c (Some (Request cid bytes)) None)) ≤ 129
     go true true h = absurd (h refl refl)
-    go true false h = let w = few_written m.cid PING m.bytes in rw (append-nil (written m.cid PING m.bytes)) w
-    go false c h = event_few k t (cond c (Some (Request m.cid m.bytes)) None)
+    go true false h = let w = few_written cid PING bytes in rw (append-nil (written cid PING bytes)) w
+    go false c h = event_few k t (cond c (Some (Request cid bytes)) None)
 
-alone : (xs : List (List ℕ)) → length xs ≤ 129 → length ((xs ++ []) ++ []) ≤ 129
-alone xs h = rw (append-nil (xs ++ []), append-nil xs) h
+alone : (xs : List (List ℕ)) → length xs ≤ 129 → length (xs ++ []) ≤ 129
+alone xs h = rw (append-nil xs) h
 
 greeting_few : (on c : ℕ) (nonce : List ℕ) → length (greeting on c nonce) ≤ 129
 unfolding greeting
 greeting_few on c nonce = few_written on INIT _
 
-pub service_few : (g t : ℕ) (o : Option Open) (k : CoreState) (w : Option ℕ) (p : Fields) (r : Ruling)
-    → length ((ruling_packets g p r ++ ping_packets (message_after o p r)) ++ event_packets k t (event_after w p (message_after o p r) r)) ≤ 129
-unfolding ruling_packets message_after event_after
-service_few g t o k w p (Begins CancelsWork) = event_few k t (Some Cancel)
-service_few g t o k w p (Begins NoSuchChannel) = alone _ (few_written (channel_of p) ERROR (11 ∷ []))
-service_few g t o k w p (Begins InitLength) = alone _ (few_written (channel_of p) ERROR (3 ∷ []))
-service_few g t o k w p (Begins InitFull) = alone _ (few_written (channel_of p) ERROR (127 ∷ []))
-service_few g t o k w p (Begins InitNew) = alone _ (greeting_few BROADCAST (g + 1) _)
-service_few g t o k w p (Begins InitAgain) = cond_case (λ e. length ((greeting (channel_of p) (channel_of p) (take 8 (data_of p)) ++ []) ++ event_packets k t e) ≤ 129) (is_on w (channel_of p)) _ _
-    (λ _. rw (drop_sends_nothing k t) (alone _ (greeting_few (channel_of p) (channel_of p) (take 8 (data_of p))))) (λ _. alone _ (greeting_few (channel_of p) (channel_of p) (take 8 (data_of p))))
-service_few g t o k w p (Begins BusyElsewhere) = alone _ (few_written (channel_of p) ERROR (6 ∷ []))
-service_few g t o k w p (Begins BusyHere) = alone _ (few_written (channel_of p) ERROR (6 ∷ []))
-service_few g t o k w p (Begins BrokenOff) = alone _ (few_written (channel_of p) ERROR (4 ∷ []))
-service_few g t o k w p (Begins NoSuchCommand) = alone _ (few_written (channel_of p) ERROR (1 ∷ []))
-service_few g t o k w p (Begins BadLength) = alone _ (few_written (channel_of p) ERROR (3 ∷ []))
-service_few g t o k w p (Begins Short) = message_few k t (message_after o p (Begins Short))
-service_few g t o k w p (Continues Whole) = message_few k t (message_after o p (Continues Whole))
-service_few g t o k w p (Continues WrongNumber) = alone _ (few_written (channel_of p) ERROR (4 ∷ []))
-service_few g t o k w p other = omega arith
+verdict_few : (k : CoreState) (t : ℕ) (v : Verdict) (bytes : List ℕ) → length (verdict_packets v bytes ++ event_packets k t (verdict_event v bytes)) ≤ 129
+verdict_few k t Unanswered bytes = omega arith
+verdict_few k t Kept bytes = omega arith
+verdict_few k t (Finished cid cmd) bytes = message_few k t cid cmd bytes
+verdict_few k t (Refuse cid code) bytes = alone _ (few_written cid ERROR _)
+verdict_few k t (Greet on cid nonce) bytes = alone _ (greeting_few on cid nonce)
+verdict_few k t (GreetAndDrop on cid nonce) bytes = rw (drop_sends_nothing k t) (alone _ (greeting_few on cid nonce))
+verdict_few k t CancelWork bytes = event_few k t (Some Cancel)
 
 overdue_few : (o : Option Open) → length (overdue_packets o) ≤ 1
 overdue_few None = omega arith
@@ -102,10 +92,10 @@ below a b h k = omega (arith, length-append a b)
 
 pub served_few : (s : State) (early : List (List ℕ)) (i : Input) → length early ≤ 1 → length (served s early i).packets ≤ 130
 served_few s early (Packet p) h =
-    let few = service_few s.given s.now s.current s.core (working s.core) (fields p.0) (ruling_of s.given s.current (working s.core) (fields p.0)) in
-    below early _ h few
+    let a : Assembly = record { given = s.given; current = s.current; finished = [] } in
+    below early _ h (verdict_few s.core s.now (verdict a (working s.core) (fields p.0)) (accepted a s.now (working s.core) (fields p.0)).finished)
 served_few s early other h = below early _ h (event_few s.core s.now (reply_in other))
 
 pub turn_few : (s : State) (x : Timed) → length (turn s x).packets ≤ 130
 unfolding turn
-turn_few s x = served_few _ _ x.input (time_few s _)
+turn_few s x = let now = time_passed s (max s.now x.at) in served_few now.state now.packets x.input (time_few s (max s.now x.at))

@@ -5,7 +5,7 @@ use Rattle.std.proofs.lemmas.List.Sums.{sum_by-cons}
 use Rattle.token_session.proofs.Opens.{Lawful, next, then_next, open_next_is}
 use Rattle.token_session.proofs.Serve.{says_admitted, Serves, new_open, cond_case}
 use Rattle.token_session.proofs.Continuing.{Safe, OpenGiven, serves}
-use Rattle.token_session.proofs.Tables.{table_same}
+use Rattle.token_session.proofs.Tables.{table_sends}
 use Rattle.token_session.proofs.Noted.{last_noted}
 use Rattle.token_session.proofs.Time.{still, still_open}
 use Rattle.token_session.proofs.Safety.{packet_works, packet_alone, reply_works, reply_alone}
@@ -13,14 +13,17 @@ use Rattle.authn_core.proofs.Facts.{IsGiven}
 use Rattle.authn_core.specs.State.{Event}
 use Rattle.authn_core.specs.Turn.{Start, CoreState, Work, working, waiting}
 use Rattle.hid_assemble.specs.Table.{Open}
-use Rattle.hid_assemble.specs.Assembly.{given_after, is_overdue, message_after, open_after}
+use Rattle.hid_assemble.specs.Assembly.{Message, accepted, bytes_of, given_after, is_overdue, message_after, open_after}
+use Rattle.hid_assemble.specs.Verdicts.{ruling_verdict, verdict}
+use Rattle.hid_assemble.specs.declared.verdict.Verdict.{Verdict}
+use Rattle.token_session.specs.Effects.{verdict_event, verdict_packets}
 use Rattle.hid_assemble.specs.Table.{LAST_CHANNEL, ruling_of}
 use Rattle.hid_packet.specs.Packet.{fields}
 use Rattle.token_session.specs.Inputs.{Judged, asks_channel, end, given, is_own, is_packet}
 use Rattle.token_session.specs.Messages.{Begun, as_open, finished, last_at, message, open_at}
 use Rattle.token_session.specs.History.{admits, core, cut_packets, event, judge, judged, last_keepalive, packet_event, sent_at, service_packets, table_packets, time_packets}
 use Rattle.token_session.specs.Law.{event_at, named, is_cut}
-use Rattle.token_session.specs.Machine.{State, Turn, event_after, happens, machine, event_keeps_alive, overdue_packets, ruling_packets, time_passed, served, start_state, turn}
+use Rattle.token_session.specs.Machine.{State, Turn, happens, machine, event_keeps_alive, overdue_packets, time_passed, served, start_state, turn}
 use Rattle.token_session.specs.Events.{reply_in, event_core, keepalive_due, keepalive_packets}
 use Rattle.token_session.specs.Replies.{ping_packets}
 use Rattle.token_session.specs.declared.input.Input.{Input}
@@ -155,7 +158,7 @@ other_next t b other (Some c) h = refl
 
 served_named : (start : Start) (t : ℕ) (h : List Judged) (i : Input) → Good start h → end start h ≤ t
     → served (late_state start h t) (time_packets start h (last_keepalive start h) t) i ≡ goal_turn start (judged_at start t h i) h
-unfolding event finished table_packets
+unfolding event finished table_packets accepted verdict
 served_named start t h (Packet x) good le =
     let g = given h in
     let o = open_at h t in
@@ -167,10 +170,10 @@ served_named start t h (Packet x) good le =
     let current : open_after (option_map as_open o) t (fields p) row ≡ option_map as_open (open_at (judged_at start t h (Packet x) ∷ h) t) =
     sym (ap (option_map as_open) (open_next_is h (judged_at start t h (Packet x)) start good.lawful le) ∙ s.current) in
     let message : message_after (option_map as_open o) (fields p) row ≡ finished o (admits g o w p) (Packet x) = sym s.message in
-    let packets : (ruling_packets g (fields p) row ++ ping_packets (message_after (option_map as_open o) (fields p) row)) ≡ (table_packets g o w (Packet x) ++ ping_packets (finished o (admits g o w p) (Packet x))) =
-    ap (λ m. ruling_packets g (fields p) row ++ ping_packets m) message
-    ∙ ap (λ v. v ++ ping_packets (finished o (admits g o w p) (Packet x))) (sym (table_same g o w x)) in
-    let ev : event_after w (fields p) (message_after (option_map as_open o) (fields p) row) row ≡ packet_event w (finished o (admits g o w p) (Packet x)) p =
+    let V : Option Message → Verdict = λ m. ruling_verdict g w (fields p) m row in
+    let packets : verdict_packets (V (message_after (option_map as_open o) (fields p) row)) (bytes_of (message_after (option_map as_open o) (fields p) row)) ≡ table_packets g o w (Packet x) ++ ping_packets (finished o (admits g o w p) (Packet x)) =
+    sym (table_sends g o w x) ∙ ap (λ m. table_packets g o w (Packet x) ++ ping_packets m) message in
+    let ev : verdict_event (V (message_after (option_map as_open o) (fields p) row)) (bytes_of (message_after (option_map as_open o) (fields p) row)) ≡ packet_event w (finished o (admits g o w p) (Packet x)) p =
     sym s.event ∙ ap (λ m. packet_event w m p) message in
     happens_same t (time_keepalive (open_at h (end start h)) o (waiting (core start h)) (last_keepalive start h) t) _ _ _ _ (core start h) (time_packets start h (last_keepalive start h) t) _ _ _ _ channels current packets ev
     ∙ named_turn start (judged_at start t h (Packet x)) h

@@ -8,7 +8,6 @@ pub mod Follows
 pub mod Runs
 pub mod Bounds
 pub mod Few
-pub mod Effects
 pub mod Passing
 pub mod Serving
 pub mod Turning

@@ -5,7 +5,8 @@ use Rattle.hid_packet.specs.Packet.{Fields, fields}
 use Rattle.hid_assemble.specs.declared.table.Row.TheVariants.{CancelsNothing, NoSuchChannel, BusyElsewhere, BusyHere}
 use Rattle.hid_assemble.specs.declared.table.Continuation.TheVariants.{Stray}
 use Rattle.hid_assemble.specs.Table.{Open, Ruling, Begins, Continues, ruling_of, is_noise}
-use Rattle.hid_assemble.specs.Assembly.{Assembly, is_overdue, still_open, held_bytes, open_after, message_after}
+use Rattle.hid_assemble.specs.Assembly.{Assembly, accepted, bytes_of, given_after, is_overdue, still_open, held_bytes, open_after, message_after}
+use Rattle.hid_assemble.specs.Verdicts.{ruling_verdict, verdict}
 use Rattle.cred_table.specs.Waiting.{pending_count}
 use Rattle.authn_core.specs.State.{Event, PresenceIs, KeyIs, SignatureIs, Ignored, Turned}
 use Rattle.authn_core.specs.Turn.{Start, CoreState, working, waiting, core_answer, turn as turn_of}
@@ -14,9 +15,9 @@ use Rattle.token_session.specs.declared.input.Input.{Input}
 use Rattle.token_session.specs.declared.input.Input.TheVariants.{Packet, Tick, Presence, Key, Signature}
 use Rattle.token_session.specs.declared.input.Timed.{Timed}
 use Rattle.token_session.specs.Replies.{asker, status_of}
-use Rattle.token_session.specs.Effects.{request_in}
+use Rattle.token_session.specs.Effects.{request_in, verdict_event, verdict_packets}
 use Rattle.token_session.specs.Events.{keepalive_due}
-use Rattle.token_session.specs.Machine.{State, Turn, answer_keeps_alive, turn, time_passed, served, served_by, happens, event_after}
+use Rattle.token_session.specs.Machine.{State, Turn, answer_keeps_alive, turn, time_passed, served, happens}
 use Rattle.token_session.specs.Inputs.{Judged, end, given}
 use Rattle.token_session.specs.Messages.{open_at, as_open}
 use Rattle.token_session.specs.History.{core, judge, judged, last_keepalive, sent, sent_at, time_packets}
@@ -32,8 +33,15 @@ pub record Leaves (t : Turn) (u : Turn) : Type 0 where
   pub state : t.state ≡ u.state
   pub request : request_in t.event ≡ request_in u.event
 
-row_leaves : (s : State) (f : Fields) (early : List (List ℕ)) (r : Ruling) → is_noise r ≡ true → Leaves (served_by s f early r) (served s early Tick)
-unfolding open_after message_after event_after
+-- what a packet with these fields leaves under a ruling
+abbrev ruled : State → Fields → List (List ℕ) → Ruling → Turn
+ruled s f early r =
+    let m = message_after s.current f r in
+    let v = ruling_verdict s.given (working s.core) f m r in
+    happens s.now (given_after s.given r) (open_after s.current s.now f r) s.core s.keepalive_at early (verdict_packets v (bytes_of m)) (verdict_event v (bytes_of m))
+
+row_leaves : (s : State) (f : Fields) (early : List (List ℕ)) (r : Ruling) → is_noise r ≡ true → Leaves (ruled s f early r) (served s early Tick)
+unfolding open_after message_after ruling_verdict
 row_leaves s f early (Begins CancelsNothing) h = record { state = refl; request = refl }
 row_leaves s f early (Begins NoSuchChannel) h = record { state = refl; request = refl }
 row_leaves s f early (Begins BusyElsewhere) h = record { state = refl; request = refl }
@@ -68,6 +76,7 @@ event_leaves s early e ignored unread = record {
 }
 
 served_leaves : (s : State) (early : List (List ℕ)) (i : Input) → is_noise_to s i ≡ true → Leaves (served s early i) (served s early Tick)
+unfolding accepted verdict
 served_leaves s early (Packet p) h = row_leaves s (fields p.0) early (ruling_of s.given s.current (working s.core) (fields p.0)) h
 served_leaves s early (Presence reply) h =
     event_leaves s early (PresenceIs reply) (presence_ignored (s.core).setup (s.core).state s.now reply (not-true _ h)) refl

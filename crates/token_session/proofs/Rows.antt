@@ -8,7 +8,8 @@ use Rattle.authn_core.specs.Turn.{Start}
 use Rattle.authn_core.specs.Turn as core_turn
 use Rattle.ctap_message.specs.Answers.{assertion_answer, info_answer}
 use Rattle.ctap_message.specs.Requests.{read_of}
-use Rattle.hid_assemble.specs.Assembly.{Message, is_overdue, message_after, open_after}
+use Rattle.hid_assemble.specs.Assembly.{Message, accepted, is_overdue, message_after, open_after}
+use Rattle.hid_assemble.specs.Verdicts.{ruling_verdict, verdict}
 use Rattle.hid_assemble.specs.Table.{continuation_row, initialization_row, ruling_of}
 use Rattle.hid_packet.specs.Message.{continuation_packet, continuation_packets, initialization_packet, padded, written}
 use Rattle.hid_packet.specs.Packet.{channel, command, continuation_data, initialization_data, is_initialization, message_length, sequence}
@@ -17,7 +18,7 @@ use Rattle.token_session.specs.Inputs.{asks_channel, given, is_own, own}
 use Rattle.token_session.specs.Messages.{finished, finished_at, finished_long, goes_on, is_last, is_long, is_next, is_open, open_among, open_at, packets_of}
 use Rattle.token_session.specs.History.{admits, core, event, held, judge, judged, last_keepalive, packet_event, sent, sent_at, service_packets, table_packets, time_packets}
 use Rattle.token_session.specs.Law.{onto, run_sent}
-use Rattle.token_session.specs.Machine.{State, answer_keeps_alive, event_after, ruling_packets, machine, time_passed, start_state, turn}
+use Rattle.token_session.specs.Machine.{State, answer_keeps_alive, machine, time_passed, start_state, turn}
 use Rattle.token_session.specs.Events.{keepalive_due}
 use Rattle.token_session.specs.Replies.{answer_packets, greeting, row_packets}
 use Rattle.token_session.specs.declared.input.Input.TheVariants.{Packet, Signature, Tick}
@@ -44,7 +45,7 @@ abbrev at_zero : Start
 at_zero = record { aaguid = replicate 16 0; moment = 0; room = 64; rows = [] }
 
 sent_by : List Timed → List (List ℕ)
-unfolding channel is_initialization command message_length initialization_data sequence continuation_data padded initialization_packet continuation_packet continuation_packets written read_of core_turn.turn initialization_row continuation_row ruling_of greeting row_packets ruling_packets table_packets answer_packets answer_keeps_alive is_overdue keepalive_due open_after message_after event_after time_passed turn start_state machine judged sent held asks_channel given is_own own is_next goes_on is_long is_open open_among open_at is_last finished_long finished packet_event event core admits judge last_keepalive time_packets service_packets sent_at
+unfolding channel is_initialization command message_length initialization_data sequence continuation_data padded initialization_packet continuation_packet continuation_packets written read_of core_turn.turn initialization_row continuation_row ruling_of greeting row_packets table_packets answer_packets answer_keeps_alive is_overdue keepalive_due open_after message_after accepted ruling_verdict verdict time_passed turn start_state machine judged sent held asks_channel given is_own own is_next goes_on is_long is_open open_among open_at is_last finished_long finished packet_event event core admits judge last_keepalive time_packets service_packets sent_at
 sent_by xs = sent at_zero (judged at_zero (reverse xs))
 
 -- the first lines of the plainest log
@@ -185,7 +186,7 @@ waiting : State
 waiting = record { now = 0; given = 2; current = None; core = record { setup = record { aaguid = replicate 16 0; began = 0; room = 64 }; state = record { rows = []; pending = None; work = Some (record { cid = 1; task = Selects }) } }; keepalive_at = 0 }
 
 runs : List Timed → List (ℕ × List ℕ)
-unfolding channel is_initialization command message_length initialization_data sequence continuation_data padded initialization_packet continuation_packet continuation_packets written read_of core_turn.turn initialization_row continuation_row ruling_of greeting row_packets ruling_packets table_packets answer_packets answer_keeps_alive is_overdue keepalive_due open_after message_after event_after time_passed turn start_state machine judged sent held asks_channel given is_own own is_next goes_on is_long is_open open_among open_at is_last finished_long finished packet_event event core admits judge last_keepalive time_packets service_packets sent_at waiting
+unfolding channel is_initialization command message_length initialization_data sequence continuation_data padded initialization_packet continuation_packet continuation_packets written read_of core_turn.turn initialization_row continuation_row ruling_of greeting row_packets table_packets answer_packets answer_keeps_alive is_overdue keepalive_due open_after message_after accepted ruling_verdict verdict time_passed turn start_state machine judged sent held asks_channel given is_own own is_next goes_on is_long is_open open_among open_at is_last finished_long finished packet_event event core admits judge last_keepalive time_packets service_packets sent_at waiting
 runs xs = run_sent 0 waiting xs
 
 -- busy, a new channel, KEEPALIVE at 100 and 200 but not at 150, an idle CANCEL and a real one
@@ -226,7 +227,7 @@ full : State
 full = record { now = 0; given = 4294967294; current = None; core = record { setup = record { aaguid = replicate 16 0; began = 0; room = 64 }; state = record { rows = []; pending = None; work = None } }; keepalive_at = 0 }
 
 runs_full : List Timed → List (ℕ × List ℕ)
-unfolding channel is_initialization command message_length initialization_data sequence continuation_data padded initialization_packet continuation_packet continuation_packets written read_of core_turn.turn initialization_row continuation_row ruling_of greeting row_packets ruling_packets table_packets answer_packets answer_keeps_alive is_overdue keepalive_due open_after message_after event_after time_passed turn start_state machine judged sent held asks_channel given is_own own is_next goes_on is_long is_open open_among open_at is_last finished_long finished packet_event event core admits judge last_keepalive time_packets service_packets sent_at full
+unfolding channel is_initialization command message_length initialization_data sequence continuation_data padded initialization_packet continuation_packet continuation_packets written read_of core_turn.turn initialization_row continuation_row ruling_of greeting row_packets table_packets answer_packets answer_keeps_alive is_overdue keepalive_due open_after message_after accepted ruling_verdict verdict time_passed turn start_state machine judged sent held asks_channel given is_own own is_next goes_on is_long is_open open_among open_at is_last finished_long finished packet_event event core admits judge last_keepalive time_packets service_packets sent_at full
 runs_full xs = run_sent 0 full xs
 
 -- INIT asks for one more, and then for one in vain with a length of 7; CANCEL there isn't answered, a command that isn't served is refused for its channel
@@ -244,7 +245,7 @@ pending = record { now = 0; given = 2; current = None; core = record { setup = r
 
 -- what the second of two inputs sends
 second_sends : Timed → Timed → List (List ℕ)
-unfolding channel is_initialization command message_length initialization_data sequence continuation_data read_of core_turn.turn initialization_row continuation_row ruling_of greeting row_packets ruling_packets table_packets answer_packets answer_keeps_alive is_overdue keepalive_due open_after message_after event_after time_passed turn start_state machine judged sent held asks_channel given is_own own is_next goes_on is_long is_open open_among open_at is_last finished_long finished packet_event event core admits judge last_keepalive time_packets service_packets sent_at pending credential
+unfolding channel is_initialization command message_length initialization_data sequence continuation_data read_of core_turn.turn initialization_row continuation_row ruling_of greeting row_packets table_packets answer_packets answer_keeps_alive is_overdue keepalive_due open_after message_after accepted ruling_verdict verdict time_passed turn start_state machine judged sent held asks_channel given is_own own is_next goes_on is_long is_open open_among open_at is_last finished_long finished packet_event event core admits judge last_keepalive time_packets service_packets sent_at pending credential
 second_sends x y = (turn (turn pending x).state y).packets
 
 -- The next assertion is signed and answered on the channel that asked: the hash of the RP id, UP and the counter 5.
@@ -255,11 +256,11 @@ signature_answered = refl
 
 -- A PING of three packets at 0, 300 and 700, with another host's PING, a CANCEL of its own channel and a tick between.
 finishes_at : List Timed → List Timed → Timed → Option Message
-unfolding channel is_initialization command message_length initialization_data sequence continuation_data padded initialization_packet continuation_packet continuation_packets written read_of core_turn.turn initialization_row continuation_row ruling_of greeting row_packets ruling_packets table_packets answer_packets answer_keeps_alive is_overdue keepalive_due open_after message_after event_after time_passed turn start_state machine judged sent held asks_channel given is_own own is_next goes_on is_long is_open open_among open_at is_last finished_long finished packet_event event core admits judge last_keepalive time_packets service_packets sent_at
+unfolding channel is_initialization command message_length initialization_data sequence continuation_data padded initialization_packet continuation_packet continuation_packets written read_of core_turn.turn initialization_row continuation_row ruling_of greeting row_packets table_packets answer_packets answer_keeps_alive is_overdue keepalive_due open_after message_after accepted ruling_verdict verdict time_passed turn start_state machine judged sent held asks_channel given is_own own is_next goes_on is_long is_open open_among open_at is_last finished_long finished packet_event event core admits judge last_keepalive time_packets service_packets sent_at
 finishes_at h between last = finished_at (judge at_zero last (judged at_zero (onto between h))) (judged at_zero (onto between h))
 
 own_between : List Timed → List Timed → List (List ℕ)
-unfolding channel is_initialization command message_length initialization_data sequence continuation_data padded initialization_packet continuation_packet continuation_packets written read_of core_turn.turn initialization_row continuation_row ruling_of greeting row_packets ruling_packets table_packets answer_packets answer_keeps_alive is_overdue keepalive_due open_after message_after event_after time_passed turn start_state machine judged sent held asks_channel given is_own own is_next goes_on is_long is_open open_among open_at is_last finished_long finished packet_event event core admits judge last_keepalive time_packets service_packets sent_at
+unfolding channel is_initialization command message_length initialization_data sequence continuation_data padded initialization_packet continuation_packet continuation_packets written read_of core_turn.turn initialization_row continuation_row ruling_of greeting row_packets table_packets answer_packets answer_keeps_alive is_overdue keepalive_due open_after message_after accepted ruling_verdict verdict time_passed turn start_state machine judged sent held asks_channel given is_own own is_next goes_on is_long is_open open_among open_at is_last finished_long finished packet_event event core admits judge last_keepalive time_packets service_packets sent_at
 own_between h between = packets_of (own 1 (arriving at_zero h between))
 
 abbrev first_of_three : List Timed
@@ -284,7 +285,7 @@ too_late = refl
 -- so the message arrives, by the law's own premises
 arrives : Arrives at_zero (came 0 init_line ∷ came 0 init_line ∷ []) (came 0 (one (129 ∷ 0 ∷ 126 ∷ replicate 57 1))) between_three (judge at_zero (came 700 (one (1 ∷ replicate 10 3))) (judged at_zero (onto between_three first_of_three))) 1 1
     (replicate 57 1 ++ replicate 59 2 ++ replicate 10 3)
-unfolding channel is_initialization command message_length initialization_data sequence continuation_data padded initialization_packet continuation_packet continuation_packets written read_of core_turn.turn initialization_row continuation_row ruling_of greeting row_packets ruling_packets table_packets answer_packets answer_keeps_alive is_overdue keepalive_due open_after message_after event_after time_passed turn start_state machine judged sent held asks_channel given is_own own is_next goes_on is_long is_open open_among open_at is_last finished_long finished packet_event event core admits judge last_keepalive time_packets service_packets sent_at
+unfolding channel is_initialization command message_length initialization_data sequence continuation_data padded initialization_packet continuation_packet continuation_packets written read_of core_turn.turn initialization_row continuation_row ruling_of greeting row_packets table_packets answer_packets answer_keeps_alive is_overdue keepalive_due open_after message_after accepted ruling_verdict verdict time_passed turn start_state machine judged sent held asks_channel given is_own own is_next goes_on is_long is_open open_among open_at is_last finished_long finished packet_event event core admits judge last_keepalive time_packets service_packets sent_at
 arrives = record {
   low = omega arith;
   high = omega arith;

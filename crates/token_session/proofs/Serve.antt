@@ -1,5 +1,5 @@
 -- The table's rows of an initialization packet, over plain values: what the machine makes of it is what the history says.
-use Rattle.std.proofs.Common.{◌≡◌, ℕ, ◌+◌, ◌≤◌, ◌<◌, Bool, true, false, cond, ◌&&◌, ◌||◌, not, ◌==◌, List, [], append-nil, Option, Some, None, option_map, is_none, ◌≢◌, refl, sym, ◌∙◌, ap, subst, arith, nat_lt, nat_le, min, ◌⊎◌, inl, inr}
+use Rattle.std.proofs.Common.{◌≡◌, ℕ, ◌+◌, ◌≤◌, ◌<◌, Bool, true, false, cond, ◌&&◌, ◌||◌, not, ◌==◌, List, [], append-nil, Option, Some, None, option_map, is_none, ◌≢◌, refl, sym, ◌∙◌, ap, subst, arith, nat_lt, nat_le, min, take, ◌⊎◌, inl, inr}
 use Rattle.std.proofs.lemmas.Bool.{and_parts, and_from, false_from_ne_true, or_parts, and_left}
 use Rattle.std.proofs.lemmas.Bool.Decides.{nat_tests}
 use Rattle.token_session.proofs.Opens.{next, then_next, cond_at}
@@ -8,7 +8,7 @@ use Rattle.authn_core.specs.State.{Cancel, Drop}
 use Rattle.hid_assemble.specs.Table.{Begins, LAST_CHANNEL, Ruling, initialization_row, is_elsewhere, is_given, is_on}
 use Rattle.hid_assemble.specs.declared.table.Row.{Row}
 use Rattle.hid_assemble.proofs.ByCommand.{begin_row, by_command, init_row}
-use Rattle.hid_assemble.specs.Assembly.{Message, given_after, message_after, open_after}
+use Rattle.hid_assemble.specs.Assembly.{Message, bytes_of, given_after, message_after, open_after}
 use Rattle.hid_assemble.specs.declared.table.Row.TheVariants.{BadLength, BrokenOff, BusyElsewhere, BusyHere, CancelsNothing, CancelsWork, InitAgain, InitFull, InitLength, InitNew, Long, NoSuchChannel, NoSuchCommand, Short}
 use Rattle.hid_packet.specs.Commands.{BROADCAST, CANCEL, CBOR, INIT, PING}
 use Rattle.hid_packet.specs.Packet.{Fields, channel, command, continuation, continuation_data, initialization, initialization_data, is_initialization, message_length, sequence}
@@ -16,7 +16,9 @@ use Rattle.token_session.specs.Inputs.{Judged, asks_channel, is_own}
 use Rattle.token_session.specs.Messages.{Begun, finished, finished_long, is_last, is_long, is_next}
 use Rattle.token_session.specs.History.{admits, packet_event}
 use Rattle.token_session.specs.Messages.{as_open}
-use Rattle.token_session.specs.Machine.{event_after}
+use Rattle.hid_assemble.specs.Verdicts.{ruling_verdict}
+use Rattle.hid_assemble.specs.declared.verdict.Verdict.TheVariants.{Greet, GreetAndDrop}
+use Rattle.token_session.specs.Effects.{verdict_event}
 use Rattle.token_session.specs.Replies.{request_event}
 use Rattle.token_session.specs.declared.input.Input.{Input}
 use Rattle.token_session.specs.declared.input.Input.TheVariants.{Packet}
@@ -46,7 +48,7 @@ pub record Serves (g : ℕ) (o : Option Begun) (w : Option ℕ) (t : ℕ) (p : L
   pub channels : new_given g p ≡ given_after g r
   pub current : option_map as_open opens ≡ open_after (option_map as_open o) t f r
   pub message : ends ≡ message_after (option_map as_open o) f r
-  pub event : packet_event w (message_after (option_map as_open o) f r) p ≡ event_after w f (message_after (option_map as_open o) f r) r
+  pub event : packet_event w (message_after (option_map as_open o) f r) p ≡ verdict_event (ruling_verdict g w f (message_after (option_map as_open o) f r) r) (bytes_of (message_after (option_map as_open o) f r))
 
 -- Tests as facts.
 pub is_eq : (a b : ℕ) → (a == b) ≡ true → a ≡ b
@@ -114,7 +116,7 @@ says_admitted g o w p h =
 -- Nothing is open, and the row neither begins nor ends a message.
 none_row : (g : ℕ) (w : Option ℕ) (t : ℕ) (x : Packet64) (f : Fields) (r : Ruling)
     → new_given g x.0 ≡ given_after g r → (admits g None w x.0 && is_long x.0) ≡ false → (admits g None w x.0 && nat_le (message_length x.0) 57) ≡ false
-    → open_after None t f r ≡ None → message_after None f r ≡ None → packet_event w None x.0 ≡ event_after w f None r
+    → open_after None t f r ≡ None → message_after None f r ≡ None → packet_event w None x.0 ≡ verdict_event (ruling_verdict g w f None r) []
     → Serves g None w t x.0 f (new_open g None w t x.0 (Packet x)) (finished None (admits g None w x.0) (Packet x)) r
 unfolding finished finished_long
 none_row g w t x f r ch lg sh op ms ev = record {
@@ -127,7 +129,7 @@ none_row g w t x f r ch lg sh op ms ev = record {
 -- The row where a start is not admitted.
 pub refused_row : (g : ℕ) (w : Option ℕ) (t : ℕ) (x : Packet64) (f : Fields) (r : Ruling)
     → (Admitted g None w x.0 → ⊥) → new_given g x.0 ≡ given_after g r
-    → open_after None t f r ≡ None → message_after None f r ≡ None → packet_event w None x.0 ≡ event_after w f None r
+    → open_after None t f r ≡ None → message_after None f r ≡ None → packet_event w None x.0 ≡ verdict_event (ruling_verdict g w f None r) []
     → Serves g None w t x.0 f (new_open g None w t x.0 (Packet x)) (finished None (admits g None w x.0) (Packet x)) r
 refused_row g w t x f r never ch op ms ev =
     let adm : admits g None w x.0 ≡ false = false_from_ne_true _ (λ y. never (says_admitted g None w x.0 y)) in
@@ -191,6 +193,11 @@ drop_event : (w : Option ℕ) (m : Option Message) (p : List ℕ) → is_initial
     → packet_event w m p ≡ cond (is_on w (channel p)) (Some Drop) (request_event m)
 unfolding packet_event
 drop_event w m p a b c d = rw (a, b, c, d) refl
+
+-- the event of the answer to an INIT on a given channel
+drops : (b : Bool) (on cid : ℕ) (nonce : List ℕ) → cond b (Some Drop) None ≡ verdict_event (cond b (GreetAndDrop on cid nonce) (Greet on cid nonce)) []
+drops true on cid nonce = refl
+drops false on cid nonce = refl
 
 asked_channel : (g : ℕ) (p : List ℕ) → is_initialization p ≡ true → (command p == INIT) ≡ true → (message_length p == 8) ≡ true → (channel p == BROADCAST) ≡ true → new_given g p ≡ min (g + 1) LAST_CHANNEL
 unfolding asks_channel
@@ -262,7 +269,7 @@ is_long_now p a b = let x : nat_lt 57 (message_length p) ≡ true = grind (arith
 bad_row : (g : ℕ) (w : Option ℕ) (t : ℕ) (x : Packet64) → new_given g x.0 ≡ g → packet_event w None x.0 ≡ None
     → (7609 < message_length x.0) ⊎ ((command x.0 ≡ 16) × (message_length x.0 ≡ 0))
     → Serves g None w t x.0 (starts x.0) (new_open g None w t x.0 (Packet x)) (finished None (admits g None w x.0) (Packet x)) (Begins BadLength)
-unfolding open_after message_after event_after
+unfolding open_after message_after ruling_verdict
 bad_row g w t x ch ev bad =
     let p = x.0 in
     none_row g w t x (starts x.0) (Begins BadLength) ch
@@ -275,7 +282,7 @@ bad_row g w t x ch ev bad =
 short_row : (g : ℕ) (w : Option ℕ) (t : ℕ) (x : Packet64) → new_given g x.0 ≡ g → ((m : Option Message) → packet_event w m x.0 ≡ request_event m)
     → admits g None w x.0 ≡ true → nat_le (message_length x.0) 57 ≡ true
     → Serves g None w t x.0 (starts x.0) (new_open g None w t x.0 (Packet x)) (finished None (admits g None w x.0) (Packet x)) (Begins Short)
-unfolding open_after message_after event_after finished finished_long
+unfolding open_after message_after ruling_verdict finished finished_long
 short_row g w t x ch ev adm sh =
     let p = x.0 in
     let few = is_le (message_length p) 57 sh in
@@ -290,7 +297,7 @@ short_row g w t x ch ev adm sh =
 long_row : (g : ℕ) (w : Option ℕ) (t : ℕ) (x : Packet64) → new_given g x.0 ≡ g → ((m : Option Message) → packet_event w m x.0 ≡ request_event m)
     → admits g None w x.0 ≡ true → nat_le (message_length x.0) 57 ≡ false → message_length x.0 ≤ 7609
     → Serves g None w t x.0 (starts x.0) (new_open g None w t x.0 (Packet x)) (finished None (admits g None w x.0) (Packet x)) (Begins Long)
-unfolding open_after message_after event_after finished finished_long
+unfolding open_after message_after ruling_verdict finished finished_long
 long_row g w t x ch ev adm sh most =
     let p = x.0 in
     let lg : is_long p ≡ true = is_long_now p (is_above (message_length p) 57 sh) most in
@@ -304,7 +311,7 @@ long_row g w t x ch ev adm sh most =
 -- The rows of a start where nothing is open.
 pub start_none : (g : ℕ) (w : Option ℕ) (t : ℕ) (x : Packet64) → g ≤ LAST_CHANNEL → IsGiven g w → is_initialization x.0 ≡ true
     → Serves g None w t x.0 (starts x.0) (new_open g None w t x.0 (Packet x)) (finished None (admits g None w x.0) (Packet x)) (Begins (initialization_row g None w (channel x.0) (command x.0) (message_length x.0)))
-unfolding init_row begin_row open_after message_after event_after
+unfolding init_row begin_row open_after message_after ruling_verdict
 start_none g w t x few wg st =
     let p = x.0 in
     let c = channel p in
@@ -338,7 +345,7 @@ start_none g w t x few wg st =
     (λ f. let free = not_eq g LAST_CHANNEL f in
     refused_row g w t x (starts x.0) (Begins InitNew) never (asked_channel g p st n eight b ∙ min_free g few free) refl refl ev))
     (λ b. let narrow = not_eq c BROADCAST b in
-    refused_row g w t x (starts x.0) (Begins InitAgain) never (no_channel g p (λ _ _ e. narrow e)) refl refl (drop_event w None p st k n eight))))
+    refused_row g w t x (starts x.0) (Begins InitAgain) never (no_channel g p (λ _ _ e. narrow e)) refl refl (drop_event w None p st k n eight ∙ drops (is_on w c) c c (take 8 (initialization_data p))))))
     (λ n. let not_init : command p ≡ INIT → ⊥ = not_eq (command p) INIT n in
     let ch = no_channel g p (λ i _ _. not_init i) in
     let ev : (m : Option Message) → packet_event w m p ≡ request_event m = λ m. no_event w m p not_cancel (λ i. absurd (not_init i)) in
@@ -361,7 +368,7 @@ now_came t x = record { at = t; input = Packet x; admitted = false }
 pub open_row : (g : ℕ) (b : Begun) (t : ℕ) (x : Packet64) (f : Fields) (r : Ruling)
     → new_given g x.0 ≡ given_after g r → is_last b x.0 ≡ false
     → option_map as_open (next (now_came t x) b) ≡ open_after (Some (as_open b)) t f r
-    → message_after (Some (as_open b)) f r ≡ None → packet_event None None x.0 ≡ event_after None f None r
+    → message_after (Some (as_open b)) f r ≡ None → packet_event None None x.0 ≡ verdict_event (ruling_verdict g None f None r) []
     → Serves g (Some b) None t x.0 f (new_open g (Some b) None t x.0 (Packet x)) (finished (Some b) (admits g (Some b) None x.0) (Packet x)) r
 unfolding finished finished_long
 open_row g b t x f r ch last op ms ev =
@@ -414,7 +421,7 @@ elsewhere false false h = sym h
 pub start_open : (g : ℕ) (b : Begun) (t : ℕ) (x : Packet64) → g ≤ LAST_CHANNEL → 1 ≤ channel b.packet → channel b.packet ≤ g → is_initialization x.0 ≡ true
     → Serves g (Some b) None t x.0 (starts x.0) (new_open g (Some b) None t x.0 (Packet x)) (finished (Some b) (admits g (Some b) None x.0) (Packet x))
     (Begins (initialization_row g (Some (channel b.packet)) None (channel x.0) (command x.0) (message_length x.0)))
-unfolding init_row begin_row open_after message_after event_after
+unfolding init_row begin_row open_after message_after ruling_verdict
 start_open g b t x few low high st =
     let p = x.0 in
     let c = channel p in

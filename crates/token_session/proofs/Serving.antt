@@ -1,10 +1,7 @@
--- A packet that is served by its verdict is the composed turn.
+-- An input that is served by what the transport makes of it is the composed turn.
 use Rattle.std.proofs.Common.{◌≡◌, ℕ, ◌+◌, ◌≤◌, List, ◌++◌, length, max, Option, append_assoc, cond, refl, subst, sym, ◌∙◌, ap, arith, length-append}
-use Rattle.hid_packet.specs.declared.packet.Packet.{Packet as Packet64}
-use Rattle.hid_packet.specs.Packet.{fields}
 use Rattle.hid_assemble.specs.declared.verdict.Verdict.{Verdict}
-use Rattle.hid_assemble.specs.Table.{ruling_of}
-use Rattle.hid_assemble.specs.Assembly.{Assembly, given_after, open_after, accepted}
+use Rattle.hid_assemble.specs.Assembly.{Assembly, accepted}
 use Rattle.hid_assemble.specs.Verdicts.{verdict}
 use Rattle.authn_core.specs.State.{Event}
 use Rattle.authn_core.specs.Turn.{CoreState, working}
@@ -13,28 +10,16 @@ use Rattle.token_session.specs.declared.input.Input.TheVariants.{Packet, Tick, P
 use Rattle.token_session.specs.declared.input.Timed.{Timed}
 use Rattle.token_session.specs.Machine.{State, Turn, event_keeps_alive, time_passed, turn, served, happens}
 use Rattle.token_session.specs.Events.{event_core, event_packets}
-use Rattle.token_session.specs.Effects.{assembly_after, input_event, input_verdict, request_in, verdict_packets, verdict_event}
+use Rattle.token_session.specs.Effects.{assembly_after, input_event, input_verdict, request_in, verdict_packets}
 use Rattle.token_session.proofs.Few.{served_few}
-use Rattle.token_session.proofs.Effects.{effects}
 use Rattle.token_session.proofs.Passing.{whole}
 
--- by the verdict and the finished bytes
-pub packet_turn : (n b : ℕ) (a d : Assembly) (k : CoreState) (v : State) (x : Packet64) (early : List (List ℕ)) (w : Option ℕ) (V : Verdict) (B : List ℕ)
-    → whole n a k b ≡ v → w ≡ working k → d ≡ accepted a n w (fields x.0) → V ≡ verdict a w (fields x.0) → B ≡ d.finished
-    → happens n d.given d.current k b early (verdict_packets V B) (verdict_event V B) ≡ served v early (Packet x)
-unfolding accepted verdict
-packet_turn n b a d k v x early w V B e ew ed eV eB =
-    let f = fields x.0 in
-    let row = ruling_of a.given a.current (working k) f in
-    let e' = effects a.current a.given (working k) f row in
-    rw (← e, eB, ed, eV, ew) (λ i. happens n (given_after a.given row) (open_after a.current n f row) k b early ((sym e'.sends) i) ((sym e'.does) i))
-
--- An input that is served by what the transport makes of it is the composed turn.
 module _ (n b : ℕ) (a d : Assembly) (k : CoreState) (v : State) (early : List (List ℕ)) (w : Option ℕ) (V : Verdict) (B : List ℕ) (E : Option Event)
     (e : whole n a k b ≡ v) (ew : w ≡ working k) (eB : B ≡ d.finished) where
   pub input_turn : (i : Input) → d ≡ assembly_after a n w i → V ≡ input_verdict a w i → E ≡ input_event i V B
       → happens n d.given d.current k b early (verdict_packets V B) E ≡ served v early i
-  input_turn (Packet x) ed eV eE = rw eE (packet_turn n b a d k v x early w V B e ew ed eV eB)
+  unfolding accepted verdict
+  input_turn (Packet x) ed eV eE = rw (← e, eE, eB, ed, eV, ew) refl
   input_turn Tick ed eV eE = rw (← e, eE, eV, ed) refl
   input_turn (Presence r) ed eV eE = rw (← e, eE, eV, ed) refl
   input_turn (Key r) ed eV eE = rw (← e, eE, eV, ed) refl

@@ -1,11 +1,11 @@
 pub mod Replies
 pub mod Events
+pub mod Effects
 pub mod Machine
 pub mod Inputs
 pub mod Messages
 pub mod History
 pub mod Law
-pub mod Effects
 pub mod Meters
 pub mod Carried
 pub mod Noise

@@ -1,18 +1,14 @@
 -- The composed turn: the transport and the authenticator together, as a state and what an input makes of it. It knows
 -- no history.
-use Rattle.std.specs.Prelude.{ℕ, ◌+◌, Bool, false, not, take, List, [], ◌∷◌, ◌++◌, max, Option, Some, None, if◌then◌else◌}
-use Rattle.hid_packet.specs.Commands.{BROADCAST}
-use Rattle.hid_packet.specs.Packet.{Fields, fields, channel_of, data_of}
-use Rattle.hid_assemble.specs.Table.{Begins, Continues, Open, Ruling, is_on, ruling_of}
-use Rattle.hid_assemble.specs.declared.table.Row.TheVariants.{CancelsWork, NoSuchChannel, InitLength, InitFull, InitNew, InitAgain, BusyElsewhere, BusyHere, BrokenOff, NoSuchCommand, BadLength}
-use Rattle.hid_assemble.specs.declared.table.Continuation.TheVariants.{WrongNumber}
-use Rattle.hid_assemble.specs.Assembly.{Message, is_overdue, given_after, open_after, message_after}
-use Rattle.authn_core.specs.State.{Answer, Event, Cancel, Drop, Waits}
+use Rattle.std.specs.Prelude.{ℕ, Bool, false, not, List, [], ◌∷◌, ◌++◌, max, Option, Some, None, if◌then◌else◌}
+use Rattle.hid_assemble.specs.Table.{Open, is_on}
+use Rattle.hid_assemble.specs.Assembly.{Assembly, is_overdue}
+use Rattle.authn_core.specs.State.{Answer, Event, Waits}
 use Rattle.authn_core.specs.Turn.{Start, CoreState, core_answer, working, first_state, waiting}
-use Rattle.token_session.specs.Replies.{error, greeting, asker, status_of, ping_packets, request_event}
-use Rattle.token_session.specs.Events.{reply_in, event_core, event_packets, keepalive_due, keepalive_packets}
+use Rattle.token_session.specs.Replies.{error, asker, status_of}
+use Rattle.token_session.specs.Effects.{assembly_after, input_event, input_verdict, verdict_packets}
+use Rattle.token_session.specs.Events.{event_core, event_packets, keepalive_due, keepalive_packets}
 use Rattle.token_session.specs.declared.input.Input.{Input}
-use Rattle.token_session.specs.declared.input.Input.TheVariants.{Packet}
 use Rattle.token_session.specs.declared.input.Timed.{Timed}
 
 -- The latest moment, the channels given out, the open message, the authenticator, and the moment of the last KEEPALIVE.
@@ -58,21 +54,6 @@ abbrev pub event_keeps_alive : CoreState → ℕ → Option Event → Bool
 event_keeps_alive k at None = false
 event_keeps_alive k at (Some e) = answer_keeps_alive (asker (waiting k) e) (status_of (waiting k)) (core_answer k at e)
 
--- The packets of a ruling, except for those of a finished message and of work.
-unfoldable pub ruling_packets : ℕ → Fields → Ruling → List (List ℕ)
-ruling_packets given f (Begins NoSuchChannel) = error (channel_of f) 0x0b
-ruling_packets given f (Begins InitLength) = error (channel_of f) 0x03
-ruling_packets given f (Begins InitFull) = error (channel_of f) 0x7f
-ruling_packets given f (Begins InitNew) = greeting BROADCAST (given + 1) (take 8 (data_of f))
-ruling_packets given f (Begins InitAgain) = greeting (channel_of f) (channel_of f) (take 8 (data_of f))
-ruling_packets given f (Begins BusyElsewhere) = error (channel_of f) 0x06
-ruling_packets given f (Begins BusyHere) = error (channel_of f) 0x06
-ruling_packets given f (Begins BrokenOff) = error (channel_of f) 0x04
-ruling_packets given f (Begins NoSuchCommand) = error (channel_of f) 0x01
-ruling_packets given f (Begins BadLength) = error (channel_of f) 0x03
-ruling_packets given f (Continues WrongNumber) = error (channel_of f) 0x04
-ruling_packets given f _ = []
-
 -- An event after what else a packet changed: the packets of time come first, then those of the row, then the event's.
 abbrev pub happens : ℕ → ℕ → Option Open → CoreState → ℕ → List (List ℕ) → List (List ℕ) → Option Event → Turn
 happens at given current core keepalive_at early packets e =
@@ -88,22 +69,14 @@ happens at given current core keepalive_at early packets e =
       event = e;
     }
 
--- The event of a row: a CANCEL of waiting work, an INIT that drops it, a finished request.
-unfoldable pub event_after : Option ℕ → Fields → Option Message → Ruling → Option Event
-event_after work f m (Begins CancelsWork) = Some Cancel
-event_after work f m (Begins InitAgain) = if is_on work (channel_of f) then Some Drop else None
-event_after work f m _ = request_event m
-
-abbrev pub served_by : State → Fields → List (List ℕ) → Ruling → Turn
-served_by s f early row =
-    happens s.now (given_after s.given row) (open_after s.current s.now f row) s.core s.keepalive_at
-    early (ruling_packets s.given f row ++ ping_packets (message_after s.current f row))
-    (event_after (working s.core) f (message_after s.current f row) row)
-
--- An input is served after the packets of time.
+-- An input is served by what the transport makes of it, after the packets of time.
 abbrev pub served : State → List (List ℕ) → Input → Turn
-served s early (Packet p) = served_by s (fields p.0) early (ruling_of s.given s.current (working s.core) (fields p.0))
-served s early other = happens s.now s.given s.current s.core s.keepalive_at early [] (reply_in other)
+served s early i =
+    let a : Assembly = record { given = s.given; current = s.current; finished = [] } in
+    let v = input_verdict a (working s.core) i in
+    let after = assembly_after a s.now (working s.core) i in
+    happens s.now after.given after.current s.core s.keepalive_at early
+    (verdict_packets v after.finished) (input_event i v after.finished)
 
 -- One input: its moment counts as the latest where it is earlier. First time passes, then the input is served.
 unfoldable pub turn : State → Timed → Turn
