@@ -26,38 +26,6 @@ pub const KEEPALIVE_PERIOD: u64 = 100;
 /// the capabilities CBOR and NMSG (CTAP 2.1, section 11.2.9.1.3).
 const DEVICE: [u8; 5] = [2, 1, 0, 0, 0x0c];
 
-/// Sends an ERROR.
-#[tactic(auto, using(hid_packet::proofs::Carrying::few_written))]
-pub(crate) fn put_error(outbox: &mut Outbox, cid: u32, code: ErrorCode)
-    requires { length outbox.old ≤ 1 }
-    ensures { outbox.new ≡ outbox.old ++ error cid (code_number code) }
-{
-    outbox.put_message(cid, ERROR, &[code.number()]);
-}
-
-/// Sends a KEEPALIVE.
-pub(crate) fn put_keepalive(outbox: &mut Outbox, cid: u32, status: KeepaliveStatus)
-    requires { length outbox.old + length (keepalive cid (status_number status)) ≤ OUTBOX_CAPACITY }
-    ensures { outbox.new ≡ outbox.old ++ keepalive cid (status_number status) }
-{
-    outbox.put_message(cid, KEEPALIVE, &[status.number()]);
-}
-
-/// Answers an INIT on the channel `on` with the channel that its host is to use.
-#[tactic(auto, using(hid_packet::proofs::Carrying::few_written), unfolding(crate::specs::Replies::greeting))]
-fn put_greeting(outbox: &mut Outbox, on: u32, channel: u32, nonce: &[u8; 8])
-    requires { length outbox.old ≤ 1 }
-    ensures { outbox.new ≡ outbox.old ++ greeting on channel nonce.now }
-{
-    let mut cid = [0; 4];
-    BigEndian::write_u32(&mut cid, channel);
-    let mut answer: ArrayVec<u8, 17> = ArrayVec::new();
-    let _ = answer.try_extend_from_slice(nonce);
-    let _ = answer.try_extend_from_slice(&cid);
-    let _ = answer.try_extend_from_slice(&DEVICE);
-    outbox.put_message(on, INIT, answer.as_slice());
-}
-
 /// Hands the transport an input, while this work waits. Returns its verdict on a packet; it lets every other input be.
 pub(crate) fn admit(
     assembler: &mut Assembler,
@@ -75,16 +43,22 @@ pub(crate) fn admit(
 }
 
 /// Sends what a verdict sends, except for the packets of its event. `message` is what the packet finished.
-#[tactic(auto, using(hid_packet::proofs::Carrying::few_written))]
+#[tactic(auto, using(hid_packet::proofs::Carrying::few_written), unfolding(crate::specs::Replies::greeting))]
 pub(crate) fn put_verdict(outbox: &mut Outbox, verdict: Verdict, message: &[u8])
     requires room { length outbox.old ≤ 1 }
     requires short { length message.now ≤ LONGEST_MESSAGE }
     ensures { outbox.new ≡ outbox.old ++ verdict_packets verdict message.now }
 {
     match verdict {
-        Verdict::Refuse { cid, code } => put_error(outbox, cid, code),
+        Verdict::Refuse { cid, code } => outbox.put_message(cid, ERROR, &[code.number()]),
         Verdict::Greet { on, channel, nonce } | Verdict::GreetAndDrop { on, channel, nonce } => {
-            put_greeting(outbox, on, channel, &nonce)
+            let mut cid = [0; 4];
+            BigEndian::write_u32(&mut cid, channel);
+            let mut answer: ArrayVec<u8, 17> = ArrayVec::new();
+            let _ = answer.try_extend_from_slice(&nonce);
+            let _ = answer.try_extend_from_slice(&cid);
+            let _ = answer.try_extend_from_slice(&DEVICE);
+            outbox.put_message(on, INIT, answer.as_slice());
         }
         Verdict::Finished { cid, cmd } if cmd == PING => outbox.put_message(cid, PING, message),
         Verdict::Ignored | Verdict::Kept | Verdict::CancelWork | Verdict::Finished { .. } => {}
@@ -141,7 +115,7 @@ pub(crate) fn send(outbox: &mut Outbox, event: &Event<'_>, work: Option<Work>, t
         Turn::Answer(answer) => outbox.put_message(cid, CBOR, answer.as_slice()),
         Turn::Waits(status) => {
             if !matches!(work, Some(waiting) if waiting.status == *status) {
-                put_keepalive(outbox, cid, *status);
+                outbox.put_message(cid, KEEPALIVE, &[status.number()]);
                 return true;
             }
         }

@@ -16,14 +16,13 @@ ghost use Rattle.token_session.specs.Noise.{is_noise_at, is_noise_after};
 ghost use Rattle.hid_packet.specs.declared.limit.TheConstants.{OUTBOX_CAPACITY};
 
 use crate::input::{Input, Meters};
-use crate::service::{
-    KEEPALIVE_PERIOD, admit, event_in, is_noise, put_error, put_keepalive, put_verdict, send,
-};
+use crate::service::{KEEPALIVE_PERIOD, admit, event_in, is_noise, put_verdict, send};
 use authn_core::{Config, Core, Need};
 use cred_table::{SnapshotFault, Store, Table};
 use ctap_message::laws::steps_are_bounded;
 use hid_assemble::{Assembler, ErrorCode};
 use hid_packet::Outbox;
+use hid_packet::command::{ERROR, KEEPALIVE};
 use std::marker::Model;
 
 /// A session: what a FIDO2 key holds between power up and power down. `C` is how many credentials it
@@ -214,6 +213,7 @@ impl<const C: usize> Session<C> {
     }
 
     /// Lets time pass to `at`: a message may be dropped, or a KEEPALIVE sent.
+    #[tactic(auto, using(hid_packet::proofs::Carrying::few_written))]
     fn pass_time(&mut self, at: u64, outbox: &mut Outbox)
         requires sent { outbox.old ≡ [] }
         requires later { self.old.machine.now ≤ at }
@@ -223,14 +223,14 @@ impl<const C: usize> Session<C> {
     {
         self.latest = at;
         if let Some(cid) = self.assembler.pass(at) {
-            return put_error(outbox, cid, ErrorCode::MessageTimeout);
+            return outbox.put_message(cid, ERROR, &[ErrorCode::MessageTimeout.number()]);
         }
         let Some(work) = self.core.work() else {
             return;
         };
         if at.saturating_sub(self.keepalive_at) >= KEEPALIVE_PERIOD {
             self.keepalive_at = at;
-            put_keepalive(outbox, work.cid, work.status);
+            outbox.put_message(work.cid, KEEPALIVE, &[work.status.number()]);
         }
     }
 

@@ -1,18 +1,9 @@
-use Rattle.std.proofs.Common.{◌≡◌, ◌≤◌, ◌+◌, ◌++◌, List, ℕ, [], length, refl, sym, ◌∙◌, ap, arith}
-use Rattle.hid_packet.specs.Message.{written}
-use Rattle.hid_packet.proofs.Carrying.{few_written}
+use Rattle.std.proofs.Common.{refl, sym, ◌∙◌, ap}
 use Rattle.token_session.specs.Events.{keepalive_due}
 use Rattle.token_session.specs.Machine.{Turn}
 use Rattle.token_session.specs.Meters.{SessionState}
-use Rattle.token_session.specs.Replies.{error}
 use Rattle.token_session.proofs.Passing.{due, early, due_turn, late_turn, quiet_turn}
 use Rattle.token_session.proofs.session.Session.pass_time.Goals as goal
-
-fits : (old : List (List ℕ)) (cid cmd : ℕ) (bytes : List ℕ) → old ≡ [] → length old + length (written cid cmd bytes) ≤ 130
-fits old cid cmd bytes e = let few = few_written cid cmd bytes in rw e (omega (arith, few))
-
-pub put_keepalive-requires : goal.put_keepalive-requires
-put_keepalive-requires g c = fits _ _ _ _ c.requires.sent
 
 pub returns-in-Some : goal.returns-in-Some
 returns-in-Some g c =
@@ -20,7 +11,7 @@ returns-in-Some g c =
     record {
       state = sym (ap (λ (t : Turn). t.state) turn);
       meters = ap (λ (v : SessionState). v.meters) c.self.view_is;
-      packets = c.put_error.ensures ∙ ap (λ (ps : List (List ℕ)). ps ++ error c.in-Some.cid 5) c.requires.sent ∙ sym (ap (λ (t : Turn). t.packets) turn);
+      packets = c.put_message.ensures ∙ rw (c.requires.sent, c.number.ensures) refl ∙ sym (ap (λ (t : Turn). t.packets) turn);
     }
 
 pub returns-in_default-work : goal.returns-in_default-work
@@ -41,7 +32,7 @@ returns-then-saturating_sub-ge-KEEPALIVE_PERIOD g c =
     record {
       state = sym (ap (λ (t : Turn). t.state) turn);
       meters = ap (λ (v : SessionState). v.meters) c.self.view_is;
-      packets = c.put_keepalive.ensures ∙ rw (c.requires.sent, c.in-Some-work.ensures) refl ∙ sym (ap (λ (t : Turn). t.packets) turn);
+      packets = c.put_message-then-saturating_sub-ge-KEEPALIVE_PERIOD.ensures ∙ rw (c.requires.sent, c.in-Some-work.ensures, c.number-then-saturating_sub-ge-KEEPALIVE_PERIOD.ensures) refl ∙ sym (ap (λ (t : Turn). t.packets) turn);
     }
 
 pub returns-else-saturating_sub-ge-KEEPALIVE_PERIOD : goal.returns-else-saturating_sub-ge-KEEPALIVE_PERIOD
