@@ -1,5 +1,5 @@
 -- A message of several packets finishes, whatever other hosts send between.
-use Rattle.std.proofs.Common.{◌≡◌, ℕ, ◌+◌, ◌*◌, ◌≤◌, ◌<◌, ◌==◌, ◌⊎◌, inl, inr, Bool, true, false, cond, ◌&&◌, not, nat_le, nat_lt, List, [], ◌∷◌, ◌++◌, length, filter, append-nil, append_assoc, length-append, take, Some, None, refl, sym, ◌∙◌, ap, subst, arith}
+use Rattle.std.proofs.Common.{◌≡◌, ℕ, ◌+◌, ◌*◌, ◌≤◌, ◌<◌, ◌==◌, ◌⊎◌, inl, inr, Bool, true, false, cond, ◌&&◌, not, nat_le, nat_lt, List, [], ◌∷◌, ◌++◌, length, append-nil, append_assoc, length-append, take, Some, None, refl, sym, ◌∙◌, ap, subst, arith}
 use Rattle.std.proofs.lemmas.Bool.{and_from, false_from_ne_true}
 use Rattle.std.proofs.lemmas.Bool.Decides.{nat_tests}
 use Rattle.std.proofs.lemmas.List.{length-map}
@@ -17,6 +17,7 @@ use Rattle.token_session.specs.Inputs.{Judged, end, given, is_own, is_packet, ow
 use Rattle.token_session.specs.Law.{onto}
 use Rattle.token_session.specs.Messages.{begun_by, finished, finished_at, finished_long, goes_on, is_last, is_long, is_next, is_open, open_among, open_at, packets_of}
 use Rattle.token_session.proofs.Answering.{is_served, on_given}
+use Rattle.token_session.proofs.Carrying.{On, own_on}
 use Rattle.token_session.proofs.Follows.{good_judged}
 use Rattle.token_session.proofs.Opens.{is_own_packet, From, from_earlier, goes_on_prefix, own-append, own_from}
 
@@ -103,28 +104,14 @@ stays_open e start (z ∷ zs) g D t stays le goes =
 
 -- ---- the packets of a message
 
--- each is a packet of the channel's own
-OnChannel : ℕ → List Judged → Type 0
-OnChannel c [] = Unit {0}
-OnChannel c (e ∷ es) = (is_own c e ≡ true) × OnChannel c es
-
-own_is_on : (c : ℕ) (es : List Judged) → OnChannel c (own c es)
-unfolding own OnChannel
-own_is_on c [] = tt
-own_is_on c (e ∷ es) = go (is_own c e) refl (own_is_on c es)
-  where
-    go : (b : Bool) → is_own c e ≡ b → OnChannel c (filter (is_own c) es) → OnChannel c (cond b (e ∷ filter (is_own c) es) (filter (is_own c) es))
-    go true h rest = (h, rest)
-    go false h rest = rest
-
 next_is : (c len m : ℕ) (i : Input) → is_packet (is_own_packet c) i ≡ true → is_initialization (packet i) ≡ false → sequence (packet i) ≡ m → nat_lt (57 + 59 * (m + 1)) len ≡ true
     → (is_packet (λ p. not (is_initialization p) && (sequence p == m)) i && nat_lt (57 + 59 * (m + 1)) len) ≡ true
 next_is c len m (Packet p) o more number room = let same : (m == m) ≡ true = grind (arith, nat_tests) in rw (more, number, room, same) refl
 next_is c len m other o more number room = cc
 
-all_go_on : (os : List Judged) (c len m since t : ℕ) (q : Judged) → OnChannel c os → Continue c m (packets_of os ++ packet q.input ∷ []) → 57 + 59 * (m + length os) < len → ComeSoon since (os ++ q ∷ []) → t ≡ q.at
+all_go_on : (os : List Judged) (c len m since t : ℕ) (q : Judged) → On c os → Continue c m (packets_of os ++ packet q.input ∷ []) → 57 + 59 * (m + length os) < len → ComeSoon since (os ++ q ∷ []) → t ≡ q.at
     → goes_on len m since os t ≡ true
-unfolding goes_on is_next is_own OnChannel
+unfolding goes_on is_next is_own
 all_go_on [] c len m since t q on cont room soon is = let s = soon.0 in grind (arith, nat_tests)
 all_go_on (e ∷ es) c len m since t q on cont room soon is =
     let fits : nat_lt (57 + 59 * (m + 1)) len ≡ true = grind (arith, nat_tests) in
@@ -233,7 +220,7 @@ on_its_channel start h xs x y p q cmd bytes xp yq a =
     let is : is_long (packet e.input) ≡ true = ap is_long first ∙ long_enough p.0 n (length bytes) long c.short c.counts in
     let room : 57 + 59 * (0 + n) < message_length p.0 = omega (arith, long.more, c.counts) in
     let more : Continue (channel p.0) 0 (packets_of (own (channel p.0) L) ++ packet v.input ∷ []) = rw (ap packet vq) c.continues in
-    let goes : goes_on (message_length p.0) 0 e.at (own (channel p.0) L) v.at ≡ true = all_go_on (own (channel p.0) L) (channel p.0) (message_length p.0) 0 e.at v.at v (own_is_on (channel p.0) L) more room a.soon refl in
+    let goes : goes_on (message_length p.0) 0 e.at (own (channel p.0) L) v.at ≡ true = all_go_on (own (channel p.0) L) (channel p.0) (message_length p.0) 0 e.at v.at v (own_on (channel p.0) L) more room a.soon refl in
     let P : List ℕ → Type 0 = λ f. goes_on (message_length f) 0 e.at (own (channel f) L) v.at ≡ true in
     let opens : open_at H v.at ≡ Some (begun_by e L) = stays_open e start xs (x ∷ h) [] v.at (begins_open start h x admitted is) (judged_at_end start g y) (subst P (sym first) goes) in
     let away = not_admitted start g y q yq (last_of (channel p.0) 0 (packets_of (own (channel p.0) L)) q.0 c.continues).more in

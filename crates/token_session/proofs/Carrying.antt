@@ -25,9 +25,10 @@ abbrev pub On : ℕ → List Judged → Type 0
 On c [] = Unit {0}
 On c (e ∷ es) = (is_own c e ≡ true) × On c es
 
-on_filter : (c : ℕ) (es : List Judged) → On c (filter (is_own c) es)
-on_filter c [] = tt
-on_filter c (e ∷ es) = go (is_own c e) refl (on_filter c es)
+pub own_on : (c : ℕ) (es : List Judged) → On c (own c es)
+unfolding own
+own_on c [] = tt
+own_on c (e ∷ es) = go (is_own c e) refl (own_on c es)
   where
     go : (b : Bool) → is_own c e ≡ b → On c (filter (is_own c) es) → On c (cond b (e ∷ filter (is_own c) es) (filter (is_own c) es))
     go true h rest = (h, rest)
@@ -95,7 +96,7 @@ last_carries b t p st l64 a64 p64 own low high goes last =
     let m : length (packets_of b.own) ≡ length b.own = simp length-map in
     let count : length ps ≡ length b.own + 1 = simp (length-append, length-map) in
     let len : length all ≡ 57 + 59 * length ps = length_joined b.packet ps l64 (are64_more (packets_of b.own) p a64 p64) in
-    let above : message_length b.packet ≤ 57 + 59 * (length b.own + 1) = at_most _ _ (not_is (nat_lt (57 + 59 * (length b.own + 1)) (message_length b.packet)) true f.four) in
+    let above : message_length b.packet ≤ 57 + 59 * (length b.own + 1) = at_most _ _ (not_is (nat_lt (57 + 59 * (length b.own + 1)) (message_length b.packet)) true f.3) in
     let below = goes_on_below b.own (message_length b.packet) 0 b.at t (omega (arith, low)) goes in
     let exact : length (take (message_length b.packet) all) ≡ message_length b.packet = omega (arith, length-take (message_length b.packet) all) in
     record {
@@ -105,7 +106,7 @@ last_carries b t p st l64 a64 p64 own low high goes last =
       asks = refl;
       counts = sym exact;
       continues = continue_more (channel b.packet) 0 (length b.own) (packets_of b.own) p (omega arith) (all_continue b.own (channel b.packet) (message_length b.packet) 0 b.at t own goes)
-          (not_is (is_initialization p) true f.one) (sym (is_eq (channel b.packet) (channel p) f.two)) (is_eq (sequence p) (length b.own) f.three);
+          (not_is (is_initialization p) true f.0) (sym (is_eq (channel b.packet) (channel p) f.1)) (is_eq (sequence p) (length b.own) f.2);
       least = inr (omega arith, omega arith);
       joins = ap (λ n. take n all) (sym exact);
     }
@@ -152,7 +153,7 @@ known_here e L t whole starts h =
     let two = and_parts e.admitted (is_long (packet e.input)) a.0 in
     let l = long_says (packet e.input) two.1 in
     let s = starts two.0 in
-    record { start = s.0; whole = s.1; parts = packets_whole c L whole; own_packets = on_filter c L; long = l.least; short = l.most; goes = a.1 }
+    record { start = s.0; whole = s.1; parts = packets_whole c L whole; own_packets = own_on c L; long = l.least; short = l.most; goes = a.1 }
 
 known : (h L : List Judged) (t : ℕ) (b : Begun) → AreWhole h → AreWhole L → AdmitsStarts h → open_among L h t ≡ Some b → Known b t
 unfolding open_among

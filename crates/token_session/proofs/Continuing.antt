@@ -1,5 +1,5 @@
 -- The table's rows of a continuation packet, and all rows together.
-use Rattle.std.proofs.Common.{◌≡◌, ℕ, ◌+◌, ◌*◌, ◌≤◌, Bool, true, false, cond, ◌&&◌, not, ◌==◌, List, [], ◌∷◌, ◌++◌, length, append-nil, append_assoc, flat_map, Option, Some, None, option_map, refl, sym, ◌∙◌, ap, subst, nat_lt}
+use Rattle.std.proofs.Common.{◌≡◌, ℕ, ◌+◌, ◌*◌, ◌≤◌, Bool, true, false, cond, ◌&&◌, not, ◌==◌, List, [], ◌∷◌, ◌++◌, length, append-nil, append_assoc, flat_map, Option, Some, None, option_map, refl, sym, ◌∙◌, ap, subst, arith, nat_lt}
 use Rattle.std.proofs.lemmas.Bool.{and_from, and_left}
 use Rattle.std.proofs.lemmas.Grind.{flat_map-append}
 use Rattle.std.proofs.lemmas.List.{map-append, length-append}
@@ -70,8 +70,7 @@ gone_next b t x st h n =
     ∙ ap (λ v. option_map as_open (cond v (Some (record { packet = b.packet; at = b.at; own = b.own ++ now_came t x ∷ [] })) None)) n
 
 and_second : (a b : Bool) → b ≡ false → (a && b) ≡ false
-and_second true b h = h
-and_second false b h = refl
+and_second a b h = grind arith
 
 whole_row : (g : ℕ) (b : Begun) (t : ℕ) (x : Packet64) → is_initialization x.0 ≡ false → (channel b.packet == channel x.0) ≡ true → (sequence x.0 == length b.own) ≡ true
     → nat_lt (57 + 59 * (length b.own + 1)) (message_length b.packet) ≡ false

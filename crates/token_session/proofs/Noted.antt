@@ -52,14 +52,10 @@ none_among (suc most) cid number (b ∷ bytes) h =
     rw (first, rest) refl
 
 or_none : (b : Bool) → (b || false) ≡ b
-or_none true = refl
-or_none false = refl
+or_none b = grind arith
 
 or_swap : (a b : Bool) → (a || b) ≡ (b || a)
-or_swap true true = refl
-or_swap true false = refl
-or_swap false true = refl
-or_swap false false = refl
+or_swap a b = grind arith
 
 -- A message is a KEEPALIVE exactly where its command is.
 of_written : (cid cmd : ℕ) (bytes : List ℕ) → keeps_alive (written cid cmd bytes) ≡ (cmd == KEEPALIVE)

@@ -46,15 +46,10 @@ goes_on_prefix (o ∷ os) ps len m since t u f le h =
     and_from _ _ a.0 (goes_on_prefix os ps len (m + 1) o.at t u f le a.1)
 
 and_turned : (a b c : Bool) → c ≡ true → ((a && b) && c) ≡ (b && a)
-and_turned true true c h = h
-and_turned true false c h = refl
-and_turned false true c h = refl
-and_turned false false c h = refl
+and_turned a b c h = grind arith
 
 and_regrouped : (a b c d e : Bool) → e ≡ (c && d) → ((a && b) && e) ≡ (((a && b) && c) && d)
-and_regrouped true true c d e h = h
-and_regrouped true false c d e h = refl
-and_regrouped false b c d e h = refl
+and_regrouped a b c d e h = grind arith
 
 pub goes_on_more : (os : List Judged) (x : Judged) (len m since n : ℕ) → n ≡ m + length os → goes_on len m since (os ++ x ∷ []) x.at ≡ (goes_on len m since os x.at && is_next len n x)
 unfolding goes_on
@@ -123,8 +118,7 @@ unfolding own
 own_foreign c x L h = filter-append (is_own c) L (x ∷ []) ∙ ap (λ b. filter (is_own c) L ++ cond b (x ∷ []) []) h ∙ append-nil (filter (is_own c) L)
 
 and_grouped : (a b c d : Bool) → d ≡ (b && c) → (a && d) ≡ ((a && b) && c)
-and_grouped true b c d h = h
-and_grouped false b c d h = refl
+and_grouped a b c d h = grind arith
 
 open_more_own : (e x : Judged) (L : List Judged) → is_own (channel (packet e.input)) x ≡ true
     → is_open e (L ++ x ∷ []) x.at ≡ (is_open e L x.at && is_next (message_length (packet e.input)) (length (own (channel (packet e.input)) L)) x)
@@ -182,8 +176,7 @@ one_more (e ∷ before) L x start l f le =
         (λ _. ih)
 
 and_also : (a b : Bool) → b ≡ true → (a && b) ≡ a
-and_also true b h = h
-and_also false b h = refl
+and_also a b h = grind arith
 
 -- a start that just came is open if it is admitted and long
 open_now : (x : Judged) → is_open x [] x.at ≡ (x.admitted && is_long (packet x.input))

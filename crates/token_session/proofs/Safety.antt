@@ -93,8 +93,8 @@ last_ends : (b : Begun) (t : ℕ) (x : Packet64) → is_last b x.0 ≡ true → 
 unfolding is_last
 last_ends b t x h =
     let a = all_four (not (is_initialization x.0)) (channel b.packet == channel x.0) (sequence x.0 == length b.own) (not (nat_lt (57 + 59 * (length b.own + 1)) (message_length b.packet))) h in
-    let e : ((sequence x.0 == length b.own) && nat_lt (57 + 59 * (length b.own + 1)) (message_length b.packet)) ≡ false = rw (a.three, not_is (nat_lt (57 + 59 * (length b.own + 1)) (message_length b.packet)) true a.four) refl in
-    own_more b t x (not_is (is_initialization x.0) true a.one) a.two
+    let e : ((sequence x.0 == length b.own) && nat_lt (57 + 59 * (length b.own + 1)) (message_length b.packet)) ≡ false = rw (a.2, not_is (nat_lt (57 + 59 * (length b.own + 1)) (message_length b.packet)) true a.3) refl in
+    own_more b t x (not_is (is_initialization x.0) true a.0) a.1
     ∙ ap (λ v. cond v (Some (record { packet = b.packet; at = b.at; own = b.own ++ now_came t x ∷ [] })) None) e
 
 next_alone : (g : ℕ) (b : Begun) (k : CoreState) (t : ℕ) (x : Packet64) (o : Option Begun) → 1 ≤ channel b.packet → channel b.packet ≤ g → (working k) ≡ None → next (now_came t x) b ≡ o

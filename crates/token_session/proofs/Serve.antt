@@ -58,10 +58,7 @@ not_eq : (a b : ℕ) → (a == b) ≡ false → a ≡ b → ⊥
 not_eq a b h e = grind (arith, nat_tests)
 
 pub not_is : (a b : Bool) → not a ≡ b → a ≡ not b
-not_is true true h = sym h
-not_is true false h = refl
-not_is false true h = refl
-not_is false false h = sym h
+not_is a b h = grind arith
 
 pub record Admitted (g : ℕ) (o : Option Begun) (w : Option ℕ) (p : List ℕ) : Type 0 where
   pub start : is_initialization p ≡ true
@@ -76,19 +73,15 @@ is_none_says : {A : Type 0} (o : Option A) → is_none o ≡ true → o ≡ None
 is_none_says None h = refl
 is_none_says (Some x) h = cc
 
-record Five (a b c d e : Bool) : Type 0 where
-  one : a ≡ true
-  two : b ≡ true
-  three : c ≡ true
-  four : d ≡ true
-  five : e ≡ true
+-- what a test of several parts says of each
+pub all_three : (a b c : Bool) → ((a && b) && c) ≡ true → (a ≡ true) × (b ≡ true) × (c ≡ true)
+all_three a b c h = let q = and_parts (a && b) c h in let p = and_parts a b q.0 in (p.0, p.1, q.1)
 
-all_five : (a b c d e : Bool) → ((((a && b) && c) && d) && e) ≡ true → Five a b c d e
-all_five true true true true e h = record { one = refl; two = refl; three = refl; four = refl; five = h }
-all_five true true true false e h = cc
-all_five true true false d e h = cc
-all_five true false c d e h = cc
-all_five false b c d e h = cc
+pub all_four : (a b c d : Bool) → (((a && b) && c) && d) ≡ true → (a ≡ true) × (b ≡ true) × (c ≡ true) × (d ≡ true)
+all_four a b c d h = let q = and_parts ((a && b) && c) d h in let p = all_three a b c q.0 in (p.0, p.1, p.2, q.1)
+
+all_five : (a b c d e : Bool) → ((((a && b) && c) && d) && e) ≡ true → (a ≡ true) × (b ≡ true) × (c ≡ true) × (d ≡ true) × (e ≡ true)
+all_five a b c d e h = let q = and_parts (((a && b) && c) && d) e h in let p = all_four a b c d q.0 in (p.0, p.1, p.2, p.3, q.1)
 
 one_of_two : (k n : ℕ) → ((k == 1) || ((k == 16) && nat_le 1 n)) ≡ true → (k ≡ 1) ⊎ (k ≡ 16)
 one_of_two k n h = grind (arith, nat_tests)
@@ -104,13 +97,13 @@ unfolding admits
 says_admitted g o w p h =
     let a = all_five (is_initialization p) (is_given g (channel p)) ((command p == PING) || ((command p == CBOR) && nat_le 1 (message_length p))) (is_none o) (is_none w) h in
     record {
-      start = a.one;
-      low = (between g (channel p) a.two).0;
-      high = (between g (channel p) a.two).1;
-      cmd = one_of_two (command p) (message_length p) a.three;
-      some = some_bytes (command p) (message_length p) a.three;
-      none = is_none_says o a.four;
-      idle = is_none_says w a.five;
+      start = a.0;
+      low = (between g (channel p) a.1).0;
+      high = (between g (channel p) a.1).1;
+      cmd = one_of_two (command p) (message_length p) a.2;
+      some = some_bytes (command p) (message_length p) a.2;
+      none = is_none_says o a.3;
+      idle = is_none_says w a.4;
     }
 
 -- Nothing is open, and the row neither begins nor ends a message.
@@ -136,28 +129,6 @@ refused_row g w t x f r never ch op ms ev =
     none_row g w t x f r ch (and_left _ _ adm) (and_left _ _ adm) op ms ev
 
 -- The channels and the event where the row is of another kind.
-record Three (a b c : Bool) : Type 0 where
-  one : a ≡ true
-  two : b ≡ true
-  three : c ≡ true
-
-all_three : (a b c : Bool) → ((a && b) && c) ≡ true → Three a b c
-all_three true true c h = record { one = refl; two = refl; three = h }
-all_three true false c h = cc
-all_three false b c h = cc
-
-pub record Four (a b c d : Bool) : Type 0 where
-  pub one : a ≡ true
-  pub two : b ≡ true
-  pub three : c ≡ true
-  pub four : d ≡ true
-
-pub all_four : (a b c d : Bool) → (((a && b) && c) && d) ≡ true → Four a b c d
-all_four true true true d h = record { one = refl; two = refl; three = refl; four = h }
-all_four true true false d h = cc
-all_four true false c d h = cc
-all_four false b c d h = cc
-
 pub true_or_false : {P : Type 0} (b : Bool) → b ≡ true → b ≡ false → P
 true_or_false b p q = cc
 
@@ -166,7 +137,7 @@ unfolding asks_channel
 no_channel g p never =
     cond_at (((is_initialization p && (command p == INIT)) && (message_length p == 8)) && (channel p == BROADCAST)) _ _ _
     (λ y. let a = all_four (is_initialization p) (command p == INIT) (message_length p == 8) (channel p == BROADCAST) y in
-    absurd (never (is_eq (command p) INIT a.two) (is_eq (message_length p) 8 a.three) (is_eq (channel p) BROADCAST a.four)))
+    absurd (never (is_eq (command p) INIT a.1) (is_eq (message_length p) 8 a.2) (is_eq (channel p) BROADCAST a.3)))
     (λ _. refl)
 
 pub no_event : (w : Option ℕ) (m : Option Message) (p : List ℕ) → (command p ≡ CANCEL → is_on w (channel p) ≡ false) → (command p ≡ INIT → message_length p ≡ 8 → is_on w (channel p) ≡ false)
@@ -175,10 +146,10 @@ unfolding packet_event
 no_event w m p a b =
     cond_at ((is_initialization p && (command p == CANCEL)) && is_on w (channel p)) _ _ _
     (λ y. let q = all_three (is_initialization p) (command p == CANCEL) (is_on w (channel p)) y in
-    true_or_false _ q.three (a (is_eq (command p) CANCEL q.two)))
+    true_or_false _ q.2 (a (is_eq (command p) CANCEL q.1)))
     (λ _. cond_at (((is_initialization p && (command p == INIT)) && (message_length p == 8)) && is_on w (channel p)) _ _ _
     (λ y. let q = all_four (is_initialization p) (command p == INIT) (message_length p == 8) (is_on w (channel p)) y in
-    true_or_false _ q.four (b (is_eq (command p) INIT q.two) (is_eq (message_length p) 8 q.three)))
+    true_or_false _ q.3 (b (is_eq (command p) INIT q.1) (is_eq (message_length p) 8 q.2)))
     (λ _. refl))
 
 here_given : (g : ℕ) (w : Option ℕ) (c : ℕ) → IsGiven g w → (1 ≤ c → c ≤ g → ⊥) → is_on w c ≡ false
@@ -412,10 +383,7 @@ dropped b t x st k = go (channel b.packet == channel x.0) refl
     go false h = ap (option_map as_open) (foreign b t x h)
 
 elsewhere : (a b : Bool) → (not a || false) ≡ b → a ≡ not b
-elsewhere true true h = sym h
-elsewhere true false h = refl
-elsewhere false true h = refl
-elsewhere false false h = sym h
+elsewhere a b h = grind arith
 
 -- The rows of a start where a message is open.
 pub start_open : (g : ℕ) (b : Begun) (t : ℕ) (x : Packet64) → g ≤ LAST_CHANNEL → 1 ≤ channel b.packet → channel b.packet ≤ g → is_initialization x.0 ≡ true

@@ -9,8 +9,7 @@ use Rattle.token_session.specs.Messages.{Begun, goes_on, is_long, is_next, is_op
 use Rattle.token_session.specs.Messages.{last_at}
 
 and_third : (a b c d : Bool) → c ≡ (b && d) → (a && c) ≡ ((a && b) && d)
-and_third true b c d h = h
-and_third false b c d h = refl
+and_third a b c d h = grind arith
 
 at_most : (t u n : ℕ) → t ≤ u → nat_lt u n ≡ (nat_lt t n && nat_lt u n)
 at_most t u n h = grind (arith, nat_tests)

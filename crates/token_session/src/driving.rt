@@ -97,8 +97,8 @@ fn known_input(input: &Input)
     }
 }
 
-/// Steps a session through the inputs, and appends the packets that they send. It stops before the
-/// first input at which fewer than 130 places are free.
+/// Steps a session through the inputs, and appends the packets that they send. It stops before the first input at which
+/// fewer than 130 places are free.
 pub fn drive<const C: usize, const N: usize>(
     session: &mut Session<C>,
     inputs: &[Timed],
@@ -165,9 +165,9 @@ pub fn drive_new<const C: usize, const N: usize>(
     drive(&mut session, inputs, sent)
 }
 
-/// Drives one session, and then another. Where the second list of inputs has ticks in place of noise of
-/// the first, the sessions end alike, and the second list of packets has just those of the first, less
-/// what was sent in service of the noise.
+/// Drives one session, and then another. Where the second list of inputs has ticks in place of noise of the first, the
+/// sessions end alike, and the second list of packets has just those of the first, less what was sent in service of the
+/// noise.
 pub fn drive_both<const C: usize, const N: usize>(
     first: &mut Session<C>,
     second: &mut Session<C>,

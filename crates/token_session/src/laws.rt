@@ -1,6 +1,5 @@
-//! What holds over the definitions alone: the composed turn, which has one state and knows no history,
-//! sends over any history just what that history names. Each law is the contract of a function that
-//! does nothing.
+//! What holds over the definitions alone: the composed turn, which has one state and knows no history, sends over any
+//! history just what that history names. Each law is the contract of a function that does nothing.
 
 ghost use Rattle.std.specs.Prelude.{◌≡◌, ◌≤◌, ◌⊎◌, ◌+◌, ◌*◌, ℕ, List, [], ◌∷◌, length, max, true, Option, Some, None, option_to_list, if◌then◌else◌};
 ghost use Rattle.token_session.specs.declared.input.Timed.{Timed as OneInput};
@@ -38,16 +37,15 @@ use authn_core::laws::{
 };
 use ctap_message::laws::steps_are_bounded;
 
-/// The composed turn, over any history, is in the state that the history names, and each input sends
-/// the packets that the history says.
+/// The composed turn, over any history, is in the state that the history names, and each input sends the packets that
+/// the history says.
 pub fn machine_follows_history()
     ensures state { (start : Start) (h : List OneInput) → IsAfter (machine start h) start h }
     ensures packets { (start : Start) (h : List OneInput) (x : OneInput)
         → (turn (machine start h) x).packets ≡ sent_now start h x }
 {}
 
-/// A run from a state that is after a history is after the longer one, and sends what the
-/// longer history says.
+/// A run from a state that is after a history is after the longer one, and sends what the longer history says.
 pub fn runs_follow_history()
     ensures state { (s : State) (start : Start) (h xs : List OneInput) → IsAfter s start h
         → IsAfter (run_state s xs) start (onto xs h) }
@@ -62,16 +60,16 @@ pub fn keepalives_count_from_the_last()
         else last_keepalive start (judged start h)) }
 {}
 
-/// At most one message is open after a history, at its end and at any later moment, and at most 7550
-/// bytes are held of it.
+/// At most one message is open after a history, at its end and at any later moment, and at most 7550 bytes are held of
+/// it.
 pub fn one_message_is_open()
     ensures one { (start : Start) (t : ℕ) (h : List OneInput) → end start (judged start h) ≤ t
         → all_open [] (judged start h) t ≡ option_to_list (open_at (judged start h) t) }
     ensures held { (start : Start) (h : List OneInput) → held start (judged start h) ≤ 7550 }
 {}
 
-/// A packet that carries a whole PING or CBOR message on a channel that was given out finishes it, where no message
-/// is open and no work waits.
+/// A packet that carries a whole PING or CBOR message on a channel that was given out finishes it, where no message is
+/// open and no work waits.
 pub fn messages_of_one_packet_finish()
     ensures { (start : Start) (h : List OneInput) (x : OneInput) (p : AnyPacket) (cid cmd : ℕ) (bytes : List ℕ)
         → x.input ≡ PacketCame p → CarriesMessage (p.0 ∷ []) cid cmd bytes
@@ -94,9 +92,9 @@ pub fn messages_of_several_packets_finish()
         ≡ Some (record { cid = cid; cmd = cmd; bytes = bytes }) }
 {}
 
-/// A finished CBOR message is a request: it is answered on its channel as the authenticator's turn says, and beside
-/// the packets of time nothing else is sent for it. So authenticatorGetInfo is answered by its map with the AAGUID
-/// of the start, whatever came before.
+/// A finished CBOR message is a request: it is answered on its channel as the authenticator's turn says, and beside the
+/// packets of time nothing else is sent for it. So authenticatorGetInfo is answered by its map with the AAGUID of the
+/// start, whatever came before.
 pub fn requests_are_answered()
     ensures request { (start : Start) (h : List OneInput) (x : OneInput) (m : Message)
         → finished_at (judge start x (judged start h)) (judged start h) ≡ Some m → m.cmd ≡ CBOR
@@ -109,8 +107,8 @@ pub fn requests_are_answered()
         ≡ written m.cid CBOR (info_answer start.aaguid) }
 {}
 
-/// The meters of every history are bounded: at most 7550 bytes were held of an unfinished message, and reading
-/// took at most four steps for each byte after a command byte, and two for each request.
+/// The meters of every history are bounded: at most 7550 bytes were held of an unfinished message, and reading took at
+/// most four steps for each byte after a command byte, and two for each request.
 pub fn meters_are_bounded()
     ensures held { (start : Start) (h : List OneInput) → (meters_of start (judged start h)).held ≤ 7550 }
     ensures steps { (start : Start) (h : List OneInput)
@@ -125,8 +123,8 @@ pub fn one_input_sends_few_packets()
     ensures { (s : State) (x : OneInput) → length (turn s x).packets ≤ OUTBOX_CAPACITY }
 {}
 
-/// A message that an input finishes is carried by its initialization packet and its channel's own
-/// packets up to this one: its bytes are just those that they carried.
+/// A message that an input finishes is carried by its initialization packet and its channel's own packets up to this
+/// one: its bytes are just those that they carried.
 pub fn finished_messages_were_carried()
     ensures { (start : Start) (h : List OneInput) (x : OneInput) (m : Message) → ArriveWhole (x ∷ h)
         → finished_at (judge start x (judged start h)) (judged start h) ≡ Some m

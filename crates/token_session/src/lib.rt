@@ -1,5 +1,5 @@
-//! The transport and the authenticator together: a session takes inputs, one at a time, and returns the
-//! packets to send.
+//! The transport and the authenticator together: a session takes inputs, one at a time, and returns the packets to
+//! send.
 //!
 //! An example, which the gate runs (`crates/session_tests/src/page.rt`):
 //!

@@ -22,8 +22,8 @@ use hid_packet::command::{CBOR, ERROR, INIT, KEEPALIVE, PING};
 /// How long after the last KEEPALIVE the next is due while work waits, in milliseconds.
 pub const KEEPALIVE_PERIOD: u64 = 100;
 
-/// What an INIT answer says of the device: version 2 of the protocol, version 1.0.0 of the device, and
-/// the capabilities CBOR and NMSG (CTAP 2.1, section 11.2.9.1.3).
+/// What an INIT answer says of the device: version 2 of the protocol, version 1.0.0 of the device, and the capabilities
+/// CBOR and NMSG (CTAP 2.1, section 11.2.9.1.3).
 const DEVICE: [u8; 5] = [2, 1, 0, 0, 0x0c];
 
 /// Hands the transport an input, while this work waits. Returns its verdict on a packet; it lets every other input be.
@@ -92,8 +92,8 @@ pub(crate) fn event_in<'a>(
     }
 }
 
-/// Sends what the turn of an event returned to the channel that asked: a request's own, or that of the `work` that waited
-/// before the turn. Returns whether that was a KEEPALIVE.
+/// Sends what the turn of an event returned to the channel that asked: a request's own, or that of the `work` that
+/// waited before the turn. Returns whether that was a KEEPALIVE.
 #[tactic(auto, unfolding(crate::specs::Replies::answer_packets, crate::specs::Machine::answer_keeps_alive))]
 pub(crate) fn send(outbox: &mut Outbox, event: &Event<'_>, work: Option<Work>, turn: &Turn) -> bool
     requires { length outbox.old + length (answer_packets (asker (option_map work_of work) (event_of event.now))

@@ -25,8 +25,8 @@ use hid_packet::Outbox;
 use hid_packet::command::{ERROR, KEEPALIVE};
 use std::marker::Model;
 
-/// A session: what a FIDO2 key holds between power up and power down. `C` is how many credentials it
-/// has capacity for. It allocates nothing.
+/// A session: what a FIDO2 key holds between power up and power down. `C` is how many credentials it has capacity for.
+/// It allocates nothing.
 #[derive(Drop)]
 pub struct Session<const C: usize> {
     /// The greatest moment of its start and its inputs.
@@ -122,16 +122,16 @@ impl<const C: usize> Session<C> {
         Ok(())
     }
 
-    /// Takes one input that came at `at`, in milliseconds, and puts the packets to send into the
-    /// outbox: at most 130. A moment earlier than the latest counts as the latest. It always succeeds.
+    /// Takes one input that came at `at`, in milliseconds, and puts the packets to send into the outbox: at most 130. A
+    /// moment earlier than the latest counts as the latest. It always succeeds.
     pub fn step(&mut self, at: u64, input: Input, outbox: &mut Outbox)
         requires { outbox.old ≡ [] }
         // One turn of the composed machine.
         ensures state { self.new ≡ stepped self.old (record { at = at; input = input }) }
         ensures packets { outbox.new ≡ sent_by self.old (record { at = at; input = input }) }
         ensures few { length outbox.new ≤ OUTBOX_CAPACITY }
-        // After any history that the session is after, it is after the longer one, and it
-        // sent just what that history names for the input.
+        // After any history that the session is after, it is after the longer one, and it sent just what that history
+        // names for the input.
         ensures after { (start : Start) (h : List OneInput) → StandsAfter self.old start h
             → StandsAfter self.new start (record { at = at; input = input } ∷ h) }
         ensures sent { (start : Start) (h : List OneInput) → StandsAfter self.old start h
@@ -171,8 +171,7 @@ impl<const C: usize> Session<C> {
         self.assembler.held()
     }
 
-    /// What the authenticator needs of its caller before its work goes on, with the exact bytes to sign, at
-    /// most 196.
+    /// What the authenticator needs of its caller before its work goes on, with the exact bytes to sign, at most 196.
     pub fn need(&self) -> Need<'_>
         ensures value { needed result ≡ needs self.now.machine.core.state.work }
         ensures sized { IsNeed (needed result) }

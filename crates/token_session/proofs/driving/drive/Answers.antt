@@ -45,14 +45,8 @@ loop-i-init g c = record {
   empty = c.new-outbox.ensures;
 }
 
-pub bounds-inputs-i : goal.bounds-inputs-i
-bounds-inputs-i g c = c.loop-i-test.true
-
 pub step-requires : goal.step-requires
 step-requires g c = (search, c.loop-i.invariant.empty)
 
 pub take_all-requires : goal.take_all-requires
 take_all-requires g c = (search, omega (arith, c.if-remaining_capacity-lt-OUTBOX_CAPACITY.false, c.remaining_capacity.ensures, c.step.ensures.few))
-
-pub meters-requires : goal.meters-requires
-meters-requires g c = search

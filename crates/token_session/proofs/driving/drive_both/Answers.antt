@@ -36,9 +36,3 @@ returns-in-Err-drive g c = record {
   full = rw c.done-in-Err-drive.ensures (inr (refl, c.in-Err-drive.ensures.full.0, c.in-Err-drive.ensures.full.1));
   alike = λ start h k b b' q longer. tt;
 }
-
-pub drive-requires : goal.drive-requires
-drive-requires g c = (search, search)
-
-pub drive-requires-2 : goal.drive-requires-2
-drive-requires-2 g c = (search, search)

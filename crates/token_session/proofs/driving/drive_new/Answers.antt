@@ -11,9 +11,6 @@ returns g c =
     (λ (h : List Timed). c.every_history_is_answered.ensures _ h c.args.rows.lawful) in
     record { answered = r.answered; numbers = r.numbers; meters = r.meters; full = c.drive.ensures.full; room = r.room }
 
-pub clear-requires : goal.clear-requires
-clear-requires g c = search
-
 pub new-session-requires : goal.new-session-requires
 new-session-requires g c = (search, search session_small)
 
