@@ -73,11 +73,8 @@ request_at start t h other m good le fin is = cc
 pub core_aaguid : (start : Start) (h : List Judged) → (core start h).setup.aaguid ≡ start.aaguid
 unfolding core
 core_aaguid start [] = refl
-core_aaguid start (e ∷ h) = go (event (working (core start h)) (finished (open_at h e.at) e.admitted e.input) e.input) (core_aaguid start h)
-  where
-    go : (happens : Option Event) → (core start h).setup.aaguid ≡ start.aaguid → (event_core (core start h) e.at happens).setup.aaguid ≡ start.aaguid
-    go None stays = stays
-    go (Some x) stays = stays
+core_aaguid start (e ∷ h) =
+    elim (event (working (core start h)) (finished (open_at h e.at) e.admitted e.input) e.input) as (λ x. (event_core (core start h) e.at x).setup.aaguid ≡ start.aaguid) [ None ↦ core_aaguid start h | Some x ↦ core_aaguid start h ]
 
 -- A request is answered on its channel, as the authenticator's turn says.
 pub requests_answered : (start : Start) (h : List Timed) (x : Timed) (m : Message)

@@ -5,7 +5,7 @@ use Rattle.std.specs.Prelude.{unwrap_or, option_map}
 use Rattle.std.proofs.lemmas.Bool.Decides.{nat_tests}
 use Rattle.std.proofs.lemmas.List.Sums.{sum_by-cons}
 use Rattle.authn_core.specs.Turn.{Start}
-use Rattle.token_session.proofs.Opens.{From, Lawful, from_earlier, none_stays, open_is_admitted, cond_none}
+use Rattle.token_session.proofs.Opens.{bool_case, From, Lawful, from_earlier, none_stays, open_is_admitted, cond_none}
 use Rattle.token_session.proofs.Serve.{cond_case, long_says}
 use Rattle.hid_packet.specs.Packet.{channel, message_length}
 use Rattle.token_session.specs.Inputs.{Judged, end, own, packet}
@@ -26,22 +26,15 @@ none_all (e ∷ before) L t n =
 pub one_open : (h L : List Judged) (start : Start) (t : ℕ) → Lawful start h → From (end start h) L → end start h ≤ t → all_open L h t ≡ option_to_list (open_among L h t)
 unfolding open_among all_open open_at
 one_open [] L start t l f le = refl
-one_open (e ∷ before) L start t l f le = go (is_open e L t) refl (one_open before (e ∷ L) start t l.2 (l.0, from_earlier L (end start before) e.at l.0 f) (omega (arith, l.0)))
-  where
-    here : Begun
-    here = record { packet = packet e.input; at = e.at; own = own (channel (packet e.input)) L }
-
-    go : (b : Bool) → is_open e L t ≡ b → all_open (e ∷ L) before t ≡ option_to_list (open_among (e ∷ L) before t)
-        → cond b (here ∷ all_open (e ∷ L) before t) (all_open (e ∷ L) before t) ≡ option_to_list (cond b (Some here) (open_among (e ∷ L) before t))
-    go true h ih = ap (λ os. here ∷ os) (none_all before (e ∷ L) t (none_stays before [] (e ∷ L) e.at t (omega arith, f) le (l.1 (open_is_admitted e L t h))))
-    go false h ih = ih
+one_open (e ∷ before) L start t l f le =
+    let here : Begun = record { packet = packet e.input; at = e.at; own = own (channel (packet e.input)) L } in
+    bool_case (λ b. cond b (here ∷ all_open (e ∷ L) before t) (all_open (e ∷ L) before t) ≡ option_to_list (cond b (Some here) (open_among (e ∷ L) before t))) (is_open e L t)
+    (λ h. ap (λ os. here ∷ os) (none_all before (e ∷ L) t (none_stays before [] (e ∷ L) e.at t (omega arith, f) le (l.1 (open_is_admitted e L t h)))))
+    (λ _. one_open before (e ∷ L) start t l.2 (l.0, from_earlier L (end start before) e.at l.0 f) (omega (arith, l.0)))
 
 next_below : (len m : ℕ) (e : Judged) → is_next len m e ≡ true → 57 + 59 * (m + 1) < len
 unfolding is_next
-next_below len m e h = let a = (and_parts _ (nat_lt (57 + 59 * (m + 1)) len) h).1 in below _ _ a
-  where
-    below : (a b : ℕ) → nat_lt a b ≡ true → a < b
-    below a b h = grind (arith, nat_tests)
+next_below len m e h = let a = (and_parts _ (nat_lt (57 + 59 * (m + 1)) len) h).1 in grind (arith, nat_tests)
 
 pub goes_on_below : (os : List Judged) (len m since t : ℕ) → 57 + 59 * m < len → goes_on len m since os t ≡ true → 57 + 59 * (m + length os) < len
 unfolding goes_on
@@ -72,11 +65,8 @@ few_own (e ∷ before) L t = cond_case FewOwn (is_open e L t) _ _ (λ y. few_her
 
 pub held_few : (start : Start) (h : List Judged) → held start h ≤ 7550
 unfolding held open_at
-held_few start h = go (open_among [] h (end start h)) (few_own h [] (end start h))
-  where
-    go : (o : Option Begun) → FewOwn o → (unwrap_or (option_map (λ (b : Begun). 57 + 59 * length b.own) o) 0) ≤ 7550
-    go None f = omega arith
-    go (Some b) f = f
+held_few start h =
+    (elim (open_among [] h (end start h)) as (λ o. (FewOwn o → unwrap_or (option_map (λ (b : Begun). 57 + 59 * length b.own) o) 0 ≤ 7550)) [ None ↦ λ _. omega arith | Some b ↦ λ f. f ]) (few_own h [] (end start h))
 
 -- the most that was held
 pub peak_few : (start : Start) (h : List Judged) → peak_held start h ≤ 7550

@@ -8,7 +8,7 @@ use Rattle.token_session.proofs.Bounds.{goes_on_below}
 use Rattle.std.proofs.lemmas.Option.{same_Some}
 use Rattle.token_session.specs.Carried.{Are64, IsWhole, AreWhole, ArriveWhole, carriers, long_carriers, carriers_at}
 use Rattle.token_session.proofs.Opens.{is_own_packet}
-use Rattle.token_session.proofs.Serve.{is_eq, not_is, all_four, long_says, is_le, says_admitted}
+use Rattle.token_session.proofs.Serve.{cond_case, cond_two, is_eq, not_is, all_four, long_says, is_le, says_admitted}
 use Rattle.hid_assemble.specs.Assembly.{Message}
 use Rattle.hid_packet.specs.Carries.{Carries, CarriesMessage, Continue, joined}
 use Rattle.hid_packet.specs.Commands.{CANCEL}
@@ -28,11 +28,7 @@ On c (e ∷ es) = (is_own c e ≡ true) × On c es
 pub own_on : (c : ℕ) (es : List Judged) → On c (own c es)
 unfolding own
 own_on c [] = tt
-own_on c (e ∷ es) = go (is_own c e) refl (own_on c es)
-  where
-    go : (b : Bool) → is_own c e ≡ b → On c (filter (is_own c) es) → On c (cond b (e ∷ filter (is_own c) es) (filter (is_own c) es))
-    go true h rest = (h, rest)
-    go false h rest = rest
+own_on c (e ∷ es) = cond_case (On c) (is_own c e) _ _ (λ h. (h, own_on c es)) (λ _. own_on c es)
 
 -- what an own continuation's packet is
 record Next (c m : ℕ) (e : Judged) : Type 0 where
@@ -118,16 +114,11 @@ last_carries b t p st l64 a64 p64 own low high goes last =
 pub packets_whole : (c : ℕ) (es : List Judged) → AreWhole es → Are64 (packets_of (own c es))
 unfolding own is_own
 packets_whole c [] h = tt
-packets_whole c (e ∷ es) h = go (is_packet (is_own_packet c) e.input) refl (packets_whole c es h.1)
+packets_whole c (e ∷ es) h = cond_case (λ (v : List Judged). Are64 (packets_of v)) (is_packet (is_own_packet c) e.input) _ _ (λ t. (whole e.input h.0 t, packets_whole c es h.1)) (λ _. packets_whole c es h.1)
   where
     whole : (i : Input) → IsWhole i → is_packet (is_own_packet c) i ≡ true → length (packet i) ≡ 64
     whole (Packet p) w t = w
     whole other w t = cc
-
-    go : (b : Bool) → is_packet (is_own_packet c) e.input ≡ b → Are64 (packets_of (filter (λ v. is_packet (is_own_packet c) v.input) es))
-        → Are64 (packets_of (cond b (e ∷ filter (λ v. is_packet (is_own_packet c) v.input) es) (filter (λ v. is_packet (is_own_packet c) v.input) es)))
-    go true t rest = (whole e.input h.0 t, rest)
-    go false t rest = rest
 
 -- Every admitted input is an initialization packet.
 abbrev pub AdmitsStarts : List Judged → Type 0
@@ -159,32 +150,19 @@ known : (h L : List Judged) (t : ℕ) (b : Begun) → AreWhole h → AreWhole L 
 unfolding open_among
 known [] L t b w v s is = cc
 known (e ∷ before) L t b w v s is =
-    go (is_open e L t) refl (λ q. known before (e ∷ L) t b w.1 (w.0, v) s.1 q) is
-  where
-    here : Begun
-    here = record { packet = packet e.input; at = e.at; own = own (channel (packet e.input)) L }
-
-    go : (o : Bool) → is_open e L t ≡ o → (open_among (e ∷ L) before t ≡ Some b → Known b t) → cond o (Some here) (open_among (e ∷ L) before t) ≡ Some b → Known b t
-    go true h older q = subst (λ v. Known v t) (same_Some here b q) (known_here e L t v s.0 h)
-    go false h older q = older q
-
-some_is : (x m : Message) → ◌≡◌ {A = Option Message} (Some x) (Some m) → x ≡ m
-some_is x m h = same_Some x m h
+    cond_case (λ o. (o ≡ Some b → Known b t)) (is_open e L t) _ _ (λ h q. subst (λ v. Known v t) (same_Some _ b q) (known_here e L t v s.0 h)) (λ _ q. known before (e ∷ L) t b w.1 (w.0, v) s.1 q) is
 
 -- a finished long message
 long_carried : (o : Option Begun) (t : ℕ) (p : List ℕ) (m : Message) → ((b : Begun) → o ≡ Some b → Known b t) → length p ≡ 64 → finished_long o p ≡ Some m
     → CarriesMessage (long_carriers o p) m.cid m.cmd m.bytes
 unfolding finished_long long_carriers
 long_carried None t p m k whole h = cc
-long_carried (Some b) t p m k whole h = go (is_last b p) refl h
-  where
-    go : (v : Bool) → is_last b p ≡ v → cond v (Some (message b.packet (packets_of b.own ++ p ∷ []))) None ≡ Some m
-        → CarriesMessage (cond v (b.packet ∷ (packets_of b.own ++ p ∷ [])) []) m.cid m.cmd m.bytes
-    go true last q =
-        let f = k b refl in
-        subst (λ x. Carries b.packet (packets_of b.own ++ p ∷ []) x.cid x.cmd x.bytes) (some_is _ m q)
-        (last_carries b t p f.start f.whole f.parts whole f.own_packets f.long f.short f.goes last)
-    go false last q = cc
+long_carried (Some b) t p m k whole h =
+    cond_two (λ o ps. (o ≡ Some m → CarriesMessage ps m.cid m.cmd m.bytes)) (is_last b p) _ _ _ _
+    (λ last q. let f = k b refl in
+    subst (λ x. Carries b.packet (packets_of b.own ++ p ∷ []) x.cid x.cmd x.bytes) (same_Some _ m q)
+    (last_carries b t p f.start f.whole f.parts whole f.own_packets f.long f.short f.goes last))
+    (λ _ q. cc) h
 
 short_carries : (p : List ℕ) → is_initialization p ≡ true → length p ≡ 64 → message_length p ≤ 57 → Carries p [] (channel p) (command p) (take (message_length p) (joined p []))
 short_carries p start whole few =
@@ -205,14 +183,11 @@ short_carries p start whole few =
 pub carried : (o : Option Begun) (t : ℕ) (admitted : Bool) (i : Input) (m : Message) → ((b : Begun) → o ≡ Some b → Known b t) → IsWhole i
     → (admitted ≡ true → is_initialization (packet i) ≡ true) → finished o admitted i ≡ Some m → CarriesMessage (carriers o admitted i) m.cid m.cmd m.bytes
 unfolding finished carriers
-carried o t admitted (Packet p) m k whole starts h = go (admitted && nat_le (message_length p.0) 57) refl h
-  where
-    go : (v : Bool) → (admitted && nat_le (message_length p.0) 57) ≡ v → cond v (Some (message p.0 [])) (finished_long o p.0) ≡ Some m
-        → CarriesMessage (cond v (p.0 ∷ []) (long_carriers o p.0)) m.cid m.cmd m.bytes
-    go true short q =
-        let two = and_parts admitted (nat_le (message_length p.0) 57) short in
-        subst (λ x. Carries p.0 [] x.cid x.cmd x.bytes) (some_is _ m q) (short_carries p.0 (starts two.0) whole (is_le (message_length p.0) 57 two.1))
-    go false short q = long_carried o t p.0 m k whole q
+carried o t admitted (Packet p) m k whole starts h =
+    cond_two (λ f ps. (f ≡ Some m → CarriesMessage ps m.cid m.cmd m.bytes)) (admitted && nat_le (message_length p.0) 57) _ _ _ _
+    (λ short q. let two = and_parts admitted (nat_le (message_length p.0) 57) short in
+    subst (λ x. Carries p.0 [] x.cid x.cmd x.bytes) (same_Some _ m q) (short_carries p.0 (starts two.0) whole (is_le (message_length p.0) 57 two.1)))
+    (λ _ q. long_carried o t p.0 m k whole q) h
 carried o t admitted other m k whole starts h = cc
 
 -- a judged history's inputs

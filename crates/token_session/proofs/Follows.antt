@@ -108,11 +108,8 @@ given_more : (e : Judged) (h : List Judged) → given (e ∷ h) ≡ cond (is_pac
 unfolding given
 given_more e h =
     ap (λ n. min n 4294967294) (sum_by-cons (λ (v : Judged). cond (is_packet asks_channel v.input) 1 0) e h)
-    ∙ go (is_packet asks_channel e.input) (sum_by (λ (v : Judged). cond (is_packet asks_channel v.input) 1 0) h)
-  where
-    go : (b : Bool) (n : ℕ) → min (cond b 1 0 + n) 4294967294 ≡ cond b (min (min n 4294967294 + 1) 4294967294) (min n 4294967294)
-    go true n = omega arith
-    go false n = omega arith
+    ∙ let n = sum_by (λ (v : Judged). cond (is_packet asks_channel v.input) 1 0) h in
+    elim (is_packet asks_channel e.input) as (λ b. min (cond b 1 0 + n) 4294967294 ≡ cond b (min (min n 4294967294 + 1) 4294967294) (min n 4294967294)) [ true ↦ omega arith | false ↦ omega arith ]
 
 or_cond : {A : Type 0} (a b : Bool) (x y : A) → cond (a || b) x y ≡ cond a x (cond b x y)
 or_cond true b x y = refl
@@ -204,11 +201,9 @@ unfolding given
 given_few h = omega arith
 
 given_rises : (e : Judged) (h : List Judged) → given h ≤ given (e ∷ h)
-given_rises e h = go (is_packet asks_channel e.input) (given h) (given (e ∷ h)) (given_few h) (given_more e h)
-  where
-    go : (b : Bool) (m n : ℕ) → m ≤ 4294967294 → n ≡ cond b (min (m + 1) 4294967294) m → m ≤ n
-    go true m n le h = omega arith
-    go false m n le h = omega arith
+given_rises e h =
+    let few = given_few h in
+    rw (given_more e h) (elim (is_packet asks_channel e.input) as (λ b. given h ≤ cond b (min (given h + 1) LAST_CHANNEL) (given h)) [ true ↦ omega (arith, few) | false ↦ omega arith ])
 
 works_more : (g k : ℕ) (w : Option ℕ) → g ≤ k → IsGiven g w → IsGiven k w
 works_more g k None le h = tt

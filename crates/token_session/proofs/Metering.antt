@@ -23,11 +23,7 @@ use Rattle.token_session.proofs.Runs.{turn_after}
 -- the bytes held are those that the history names
 pub held_named : (start : Start) (h : List Judged) → held_bytes (named start h).current ≡ held start h
 unfolding named held
-held_named start h = go (open_at h (end start h))
-  where
-    go : (o : Option Begun) → held_bytes (option_map as_open o) ≡ (unwrap_or (option_map (λ (b : Begun). 57 + 59 * length b.own) o) 0)
-    go None = refl
-    go (Some b) = refl
+held_named start h = elim (open_at h (end start h)) as (λ o. held_bytes (option_map as_open o) ≡ unwrap_or (option_map (λ (b : Begun). 57 + 59 * length b.own) o) 0) [ None ↦ refl | Some b ↦ refl ]
 
 capped : (n k m : ℕ) → m ≡ k + n → min m LARGEST ≡ min (min n LARGEST + k) LARGEST
 capped n k m e = omega arith

@@ -23,24 +23,15 @@ use Rattle.token_session.specs.declared.input.Input.TheVariants.{Packet}
 
 begins : (cid cmd len : ℕ) (part : List ℕ) → is_initialization (initialization_packet cid cmd len part) ≡ true
 unfolding is_initialization initialization_packet padded
-begins cid cmd len part = above (cmd + 128) (omega arith)
-  where
-    above : (n : ℕ) → 128 ≤ n → nat_le 128 n ≡ true
-    above n h = grind (arith, nat_tests)
+begins cid cmd len part = grind (arith, nat_tests)
 
 asks : (cid cmd len : ℕ) (part : List ℕ) → command (initialization_packet cid cmd len part) ≡ cmd
 unfolding command initialization_packet padded
-asks cid cmd len part = less cmd
-  where
-    less : (n : ℕ) → n + 128 - 128 ≡ n
-    less n = omega arith
+asks cid cmd len part = omega arith
 
 goes : (cid number : ℕ) (part : List ℕ) → number < 128 → is_initialization (continuation_packet cid number part) ≡ false
 unfolding is_initialization continuation_packet padded
-goes cid number part h = below number h
-  where
-    below : (n : ℕ) → n < 128 → nat_le 128 n ≡ false
-    below n h = grind (arith, nat_tests)
+goes cid number part h = grind (arith, nat_tests)
 
 none_among : (most cid number : ℕ) (bytes : List ℕ) → number + most ≤ 128 → keeps_alive (continuation_packets most cid number bytes) ≡ false
 unfolding continuation_packets
@@ -80,17 +71,13 @@ row_silent g p NoSuchCommand = of_written (channel p) ERROR _
 row_silent g p BadLength = of_written (channel p) ERROR _
 row_silent g p other = refl
 
-error_silent : (o : Option Begun) (p : List ℕ) → keeps_alive (continuation_error o p) ≡ false
-error_silent None p = refl
-error_silent (Some b) p = go ((channel b.packet == channel p) && not (sequence p == length b.own))
-  where
-    go : (wrong : Bool) → keeps_alive (cond wrong (written (channel p) ERROR (4 ∷ [])) []) ≡ false
-    go true = of_written (channel p) ERROR _
-    go false = refl
-
 both_silent : (b : Bool) (x y : List (List ℕ)) → keeps_alive x ≡ false → keeps_alive y ≡ false → keeps_alive (cond b x y) ≡ false
 both_silent true x y h k = h
 both_silent false x y h k = k
+
+error_silent : (o : Option Begun) (p : List ℕ) → keeps_alive (continuation_error o p) ≡ false
+error_silent None p = refl
+error_silent (Some b) p = both_silent ((channel b.packet == channel p) && not (sequence p == length b.own)) _ _ (of_written (channel p) ERROR _) refl
 
 table_silent : (g : ℕ) (o : Option Begun) (w : Option ℕ) (i : Input) → keeps_alive (table_packets g o w i) ≡ false
 unfolding table_packets
@@ -99,21 +86,14 @@ table_silent g o w other = refl
 
 ping_silent : (m : Option Message) → keeps_alive (ping_packets m) ≡ false
 ping_silent None = refl
-ping_silent (Some m) = go (m.cmd == PING)
-  where
-    go : (b : Bool) → keeps_alive (cond b (written m.cid PING m.bytes) []) ≡ false
-    go true = of_written m.cid PING m.bytes
-    go false = refl
+ping_silent (Some m) = both_silent (m.cmd == PING) _ _ (of_written m.cid PING m.bytes) refl
 
 answer_noted : (to before : Option ℕ) (a : Answer) → keeps_alive (answer_packets to before a) ≡ answer_keeps_alive to before a
 unfolding answer_packets answer_keeps_alive
 answer_noted None before a = refl
 answer_noted (Some cid) before (Answered bytes) = of_written cid CBOR bytes
-answer_noted (Some cid) before (Waits status) = go (is_on before status)
-  where
-    go : (b : Bool) → keeps_alive (cond b [] (written cid KEEPALIVE (status ∷ []))) ≡ not b
-    go true = refl
-    go false = of_written cid KEEPALIVE (status ∷ [])
+answer_noted (Some cid) before (Waits status) =
+    elim (is_on before status) as (λ b. keeps_alive (cond b [] (written cid KEEPALIVE (status ∷ []))) ≡ not b) [ true ↦ refl | false ↦ of_written cid KEEPALIVE (status ∷ []) ]
 answer_noted (Some cid) before Ignored = refl
 answer_noted (Some cid) before Nothing = refl
 
@@ -130,11 +110,8 @@ time_noted : (c : Bool) (o : Option Begun) (w : Option Work) (l t : ℕ)
 unfolding keepalive_due
 time_noted true o w l t = cut_silent o
 time_noted false o None l t = refl
-time_noted false o (Some w) l t = go (nat_le (l + 100) t)
-  where
-    go : (b : Bool) → keeps_alive (cond b (written w.cid KEEPALIVE (w.status ∷ [])) []) ≡ b
-    go true = of_written w.cid KEEPALIVE (w.status ∷ [])
-    go false = refl
+time_noted false o (Some w) l t =
+    elim (nat_le (l + 100) t) as (λ b. keeps_alive (cond b (written w.cid KEEPALIVE (w.status ∷ [])) []) ≡ b) [ true ↦ of_written w.cid KEEPALIVE (w.status ∷ []) | false ↦ refl ]
 
 sent_noted : (start : Start) (e : Judged) (past : List Judged)
     → keeps_alive (sent_at start e past)

@@ -32,6 +32,11 @@ pub own-append : (c : ℕ) (L M : List Judged) → own c (L ++ M) ≡ own c L ++
 unfolding own
 own-append c L M = filter-append (is_own c) L M
 
+-- by a test and what it said
+pub bool_case : (P : Bool → Type 0) (b : Bool) → (b ≡ true → P true) → (b ≡ false → P false) → P b
+bool_case P true p q = p refl
+bool_case P false p q = q refl
+
 -- Tests.
 pub goes_on_prefix : (os ps : List Judged) (len m since t u : ℕ) → From t ps → t ≤ u → goes_on len m since (os ++ ps) u ≡ true → goes_on len m since os t ≡ true
 unfolding goes_on
@@ -163,17 +168,14 @@ pub one_more : (h L : List Judged) (x : Judged) (start : Start) → Lawful start
 unfolding open_among open_at
 one_more [] L x start l f le = refl
 one_more (e ∷ before) L x start l f le =
-    go (is_open e L x.at) refl (one_more before (e ∷ L) x start l.2 (l.0, from_earlier L (end start before) e.at l.0 f) (omega (arith, l.0)))
-  where
-    go : (b : Bool) → is_open e L x.at ≡ b → open_among (e ∷ (L ++ x ∷ [])) before x.at ≡ then_next x (open_among (e ∷ L) before x.at)
-        → cond (is_open e (L ++ x ∷ []) x.at) (Some (record { packet = packet e.input; at = e.at; own = own (channel (packet e.input)) (L ++ x ∷ []) })) (open_among (e ∷ (L ++ x ∷ [])) before x.at)
-        ≡ then_next x (cond b (Some (record { packet = packet e.input; at = e.at; own = own (channel (packet e.input)) L })) (open_among (e ∷ L) before x.at))
-    go true h ih = one_more_here e x L _ (is_own (channel (packet e.input)) x) refl h
-        (none_stays before [] (e ∷ (L ++ x ∷ [])) e.at x.at (omega arith, from_one L x e.at f le) le (l.1 (open_is_admitted e L x.at h)))
-    go false h ih =
-        cond_at (is_open e (L ++ x ∷ []) x.at) _ _ _
-        (λ y. let no : true ≡ false = sym (is_open_prefix e L (x ∷ []) x.at x.at (omega arith, tt) (omega arith) y) ∙ h in cc)
-        (λ _. ih)
+    let after = L ++ x ∷ [] in
+    bool_case (λ b. cond (is_open e after x.at) (Some (record { packet = packet e.input; at = e.at; own = own (channel (packet e.input)) after })) (open_among (e ∷ after) before x.at)
+    ≡ then_next x (cond b (Some (record { packet = packet e.input; at = e.at; own = own (channel (packet e.input)) L })) (open_among (e ∷ L) before x.at))) (is_open e L x.at)
+    (λ h. one_more_here e x L _ (is_own (channel (packet e.input)) x) refl h
+    (none_stays before [] (e ∷ after) e.at x.at (omega arith, from_one L x e.at f le) le (l.1 (open_is_admitted e L x.at h))))
+    (λ h. cond_at (is_open e after x.at) _ _ _
+    (λ y. let no : true ≡ false = sym (is_open_prefix e L (x ∷ []) x.at x.at (omega arith, tt) (omega arith) y) ∙ h in cc)
+    (λ _. one_more before (e ∷ L) x start l.2 (l.0, from_earlier L (end start before) e.at l.0 f) (omega (arith, l.0))))
 
 and_also : (a b : Bool) → b ≡ true → (a && b) ≡ a
 and_also a b h = grind arith

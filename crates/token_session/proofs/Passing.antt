@@ -4,6 +4,7 @@ use Rattle.std.proofs.lemmas.Bool.Decides.{nat_tests}
 use Rattle.hid_assemble.specs.Table.{Open}
 use Rattle.hid_assemble.specs.Assembly.{Assembly, is_overdue, still_open}
 use Rattle.authn_core.specs.Turn.{CoreState, waiting}
+use Rattle.token_session.proofs.Serve.{cond_case}
 use Rattle.token_session.specs.Replies.{error}
 use Rattle.token_session.specs.Machine.{State, Turn, time_passed, overdue_packets}
 use Rattle.token_session.specs.Events.{keepalive_due, keepalive_packets}
@@ -15,20 +16,13 @@ record Late (c : Option Open) (t x : ℕ) : Type 0 where
 late_at : (c : Option Open) (t x : ℕ) → Some x ≡ cond (is_overdue c t) (option_map (λ m. m.cid) c) None → Late c t x
 unfolding is_overdue
 late_at None t x h = cc
-late_at (Some m) t x h = go (nat_le (m.last + 500) t) refl h
-  where
-    go : (b : Bool) → nat_le (m.last + 500) t ≡ b → Some x ≡ cond b (Some m.cid) None → Late (Some m) t x
-    go true e h = record { late = e; packets = let same : m.cid ≡ x = cc in ap (λ y. error y 5) same }
-    go false e h = cc
+late_at (Some m) t x h =
+    cond_case (λ v. (Some x ≡ v → Late (Some m) t x)) (nat_le (m.last + 500) t) _ _ (λ e h. record { late = e; packets = let same : m.cid ≡ x = cc in ap (λ y. error y 5) same }) (λ _ h. cc) h
 
 in_time_at : (c : Option Open) (t : ℕ) → None ≡ cond (is_overdue c t) (option_map (λ m. m.cid) c) None → is_overdue c t ≡ false
 unfolding is_overdue
 in_time_at None t h = refl
-in_time_at (Some m) t h = go (nat_le (m.last + 500) t) h
-  where
-    go : (b : Bool) → None ≡ cond b (Some m.cid) None → b ≡ false
-    go true h = cc
-    go false h = refl
+in_time_at (Some m) t h = cond_case (λ v. (None ≡ v → nat_le (m.last + 500) t ≡ false)) (nat_le (m.last + 500) t) _ _ (λ _ h. cc) (λ e _. e) h
 
 -- the state, by the parts of a machine
 abbrev pub whole : ℕ → Assembly → CoreState → ℕ → State

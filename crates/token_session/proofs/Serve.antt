@@ -28,6 +28,11 @@ pub cond_case : {A : Type 0} (P : A → Type 0) (b : Bool) (x y : A) → (b ≡ 
 cond_case P true x y p q = p refl
 cond_case P false x y p q = q refl
 
+-- the same of two that go by one test
+pub cond_two : {A B : Type 0} (P : A → B → Type 0) (b : Bool) (x y : A) (u v : B) → (b ≡ true → P x u) → (b ≡ false → P y v) → P (cond b x y) (cond b u v)
+cond_two P true x y u v p q = p refl
+cond_two P false x y u v p q = q refl
+
 -- What a packet that came at t makes of the open message.
 abbrev pub new_open : ℕ → Option Begun → Option ℕ → ℕ → List ℕ → Input → Option Begun
 new_open g o w t p i =

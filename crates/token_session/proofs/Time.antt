@@ -2,7 +2,7 @@
 use Rattle.std.proofs.Common.{◌≡◌, ℕ, ◌+◌, ◌≤◌, Bool, true, false, cond, ◌&&◌, List, [], ◌∷◌, Option, Some, None, refl, ◌∙◌, ap, arith, nat_lt}
 use Rattle.std.proofs.lemmas.Bool.Decides.{nat_tests}
 use Rattle.authn_core.specs.Turn.{Start}
-use Rattle.token_session.proofs.Opens.{From, Lawful, from_earlier, none_stays, open_is_admitted}
+use Rattle.token_session.proofs.Opens.{bool_case, From, Lawful, from_earlier, none_stays, open_is_admitted}
 use Rattle.hid_packet.specs.Packet.{channel, message_length}
 use Rattle.token_session.specs.Inputs.{Judged, end, own, packet}
 use Rattle.token_session.specs.Messages.{Begun, goes_on, is_long, is_next, is_open, open_among, open_at}
@@ -38,16 +38,10 @@ unfolding open_among open_at
 later_open [] L start t u l f le lu = refl
 later_open (e ∷ before) L start t u l f le lu =
     ap (λ b. cond b (Some (record { packet = packet e.input; at = e.at; own = own (channel (packet e.input)) L })) (open_among (e ∷ L) before u)) (open_still e L t u lu)
-    ∙ go (is_open e L t) refl (later_open before (e ∷ L) start t u l.2 (l.0, from_earlier L (end start before) e.at l.0 f) (omega (arith, l.0)) lu)
-  where
-    here : Begun
-    here = record { packet = packet e.input; at = e.at; own = own (channel (packet e.input)) L }
-
-    go : (b : Bool) → is_open e L t ≡ b → open_among (e ∷ L) before u ≡ still u (open_among (e ∷ L) before t)
-        → cond (b && nat_lt u (last_at e.at (own (channel (packet e.input)) L) + 500)) (Some here) (open_among (e ∷ L) before u) ≡ still u (cond b (Some here) (open_among (e ∷ L) before t))
-    go true h ih = ap (λ v. cond (nat_lt u (last_at e.at (own (channel (packet e.input)) L) + 500)) (Some here) v)
-        (none_stays before [] (e ∷ L) e.at u (omega arith, f) (omega arith) (l.1 (open_is_admitted e L t h)))
-    go false h ih = ih
+    ∙ let here : Begun = record { packet = packet e.input; at = e.at; own = own (channel (packet e.input)) L } in
+    bool_case (λ b. cond (b && nat_lt u (last_at here.at here.own + 500)) (Some here) (open_among (e ∷ L) before u) ≡ still u (cond b (Some here) (open_among (e ∷ L) before t))) (is_open e L t)
+    (λ h. ap (λ v. cond (nat_lt u (last_at here.at here.own + 500)) (Some here) v) (none_stays before [] (e ∷ L) e.at u (omega arith, f) (omega arith) (l.1 (open_is_admitted e L t h))))
+    (λ _. later_open before (e ∷ L) start t u l.2 (l.0, from_earlier L (end start before) e.at l.0 f) (omega (arith, l.0)) lu)
 
 pub still_open : (h : List Judged) (start : Start) (u : ℕ) → Lawful start h → end start h ≤ u → open_at h u ≡ still u (open_at h (end start h))
 unfolding open_at
