@@ -22,7 +22,7 @@ late_at (Some m) t x h =
 in_time_at : (c : Option Open) (t : ℕ) → None ≡ cond (is_overdue c t) (option_map (λ m. m.cid) c) None → is_overdue c t ≡ false
 unfolding is_overdue
 in_time_at None t h = refl
-in_time_at (Some m) t h = cond_case (λ v. (None ≡ v → nat_le (m.last + 500) t ≡ false)) (nat_le (m.last + 500) t) _ _ (λ _ h. cc) (λ e _. e) h
+in_time_at (Some m) t h = cond_case (λ v. (None ≡ v → nat_le (m.last + 500) t ≡ false)) (nat_le (m.last + 500) t) (Some m.cid) None (λ _ h. cc) (λ e _. e) h
 
 -- the state, by the parts of a machine
 abbrev pub whole : ℕ → Assembly → CoreState → ℕ → State
