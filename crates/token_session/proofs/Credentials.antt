@@ -1,9 +1,7 @@
 -- The authenticator after a history is that of its events, so that the laws of its credentials hold of the history.
-use Rattle.std.proofs.Common.{◌≡◌, ℕ, ◌≤◌, max, nat_le, true, ◌&&◌, ◌==◌, List, [], ◌∷◌, ◌++◌, Option, Some, None, option_map, refl, sym, ◌∙◌, ap, subst, arith}
-use Rattle.std.proofs.lemmas.Bool.{and_parts}
+use Rattle.std.proofs.Common.{◌≡◌, ℕ, ◌≤◌, max, true, ◌&&◌, ◌==◌, List, [], ◌∷◌, ◌++◌, Option, Some, None, option_map, refl, sym, ◌∙◌, ap, subst, arith}
 use Rattle.hid_assemble.specs.Assembly.{Message}
 use Rattle.hid_assemble.specs.Table.{is_on}
-use Rattle.hid_packet.specs.declared.packet.Packet.{Packet as Packet64}
 use Rattle.hid_packet.specs.Commands.{CANCEL, INIT}
 use Rattle.hid_packet.specs.Packet.{channel, is_command, message_length}
 use Rattle.cred_table.specs.Rows.{Lawful}
@@ -17,14 +15,13 @@ use Rattle.token_session.specs.declared.input.Input.{Input}
 use Rattle.token_session.specs.declared.input.Input.TheVariants.{Packet}
 use Rattle.token_session.specs.declared.input.Timed.{Timed}
 use Rattle.token_session.specs.Inputs.{Judged, end, given}
-use Rattle.token_session.specs.Messages.{Begun, finished, finished_long, is_last, open_at}
-use Rattle.token_session.specs.History.{admits, core, event, judge, judged, packet_event}
+use Rattle.token_session.specs.Messages.{finished, open_at}
+use Rattle.token_session.specs.History.{core, event, judge, judged, packet_event}
 use Rattle.token_session.specs.Events.{event_core}
 use Rattle.token_session.specs.Replies.{request_event}
 use Rattle.token_session.specs.Law.{event_at}
 use Rattle.token_session.specs.Credentials.{step_of, steps}
-use Rattle.token_session.proofs.Serve.{cond_case, says_admitted}
-use Rattle.token_session.proofs.Continuing.{OpenGiven}
+use Rattle.token_session.proofs.Safety.{EventGiven, event_given, finished_given}
 use Rattle.token_session.proofs.Follows.{Good, good_judged, judged_at, safe_at}
 
 one_step : (start : CoreState) (at : ℕ) (e : Option Event) (past : List Step) → core_at start (step_of at e ++ past) ≡ event_core (core_at start past) at e
@@ -39,62 +36,23 @@ core_is start (e ∷ past) =
     ap (λ k. event_core k e.at (event_at start e past)) (core_is start past)
     ∙ sym (one_step (first_state start) e.at (event_at start e past) (steps start past))
 
--- A request comes only where no work waits.
-abbrev AsksIdle : Option ℕ → Option Event → Type 0
-AsksIdle work None = Unit {0}
-AsksIdle work (Some (Request cid bytes)) = work ≡ None
-AsksIdle work (Some e) = Unit {0}
-
-asks_idle : (work : Option ℕ) (e : Option Event) → work ≡ None → AsksIdle work e
-asks_idle work None h = tt
-asks_idle work (Some (Request cid bytes)) h = h
-asks_idle work (Some e) h = tt
-
--- what finishes a message comes where no work waits
-FinishesIdle : Option ℕ → Option Message → Type 0
-FinishesIdle work None = Unit {0}
-FinishesIdle work (Some m) = work ≡ None
-
-message_idle : (work : Option ℕ) (m : Option Message) → FinishesIdle work m → AsksIdle work (request_event m)
-unfolding FinishesIdle
-message_idle work None h = tt
-message_idle work (Some m) h = asks_idle work (request_event (Some m)) h
-
-long_idle : (g : ℕ) (o : Option Begun) (work : Option ℕ) (p : List ℕ) → OpenGiven g o work → FinishesIdle work (finished_long o p)
-unfolding FinishesIdle finished_long
-long_idle g None work p h = tt
-long_idle g (Some b) work p h = cond_case (FinishesIdle work) (is_last b p) _ _ (λ _. h.2) (λ _. tt)
-
-finished_idle : (g : ℕ) (o : Option Begun) (work : Option ℕ) (x : Packet64) → OpenGiven g o work → FinishesIdle work (finished o (admits g o work x.0) (Packet x))
-unfolding FinishesIdle finished
-finished_idle g o work x h =
-    cond_case (FinishesIdle work) (admits g o work x.0 && nat_le (message_length x.0) 57) _ _
-    (λ y. (says_admitted g o work x.0 (and_parts (admits g o work x.0) (nat_le (message_length x.0) 57) y).0).idle)
-    (λ _. long_idle g o work x.0 h)
-
-packet_idle : (work : Option ℕ) (m : Option Message) (p : List ℕ) → FinishesIdle work m → AsksIdle work (packet_event work m p)
-unfolding packet_event
-packet_idle work m p h =
-    cond_case (AsksIdle work) (is_command CANCEL p && is_on work (channel p)) _ _ (λ _. tt)
-    (λ _. cond_case (AsksIdle work) (is_command INIT p && (message_length p == 8) && is_on work (channel p)) _ _ (λ _. tt) (λ _. message_idle work m h))
-
 event_idle : (start : Start) (t : ℕ) (h : List Judged) (i : Input) → Good start h → end start h ≤ t
-    → AsksIdle (working (core start h)) (event_at start (judged_at start t h i) h)
+    → EventGiven (given h) (working (core start h)) (event_at start (judged_at start t h i) h)
 unfolding event
 event_idle start t h (Packet x) good le =
     let s = safe_at start t h good le in
-    packet_idle (working (core start h)) _ x.0 (finished_idle (given h) (open_at h t) (working (core start h)) x s.opens)
+    event_given (given h) (working (core start h)) _ x.0 (finished_given (given h) (open_at h t) (working (core start h)) x s.opens)
 event_idle start t h other good le = tt
 
 no_job : (w : Option Job) → option_map (λ (v : Work). v.cid) (option_map as_work w) ≡ None → w ≡ None
 no_job None h = refl
 no_job (Some job) h = cc
 
-one_orderly : (k : CoreState) (at : ℕ) (e : Option Event) (past : List Step) → AsksIdle (working (core_at k past)) e → Orderly k past → Orderly k (step_of at e ++ past)
+one_orderly : (g : ℕ) (k : CoreState) (at : ℕ) (e : Option Event) (past : List Step) → EventGiven g (working (core_at k past)) e → Orderly k past → Orderly k (step_of at e ++ past)
 unfolding Orderly
-one_orderly k at None past a o = o
-one_orderly k at (Some (Request cid bytes)) past a o = (no_job (core_at k past).state.work a, o)
-one_orderly k at (Some e) past a o = (tt, o)
+one_orderly g k at None past a o = o
+one_orderly g k at (Some (Request cid bytes)) past a o = (no_job (core_at k past).state.work a.2, o)
+one_orderly g k at (Some e) past a o = (tt, o)
 
 pub orderly : (start : Start) (h : List Timed) → Orderly (first_state start) (steps start (judged start h))
 unfolding judged judge steps Orderly
@@ -104,8 +62,8 @@ orderly start (x ∷ h) =
     let t = max (end start past) x.at in
     let le : end start past ≤ t = omega arith in
     let e = event_at start (judged_at start t past x.input) past in
-    one_orderly (first_state start) t e (steps start past)
-    (subst (λ k. AsksIdle (working k) e) (core_is start past) (event_idle start t past x.input (good_judged start h) le)) (orderly start h)
+    one_orderly (given past) (first_state start) t e (steps start past)
+    (subst (λ k. EventGiven (given past) (working k) e) (core_is start past) (event_idle start t past x.input (good_judged start h) le)) (orderly start h)
 
 first_ready : (start : Start) → Ready start.room (first_state start).state
 first_ready start = record { pending = tt; work = tt }

@@ -5,8 +5,8 @@ use Rattle.std.proofs.lemmas.Option.{same_Some}
 use Rattle.token_session.proofs.Serve.{new_open, cond_case, says_admitted, never_admitted, now_came, long_says, is_le, no_event, not_is, all_four}
 use Rattle.token_session.proofs.Continuing.{OpenGiven, Safe, own_more}
 use Rattle.token_session.proofs.Opens.{next}
-use Rattle.authn_core.proofs.Facts.{EventIsGiven, IsGiven, work_stays_given, presence_starts_none, key_starts_none, signature_starts_none}
-use Rattle.authn_core.specs.State.{Event, PresenceIs, KeyIs, SignatureIs}
+use Rattle.authn_core.proofs.Facts.{IsGiven, work_stays_given, presence_starts_none, key_starts_none, signature_starts_none}
+use Rattle.authn_core.specs.State.{Event, Request, PresenceIs, KeyIs, SignatureIs}
 use Rattle.authn_core.specs.Turn.{CoreState, working}
 use Rattle.hid_assemble.specs.Assembly.{Message}
 use Rattle.hid_assemble.specs.Table.{is_on}
@@ -21,34 +21,37 @@ use Rattle.token_session.specs.declared.input.Input.{Input}
 use Rattle.token_session.specs.declared.input.Input.TheVariants.{Packet, Presence, Key, Signature}
 use Rattle.hid_packet.specs.declared.packet.Packet.{Packet as Packet64}
 
-abbrev MessageGiven : ℕ → Option Message → Type 0
-MessageGiven g None = Unit {0}
-MessageGiven g (Some m) = (1 ≤ m.cid) × (m.cid ≤ g)
+-- a message is finished on a channel that was given out, where no work waits
+abbrev pub MessageGiven : ℕ → Option ℕ → Option Message → Type 0
+MessageGiven g w None = Unit {0}
+MessageGiven g w (Some m) = (1 ≤ m.cid) × (m.cid ≤ g) × (w ≡ None)
 
-abbrev SomeGiven : ℕ → Option Event → Type 0
-SomeGiven g None = Unit {0}
-SomeGiven g (Some e) = EventIsGiven g e
+-- a request comes on such a channel, where no work waits
+abbrev pub EventGiven : ℕ → Option ℕ → Option Event → Type 0
+EventGiven g w None = Unit {0}
+EventGiven g w (Some (Request cid bytes)) = (1 ≤ cid) × (cid ≤ g) × (w ≡ None)
+EventGiven g w (Some e) = Unit {0}
 
-request_given : (g : ℕ) (m : Option Message) → MessageGiven g m → SomeGiven g (request_event m)
-request_given g None h = tt
-request_given g (Some m) h = cond_case (SomeGiven g) (m.cmd == 16) _ _ (λ _. h) (λ _. tt)
+request_given : (g : ℕ) (w : Option ℕ) (m : Option Message) → MessageGiven g w m → EventGiven g w (request_event m)
+request_given g w None h = tt
+request_given g w (Some m) h = cond_case (EventGiven g w) (m.cmd == 16) _ _ (λ _. h) (λ _. tt)
 
-event_given : (g : ℕ) (w : Option ℕ) (m : Option Message) (p : List ℕ) → MessageGiven g m → SomeGiven g (packet_event w m p)
+pub event_given : (g : ℕ) (w : Option ℕ) (m : Option Message) (p : List ℕ) → MessageGiven g w m → EventGiven g w (packet_event w m p)
 unfolding packet_event
 event_given g w m p h =
-    cond_case (SomeGiven g) (is_command CANCEL p && is_on w (channel p)) _ _ (λ _. tt)
-    (λ _. cond_case (SomeGiven g) (is_command INIT p && (message_length p == 8) && is_on w (channel p)) _ _ (λ _. tt) (λ _. request_given g m h))
+    cond_case (EventGiven g w) (is_command CANCEL p && is_on w (channel p)) _ _ (λ _. tt)
+    (λ _. cond_case (EventGiven g w) (is_command INIT p && (message_length p == 8) && is_on w (channel p)) _ _ (λ _. tt) (λ _. request_given g w m h))
 
-long_given : (g : ℕ) (o : Option Begun) (w : Option ℕ) (p : List ℕ) → OpenGiven g o w → MessageGiven g (finished_long o p)
+long_given : (g : ℕ) (o : Option Begun) (w : Option ℕ) (p : List ℕ) → OpenGiven g o w → MessageGiven g w (finished_long o p)
 unfolding finished_long
 long_given g None w p h = tt
-long_given g (Some b) w p h = cond_case (MessageGiven g) (is_last b p) _ _ (λ _. (h.0, h.1)) (λ _. tt)
+long_given g (Some b) w p h = cond_case (MessageGiven g w) (is_last b p) _ _ (λ _. h) (λ _. tt)
 
-finished_given : (g : ℕ) (o : Option Begun) (w : Option ℕ) (x : Packet64) → OpenGiven g o w → MessageGiven g (finished o (admits g o w x.0) (Packet x))
+pub finished_given : (g : ℕ) (o : Option Begun) (w : Option ℕ) (x : Packet64) → OpenGiven g o w → MessageGiven g w (finished o (admits g o w x.0) (Packet x))
 unfolding finished
 finished_given g o w x h =
-    cond_case (MessageGiven g) (admits g o w x.0 && nat_le (message_length x.0) 57) _ _
-    (λ y. let a = says_admitted g o w x.0 (and_parts (admits g o w x.0) (nat_le (message_length x.0) 57) y).0 in (a.low, a.high))
+    cond_case (MessageGiven g w) (admits g o w x.0 && nat_le (message_length x.0) 57) _ _
+    (λ y. let a = says_admitted g o w x.0 (and_parts (admits g o w x.0) (nat_le (message_length x.0) 57) y).0 in (a.low, a.high, a.idle))
     (λ _. long_given g o w x.0 h)
 
 -- The event of a packet leaves work on a channel that was given.
@@ -57,9 +60,10 @@ pub packet_works : (g : ℕ) (o : Option Begun) (k : CoreState) (t : ℕ) (x : P
 packet_works g o k t x s =
     go (packet_event (working k) (finished o (admits g o (working k) x.0) (Packet x)) x.0) (event_given g (working k) _ x.0 (finished_given g o (working k) x s.opens))
   where
-    go : (e : Option Event) → SomeGiven g e → IsGiven g (working (event_core k t e))
+    go : (e : Option Event) → EventGiven g (working k) e → IsGiven g (working (event_core k t e))
     go None h = s.works
-    go (Some e) h = work_stays_given g k t e s.works h
+    go (Some (Request cid bytes)) h = work_stays_given g k t (Request cid bytes) s.works (h.0, h.1)
+    go (Some e) h = work_stays_given g k t e s.works tt
 
 -- Where a message is open after a packet, the packet is no event, and no work waits.
 no_work_event : (p : List ℕ) → packet_event None None p ≡ None
