@@ -4,7 +4,7 @@ use Rattle.std.proofs.lemmas.Bool.Decides.{nat_tests}
 use Rattle.ctap_message.specs.Answers.{info_answer}
 use Rattle.ctap_message.specs.Asked.{GetInfo}
 use Rattle.ctap_message.specs.Requests.{read_of}
-use Rattle.authn_core.specs.State.{Event, Request}
+use Rattle.authn_core.specs.State.{Request}
 use Rattle.authn_core.specs.Turn.{Start, working, waiting}
 use Rattle.authn_core.proofs.Facts.{info_answered}
 use Rattle.hid_assemble.specs.Table.{Begins, Continues, Open, Ruling, is_given, ruling_of}

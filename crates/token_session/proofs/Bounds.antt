@@ -1,5 +1,5 @@
 -- At most one message is open, and how much is held of it.
-use Rattle.std.proofs.Common.{◌≡◌, ℕ, ◌+◌, ◌-◌, ◌*◌, ◌≤◌, ◌<◌, min, sum_by, Bool, true, false, cond, ◌&&◌, List, [], ◌∷◌, length, Option, Some, None, option_to_list, refl, ap, arith, nat_lt}
+use Rattle.std.proofs.Common.{◌≡◌, ℕ, ◌+◌, ◌-◌, ◌*◌, ◌≤◌, ◌<◌, min, sum_by, true, cond, ◌&&◌, List, [], ◌∷◌, length, Option, Some, None, option_to_list, refl, ap, arith, nat_lt}
 use Rattle.std.proofs.lemmas.Bool.{and_parts}
 use Rattle.std.specs.Prelude.{unwrap_or, option_map}
 use Rattle.std.proofs.lemmas.Bool.Decides.{nat_tests}

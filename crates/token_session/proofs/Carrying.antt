@@ -1,5 +1,5 @@
 -- A finished message is carried by its initialization packet and its channel's own packets.
-use Rattle.std.proofs.Common.{◌≡◌, ℕ, ◌+◌, ◌*◌, ◌≤◌, ◌==◌, Bool, true, false, cond, ◌&&◌, not, inl, inr, List, [], ◌∷◌, ◌++◌, length, take, drop, filter, flat_map, refl, sym, ◌∙◌, ap, subst, arith, Option, Some, None, max, nat_le, nat_lt, length-append, length-drop, length-take}
+use Rattle.std.proofs.Common.{◌≡◌, ℕ, ◌+◌, ◌*◌, ◌≤◌, ◌==◌, Bool, true, false, ◌&&◌, not, inl, inr, List, [], ◌∷◌, ◌++◌, length, take, drop, flat_map, refl, sym, ◌∙◌, ap, subst, arith, Option, Some, None, max, nat_le, nat_lt, length-append, length-drop, length-take}
 use Rattle.std.proofs.lemmas.Bool.{and_parts}
 use Rattle.std.proofs.lemmas.Bool.Decides.{nat_tests}
 use Rattle.std.proofs.lemmas.List.{length-map}
@@ -14,7 +14,7 @@ use Rattle.hid_packet.specs.Carries.{Carries, CarriesMessage, Continue, joined}
 use Rattle.hid_packet.specs.Commands.{CANCEL}
 use Rattle.hid_packet.specs.Packet.{channel, command, continuation_data, initialization_data, is_command, is_initialization, message_length, sequence}
 use Rattle.token_session.specs.Inputs.{Judged, end, is_own, is_packet, own, packet}
-use Rattle.token_session.specs.Messages.{finished_at, Begun, finished, finished_long, goes_on, is_last, is_long, is_next, is_open, message, open_among, open_at, packets_of}
+use Rattle.token_session.specs.Messages.{finished_at, Begun, finished, finished_long, goes_on, is_last, is_long, is_next, is_open, open_among, open_at, packets_of}
 use Rattle.token_session.specs.History.{admits, judge, judged}
 use Rattle.token_session.specs.declared.input.Input.{Input}
 use Rattle.token_session.specs.declared.input.Input.TheVariants.{Packet}

@@ -1,9 +1,5 @@
 -- The authenticator after a history is that of its events, so that the laws of its credentials hold of the history.
-use Rattle.std.proofs.Common.{◌≡◌, ℕ, ◌≤◌, max, true, ◌&&◌, ◌==◌, List, [], ◌∷◌, ◌++◌, Option, Some, None, option_map, refl, sym, ◌∙◌, ap, subst, arith}
-use Rattle.hid_assemble.specs.Assembly.{Message}
-use Rattle.hid_assemble.specs.Table.{is_on}
-use Rattle.hid_packet.specs.Commands.{CANCEL, INIT}
-use Rattle.hid_packet.specs.Packet.{channel, is_command, message_length}
+use Rattle.std.proofs.Common.{◌≡◌, ℕ, ◌≤◌, max, true, List, [], ◌∷◌, ◌++◌, Option, Some, None, option_map, refl, sym, ◌∙◌, ap, subst, arith}
 use Rattle.cred_table.specs.Rows.{Lawful}
 use Rattle.cred_table.specs.Waiting.{pending_count}
 use Rattle.authn_core.specs.State.{Job, Event, Request}
@@ -15,10 +11,9 @@ use Rattle.token_session.specs.declared.input.Input.{Input}
 use Rattle.token_session.specs.declared.input.Input.TheVariants.{Packet}
 use Rattle.token_session.specs.declared.input.Timed.{Timed}
 use Rattle.token_session.specs.Inputs.{Judged, end, given}
-use Rattle.token_session.specs.Messages.{finished, open_at}
-use Rattle.token_session.specs.History.{core, event, judge, judged, packet_event}
+use Rattle.token_session.specs.Messages.{open_at}
+use Rattle.token_session.specs.History.{core, event, judge, judged}
 use Rattle.token_session.specs.Events.{event_core}
-use Rattle.token_session.specs.Replies.{request_event}
 use Rattle.token_session.specs.Law.{event_at}
 use Rattle.token_session.specs.Credentials.{step_of, steps}
 use Rattle.token_session.proofs.Safety.{EventGiven, event_given, finished_given}

@@ -1,12 +1,12 @@
 -- Time passes: a message is given up, or the authenticator may send a KEEPALIVE.
-use Rattle.std.proofs.Common.{◌≡◌, ℕ, ◌+◌, ◌-◌, ◌≤◌, ◌<◌, Bool, true, false, cond, List, [], Option, Some, None, option_map, refl, ap, nat_le, arith}
+use Rattle.std.proofs.Common.{◌≡◌, ℕ, ◌+◌, ◌-◌, ◌≤◌, ◌<◌, true, false, cond, [], Option, Some, None, option_map, refl, ap, nat_le, arith}
 use Rattle.std.proofs.lemmas.Bool.Decides.{nat_tests}
 use Rattle.hid_assemble.specs.Table.{Open}
 use Rattle.hid_assemble.specs.Assembly.{Assembly, is_overdue, still_open}
 use Rattle.authn_core.specs.Turn.{CoreState, waiting}
 use Rattle.token_session.proofs.Serve.{cond_case}
 use Rattle.token_session.specs.Replies.{error}
-use Rattle.token_session.specs.Machine.{State, Turn, time_passed, overdue_packets}
+use Rattle.token_session.specs.Machine.{State, time_passed, overdue_packets}
 use Rattle.token_session.specs.Events.{keepalive_due, keepalive_packets}
 
 record Late (c : Option Open) (t x : ℕ) : Type 0 where

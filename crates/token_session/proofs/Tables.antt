@@ -1,6 +1,6 @@
 -- What a row sends, by its packet as a history has it, is what the verdict on the packet sends.
-use Rattle.std.proofs.Common.{◌≡◌, ℕ, Bool, true, false, cond, not, ◌&&◌, ◌==◌, nat_lt, List, [], ◌++◌, append-nil, ◌+◌, length, take, Option, Some, None, option_map, refl, ap}
-use Rattle.hid_assemble.specs.Assembly.{Message, bytes_of, message_after}
+use Rattle.std.proofs.Common.{◌≡◌, ℕ, Bool, true, false, cond, not, ◌&&◌, ◌==◌, nat_lt, List, [], ◌++◌, append-nil, ◌+◌, length, take, Option, Some, None, option_map, refl}
+use Rattle.hid_assemble.specs.Assembly.{bytes_of, message_after}
 use Rattle.hid_assemble.specs.Table.{Begins, Continues, Open, Ruling, initialization_row, continuation_row, is_on, ruling_of}
 use Rattle.hid_assemble.specs.Verdicts.{ruling_verdict}
 use Rattle.hid_assemble.specs.declared.table.Row.{Row}

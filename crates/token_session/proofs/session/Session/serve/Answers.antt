@@ -1,7 +1,6 @@
-use Rattle.std.proofs.Common.{◌≡◌, Bool, List, ℕ, ◌++◌, ◌+◌, ◌≤◌, cond, length, append-nil, Option, None, Some, IfSome, min, refl, subst, sym, ap, ◌∙◌}
+use Rattle.std.proofs.Common.{◌≡◌, Bool, List, ℕ, ◌++◌, ◌+◌, ◌≤◌, cond, length, append-nil, Some, IfSome, min, refl, subst, sym, ap, ◌∙◌}
 use Rattle.hid_packet.specs.declared.limit.TheConstants.{LONGEST_MESSAGE}
 use Rattle.ctap_message.specs.Requests.{steps_of, LARGEST}
-use Rattle.authn_core.specs.State.{Event}
 use Rattle.authn_core.specs.Views.{event_of}
 use Rattle.token_session.specs.Effects.{request_in}
 use Rattle.token_session.specs.Meters.{AreBounded, SessionState, counted}
