@@ -1,5 +1,5 @@
 -- One input sends at most 130 packets.
-use Rattle.std.proofs.Common.{◌∙◌, ◌≡◌, ℕ, ◌≤◌, ◌==◌, Bool, true, false, cond, suc, List, [], ◌∷◌, ◌++◌, append-nil, length, max, Option, Some, None, refl, ap, arith, length-append}
+use Rattle.std.proofs.Common.{◌∙◌, ◌≡◌, ℕ, ◌≤◌, ◌==◌, Bool, true, false, cond, not, ◌&&◌, suc, List, [], ◌∷◌, ◌++◌, append-nil, length, max, Option, Some, None, refl, ap, arith, length-append}
 use Rattle.std.proofs.lemmas.List.{drop_all}
 use Rattle.hid_packet.proofs.Carrying.{few_written}
 use Rattle.token_session.proofs.Serve.{cond_case, is_eq}
@@ -15,7 +15,7 @@ use Rattle.hid_assemble.specs.declared.verdict.Verdict.TheVariants.{Ignored as U
 use Rattle.token_session.specs.Effects.{verdict_event, verdict_packets}
 use Rattle.hid_packet.specs.Commands.{CBOR, ERROR, INIT, KEEPALIVE, PING}
 use Rattle.hid_packet.specs.Message.{continuation_packets, written}
-use Rattle.token_session.specs.Machine.{State, Turn, overdue_packets, time_passed, served, turn}
+use Rattle.token_session.specs.Machine.{State, overdue_packets, time_passed, served, turn}
 use Rattle.token_session.specs.Events.{reply_in, event_packets, keepalive_due, keepalive_packets}
 use Rattle.token_session.specs.Replies.{answer_packets, asker, greeting, status_of}
 use Rattle.token_session.specs.declared.input.Input.{Input}
@@ -84,8 +84,8 @@ keepalive_few (Some w) = one_packet w.cid KEEPALIVE (w.status ∷ []) (omega ari
 
 pub time_few : (s : State) (t : ℕ) → length (time_passed s t).packets ≤ 1
 unfolding time_passed
-time_few s t = cond_case (λ (v : Turn). length v.packets ≤ 1) (is_overdue s.current t) _ _ (λ _. overdue_few s.current)
-    (λ _. cond_case (λ (v : Turn). length v.packets ≤ 1) (keepalive_due (waiting s.core) s.keepalive_at t) _ _ (λ _. keepalive_few (waiting s.core)) (λ _. omega arith))
+time_few s t = cond_case (λ (v : List (List ℕ)). length v ≤ 1) (is_overdue s.current t) _ _ (λ _. overdue_few s.current)
+    (λ _. cond_case (λ (v : List (List ℕ)). length v ≤ 1) (not (is_overdue s.current t) && keepalive_due (waiting s.core) s.keepalive_at t) _ _ (λ _. keepalive_few (waiting s.core)) (λ _. omega arith))
 
 below : (a b : List (List ℕ)) → length a ≤ 1 → length b ≤ 129 → length (a ++ b) ≤ 130
 below a b h k = omega (arith, length-append a b)

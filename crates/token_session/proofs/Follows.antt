@@ -46,29 +46,22 @@ timed g o u k keepalive_at t = record {
   event = None;
 }
 
-pass_both : (b : Bool) (g t keepalive_at : ℕ) (c : Option Open) (k : CoreState)
-    → ◌≡◌ {A = Turn} (cond b (record { state = record { now = t; given = g; current = c; core = k; keepalive_at = t }; packets = keepalive_packets (waiting k); event = None })
-    (record { state = record { now = t; given = g; current = c; core = k; keepalive_at = keepalive_at }; packets = []; event = None }))
-    (record { state = record { now = t; given = g; current = c; core = k; keepalive_at = cond b t keepalive_at }; packets = cond b (keepalive_packets (waiting k)) []; event = None })
-pass_both true g t keepalive_at c k = refl
-pass_both false g t keepalive_at c k = refl
-
 not_below : (a b : ℕ) → nat_le a b ≡ not (nat_lt b a)
 not_below a b = grind (arith, nat_tests)
 
-pass_open : (v : Bool) (g t keepalive_at : ℕ) (b : Begun) (k : CoreState)
-    → ◌≡◌ {A = Turn} (cond (not v) (record { state = record { now = t; given = g; current = None; core = k; keepalive_at = keepalive_at }; packets = overdue_packets (Some (as_open b)); event = None })
-    (cond (keepalive_due (waiting k) keepalive_at t) (record { state = record { now = t; given = g; current = Some (as_open b); core = k; keepalive_at = t }; packets = keepalive_packets (waiting k); event = None })
-    (record { state = record { now = t; given = g; current = Some (as_open b); core = k; keepalive_at = keepalive_at }; packets = []; event = None })))
-    (timed g (Some b) (cond v (Some b) None) k keepalive_at t)
-pass_open true g t keepalive_at b k = pass_both (keepalive_due (waiting k) keepalive_at t) g t keepalive_at (Some (as_open b)) k
-pass_open false g t keepalive_at b k = refl
-
 pass_named : (now g t keepalive_at : ℕ) (o : Option Begun) (k : CoreState) → time_passed (record { now = now; given = g; current = option_map as_open o; core = k; keepalive_at = keepalive_at }) t ≡ timed g o (still t o) k keepalive_at t
 unfolding time_passed is_overdue
-pass_named now g t keepalive_at None k = pass_both (keepalive_due (waiting k) keepalive_at t) g t keepalive_at None k
+pass_named now g t keepalive_at None k = refl
 pass_named now g t keepalive_at (Some b) k =
-    rw (not_below (last_at b.at b.own + 500) t) (pass_open (nat_lt t (last_at b.at b.own + 500)) g t keepalive_at b k)
+    rw (not_below (last_at b.at b.own + 500) t) (pass_open (nat_lt t (last_at b.at b.own + 500)))
+  where
+    pass_open : (v : Bool) → ◌≡◌ {A = Turn} (record {
+      state = record { now = t; given = g; current = cond (not v) None (Some (as_open b)); core = k; keepalive_at = cond (not (not v) && keepalive_due (waiting k) keepalive_at t) t keepalive_at };
+      packets = cond (not v) (overdue_packets (Some (as_open b))) (cond (not (not v) && keepalive_due (waiting k) keepalive_at t) (keepalive_packets (waiting k)) []);
+      event = None;
+    }) (timed g (Some b) (cond v (Some b) None) k keepalive_at t)
+    pass_open true = refl
+    pass_open false = refl
 
 -- What holds after every history.
 pub record Good (start : Start) (h : List Judged) : Type 0 where

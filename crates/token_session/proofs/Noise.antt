@@ -5,7 +5,7 @@ use Rattle.hid_packet.specs.Packet.{Fields, fields}
 use Rattle.hid_assemble.specs.declared.table.Row.TheVariants.{CancelsNothing, NoSuchChannel, BusyElsewhere, BusyHere}
 use Rattle.hid_assemble.specs.declared.table.Continuation.TheVariants.{Stray}
 use Rattle.hid_assemble.specs.Table.{Open, Ruling, Begins, Continues, ruling_of, is_noise}
-use Rattle.hid_assemble.specs.Assembly.{Assembly, accepted, bytes_of, given_after, is_overdue, still_open, held_bytes, open_after, message_after}
+use Rattle.hid_assemble.specs.Assembly.{Assembly, accepted, bytes_of, given_after, still_open, held_bytes, open_after, message_after}
 use Rattle.hid_assemble.specs.Verdicts.{ruling_verdict, verdict}
 use Rattle.cred_table.specs.Waiting.{pending_count}
 use Rattle.authn_core.specs.State.{Event, PresenceIs, KeyIs, SignatureIs, Ignored, Turned}
@@ -16,7 +16,6 @@ use Rattle.token_session.specs.declared.input.Input.TheVariants.{Packet, Tick, P
 use Rattle.token_session.specs.declared.input.Timed.{Timed}
 use Rattle.token_session.specs.Replies.{asker, status_of}
 use Rattle.token_session.specs.Effects.{request_in, verdict_event, verdict_packets}
-use Rattle.token_session.specs.Events.{keepalive_due}
 use Rattle.token_session.specs.Machine.{State, Turn, answer_keeps_alive, turn, time_passed, served, happens}
 use Rattle.token_session.specs.Inputs.{Judged, end, given}
 use Rattle.token_session.specs.Messages.{open_at, as_open}
@@ -89,29 +88,13 @@ pub noise_leaves : (s : State) (x : Timed) → is_noise_at s x ≡ true → Leav
 unfolding turn is_noise_at
 noise_leaves s x h = served_leaves (time_passed s (max s.now x.at)).state (time_passed s (max s.now x.at)).packets x.input h
 
--- What noise is judged by, when time has passed: the same, less an overdue message.
-abbrev Sees : State → Input → State → Option Open → Type 0
-Sees s i u o = is_noise_to u i ≡ is_noise_among s.given o s.core i
-
-passed_sees : (s : State) (at : ℕ) (i : Input) → is_noise_to (time_passed s at).state i ≡ is_noise_among s.given (still_open s.current at) s.core i
-unfolding time_passed
-passed_sees s at i = by_time (is_overdue s.current at) (keepalive_due (waiting s.core) s.keepalive_at at) _ _ _ refl refl refl
-  where
-    by_time : (late due : Bool) (a b c : Turn) → Sees s i a.state None → Sees s i b.state s.current → Sees s i c.state s.current
-        → Sees s i (cond late a (cond due b c)).state (cond late None s.current)
-    by_time true due a b c x y z = x
-    by_time false true a b c x y z = y
-    by_time false false a b c x y z = z
-
 -- whether an input is noise, by the parts of a session when time has passed
 pub noise_now : (s : State) (latest keepalive_at at now : ℕ) (a : Assembly) (k : CoreState) (i : Input) (answer : Bool)
     → record { now = latest; given = a.given; current = a.current; core = k; keepalive_at = keepalive_at } ≡ s → now ≡ max latest at
     → answer ≡ is_noise_among a.given (still_open a.current now) k i → answer ≡ is_noise_at s (record { at = at; input = i })
-unfolding is_noise_at
+unfolding is_noise_at time_passed
 noise_now s latest keepalive_at at now a k i answer is moment told =
-    told ∙ ap (λ n. is_noise_among a.given (still_open a.current n) k i) moment
-    ∙ sym (passed_sees (record { now = latest; given = a.given; current = a.current; core = k; keepalive_at = keepalive_at }) (max latest at) i)
-    ∙ ap (λ v. is_noise_at v (record { at = at; input = i })) is
+    told ∙ ap (λ n. is_noise_among a.given (still_open a.current n) k i) moment ∙ ap (λ v. is_noise_at v (record { at = at; input = i })) is
 
 -- To a session, noise is a tick.
 pub noise_steps : (s : SessionState) (x : Timed) → is_noise_at s.machine x ≡ true → stepped s x ≡ stepped s (tick_at x.at)

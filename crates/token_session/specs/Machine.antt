@@ -1,8 +1,8 @@
 -- The composed turn: the transport and the authenticator together, as a state and what an input makes of it. It knows
 -- no history.
-use Rattle.std.specs.Prelude.{ℕ, Bool, false, not, List, [], ◌∷◌, ◌++◌, max, Option, Some, None, if◌then◌else◌}
+use Rattle.std.specs.Prelude.{ℕ, Bool, false, not, ◌&&◌, List, [], ◌∷◌, ◌++◌, max, Option, Some, None, if◌then◌else◌}
 use Rattle.hid_assemble.specs.Table.{Open, is_on}
-use Rattle.hid_assemble.specs.Assembly.{Assembly, is_overdue}
+use Rattle.hid_assemble.specs.Assembly.{Assembly, is_overdue, still_open}
 use Rattle.authn_core.specs.State.{Answer, Event, Waits}
 use Rattle.authn_core.specs.Turn.{Start, CoreState, core_answer, working, first_state, waiting}
 use Rattle.token_session.specs.Replies.{error, asker, status_of}
@@ -34,15 +34,14 @@ overdue_packets (Some m) = error m.cid 0x05
 -- Time passes to a moment that is no earlier than the latest.
 unfoldable pub time_passed : State → ℕ → Turn
 time_passed s at =
-    if is_overdue s.current at
-    then record { state = record s { now = at; current = None }; packets = overdue_packets s.current; event = None }
-    else if keepalive_due (waiting s.core) s.keepalive_at at
-    then record {
-      state = record s { now = at; keepalive_at = at };
-      packets = keepalive_packets (waiting s.core);
+    let late = is_overdue s.current at in
+    let due = not late && keepalive_due (waiting s.core) s.keepalive_at at in
+    let since = if due then at else s.keepalive_at in
+    record {
+      state = record s { now = at; current = still_open s.current at; keepalive_at = since };
+      packets = if late then overdue_packets s.current else if due then keepalive_packets (waiting s.core) else [];
       event = None;
     }
-    else record { state = record s { now = at }; packets = []; event = None }
 
 -- Whether an answer sends a KEEPALIVE.
 unfoldable pub answer_keeps_alive : Option ℕ → Option ℕ → Answer → Bool
