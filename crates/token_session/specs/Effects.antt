@@ -1,5 +1,5 @@
 -- What a verdict sends and hands to the authenticator, and the request that an event is (CTAP 2.1, section 11.2.9).
-use Rattle.std.specs.Prelude.{ℕ, ◌==◌, List, [], Option, Some, None, if◌then◌else◌}
+use Rattle.std.specs.Prelude.{ℕ, ◌==◌, List, [], Option, Some, None, option_map, if◌then◌else◌}
 use Rattle.hid_packet.specs.Commands.{PING, CBOR}
 use Rattle.hid_packet.specs.Message.{written}
 use Rattle.hid_packet.specs.Packet.{fields}
@@ -9,6 +9,7 @@ use Rattle.hid_assemble.specs.Codes.{code_number}
 use Rattle.hid_assemble.specs.declared.verdict.Verdict.{Verdict}
 use Rattle.hid_assemble.specs.declared.verdict.Verdict.TheVariants.{Ignored, Kept, Finished, Refuse, Greet, GreetAndDrop, CancelWork}
 use Rattle.authn_core.specs.State.{Event, Request, Cancel, Drop}
+use Rattle.authn_core.specs.Turn.{Work}
 use Rattle.token_session.specs.Replies.{error, greeting}
 use Rattle.token_session.specs.Events.{reply_in}
 use Rattle.token_session.specs.declared.input.Input.{Input}
@@ -32,6 +33,10 @@ verdict_event (Refuse cid code) bytes = None
 verdict_event (Greet on cid nonce) bytes = None
 verdict_event (GreetAndDrop on cid nonce) bytes = Some Drop
 verdict_event CancelWork bytes = Some Cancel
+
+-- the channel of waiting work
+abbrev pub channel_of : Option Work → Option ℕ
+channel_of work = option_map (λ (w : Work). w.cid) work
 
 -- What the transport makes of an input: a verdict on a packet. It lets every other input be.
 abbrev pub input_verdict : Assembly → Option ℕ → Input → Verdict

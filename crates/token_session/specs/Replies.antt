@@ -52,14 +52,10 @@ request_event (Some m) = if m.cmd == CBOR then Some (Request m.cid m.bytes) else
 abbrev pub status_of : Option Work → Option ℕ
 status_of work = option_map (λ w. w.status) work
 
--- its channel
-abbrev pub channel_of : Option Work → Option ℕ
-channel_of work = option_map (λ w. w.cid) work
-
 -- where an answer goes
 abbrev pub asker : Option Work → Event → Option ℕ
 asker work (Request cid bytes) = Some cid
-asker work e = channel_of work
+asker work e = option_map (λ w. w.cid) work
 
 -- Work that begins, or changes its status, sends a KEEPALIVE.
 unfoldable pub answer_packets : Option ℕ → Option ℕ → Answer → List (List ℕ)

@@ -2,20 +2,19 @@
 //! turn.
 ghost use Rattle.std.specs.Prelude.{◌≡◌, ◌+◌, ◌≤◌, ◌++◌, length, option_map};
 ghost use Rattle.hid_assemble.specs.Assembly.{still_open};
-ghost use Rattle.hid_assemble.specs.Codes.{code_number};
-ghost use Rattle.authn_core.specs.Views.{answer_of, event_of, status_number, work_of};
-ghost use Rattle.token_session.specs.Replies.{answer_packets, asker, channel_of, error, greeting, keepalive, status_of};
+ghost use Rattle.authn_core.specs.Views.{answer_of, event_of, work_of};
+ghost use Rattle.token_session.specs.Replies.{answer_packets, asker, status_of};
 ghost use Rattle.token_session.specs.Machine.{answer_keeps_alive};
 ghost use Rattle.token_session.specs.Noise.{is_noise_among};
-ghost use Rattle.token_session.specs.Effects.{assembly_after, input_event, input_verdict, verdict_packets};
+ghost use Rattle.token_session.specs.Effects.{assembly_after, channel_of, input_event, input_verdict, verdict_packets};
 ghost use Rattle.hid_packet.specs.declared.limit.TheConstants.{LONGEST_MESSAGE, OUTBOX_CAPACITY};
 
 use crate::input::Input;
 use arrayvec::ArrayVec;
-use authn_core::{Core, Event, KeepaliveStatus, Turn, Work};
+use authn_core::{Core, Event, Turn, Work};
 use byteorder::{BigEndian, ByteOrder};
 use cred_table::Store;
-use hid_assemble::{Assembler, ErrorCode, Verdict};
+use hid_assemble::{Assembler, Verdict};
 use hid_packet::Outbox;
 use hid_packet::command::{CBOR, ERROR, INIT, KEEPALIVE, PING};
 

@@ -2,9 +2,8 @@ use Rattle.std.proofs.Common.{◌≡◌, Bool, List, ℕ, ◌++◌, ◌+◌, ◌
 use Rattle.hid_packet.specs.declared.limit.TheConstants.{LONGEST_MESSAGE}
 use Rattle.ctap_message.specs.Requests.{steps_of, LARGEST}
 use Rattle.authn_core.specs.Views.{event_of}
-use Rattle.token_session.specs.Effects.{request_in}
+use Rattle.token_session.specs.Effects.{channel_of, request_in}
 use Rattle.token_session.specs.Meters.{AreBounded, SessionState, counted}
-use Rattle.token_session.specs.Replies.{channel_of}
 use Rattle.token_session.proofs.Metering.{counted_bounded}
 use Rattle.token_session.proofs.Serving.{is_served, input_few}
 use Rattle.token_session.proofs.Turning.{taken, taken_keeps, taken_packets}
