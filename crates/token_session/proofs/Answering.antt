@@ -17,9 +17,8 @@ use Rattle.hid_packet.specs.declared.packet.Packet.{Packet as Packet64}
 use Rattle.hid_packet.specs.Message.{written}
 use Rattle.hid_packet.specs.Packet.{Fields, fields}
 use Rattle.token_session.specs.Inputs.{Judged, end, given}
-use Rattle.token_session.specs.Messages.{finished_at, finished, open_at}
+use Rattle.token_session.specs.Messages.{finished_at, finished, open_at, as_open}
 use Rattle.token_session.specs.History.{admits, core, event, judge, judged, packet_event, service_packets, table_packets}
-use Rattle.token_session.specs.Messages.{as_open}
 use Rattle.token_session.specs.Effects.{verdict_event, verdict_packets}
 use Rattle.hid_assemble.specs.Verdicts.{ruling_verdict}
 use Rattle.hid_assemble.specs.declared.verdict.Verdict.{Verdict}

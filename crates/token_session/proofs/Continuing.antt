@@ -11,9 +11,8 @@ use Rattle.hid_assemble.specs.Assembly.{Message, grown, message_after, open_afte
 use Rattle.hid_assemble.specs.declared.table.Continuation.TheVariants.{Kept, Stray, Whole, WrongNumber}
 use Rattle.hid_packet.specs.Packet.{channel, continuation_data, fields, initialization_data, is_initialization, message_length, sequence}
 use Rattle.token_session.specs.Inputs.{Judged, asks_channel, is_own, packet}
-use Rattle.token_session.specs.Messages.{Begun, finished, finished_long, is_last, is_next, packets_of}
+use Rattle.token_session.specs.Messages.{Begun, finished, finished_long, is_last, is_next, packets_of, as_open, last_at}
 use Rattle.token_session.specs.History.{admits, packet_event}
-use Rattle.token_session.specs.Messages.{as_open, last_at}
 use Rattle.hid_assemble.specs.Verdicts.{ruling_verdict}
 use Rattle.token_session.specs.Replies.{request_event}
 use Rattle.token_session.specs.declared.input.Input.TheVariants.{Packet}

@@ -12,12 +12,11 @@ use Rattle.token_session.proofs.Safety.{packet_works, packet_alone, reply_works,
 use Rattle.authn_core.proofs.Facts.{IsGiven}
 use Rattle.authn_core.specs.State.{Event}
 use Rattle.authn_core.specs.Turn.{Start, CoreState, Work, working, waiting}
-use Rattle.hid_assemble.specs.Table.{Open}
+use Rattle.hid_assemble.specs.Table.{Open, LAST_CHANNEL, ruling_of}
 use Rattle.hid_assemble.specs.Assembly.{Message, accepted, bytes_of, given_after, is_overdue, message_after, open_after}
 use Rattle.hid_assemble.specs.Verdicts.{ruling_verdict, verdict}
 use Rattle.hid_assemble.specs.declared.verdict.Verdict.{Verdict}
 use Rattle.token_session.specs.Effects.{verdict_event, verdict_packets}
-use Rattle.hid_assemble.specs.Table.{LAST_CHANNEL, ruling_of}
 use Rattle.hid_packet.specs.Packet.{fields}
 use Rattle.token_session.specs.Inputs.{Judged, asks_channel, end, given, is_own, is_packet}
 use Rattle.token_session.specs.Messages.{Begun, as_open, finished, last_at, message, open_at}

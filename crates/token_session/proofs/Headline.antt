@@ -1,7 +1,7 @@
 -- The promises of every history, together.
 use Rattle.std.proofs.Common.{◌≡◌, ℕ, ◌+◌, ◌-◌, ◌*◌, ◌≤◌, List, [], ◌∷◌, ◌++◌, length, map, reverse, Option, Some, None, Result, Ok, Err, IfOk, take, refl, sym, ◌∙◌, ap, subst, append-nil, append_assoc, arith, take_all}
 use Rattle.std.proofs.lemmas.List.{map-append, reverse-append}
-use Rattle.std.specs.List.{AllByRecursion}
+use Rattle.std.specs.List.{AllByRecursion, cons_option}
 use Rattle.ctap_message.specs.Requests.{steps_of}
 use Rattle.authn_core.specs.Turn.{Start}
 use Rattle.token_session.specs.declared.input.Sent.{Sent}
@@ -15,7 +15,6 @@ use Rattle.token_session.specs.Inputs.{Judged}
 use Rattle.token_session.specs.History.{judged, sent}
 use Rattle.token_session.specs.Law.{event_at, numbered, onto, sent_from, sent_now, turns_send}
 use Rattle.token_session.specs.Machine.{machine}
-use Rattle.std.specs.List.{cons_option}
 use Rattle.token_session.specs.Meters.{requests, meters_of, session_of, SessionState, StandsAfter}
 use Rattle.token_session.specs.Headline.{AllCarried, IsAnswered}
 use Rattle.token_session.proofs.Carrying.{finished_is_carried}

@@ -9,10 +9,9 @@ use Rattle.token_session.specs.declared.input.Timed.{Timed}
 use Rattle.token_session.specs.declared.input.Meters.{Meters}
 use Rattle.token_session.specs.Effects.{request_in}
 use Rattle.token_session.specs.Inputs.{Judged, end, given}
-use Rattle.token_session.specs.Messages.{Begun, open_at, open_among}
+use Rattle.token_session.specs.Messages.{Begun, open_at, open_among, as_open}
 use Rattle.token_session.specs.History.{judged, judge, held, core, last_keepalive}
 use Rattle.token_session.specs.Machine.{State, Turn, turn, start_state}
-use Rattle.token_session.specs.Messages.{as_open}
 use Rattle.token_session.specs.Law.{named, event_at, IsAfter}
 use Rattle.cred_table.specs.Waiting.{pending_count}
 use Rattle.std.specs.List.{cons_option}

@@ -13,9 +13,8 @@ use Rattle.hid_assemble.specs.declared.table.Row.TheVariants.{BadLength, BrokenO
 use Rattle.hid_packet.specs.Commands.{BROADCAST, CANCEL, CBOR, INIT, PING}
 use Rattle.hid_packet.specs.Packet.{Fields, channel, command, continuation, continuation_data, initialization, initialization_data, is_initialization, message_length, sequence}
 use Rattle.token_session.specs.Inputs.{Judged, asks_channel, is_own}
-use Rattle.token_session.specs.Messages.{Begun, finished, finished_long, is_last, is_long, is_next}
+use Rattle.token_session.specs.Messages.{Begun, finished, finished_long, is_last, is_long, is_next, as_open}
 use Rattle.token_session.specs.History.{admits, packet_event}
-use Rattle.token_session.specs.Messages.{as_open}
 use Rattle.hid_assemble.specs.Verdicts.{ruling_verdict}
 use Rattle.hid_assemble.specs.declared.verdict.Verdict.TheVariants.{Greet, GreetAndDrop}
 use Rattle.token_session.specs.Effects.{verdict_event}

@@ -5,8 +5,7 @@ use Rattle.authn_core.specs.Turn.{Start}
 use Rattle.token_session.proofs.Opens.{bool_case, From, Lawful, from_earlier, none_stays, open_is_admitted}
 use Rattle.hid_packet.specs.Packet.{channel, message_length}
 use Rattle.token_session.specs.Inputs.{Judged, end, own, packet}
-use Rattle.token_session.specs.Messages.{Begun, goes_on, is_long, is_next, is_open, open_among, open_at}
-use Rattle.token_session.specs.Messages.{last_at}
+use Rattle.token_session.specs.Messages.{Begun, goes_on, is_long, is_next, is_open, open_among, open_at, last_at}
 
 and_third : (a b c d : Bool) → c ≡ (b && d) → (a && c) ≡ ((a && b) && d)
 and_third a b c d h = grind arith
