@@ -1,7 +1,7 @@
 //! Authenticator data and the bytes to sign.
 
 ghost use Rattle.std.specs.Prelude.{◌≡◌, ◌⊎◌, ◌+◌, ◌++◌, length};
-ghost use Rattle.fido_authdata.specs.AuthData.{assertion_bytes, created_bytes, attested_bytes, flags_byte};
+ghost use Rattle.fido_authdata.specs.AuthData.{assertion_bytes, created_bytes, flags_byte};
 
 use crate::cose::{COSE_KEY_LEN, cose_key};
 use arrayvec::ArrayVec;
@@ -33,25 +33,6 @@ struct AttestedCredential {
     id: [u8; 32],
     x: [u8; 32],
     y: [u8; 32],
-}
-
-impl AttestedCredential {
-    /// The AAGUID, the id's length, the id and the COSE key.
-    fn bytes(&self) -> ArrayVec<u8, ATTESTED_LEN>
-        ensures value { result.items ≡ attested_bytes self.now.aaguid self.now.id self.now.x self.now.y }
-        ensures len { length result.items ≡ ATTESTED_LEN }
-    {
-        let mut id_length = [0; 2];
-        BigEndian::write_u16(&mut id_length, self.id.len() as u16);
-        let mut bytes = ArrayVec::new();
-        bytes.try_extend_from_slice(&self.aaguid).unwrap();
-        bytes.try_extend_from_slice(&id_length).unwrap();
-        bytes.try_extend_from_slice(&self.id).unwrap();
-        bytes
-            .try_extend_from_slice(&cose_key(&self.x, &self.y))
-            .unwrap();
-        bytes
-    }
 }
 
 /// The flags byte.
@@ -132,11 +113,17 @@ impl AuthData {
         bytes.try_extend_from_slice(&self.rp_hash).unwrap();
         bytes.push(flags(self.user_present, self.attested.is_some()));
         bytes.try_extend_from_slice(&counter).unwrap();
-        if let Some(attested) = &self.attested {
-            bytes
-                .try_extend_from_slice(attested.bytes().as_slice())
-                .unwrap();
-        }
+        let Some(attested) = &self.attested else {
+            return bytes;
+        };
+        let mut id_length = [0; 2];
+        BigEndian::write_u16(&mut id_length, attested.id.len() as u16);
+        bytes.try_extend_from_slice(&attested.aaguid).unwrap();
+        bytes.try_extend_from_slice(&id_length).unwrap();
+        bytes.try_extend_from_slice(&attested.id).unwrap();
+        bytes
+            .try_extend_from_slice(&cose_key(&attested.x, &attested.y))
+            .unwrap();
         bytes
     }
 }
