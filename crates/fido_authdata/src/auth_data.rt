@@ -1,7 +1,7 @@
 //! Authenticator data and the bytes to sign.
 
 ghost use Rattle.std.specs.Prelude.{◌≡◌, ◌⊎◌, ◌+◌, ◌++◌, length};
-ghost use Rattle.fido_authdata.specs.AuthData.{assertion_bytes, created_bytes, flags_byte};
+ghost use Rattle.fido_authdata.specs.AuthData.{assertion_bytes, created_bytes};
 
 use crate::cose::{COSE_KEY_LEN, cose_key};
 use arrayvec::ArrayVec;
@@ -33,15 +33,6 @@ struct AttestedCredential {
     id: [u8; 32],
     x: [u8; 32],
     y: [u8; 32],
-}
-
-/// The flags byte.
-fn flags(user_present: bool, attested: bool) -> u8
-    ensures { result ≡ flags_byte user_present attested }
-{
-    let present = if user_present { USER_PRESENT } else { 0 };
-    let included = if attested { ATTESTED } else { 0 };
-    present | included
 }
 
 /// Authenticator data (WebAuthn Level 2, section 6.1). A contract sees its bytes.
@@ -107,11 +98,13 @@ impl AuthData {
         ensures value { result.items ≡ self.now }
         ensures len { (length result.items ≡ ASSERTION_LEN) ⊎ (length result.items ≡ CREATED_LEN) }
     {
+        let present = if self.user_present { USER_PRESENT } else { 0 };
+        let included = if self.attested.is_some() { ATTESTED } else { 0 };
         let mut counter = [0; 4];
         BigEndian::write_u32(&mut counter, self.counter);
         let mut bytes = ArrayVec::new();
         bytes.try_extend_from_slice(&self.rp_hash).unwrap();
-        bytes.push(flags(self.user_present, self.attested.is_some()));
+        bytes.push(present | included);
         bytes.try_extend_from_slice(&counter).unwrap();
         let Some(attested) = &self.attested else {
             return bytes;
