@@ -7,7 +7,6 @@ ghost use Rattle.cred_table.specs.Linked.{Linked, rows_in};
 use crate::chains::Chains;
 use crate::row::Row;
 use crate::rows::Rows;
-use crate::slot;
 use crate::table::Table;
 use arrayvec::ArrayVec;
 
@@ -57,24 +56,25 @@ impl<const C: usize> Table<C> for Chained<C> {
     }
 
     fn find(&self, id: &[u8; 32]) -> Option<&Row> {
-        slot::row_of(self.chains.like(id).find(|item| item.1.row.id == *id))
+        self.chains
+            .like(id)
+            .find(|item| item.1.row.id == *id)
+            .map(|item| &item.1.row)
     }
 
     fn named(&self, rp: &[u8; 32], id: &[u8]) -> Option<&Row> {
-        slot::row_of(
-            self.chains
-                .like(id)
-                .find(|item| item.1.row.is_named(rp, id)),
-        )
+        self.chains
+            .like(id)
+            .find(|item| item.1.row.is_named(rp, id))
+            .map(|item| &item.1.row)
     }
 
     fn same_user(&self, rp: &[u8; 32], user: &[u8]) -> Option<[u8; 32]> {
-        let row = slot::row_of(
-            self.chains
-                .oldest_first()
-                .find(|item| item.1.row.is_user(rp, user)),
-        )?;
-        Some(row.id)
+        let found = self
+            .chains
+            .oldest_first()
+            .find(|item| item.1.row.is_user(rp, user))?;
+        Some(found.1.row.id)
     }
 
     fn rows_of(&self, rp: &[u8; 32], out: &mut ArrayVec<[u8; 32], C>) {

@@ -92,7 +92,11 @@ impl<const C: usize> Chains<C> {
         requires { Linked [] self.now }
         ensures { result ≡ numbered self.now.slots (id_slots (bucket id.now) self.now) }
     {
-        Walk::new(&self.slots, Along::Next, self.heads[slot::bucket(id)])
+        Walk {
+            slots: &self.slots,
+            along: Along::Next,
+            at: self.heads[slot::bucket(id)],
+        }
     }
 
     /// The rows, oldest first.
@@ -100,7 +104,11 @@ impl<const C: usize> Chains<C> {
         requires { Linked [] self.now }
         ensures { result ≡ numbered self.now.slots (age self.now) }
     {
-        Walk::new(&self.slots, Along::Newer, self.oldest)
+        Walk {
+            slots: &self.slots,
+            along: Along::Newer,
+            at: self.oldest,
+        }
     }
 
     /// The rows, newest first.
@@ -108,7 +116,11 @@ impl<const C: usize> Chains<C> {
         requires { Linked [] self.now }
         ensures { result ≡ numbered self.now.slots (reverse (age self.now)) }
     {
-        Walk::new(&self.slots, Along::Older, self.newest)
+        Walk {
+            slots: &self.slots,
+            along: Along::Older,
+            at: self.newest,
+        }
     }
 
     /// Takes a slot out of the free chain. There is one.

@@ -11,12 +11,5 @@ pub fn cut_name(name: &str) -> &str
     ensures cut { IsCut name.now result.now }
     ensures only { result.now ≡ cut name.now }
 {
-    longest_beginning(name)
-}
-
-/// The same, by what it is.
-fn longest_beginning(name: &str) -> &str
-    ensures { IsCut name.now result.now }
-{
     &name[..name.floor_char_boundary(LONGEST_NAME)]
 }

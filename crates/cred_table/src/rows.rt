@@ -4,7 +4,7 @@ ghost use Rattle.std.specs.Prelude.{◌≡◌, map};
 ghost use Rattle.std.specs.Iterator.{YieldsFirstBy, item_count};
 
 use crate::row::Row;
-use crate::slot::{self, Walk};
+use crate::slot::Walk;
 use std::marker::Model;
 use std::slice;
 
@@ -62,7 +62,7 @@ impl<'a> Iterator for Rows<'a> {
     fn next(&mut self) -> Option<&'a Row> {
         match &mut self.left {
             Left::Listed(rows) => rows.next(),
-            Left::Chained(walk) => slot::row_of(walk.next()),
+            Left::Chained(walk) => walk.next().map(|item| &item.1.row),
         }
     }
 }

@@ -131,14 +131,6 @@ pub(crate) fn chain_all(slots: &mut [Slot])
     }
 }
 
-/// The row of a slot that was found.
-pub(crate) fn row_of<'a>(found: Option<(u16, &'a Slot)>) -> Option<&'a Row>
-    ensures { option_map (λ row. row.now) result ≡ option_map (λ item. item.1.now.row) found.entry }
-{
-    let item = found?;
-    Some(&item.1.row)
-}
-
 /// The chain that an id is in: the low five bits of its first byte.
 pub(crate) fn bucket(id: &[u8]) -> usize
     ensures value { result ≡ bucket id.now }
@@ -150,9 +142,10 @@ pub(crate) fn bucket(id: &[u8]) -> usize
 /// The slots of a chain from one on, each with its number.
 #[derive(Debug, Drop)]
 pub(crate) struct Walk<'a> {
-    slots: &'a [Slot],
-    along: Along,
-    at: Link,
+    pub(crate) slots: &'a [Slot],
+    pub(crate) along: Along,
+    /// The number of the next one.
+    pub(crate) at: Link,
 }
 
 // Clauses see the slots that are left.
@@ -166,18 +159,6 @@ impl<'a> Model for Walk<'a> {
     ghost view = { λ walk. numbered walk.slots.now (chain (links walk.along walk.slots.now) walk.at) };
 
     ghost invariant = { λ walk. is_chain (links walk.along walk.slots.now) walk.at ≡ true };
-}
-
-impl<'a> Walk<'a> {
-    ghost use Rattle.cred_table.specs.Slots.{links, chain, is_chain, numbered};
-
-    /// The slots that the links lead to.
-    pub(crate) fn new(slots: &'a [Slot], along: Along, at: Link) -> Self
-        requires { is_chain (links along slots.now) at ≡ true }
-        ensures { result ≡ numbered slots.now (chain (links along slots.now) at) }
-    {
-        Walk { slots, along, at }
-    }
 }
 
 impl<'a> Walk<'a> {
