@@ -1,5 +1,5 @@
 -- The packets that wait in an outbox, as entries come and go.
-use Rattle.std.proofs.Common.{◌≡◌, ℕ, ◌+◌, ◌-◌, ◌*◌, ◌<◌, ◌≤◌, suc, zero, inl, inr, List, [], ◌∷◌, ◌++◌, length, take, drop, set, sum_by, refl, sym, subst, ◌∙◌, ap, ap₂, arith, length-append, length-drop, append_assoc, append-nil, length-take-le}
+use Rattle.std.proofs.Common.{◌≡◌, ℕ, ◌+◌, ◌-◌, ◌*◌, ◌<◌, ◌≤◌, suc, zero, inl, inr, List, [], ◌∷◌, ◌++◌, length, take, drop, get_or, set, sum_by, refl, sym, subst, ◌∙◌, ap, ap₂, arith, length-append, length-drop, append_assoc, append-nil, length-take-le}
 use Rattle.std.specs.List.{AllByRecursion, refill, remove}
 use Rattle.std.proofs.Math.Seq.{drop-length, take-length}
 use Rattle.std.proofs.lemmas.List.{take-append-le, drop-append-le, take_all, drop_all}
@@ -163,3 +163,7 @@ first_set es ds more e f is same =
 pub no_entry : (es ds : List Entry) → ds ≡ es → length ds < 1 → es ≡ []
 no_entry es [] same lt = sym same
 no_entry es (d ∷ ds) same lt = absurd (omega arith)
+
+pub first_of : (es ds : List Entry) → ds ≡ es → 1 ≤ length ds → (more : List Entry) × (es ≡ get_or ds 0 Whole ∷ more)
+first_of es [] same some = absurd (omega arith)
+first_of es (d ∷ ds) same some = (ds, sym same)

@@ -33,43 +33,6 @@ impl Default for Entry {
     }
 }
 
-/// Takes bytes of the ring into a packet, from a place on.
-fn take_into(packet: &mut [u8], place: usize, len: usize, ring: &mut Ring)
-    requires room { place + len ≤ length packet.old }
-    requires there { len ≤ length ring.old }
-    ensures packet { packet.new ≡ take place packet.old ++ (take len ring.old ++ drop (place + len) packet.old) }
-    ensures ring { ring.new ≡ drop len ring.old }
-{
-    ring.take(&mut packet[place..place + len]);
-}
-
-/// The initialization packet of a message of `len` bytes, of which it takes so many from the ring.
-fn first_packet(ring: &mut Ring, cid: u32, cmd: u8, len: u16, part: usize) -> Packet
-    requires command { cmd < 128 }
-    requires fits { part ≤ INITIALIZATION_DATA }
-    requires there { part ≤ length ring.old }
-    ensures packet { result.0 ≡ initialization_packet cid cmd len (take part ring.old) }
-    ensures ring { ring.new ≡ drop part ring.old }
-{
-    let mut packet = [0; 64];
-    put_initialization(&mut packet, cid, cmd, len, &[]);
-    take_into(&mut packet, 7, part, ring);
-    Packet(packet)
-}
-
-/// The continuation packet with this number, which takes so many bytes from the ring.
-fn next_packet(ring: &mut Ring, cid: u32, number: u8, part: usize) -> Packet
-    requires fits { part ≤ CONTINUATION_DATA }
-    requires there { part ≤ length ring.old }
-    ensures packet { result.0 ≡ continuation_packet cid number (take part ring.old) }
-    ensures ring { ring.new ≡ drop part ring.old }
-{
-    let mut packet = [0; 64];
-    put_continuation(&mut packet, cid, number, &[]);
-    take_into(&mut packet, 5, part, ring);
-    Packet(packet)
-}
-
 impl Message {
     /// Makes the packet that is due.
     pub(crate) fn make(&mut self, ring: &mut Ring) -> Packet
@@ -83,18 +46,23 @@ impl Message {
         ensures due { 0 < self.new.left → MayCome self.new.due self.new.left }
     {
         let left = self.left;
+        let mut packet = [0; 64];
         match self.due {
             Due::Initialization(cmd) => {
                 let part = INITIALIZATION_DATA.min(usize::from(left));
+                put_initialization(&mut packet, self.cid, cmd, left, &[]);
+                ring.take(&mut packet[7..7 + part]);
                 self.due = Due::Continuation(0);
                 self.left = left - part as u16;
-                first_packet(ring, self.cid, cmd, left, part)
+                Packet(packet)
             }
             Due::Continuation(number) => {
                 let part = CONTINUATION_DATA.min(usize::from(left));
+                put_continuation(&mut packet, self.cid, number, &[]);
+                ring.take(&mut packet[5..5 + part]);
                 self.due = Due::Continuation(number + 1);
                 self.left = left - part as u16;
-                next_packet(ring, self.cid, number, part)
+                Packet(packet)
             }
         }
     }

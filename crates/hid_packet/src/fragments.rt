@@ -1,4 +1,4 @@
-ghost use Rattle.std.specs.Prelude.{◌≡◌, ℕ, ◌+◌, ◌-◌, ◌<◌, ◌≤◌, ◌++◌, ◌∷◌, [], List, length, drop};
+ghost use Rattle.std.specs.Prelude.{◌≡◌, ℕ, ◌+◌, ◌-◌, ◌<◌, ◌≤◌, ◌++◌, ◌∷◌, [], List, length, take, drop};
 ghost use Rattle.byteorder.specs.Endian.{big_bytes};
 ghost use Rattle.hid_packet.specs.Message.{written, initialization_packet, continuation_packet};
 ghost use Rattle.hid_packet.specs.Carries.{IsLeast};
@@ -22,12 +22,12 @@ pub fn packets_for(len: u16) -> u16
     1 + (len + 1) / 59
 }
 
-/// Writes `bytes` at the front.
-pub(crate) fn put_front(out: &mut [u8], bytes: &[u8])
-    requires { length bytes.now ≤ length out.old }
-    ensures { out.new ≡ bytes.now ++ drop (length bytes.now) out.old }
+/// Writes bytes from a place on.
+pub(crate) fn put_at(out: &mut [u8], place: usize, bytes: &[u8])
+    requires { place + length bytes.now ≤ length out.old }
+    ensures { out.new ≡ take place out.old ++ (bytes.now ++ drop (place + length bytes.now) out.old) }
 {
-    out[..bytes.len()].copy_from_slice(bytes);
+    out[place..place + bytes.len()].copy_from_slice(bytes);
 }
 
 /// Writes the bytes that both kinds of packet begin with: the channel and byte 4.
@@ -47,7 +47,7 @@ pub(crate) fn put_initialization(out: &mut [u8], cid: u32, cmd: u8, len: u16, pa
 {
     put_header(out, cid, cmd + 128);
     BigEndian::write_u16(&mut out[5..], len);
-    put_front(&mut out[7..], part);
+    put_at(out, 7, part);
 }
 
 pub(crate) fn put_continuation(out: &mut [u8], cid: u32, number: u8, part: &[u8])
@@ -55,7 +55,7 @@ pub(crate) fn put_continuation(out: &mut [u8], cid: u32, number: u8, part: &[u8]
     ensures { out.new ≡ ((big_bytes 4 cid ++ number ∷ []) ++ part.now) ++ drop (5 + length part.now) out.old }
 {
     put_header(out, cid, number);
-    put_front(&mut out[5..], part);
+    put_at(out, 5, part);
 }
 
 /// The initialization packet with these data bytes, and zeros after them.

@@ -49,33 +49,30 @@ fn drop_first(entries: &mut Entries)
     }
 }
 
-/// Takes the first entry, a packet that was put whole.
-fn take_whole(entries: &mut Entries, ring: &mut Ring) -> Packet
-    requires first { (more : List Entry) × (entries.old.items ≡ Entry.Whole ∷ more) }
+/// Takes the next packet of the first entry; with its last packet the entry is gone.
+fn take_first(entry: Entry, entries: &mut Entries, ring: &mut Ring) -> Packet
+    requires first { (more : List Entry) × (entries.old.items ≡ entry ∷ more) }
     requires held { IsHeld entries.old.items ring.old }
     ensures packets { waiting entries.old.items ring.old ≡ result.0 ∷ waiting entries.new.items ring.new }
     ensures held { IsHeld entries.new.items ring.new }
 {
-    let mut packet = [0; 64];
-    drop_first(entries);
-    ring.take(&mut packet);
-    Packet(packet)
-}
-
-/// Makes the next packet of the first entry, a message; with its last packet the entry is gone.
-fn take_part(mut message: Message, entries: &mut Entries, ring: &mut Ring) -> Packet
-    requires first { (more : List Entry) × (entries.old.items ≡ Entry.Part message ∷ more) }
-    requires held { IsHeld entries.old.items ring.old }
-    ensures packets { waiting entries.old.items ring.old ≡ result.0 ∷ waiting entries.new.items ring.new }
-    ensures held { IsHeld entries.new.items ring.new }
-{
-    let packet = message.make(ring);
-    if message.left > 0 {
-        entries[0] = Entry::Part(message);
-        return packet;
+    match entry {
+        Entry::Whole => {
+            let mut packet = [0; 64];
+            drop_first(entries);
+            ring.take(&mut packet);
+            Packet(packet)
+        }
+        Entry::Part(mut message) => {
+            let packet = message.make(ring);
+            if message.left > 0 {
+                entries[0] = Entry::Part(message);
+                return packet;
+            }
+            drop_first(entries);
+            packet
+        }
     }
-    drop_first(entries);
-    packet
 }
 
 impl Outbox {
@@ -109,15 +106,7 @@ impl Outbox {
     pub fn pop(&mut self) -> Option<Packet>
         ensures { MatchOption result ((self.old ≡ []) × (self.new ≡ [])) (λ packet. self.old ≡ packet.0 ∷ self.new) }
     {
-        let entry = match self.entries.as_slice() {
-            [] => return None,
-            [entry, ..] => *entry,
-        };
-        self.len -= 1;
-        match entry {
-            Entry::Whole => Some(take_whole(&mut self.entries, &mut self.ring)),
-            Entry::Part(message) => Some(take_part(message, &mut self.entries, &mut self.ring)),
-        }
+        self.next()
     }
 
     /// Puts a packet after those that wait.
@@ -160,6 +149,11 @@ impl Iterator for Outbox {
     ghost remaining = { item_count (λ waits. waits) };
 
     fn next(&mut self) -> Option<Packet> {
-        self.pop()
+        let entry = match self.entries.as_slice() {
+            [] => return None,
+            [entry, ..] => *entry,
+        };
+        self.len -= 1;
+        Some(take_first(entry, &mut self.entries, &mut self.ring))
     }
 }

@@ -3,7 +3,7 @@ ghost use Rattle.std.specs.Prelude.{◌≡◌, ◌+◌, ◌-◌, ◌*◌, ◌%�
 ghost use Rattle.hid_packet.specs.declared.ring.TheConstants.{RING_SIZE};
 ghost use Rattle.hid_packet.specs.Queue.{overwritten};
 
-use crate::fragments::put_front;
+use crate::fragments::put_at;
 use crate::limit::OUTBOX_CAPACITY;
 use std::marker::Model;
 
@@ -42,14 +42,6 @@ fn wrapped(place: usize) -> usize
     }
 }
 
-/// Writes bytes from a place on.
-fn write_at(out: &mut [u8], place: usize, bytes: &[u8])
-    requires { place + length bytes.now ≤ length out.old }
-    ensures { out.new ≡ take place out.old ++ (bytes.now ++ drop (place + length bytes.now) out.old) }
-{
-    out[place..place + bytes.len()].copy_from_slice(bytes);
-}
-
 /// Writes bytes from a place on, and from the first on where the ring ends.
 fn write_round(ring: &mut [u8], place: usize, bytes: &[u8])
     requires place { place ≤ length ring.old }
@@ -59,12 +51,12 @@ fn write_round(ring: &mut [u8], place: usize, bytes: &[u8])
 {
     let straight = ring.len() - place;
     if bytes.len() <= straight {
-        write_at(ring, place, bytes);
+        put_at(ring, place, bytes);
         return;
     }
     let (front, back) = bytes.split_at(straight);
-    write_at(ring, place, front);
-    put_front(ring, back);
+    put_at(ring, place, front);
+    put_at(ring, 0, back);
 }
 
 /// Copies bytes from a place on, and from the first on where the ring ends.
