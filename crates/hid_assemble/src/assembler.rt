@@ -3,9 +3,8 @@
 ghost use Rattle.std.specs.Prelude.{◌≡◌, ℕ, ◌+◌, ◌*◌, ◌≤◌, ◌<◌, ◌++◌, List, [], length, take, drop, Option, None, Some, option_map, if◌then◌else◌};
 ghost use Rattle.hid_packet.specs.Packet.{fields, initialization, continuation};
 ghost use Rattle.hid_assemble.specs.Assembly.{IsLawful, is_overdue, still_open, held_bytes, accepted, drop_on};
-ghost use Rattle.hid_assemble.specs.Table.{is_noise, ruling_of};
-ghost use Rattle.hid_assemble.specs.Verdicts.{verdict, greeted_again};
-ghost use Rattle.hid_packet.specs.Limits.{data_room};
+ghost use Rattle.hid_assemble.specs.Table.{is_noise, is_on, ruling_of};
+ghost use Rattle.hid_assemble.specs.Verdicts.{verdict};
 ghost use Rattle.hid_packet.specs.declared.limit.TheConstants.{CONTINUATION_DATA, INITIALIZATION_DATA, LONGEST_MESSAGE};
 
 use crate::code::ErrorCode;
@@ -40,28 +39,6 @@ enum Contents {
     Finished(u16),
 }
 
-impl OpenMessage {
-    /// As its initialization packet began it.
-    fn new(cid: u32, cmd: u8, len: u16, at: u64) -> Self
-        ensures { result ≡ record { cid = cid; cmd = cmd; len = len; kept = 0; last = at } }
-    {
-        OpenMessage {
-            cid,
-            cmd,
-            len,
-            kept: 0,
-            last: at,
-        }
-    }
-
-    /// How many data bytes are held of it.
-    fn held(&self) -> usize
-        ensures { result ≡ data_room self.now.kept }
-    {
-        INITIALIZATION_DATA + CONTINUATION_DATA * usize::from(self.kept)
-    }
-}
-
 /// Writes the data bytes after those that are held already.
 fn put_data(message: &mut [u8], held: usize, part: &[u8])
     requires { held + length part.now ≤ length message.old }
@@ -70,33 +47,18 @@ fn put_data(message: &mut [u8], held: usize, part: &[u8])
     message[held..held + part.len()].copy_from_slice(part);
 }
 
-/// The nonce that an INIT carries: its first 8 data bytes.
-fn nonce_of(part: &[u8]) -> [u8; 8]
+/// Returns what an INIT with this data is answered on the channel `on`: work that waits there must be dropped.
+fn greet(on: u32, channel: u32, part: &[u8], working: Option<u32>) -> Verdict
     requires { 8 ≤ length part.now }
-    ensures { result ≡ take 8 part.now }
+    ensures { result ≡ (if is_on working on then Verdict.GreetAndDrop on channel (take 8 part.now)
+        else Verdict.Greet on channel (take 8 part.now)) }
 {
     let mut nonce = [0; 8];
     nonce.copy_from_slice(&part[..8]);
-    nonce
-}
-
-fn greet(on: u32, channel: u32, nonce: [u8; 8]) -> Verdict
-    ensures { result ≡ Verdict.Greet on channel nonce }
-{
-    Verdict::Greet { on, channel, nonce }
-}
-
-/// What an INIT on a given channel is answered: work that waits there must be dropped.
-fn greet_again(cid: u32, nonce: [u8; 8], working: Option<u32>) -> Verdict
-    ensures { result ≡ greeted_again working cid nonce }
-{
-    match working {
-        Some(channel) if channel == cid => Verdict::GreetAndDrop {
-            on: cid,
-            channel: cid,
-            nonce,
-        },
-        _ => greet(cid, cid, nonce),
+    if working == Some(on) {
+        Verdict::GreetAndDrop { on, channel, nonce }
+    } else {
+        Verdict::Greet { on, channel, nonce }
     }
 }
 
@@ -257,11 +219,11 @@ impl Assembler {
             Row::InitFull => refuse(cid, ErrorCode::Other),
             Row::InitNew => {
                 self.given += 1;
-                greet(BROADCAST, self.given, nonce_of(part))
+                greet(BROADCAST, self.given, part, None)
             }
             Row::InitAgain => {
                 self.drop_on(cid);
-                greet_again(cid, nonce_of(part), working)
+                greet(cid, cid, part, working)
             }
             Row::BusyElsewhere | Row::BusyHere => refuse(cid, ErrorCode::ChannelBusy),
             Row::BrokenOff => {
@@ -277,7 +239,13 @@ impl Assembler {
             }
             Row::Long => {
                 put_data(&mut self.buffer, 0, part);
-                self.contents = Contents::Open(OpenMessage::new(cid, cmd, len, at));
+                self.contents = Contents::Open(OpenMessage {
+                    cid,
+                    cmd,
+                    len,
+                    kept: 0,
+                    last: at,
+                });
                 Verdict::Kept
             }
         }
@@ -291,6 +259,7 @@ impl Assembler {
         ensures state { (working : Option ℕ) → self.new
             ≡ accepted self.old at working (continuation cid number part.now) }
     {
+        let held = usize::from(self.held());
         let Contents::Open(mut message) = self.contents else {
             return Verdict::Ignored;
         };
@@ -301,14 +270,14 @@ impl Assembler {
                 refuse(cid, ErrorCode::InvalidSequence)
             }
             Continuation::Kept => {
-                put_data(&mut self.buffer, message.held(), part);
+                put_data(&mut self.buffer, held, part);
                 message.kept += 1;
                 message.last = at;
                 self.contents = Contents::Open(message);
                 Verdict::Kept
             }
             Continuation::Whole => {
-                put_data(&mut self.buffer, message.held(), part);
+                put_data(&mut self.buffer, held, part);
                 self.contents = Contents::Finished(message.len);
                 Verdict::Finished {
                     cid: message.cid,
@@ -337,7 +306,9 @@ impl Assembler {
         ensures limit { held_bytes self.now.current ≤ 7550 }
     {
         match self.contents {
-            Contents::Open(message) => message.held() as u16,
+            Contents::Open(message) => {
+                (INITIALIZATION_DATA + CONTINUATION_DATA * usize::from(message.kept)) as u16
+            }
             Contents::Nothing | Contents::Finished(_) => 0,
         }
     }

@@ -68,20 +68,6 @@ pub enum Continuation {
     Whole,
 }
 
-/// Whether something is on this channel.
-fn is_on(busy: Option<u32>, cid: u32) -> bool
-    ensures { result ≡ spec.is_on busy cid }
-{
-    matches!(busy, Some(channel) if channel == cid)
-}
-
-/// Whether something is on another channel.
-fn is_elsewhere(busy: Option<u32>, cid: u32) -> bool
-    ensures { result ≡ spec.is_elsewhere busy cid }
-{
-    matches!(busy, Some(channel) if channel != cid)
-}
-
 /// The row of an initialization packet.
 #[tactic(auto, unfolding(crate::specs::Table::initialization_row))]
 pub(crate) fn initialization_row(
@@ -96,7 +82,7 @@ pub(crate) fn initialization_row(
 {
     let is_given = 1 <= cid && cid <= given;
     let asks_for_channel = cid == BROADCAST && cmd == INIT;
-    if cmd == CANCEL && is_on(working, cid) {
+    if cmd == CANCEL && working == Some(cid) {
         Row::CancelsWork
     } else if cmd == CANCEL {
         Row::CancelsNothing
@@ -110,11 +96,11 @@ pub(crate) fn initialization_row(
         Row::InitNew
     } else if cmd == INIT {
         Row::InitAgain
-    } else if is_elsewhere(current, cid) || is_elsewhere(working, cid) {
+    } else if current.unwrap_or(cid) != cid || working.unwrap_or(cid) != cid {
         Row::BusyElsewhere
-    } else if is_on(working, cid) {
+    } else if working == Some(cid) {
         Row::BusyHere
-    } else if is_on(current, cid) {
+    } else if current == Some(cid) {
         Row::BrokenOff
     } else if cmd != PING && cmd != CBOR {
         Row::NoSuchCommand

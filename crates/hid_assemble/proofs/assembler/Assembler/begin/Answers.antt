@@ -1,8 +1,5 @@
 use Rattle.std.proofs.Common.{◌≡◌, length, subst, sym, ◌∙◌, arith}
-use Rattle.hid_assemble.specs.Assembly.{IsOpenMessage}
-use Rattle.hid_assemble.specs.Kept.{assembly}
 use Rattle.hid_assemble.specs.Table.{initialization_row}
-use Rattle.hid_assemble.specs.declared.assembler.Contents.TheVariants.{Open as HoldsOpen}
 use Rattle.hid_assemble.proofs.Says.{RowSays, row_says}
 use Rattle.hid_assemble.proofs.Keeping.{given-is, one_more, short_state, long_state}
 use Rattle.hid_assemble.proofs.assembler.Assembler.begin.Goals as goal
@@ -30,14 +27,14 @@ invariant_of-self-in-Long c =
     record {
       channels = c.self.invariant.channels;
       size = size;
-      held = subst (λ m. IsOpenMessage c.self.inside.given m.cid m.cmd m.len m.kept) (sym c.new.ensures) (record {
+      held = record {
         low = says.low;
         high = omega (arith, says.high, same, c.given.ensures.count);
         served = says.served;
         longer = says.longer;
         longest = says.longest;
         more = says.more;
-      });
+      };
     }
 
 pub returns-in-Short-clause-state : goal.returns-in-Short-clause-state
@@ -49,5 +46,4 @@ returns-in-Short-clause-state c =
 pub returns-in-Long-clause-state : goal.returns-in-Long-clause-state
 returns-in-Long-clause-state c =
     let row = sym (c.initialization_row.ensures ∙ (λ i. initialization_row (c.given.ensures.count i) (c.open_on.ensures i) c.args.working c.args.cid c.args.cmd c.args.len)) ∙ c.in-Long.is in
-    (λ i. assembly c.self.inside.given (HoldsOpen (c.new.ensures i)) c.put_data-in-Long.new.message)
-    ∙ long_state _ _ _ _ c.self.view_is c.args.at _ c.args.cmd _ _ c.args.working c.args.part.now _ c.requires.data c.put_data-in-Long.ensures row
+    long_state _ _ _ _ c.self.view_is c.args.at _ c.args.cmd _ _ c.args.working c.args.part.now _ c.requires.data c.put_data-in-Long.ensures row
