@@ -96,7 +96,9 @@ pub(crate) fn initialization_row(
         Row::InitNew
     } else if cmd == INIT {
         Row::InitAgain
-    } else if current.unwrap_or(cid) != cid || working.unwrap_or(cid) != cid {
+    } else if current.is_some_and(|channel| channel != cid)
+        || working.is_some_and(|channel| channel != cid)
+    {
         Row::BusyElsewhere
     } else if working == Some(cid) {
         Row::BusyHere
