@@ -164,23 +164,6 @@ pub no_entry : (es ds : List Entry) → ds ≡ es → length ds < 1 → es ≡ [
 no_entry es [] same lt = sym same
 no_entry es (d ∷ ds) same lt = absurd (omega arith)
 
--- the first entry was a packet that was put whole, which was taken
-module _ (es ds others : List Entry) (ring after p : List ℕ) (same : ds ≡ es) (some : 1 ≤ length ds) (whole : get_or ds 0 Whole ≡ Whole) (others_are : others ≡ remove es 0) (p_is : p ≡ take 64 ring) (rest : after ≡ drop 64 ring) where
-  first_whole : (ls : List Entry) → ls ≡ es → 1 ≤ length ls → get_or ls 0 Whole ≡ Whole → (more : List Entry) × (es ≡ Whole ∷ more)
-  first_whole [] e n w = absurd (omega arith)
-  first_whole (l ∷ ls) e n w = (ls, sym e ∙ ap (λ x. x ∷ ls) w)
-
-  pub whole_waits : waiting es ring ≡ p ∷ waiting others after
-  whole_waits =
-      let first = first_whole ds same some whole in
-      waiting-pop es first.0 Whole ring first.1 ∙ ap₂ (λ (x : List ℕ) (xs : List (List ℕ)). x ∷ xs) (sym p_is) (sym (ap₂ waiting others_are rest))
-
-  pub whole_queued : (len : ℕ) → IsQueued es ring len → IsQueued others after (len - 1)
-  whole_queued len q =
-      let first = first_whole ds same some whole in
-      let shorter = ap length whole_waits in
-      record {
-        held = rw (others_are, rest) (held-pop es first.0 Whole ring first.1 q.held);
-        counted = omega (arith, q.counted);
-        few = omega (arith, q.few);
-      }
+pub first_of : (es ds : List Entry) → ds ≡ es → 1 ≤ length ds → (more : List Entry) × (es ≡ get_or ds 0 Whole ∷ more)
+first_of es [] same some = absurd (omega arith)
+first_of es (d ∷ ds) same some = (ds, sym same)

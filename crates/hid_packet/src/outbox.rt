@@ -49,20 +49,30 @@ fn drop_first(entries: &mut Entries)
     }
 }
 
-/// Makes the next packet of the first entry, a message; with its last packet the entry is gone.
-fn take_part(mut message: Message, entries: &mut Entries, ring: &mut Ring) -> Packet
-    requires first { (more : List Entry) × (entries.old.items ≡ Entry.Part message ∷ more) }
+/// Takes the next packet of the first entry; with its last packet the entry is gone.
+fn take_first(entry: Entry, entries: &mut Entries, ring: &mut Ring) -> Packet
+    requires first { (more : List Entry) × (entries.old.items ≡ entry ∷ more) }
     requires held { IsHeld entries.old.items ring.old }
     ensures packets { waiting entries.old.items ring.old ≡ result.0 ∷ waiting entries.new.items ring.new }
     ensures held { IsHeld entries.new.items ring.new }
 {
-    let packet = message.make(ring);
-    if message.left > 0 {
-        entries[0] = Entry::Part(message);
-        return packet;
+    match entry {
+        Entry::Whole => {
+            let mut packet = [0; 64];
+            drop_first(entries);
+            ring.take(&mut packet);
+            Packet(packet)
+        }
+        Entry::Part(mut message) => {
+            let packet = message.make(ring);
+            if message.left > 0 {
+                entries[0] = Entry::Part(message);
+                return packet;
+            }
+            drop_first(entries);
+            packet
+        }
     }
-    drop_first(entries);
-    packet
 }
 
 impl Outbox {
@@ -144,14 +154,6 @@ impl Iterator for Outbox {
             [entry, ..] => *entry,
         };
         self.len -= 1;
-        match entry {
-            Entry::Whole => {
-                let mut packet = [0; 64];
-                drop_first(&mut self.entries);
-                self.ring.take(&mut packet);
-                Some(Packet(packet))
-            }
-            Entry::Part(message) => Some(take_part(message, &mut self.entries, &mut self.ring)),
-        }
+        Some(take_first(entry, &mut self.entries, &mut self.ring))
     }
 }

@@ -1,4 +1,4 @@
-use Rattle.std.proofs.Common.{◌≡◌, ◌≤◌, ◌∙◌, ◌+◌, ◌-◌, ◌++◌, ◌∷◌, [], ap, min, refl, rules, arith, length, length-append, length-take-le}
+use Rattle.std.proofs.Common.{◌≤◌, ◌∙◌, ◌+◌, ◌-◌, ◌++◌, ◌∷◌, [], ap, min, refl, rules, arith, length, length-append, length-take-le}
 use Rattle.byteorder.specs.Endian.{big_bytes}
 use Rattle.hid_packet.specs.Message.{initialization_packet, continuation_packet}
 use Rattle.hid_packet.proofs.Making.{placed, first_made, next_made}

@@ -1,5 +1,5 @@
-use Rattle.std.proofs.Common.{length, ap, sym, ◌∙◌, arith, rules}
-use Rattle.hid_packet.proofs.Queueing.{bounds, no_entry, none_wait, whole_waits, whole_queued}
+use Rattle.std.proofs.Common.{length, ap, arith}
+use Rattle.hid_packet.proofs.Queueing.{bounds, first_of, no_entry, none_wait}
 use Rattle.hid_packet.proofs.outbox.OutboxIterator.next.Goals as goal
 
 pub returns-in-empty-clause-steps : goal.returns-in-empty-clause-steps
@@ -12,20 +12,5 @@ overflow_sub-self c =
     let b = bounds c.self.inside.entries.items c.self.inside.ring c.self.invariant.held in
     omega (arith, b.entries, c.self.invariant.counted, ap length c.as_slice.ensures.value, c.in-len1-up.len_at_least)
 
-pub invariant_of-self : goal.invariant_of-self
-invariant_of-self c =
-    whole_queued c.self.inside.entries.items c.as_slice.result.now c.drop_first.new.entries.items c.self.inside.ring c.take.new.self c.take.new.out c.as_slice.ensures.value c.in-len1-up.len_at_least c.in-Whole.is
-    c.drop_first.ensures c.take.ensures.taken c.take.ensures.left c.self.inside.len c.self.invariant
-
-pub returns-in-Whole-clause-steps : goal.returns-in-Whole-clause-steps
-returns-in-Whole-clause-steps c =
-    sym c.self.view_is
-    ∙ whole_waits c.self.inside.entries.items c.as_slice.result.now c.drop_first.new.entries.items c.self.inside.ring c.take.new.self c.take.new.out c.as_slice.ensures.value c.in-len1-up.len_at_least c.in-Whole.is
-    c.drop_first.ensures c.take.ensures.taken c.take.ensures.left
-
-pub returns-in-Whole-clause-goes : goal.returns-in-Whole-clause-goes
-returns-in-Whole-clause-goes c =
-    let shorter = ap length (sym c.self.view_is
-    ∙ whole_waits c.self.inside.entries.items c.as_slice.result.now c.drop_first.new.entries.items c.self.inside.ring c.take.new.self c.take.new.out c.as_slice.ensures.value c.in-len1-up.len_at_least c.in-Whole.is
-    c.drop_first.ensures c.take.ensures.taken c.take.ensures.left) in
-    search rules
+pub take_first-requires-clause-first : goal.take_first-requires-clause-first
+take_first-requires-clause-first c = first_of _ _ c.as_slice.ensures.value c.in-len1-up.len_at_least
