@@ -208,7 +208,7 @@ impl Assembler {
         ensures verdict { result ≡ verdict self.old working (initialization cid cmd len part.now) }
         ensures state { self.new ≡ accepted self.old at working (initialization cid cmd len part.now) }
     {
-        match initialization_row(self.given(), self.open_on(), working, cid, cmd, len) {
+        match initialization_row(self.given, self.open_on(), working, cid, cmd, len) {
             Row::CancelsWork => Verdict::CancelWork,
             Row::CancelsNothing => Verdict::Ignored,
             Row::NoSuchChannel => refuse(cid, ErrorCode::InvalidChannel),

@@ -6,44 +6,37 @@ use Rattle.hid_assemble.proofs.assembler.Assembler.begin.Goals as goal
 
 pub invariant_of-self : goal.invariant_of-self
 invariant_of-self c =
-    let says = subst (RowSays c.given.result c.args.cid c.args.cmd c.args.len) (sym c.initialization_row.ensures ∙ c.in-InitNew.is)
-    (row_says c.given.result c.open_on.result c.args.working c.args.cid c.args.cmd c.args.len (omega (arith, c.given.ensures.count, c.given.ensures.limit))) in
-    let same = given-is _ _ _ _ c.self.view_is in
-    one_more _ _ _ c.self.invariant (omega (arith, says, same, c.given.ensures.count))
+    let says = subst (RowSays c.self.inside.given c.args.cid c.args.cmd c.args.len) (sym c.initialization_row.ensures ∙ c.in-InitNew.is)
+    (row_says c.self.inside.given c.open_on.result c.args.working c.args.cid c.args.cmd c.args.len c.self.invariant.channels) in
+    one_more _ _ _ c.self.invariant says
 
 pub invariant_of-self-in-Short : goal.invariant_of-self-in-Short
 invariant_of-self-in-Short c =
-    let says = subst (RowSays c.given.result c.args.cid c.args.cmd c.args.len) (sym c.initialization_row.ensures ∙ c.in-Short.is)
-    (row_says c.given.result c.open_on.result c.args.working c.args.cid c.args.cmd c.args.len (omega (arith, c.given.ensures.count, c.given.ensures.limit))) in
+    let says = subst (RowSays c.self.inside.given c.args.cid c.args.cmd c.args.len) (sym c.initialization_row.ensures ∙ c.in-Short.is)
+    (row_says c.self.inside.given c.open_on.result c.args.working c.args.cid c.args.cmd c.args.len c.self.invariant.channels) in
     let size : length c.put_data.new.message ≡ 7609 = omega arith in
     record { channels = c.self.invariant.channels; size = size; held = omega (arith, says) }
 
 pub invariant_of-self-in-Long : goal.invariant_of-self-in-Long
 invariant_of-self-in-Long c =
-    let says = subst (RowSays c.given.result c.args.cid c.args.cmd c.args.len) (sym c.initialization_row.ensures ∙ c.in-Long.is)
-    (row_says c.given.result c.open_on.result c.args.working c.args.cid c.args.cmd c.args.len (omega (arith, c.given.ensures.count, c.given.ensures.limit))) in
-    let same = given-is _ _ _ _ c.self.view_is in
+    let says = subst (RowSays c.self.inside.given c.args.cid c.args.cmd c.args.len) (sym c.initialization_row.ensures ∙ c.in-Long.is)
+    (row_says c.self.inside.given c.open_on.result c.args.working c.args.cid c.args.cmd c.args.len c.self.invariant.channels) in
     let size : length c.put_data-in-Long.new.message ≡ 7609 = omega arith in
     record {
       channels = c.self.invariant.channels;
       size = size;
-      held = record {
-        low = says.low;
-        high = omega (arith, says.high, same, c.given.ensures.count);
-        served = says.served;
-        longer = says.longer;
-        longest = says.longest;
-        more = says.more;
-      };
+      held = says;
     }
 
 pub returns-in-Short-clause-state : goal.returns-in-Short-clause-state
 returns-in-Short-clause-state c =
-    let row = sym (c.initialization_row.ensures ∙ (λ i. initialization_row (c.given.ensures.count i) (c.open_on.ensures i) c.args.working c.args.cid c.args.cmd c.args.len)) ∙ c.in-Short.is in
-    let says = subst (RowSays c.args.self.now.given c.args.cid c.args.cmd c.args.len) row (row_says _ _ _ _ _ _ c.given.ensures.limit) in
+    let same = given-is _ _ _ _ c.self.view_is in
+    let row = sym (c.initialization_row.ensures ∙ (λ i. initialization_row (same i) (c.open_on.ensures i) c.args.working c.args.cid c.args.cmd c.args.len)) ∙ c.in-Short.is in
+    let says = subst (RowSays c.args.self.now.given c.args.cid c.args.cmd c.args.len) row (row_says _ _ _ _ _ _ (omega (arith, same, c.self.invariant.channels))) in
     short_state _ _ _ _ c.self.view_is c.args.at _ c.args.cmd _ _ c.args.working c.args.part.now _ c.requires.data c.put_data.ensures row says
 
 pub returns-in-Long-clause-state : goal.returns-in-Long-clause-state
 returns-in-Long-clause-state c =
-    let row = sym (c.initialization_row.ensures ∙ (λ i. initialization_row (c.given.ensures.count i) (c.open_on.ensures i) c.args.working c.args.cid c.args.cmd c.args.len)) ∙ c.in-Long.is in
+    let same = given-is _ _ _ _ c.self.view_is in
+    let row = sym (c.initialization_row.ensures ∙ (λ i. initialization_row (same i) (c.open_on.ensures i) c.args.working c.args.cid c.args.cmd c.args.len)) ∙ c.in-Long.is in
     long_state _ _ _ _ c.self.view_is c.args.at _ c.args.cmd _ _ c.args.working c.args.part.now _ c.requires.data c.put_data-in-Long.ensures row
