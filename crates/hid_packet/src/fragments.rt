@@ -30,31 +30,26 @@ pub(crate) fn put_at(out: &mut [u8], place: usize, bytes: &[u8])
     out[place..place + bytes.len()].copy_from_slice(bytes);
 }
 
-/// Writes the bytes that both kinds of packet begin with: the channel and byte 4.
-fn put_header(out: &mut [u8], cid: u32, kind: u8)
-    requires { 5 ≤ length out.old }
-    ensures { out.new ≡ (big_bytes 4 cid ++ kind ∷ []) ++ drop 5 out.old }
-{
-    BigEndian::write_u32(out, cid);
-    out[4] = kind;
-}
-
+/// Writes an initialization packet with these data bytes; what is after them stays.
 pub(crate) fn put_initialization(out: &mut [u8], cid: u32, cmd: u8, len: u16, part: &[u8])
     requires command { cmd < 128 }
     requires room { 7 + length part.now ≤ length out.old }
     ensures { out.new ≡ (((big_bytes 4 cid ++ (cmd + 128) ∷ []) ++ big_bytes 2 len) ++ part.now)
         ++ drop (7 + length part.now) out.old }
 {
-    put_header(out, cid, cmd + 128);
+    BigEndian::write_u32(out, cid);
+    out[4] = cmd + 128;
     BigEndian::write_u16(&mut out[5..], len);
     put_at(out, 7, part);
 }
 
+/// Writes a continuation packet with these data bytes; what is after them stays.
 pub(crate) fn put_continuation(out: &mut [u8], cid: u32, number: u8, part: &[u8])
     requires { 5 + length part.now ≤ length out.old }
     ensures { out.new ≡ ((big_bytes 4 cid ++ number ∷ []) ++ part.now) ++ drop (5 + length part.now) out.old }
 {
-    put_header(out, cid, number);
+    BigEndian::write_u32(out, cid);
+    out[4] = number;
     put_at(out, 5, part);
 }
 
