@@ -1,6 +1,7 @@
 -- What is written after the bytes that wait in a ring, and what is read at their front.
-use Rattle.std.proofs.Common.{◌≡◌, ℕ, ◌+◌, ◌-◌, ◌%◌, ◌<◌, ◌≤◌, ◌⊎◌, List, ◌++◌, length, get_or, take, drop, min, refl, sym, ap, ◌∙◌, inl, inr, arith, length-append, length-drop, length-take-le, get_or-drop, get_or-take}
+use Rattle.std.proofs.Common.{◌≡◌, ℕ, ◌+◌, ◌-◌, ◌%◌, ◌<◌, ◌≤◌, ◌⊎◌, List, ◌++◌, length, get_or, take, drop, min, refl, sym, ap, ap₂, ◌∙◌, inl, inr, arith, length-append, length-drop, length-take-le, get_or-drop, get_or-take}
 use native.Mathlib.Nat.{mod-add-mod}
+use Rattle.std.proofs.Math.Seq.{take-length, drop-length}
 use Rattle.std.proofs.lemmas.List.{same_lists, get_or_append_left, get_or-append_right}
 use Rattle.std.proofs.lemmas.Bool.{cases_lt}
 use Rattle.hid_packet.specs.Queue.{overwritten, window}
@@ -52,6 +53,14 @@ module _ (e : ℕ) (front back xs : List ℕ) (fits : e + length front ≤ lengt
 
   pub back_at : (j d : ℕ) → j < length back → get_or (overwritten e front back xs) j d ≡ get_or back j d
   back_at = at_back
+
+-- all bytes fit before the end
+pub straight_put : (e : ℕ) (ys xs out : List ℕ) → out ≡ take e xs ++ (ys ++ drop (e + length ys) xs) → out ≡ overwritten e (take (length ys) ys) (drop (length ys) ys) xs
+straight_put e ys xs out is = rw (take-length, drop-length) is
+
+-- the back is written at the first places
+pub round_put : (e : ℕ) (front back xs inner out : List ℕ) → inner ≡ take e xs ++ (front ++ drop (e + length front) xs) → out ≡ take 0 inner ++ (back ++ drop (0 + length back) inner) → out ≡ overwritten e front back xs
+round_put e front back xs inner out i o = o ∙ ap₂ (λ k l. back ++ drop k l) (omega arith) i
 
 module _ (size first n m e : ℕ) (xs ys : List ℕ) (in_range : first < size) (fits : n + length ys ≤ size) (length_xs : length xs ≡ size) (end_is : e ≡ (first + n) % size) (part : m ≡ min (length ys) (size - e)) where
   abbrev filled : List ℕ

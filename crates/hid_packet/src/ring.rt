@@ -1,7 +1,6 @@
 //! A queue of bytes in a ring.
 ghost use Rattle.std.specs.Prelude.{◌≡◌, ◌+◌, ◌-◌, ◌*◌, ◌%◌, ◌<◌, ◌≤◌, ◌++◌, [], length, min, take, drop};
 ghost use Rattle.hid_packet.specs.declared.ring.TheConstants.{RING_SIZE};
-ghost use Rattle.hid_packet.specs.Queue.{overwritten};
 
 use crate::fragments::put_at;
 use crate::limit::OUTBOX_CAPACITY;
@@ -42,23 +41,6 @@ fn wrapped(place: usize) -> usize
     }
 }
 
-/// Writes bytes from a place on, and from the first on where the ring ends.
-fn write_round(ring: &mut [u8], place: usize, bytes: &[u8])
-    requires place { place ≤ length ring.old }
-    requires room { length bytes.now ≤ length ring.old }
-    ensures { ring.new ≡ overwritten place (take (min (length bytes.now) (length ring.old - place)) bytes.now)
-        (drop (min (length bytes.now) (length ring.old - place)) bytes.now) ring.old }
-{
-    let straight = ring.len() - place;
-    if bytes.len() <= straight {
-        put_at(ring, place, bytes);
-        return;
-    }
-    let (front, back) = bytes.split_at(straight);
-    put_at(ring, place, front);
-    put_at(ring, 0, back);
-}
-
 /// Copies bytes from a place on, and from the first on where the ring ends.
 fn copy_round(out: &mut [u8], ring: &[u8], first: usize)
     requires place { first ≤ length ring.now }
@@ -88,14 +70,21 @@ impl Ring {
         }
     }
 
-    /// Puts bytes after those that wait.
+    /// Puts bytes after those that wait, from the first place on where the ring ends.
     pub(crate) fn put(&mut self, bytes: &[u8])
         requires { length self.old + length bytes.now ≤ 8320 }
         ensures { self.new ≡ self.old ++ bytes.now }
     {
         let end = wrapped(self.first + self.len);
-        write_round(&mut self.bytes, end, bytes);
+        let straight = RING_SIZE - end;
         self.len += bytes.len();
+        if bytes.len() <= straight {
+            put_at(&mut self.bytes, end, bytes);
+            return;
+        }
+        let (front, back) = bytes.split_at(straight);
+        put_at(&mut self.bytes, end, front);
+        put_at(&mut self.bytes, 0, back);
     }
 
     /// Takes the first bytes, as many as `out` has.
