@@ -41,23 +41,6 @@ fn wrapped(place: usize) -> usize
     }
 }
 
-/// Copies bytes from a place on, and from the first on where the ring ends.
-fn copy_round(out: &mut [u8], ring: &[u8], first: usize)
-    requires place { first ≤ length ring.now }
-    requires enough { length out.old ≤ length ring.now }
-    ensures { out.new ≡ take (min (length out.old) (length ring.now - first)) (drop first ring.now)
-        ++ take (length out.old - min (length out.old) (length ring.now - first)) ring.now }
-{
-    let straight = ring.len() - first;
-    if out.len() <= straight {
-        out.copy_from_slice(&ring[first..first + out.len()]);
-        return;
-    }
-    let (front, back) = out.split_at_mut(straight);
-    front.copy_from_slice(&ring[first..first + front.len()]);
-    back.copy_from_slice(&ring[..back.len()]);
-}
-
 impl Ring {
     /// No byte waits.
     pub(crate) fn new() -> Self
@@ -94,8 +77,16 @@ impl Ring {
         ensures left { self.new ≡ drop (length out.old) self.old }
     {
         let len = out.len();
-        copy_round(out, &self.bytes, self.first);
-        self.first = wrapped(self.first + len);
+        let first = self.first;
+        let straight = RING_SIZE - first;
+        self.first = wrapped(first + len);
         self.len -= len;
+        if len <= straight {
+            out.copy_from_slice(&self.bytes[first..first + len]);
+            return;
+        }
+        let (front, back) = out.split_at_mut(straight);
+        front.copy_from_slice(&self.bytes[first..first + front.len()]);
+        back.copy_from_slice(&self.bytes[..back.len()]);
     }
 }
