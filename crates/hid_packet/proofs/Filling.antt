@@ -124,10 +124,22 @@ module _ (size first n m e : ℕ) (xs ys : List ℕ) (in_range : first < size) (
             ∙ sym (get_or-append_right _ ys n i d old ge)
       ])
 
-module _ (size first n k : ℕ) (xs : List ℕ) (in_range : first < size) (fits : n ≤ size) (some : k ≤ n) (length_xs : length xs ≡ size) where
+-- the same of the bytes that wait as clauses see them, however they were written
+pub put_around : (size first n m e : ℕ) (xs ys now out : List ℕ) → first < size → n ≤ size → length xs ≡ size → window first n xs ≡ now → length now + length ys ≤ size → e ≡ (first + n) % size
+    → m ≡ min (length ys) (size - e) → out ≡ overwritten e (take m ys) (drop m ys) xs → window first (n + length ys) out ≡ now ++ ys
+put_around size first n m e xs ys now out in_range fits length_xs view room end_is part is =
+    let waiting = length-window size first n xs in_range fits length_xs in
+    let same = ap length view in
+    ap (window first (n + length ys)) is ∙ window-put size first n m e xs ys in_range (omega (arith, room)) length_xs end_is part ∙ ap (λ w. w ++ ys) view
+
+module _ (size first n k : ℕ) (xs now : List ℕ) (in_range : first < size) (fits : n ≤ size) (length_xs : length xs ≡ size) (view : window first n xs ≡ now) (enough : k ≤ length now) where
+  some : k ≤ n
+  some = omega (arith, length-window size first n xs in_range fits length_xs, ap length view)
+
   -- the first bytes that wait, as they are read around the end
-  pub window-front : (m : ℕ) → m ≡ min k (size - first) → take m (drop first xs) ++ take (k - m) xs ≡ take k (window first n xs)
+  pub window-front : (m : ℕ) → m ≡ min k (size - first) → take m (drop first xs) ++ take (k - m) xs ≡ take k now
   window-front m part =
+      let le = some in
       let whole = length-window size first n xs in_range fits length_xs in
       let f : length (take m (drop first xs)) ≡ m = length-take-le m (drop first xs) (omega (arith, length-drop first xs)) in
       let b : length (take (k - m) xs) ≡ k - m = length-take-le (k - m) xs (omega arith) in
@@ -147,11 +159,12 @@ module _ (size first n k : ℕ) (xs : List ℕ) (in_range : first < size) (fits 
               | inr p ↦ ap (λ j. get_or xs j d) (omega (arith, p.1))
             ]
             ∙ sym (get_or-window size first n xs in_range fits length_xs i d (omega arith)) ∙ sym (get_or-take k _ i d lt)
-      ])
+      ]) ∙ ap (take k) view
 
   -- what waits when they are taken
-  pub window-rest : window ((first + k) % size) (n - k) xs ≡ drop k (window first n xs)
+  pub window-rest : window ((first + k) % size) (n - k) xs ≡ drop k now
   window-rest =
+      let le = some in
       let next : (first + k) % size < size = elim (wraps_once size (first + k) (omega arith)) [ inl p ↦ omega (arith, p.0, p.1) | inr p ↦ omega (arith, p.0, p.1) ] in
       let whole = length-window size first n xs in_range fits length_xs in
       let left = length-window size ((first + k) % size) (n - k) xs next (omega arith) length_xs in
@@ -159,4 +172,4 @@ module _ (size first n k : ℕ) (xs : List ℕ) (in_range : first < size) (fits 
       get_or-window size ((first + k) % size) (n - k) xs next (omega arith) length_xs i d (omega arith)
       ∙ ap (λ j. get_or xs j d) (mod-add-mod (first + k) size i ∙ ap (λ j. j % size) (omega arith))
       ∙ sym (get_or-window size first n xs in_range fits length_xs (k + i) d (omega arith))
-      ∙ sym (get_or-drop k (window first n xs) i d))
+      ∙ sym (get_or-drop k (window first n xs) i d)) ∙ ap (drop k) view

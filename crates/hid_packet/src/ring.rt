@@ -70,7 +70,7 @@ impl Ring {
         put_at(&mut self.bytes, 0, back);
     }
 
-    /// Takes the first bytes, as many as `out` has.
+    /// Takes the first bytes, as many as `out` has, from the first place on where the ring ends.
     pub(crate) fn take(&mut self, out: &mut [u8])
         requires { length out.old ≤ length self.old }
         ensures taken { out.new ≡ take (length out.old) self.old }
