@@ -39,6 +39,21 @@ enum Contents {
     Finished(u16),
 }
 
+impl OpenMessage {
+    /// Returns it as its initialization packet began it.
+    fn new(cid: u32, cmd: u8, len: u16, at: u64) -> Self
+        ensures { result ≡ record { cid = cid; cmd = cmd; len = len; kept = 0; last = at } }
+    {
+        OpenMessage {
+            cid,
+            cmd,
+            len,
+            kept: 0,
+            last: at,
+        }
+    }
+}
+
 /// Writes the data bytes after those that are held already.
 fn put_data(message: &mut [u8], held: usize, part: &[u8])
     requires { held + length part.now ≤ length message.old }
@@ -239,13 +254,7 @@ impl Assembler {
             }
             Row::Long => {
                 put_data(&mut self.buffer, 0, part);
-                self.contents = Contents::Open(OpenMessage {
-                    cid,
-                    cmd,
-                    len,
-                    kept: 0,
-                    last: at,
-                });
+                self.contents = Contents::Open(OpenMessage::new(cid, cmd, len, at));
                 Verdict::Kept
             }
         }
