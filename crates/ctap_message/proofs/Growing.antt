@@ -22,14 +22,14 @@ use Rattle.ctap_message.specs.Fields.{Descriptor, descriptor_in, DescriptorList,
 use Rattle.ctap_message.specs.Judged.{MakeParameters, AssertionParameters}
 use Rattle.ctap_message.specs.Walks.{Reads, typed, HasPairs}
 use Rattle.ctap_message.specs.Collected.{rp_next, user_next, options_next, parameter_next, descriptor_next, IsPlainName, shown_descriptor}
-use Rattle.ctap_message.specs.CollectedRequests.{make_in, make_next, shown_make, IsPlainMake, TakesMake, nothing_made, no_parameters, assertion_in, assert_next, shown_assert, IsPlainAssert, TakesAssert, nothing_asserted}
+use Rattle.ctap_message.specs.CollectedRequests.{make_in, make_next, shown_make, IsPlainMake, TakesMake, no_parameters, assertion_in, assert_next, shown_assert, IsPlainAssert, TakesAssert}
 use Rattle.ctap_message.specs.DescriptorWalk.{DescriptorWalk, list_of, left_of, IsWhole}
 use Rattle.ctap_message.proofs.Pushes.{ap2, ap3, ap4, field_push, entries_push, some_push, head_bytes, head_text, head_int, head_uint, head_flag, head_map, is_head_bytes, is_head_text, is_head_int, is_head_uint, is_head_flag}
 use Rattle.ctap_message.proofs.Collecting.{Grows, HeadDecides, adds_tree}
 
 -- ---- keys
 
-pub number_key : (n : ℕ) (part : Part) → is_key (Number n) (head_of part) ≡ true → part ≡ One (Int (pos n))
+number_key : (n : ℕ) (part : Part) → is_key (Number n) (head_of part) ≡ true → part ≡ One (Int (pos n))
 number_key n (One (Int (pos m))) e = ap (λ m. One (Int (pos m))) ((Decides-eqb m n).0 e)
 number_key n (One (Int (negsuc m))) e = absurd cc
 number_key n (One (Bytes s)) e = absurd cc
@@ -222,17 +222,16 @@ make_none list entries = (make_all None None (make_user None None) false no_para
 abbrev make_with : Trees → Trees → MakeParameters × Trees
 make_with x y = make_none (record { is_whole = true; entries = y }) x
 
-make_start : make_with no_trees no_trees ≡ nothing_made
+make_start : make_with no_trees no_trees ≡ make_in (Some (Map no_pairs))
 unfolding value_at all_entries some_entry
 make_start = refl
 
-pub make_begins : (w : DescriptorWalk) → IsWhole w no_trees → make_with (list_of w) (left_of w) ≡ nothing_made
+pub make_begins : (w : DescriptorWalk) → IsWhole w no_trees → make_with (list_of w) (left_of w) ≡ make_in (Some (Map no_pairs))
 make_begins w h = ap2 make_with h.0 h.1 ∙ make_start
 
-pub make_arm : (room n : ℕ) (key : Part) (x y : Make) (a c : Reading) (r : Result Bool Fault) → key ≡ One (Int (pos n)) → MatchResult r (λ taken. TakesMake n room taken x y a c) (λ f. Halts room a c f.at f.kind)
-    → MatchResult r (λ taken. Adds (λ m ok ps. HasPairs make_types make_in (shown_make m) ok ps) room key taken x y a c) (λ f. Halts room a c f.at f.kind)
-make_arm room n key x y a c (Ok taken) is h = adds_tree shown_make make_types make_in make_next room key (Int (pos n)) taken x y a c make_grows is h
-make_arm room n key x y a c (Err f) is h = h
+pub make_took : (room n : ℕ) (key : Part) (taken : Bool) (x y : Make) (a c : Reading) → is_key (Number n) (head_of key) ≡ true → TakesMake n room taken x y a c
+    → Adds (λ m ok ps. HasPairs make_types make_in (shown_make m) ok ps) room key taken x y a c
+make_took room n key taken x y a c e h = adds_tree shown_make make_types make_in make_next room key (Int (pos n)) taken x y a c make_grows (number_key n key e) h
 
 -- ---- getAssertion
 
@@ -266,14 +265,13 @@ assert_heads k h v = (
 abbrev assert_with : Trees → Trees → AssertionParameters × Trees
 assert_with x y = (assert_all None None (record { is_whole = true; entries = y }) (make_options None None None) None, x)
 
-assert_start : assert_with no_trees no_trees ≡ nothing_asserted
+assert_start : assert_with no_trees no_trees ≡ assertion_in (Some (Map no_pairs))
 unfolding value_at all_entries
 assert_start = refl
 
-pub assert_begins : (w : DescriptorWalk) → IsWhole w no_trees → assert_with (list_of w) (left_of w) ≡ nothing_asserted
+pub assert_begins : (w : DescriptorWalk) → IsWhole w no_trees → assert_with (list_of w) (left_of w) ≡ assertion_in (Some (Map no_pairs))
 assert_begins w h = ap2 assert_with h.0 h.1 ∙ assert_start
 
-pub assert_arm : (room n : ℕ) (key : Part) (x y : Assert) (a c : Reading) (r : Result Bool Fault) → key ≡ One (Int (pos n)) → MatchResult r (λ taken. TakesAssert n room taken x y a c) (λ f. Halts room a c f.at f.kind)
-    → MatchResult r (λ taken. Adds (λ m ok ps. HasPairs assertion_types assertion_in (shown_assert m) ok ps) room key taken x y a c) (λ f. Halts room a c f.at f.kind)
-assert_arm room n key x y a c (Ok taken) is h = adds_tree shown_assert assertion_types assertion_in assert_next room key (Int (pos n)) taken x y a c assert_grows is h
-assert_arm room n key x y a c (Err f) is h = h
+pub assert_took : (room n : ℕ) (key : Part) (taken : Bool) (x y : Assert) (a c : Reading) → is_key (Number n) (head_of key) ≡ true → TakesAssert n room taken x y a c
+    → Adds (λ m ok ps. HasPairs assertion_types assertion_in (shown_assert m) ok ps) room key taken x y a c
+assert_took room n key taken x y a c e h = adds_tree shown_assert assertion_types assertion_in assert_next room key (Int (pos n)) taken x y a c assert_grows (number_key n key e) h

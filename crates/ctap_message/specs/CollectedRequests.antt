@@ -2,7 +2,7 @@
 -- that the walk over its list has.
 use Rattle.std.specs.Prelude.{◌≡◌, ℕ, pos, Bool, true, false, Option, Some, is_some, unwrap_or, if◌then◌else◌}
 use Rattle.std.specs.Option.{option_copied, option_map}
-use Rattle.ctap_cbor.specs.Tree.{Int, Tree, Plain, Map, Trees, no_pairs, as_bytes, as_text, as_uint}
+use Rattle.ctap_cbor.specs.Tree.{Int, Tree, Plain, Trees, as_bytes, as_text, as_uint}
 use Rattle.ctap_cbor.specs.Reading.{Reading, Passes}
 use Rattle.ctap_message.specs.declared.make.Make.{Make}
 use Rattle.ctap_message.specs.declared.assert.Assert.{Assert}
@@ -40,10 +40,6 @@ shown_make m = (
   },
   (shown_list m.exclude).1,
 )
-
--- of a request without parameters
-abbrev pub nothing_made : MakeParameters × Trees
-nothing_made = make_in (Some (Map no_pairs))
 
 abbrev pub make_next : Tree → Tree → MakeParameters × Trees → MakeParameters × Trees
 make_next k v m = (
@@ -90,9 +86,6 @@ shown_assert a = (
   },
   (shown_list a.allow).1,
 )
-
-abbrev pub nothing_asserted : AssertionParameters × Trees
-nothing_asserted = assertion_in (Some (Map no_pairs))
 
 abbrev pub assert_next : Tree → Tree → AssertionParameters × Trees → AssertionParameters × Trees
 assert_next k v a = (

@@ -1,6 +1,6 @@
 //! Answers, and those that are a status alone.
 
-ghost use Rattle.std.specs.Prelude.{◌≡◌, ◌∷◌, replicate};
+ghost use Rattle.std.specs.Prelude.{◌≡◌};
 ghost use Rattle.ctap_message.specs.Answers.{refusal};
 
 use crate::status::Status;
@@ -19,12 +19,4 @@ pub fn write_status(status: Status) -> Answer
     let mut answer = Answer::new();
     answer.push(status.0);
     answer
-}
-
-/// Returns an answer of zeros: the status of a success, and space for the longest map. A map is written where it is
-/// returned, so that it isn't copied.
-pub(crate) fn zeroed_answer() -> Answer
-    ensures { result.items ≡ 0x00 ∷ replicate LONGEST_MAP 0x00 }
-{
-    Answer::from([0x00; 1 + LONGEST_MAP])
 }

@@ -1,12 +1,12 @@
 //! The parameters of authenticatorGetAssertion (CTAP 2.1, section 6.2).
 
-ghost use Rattle.std.specs.Prelude.{◌≡◌, ◌-◌, ◌≤◌, MatchResult};
+ghost use Rattle.std.specs.Prelude.{◌≡◌, ◌⊎◌, MatchResult};
 ghost use Rattle.ctap_cbor.specs.Views.{part_of, head_of};
-ghost use Rattle.ctap_cbor.specs.Reading.{Halts};
+ghost use Rattle.ctap_cbor.specs.Reading.{Reading, PassesOne, Halts, Ends, GoesOn};
 ghost use Rattle.ctap_message.specs.Members.{suits, map_of};
 ghost use Rattle.ctap_message.specs.Walks.{Reads, typed, HasPairs};
 ghost use Rattle.ctap_message.specs.GetAssertion.{assertion_types};
-ghost use Rattle.ctap_message.specs.CollectedRequests.{assertion_in, shown_assert, assert_next, IsPlainAssert, TakesAssert, nothing_asserted};
+ghost use Rattle.ctap_message.specs.CollectedRequests.{assertion_in, shown_assert, assert_next, IsPlainAssert};
 
 use crate::descriptor::{DescriptorList, read_list};
 use crate::descriptors::Descriptors;
@@ -25,22 +25,6 @@ pub(crate) struct Assert<'a> {
 }
 
 impl<'a> Assert<'a> {
-    /// Nothing is known yet.
-    fn empty() -> Self
-        ensures { shown_assert result ≡ nothing_asserted }
-    {
-        Assert {
-            rp_id: None,
-            hash: None,
-            allow: DescriptorList {
-                is_whole: true,
-                list: Descriptors::none(),
-            },
-            options: Options::NONE,
-            pin_uv_auth_param: None,
-        }
-    }
-
     /// Takes a parameter with nothing inside, or extensions, which are ignored. Returns whether it has its type.
     fn put(&mut self, key: Item<'a>, value: Item<'a>) -> bool
         requires plain { IsPlainAssert (head_of (part_of key)) }
@@ -68,32 +52,6 @@ impl<'a> Assert<'a> {
             _ => true,
         }
     }
-
-    /// allowList, an array of descriptors.
-    fn take_allow_list(&mut self, cursor: &mut Cursor<'a>, level: u8) -> Result<bool, Fault>
-        requires low { 1 ≤ level }
-        requires high { level ≤ 5 }
-        ensures { MatchResult result
-            (λ taken. TakesAssert 0x03 (5 - level) taken self.old self.new cursor.old cursor.new)
-            (λ f. Halts (5 - level) cursor.old cursor.new f.at f.kind) }
-    {
-        let (typed, allow) = read_list(cursor, level)?;
-        self.allow = allow;
-        Ok(typed)
-    }
-
-    /// options, a map of truth values.
-    fn take_options(&mut self, cursor: &mut Cursor<'a>, level: u8) -> Result<bool, Fault>
-        requires low { 1 ≤ level }
-        requires high { level ≤ 5 }
-        ensures { MatchResult result
-            (λ taken. TakesAssert 0x05 (5 - level) taken self.old self.new cursor.old cursor.new)
-            (λ f. Halts (5 - level) cursor.old cursor.new f.at f.kind) }
-    {
-        let (typed, options) = read_options(cursor, level)?;
-        self.options = options;
-        Ok(typed)
-    }
 }
 
 impl<'a> Members<'a> for Assert<'a> {
@@ -101,8 +59,16 @@ impl<'a> Members<'a> for Assert<'a> {
 
     fn member(&mut self, cursor: &mut Cursor<'a>, key: Item<'a>, level: u8) -> Result<bool, Fault> {
         match key {
-            Item::Int(0x03) => self.take_allow_list(cursor, level),
-            Item::Int(0x05) => self.take_options(cursor, level),
+            Item::Int(0x03) => {
+                let (typed, allow) = read_list(cursor, level)?;
+                self.allow = allow;
+                Ok(typed)
+            }
+            Item::Int(0x05) => {
+                let (typed, options) = read_options(cursor, level)?;
+                self.options = options;
+                Ok(typed)
+            }
             _ => {
                 let value = cursor.whole(level)?;
                 Ok(self.put(key, value))
@@ -111,13 +77,25 @@ impl<'a> Members<'a> for Assert<'a> {
     }
 }
 
-/// Reads the parameters. Returns whether they have their types too.
+/// Reads the parameters, up to their end. Returns whether they have their types too.
 pub(crate) fn read_assert<'a>(cursor: &mut Cursor<'a>) -> Result<(bool, Assert<'a>), Fault>
     ensures { MatchResult result
-        (λ r. Reads (typed (map_of assertion_types) assertion_in) 4 (r.0, shown_assert r.1) cursor.old cursor.new)
-        (λ f. Halts 4 cursor.old cursor.new f.at f.kind) }
+        (λ r. (middle : Reading) × Reads (typed (map_of assertion_types) assertion_in) 4 (r.0, shown_assert r.1)
+        cursor.old middle × Ends middle cursor.new)
+        (λ f. Halts 4 cursor.old cursor.new f.at f.kind
+        ⊎ ((middle : Reading) × PassesOne 4 cursor.old middle × GoesOn middle cursor.new f.at f.kind)) }
 {
-    let mut found: Assert<'a> = Assert::empty();
+    let mut found = Assert {
+        rp_id: None,
+        hash: None,
+        allow: DescriptorList {
+            is_whole: true,
+            list: Descriptors::none(),
+        },
+        options: Options::NONE,
+        pin_uv_auth_param: None,
+    };
     let typed = read_map(&mut found, cursor, 1)?.unwrap_or(false);
+    cursor.end()?;
     Ok((typed, found))
 }

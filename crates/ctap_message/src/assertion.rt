@@ -8,8 +8,7 @@ ghost use Rattle.ctap_cbor.specs.Tree.{no_pairs};
 ghost use Rattle.ctap_cbor.specs.Writing.{room_of, Appends, SameBuffer};
 ghost use Rattle.ctap_message.specs.Answers as spec;
 
-use crate::answer::{Answer, LONGEST_MAP, zeroed_answer};
-use crate::created::put_bytes;
+use crate::answer::{Answer, LONGEST_MAP};
 use ctap_cbor::Sink;
 
 /// The answer of an assertion (CTAP 2.1, sections 6.2.2 and 6.3): status 0x00 and the map
@@ -28,7 +27,7 @@ pub fn write_assertion(
     requires user { ForSome user (λ u. length u.now ≤ 64) }
     ensures { result.items ≡ spec.assertion_answer id.now auth.now sig.now (option_copied user.entry) number }
 {
-    let mut answer = zeroed_answer();
+    let mut answer = Answer::from([0x00; 1 + LONGEST_MAP]);
     let len = assertion_into(&mut answer.as_mut_slice()[1..], id, auth, sig, user, number);
     answer.truncate(1 + len);
     answer
@@ -106,9 +105,9 @@ fn put_signed(sink: &mut Sink<'_>, id: &[u8; 32], auth: &[u8], sig: &[u8])
     sink.uint(0x01);
     put_credential(sink, id);
     sink.uint(0x02);
-    put_bytes(sink, auth);
+    sink.bytes(auth);
     sink.uint(0x03);
-    put_bytes(sink, sig);
+    sink.bytes(sig);
 }
 
 /// Writes the credential: its id and type.
@@ -120,7 +119,7 @@ fn put_credential(sink: &mut Sink<'_>, id: &[u8; 32])
 {
     sink.map(2);
     sink.text("id");
-    put_bytes(sink, id);
+    sink.bytes(id);
     sink.text("type");
     sink.text("public-key");
 }
@@ -151,7 +150,7 @@ fn put_user_id(sink: &mut Sink<'_>, user: &[u8])
     sink.uint(0x04);
     sink.map(1);
     sink.text("id");
-    put_bytes(sink, user);
+    sink.bytes(user);
 }
 
 /// Writes the number of credentials, where it is given.

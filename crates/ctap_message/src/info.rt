@@ -6,7 +6,7 @@ ghost use Rattle.ctap_cbor.specs.Writing.{room_of, Appends, SameBuffer};
 ghost use Rattle.ctap_message.specs.Answered as parts;
 ghost use Rattle.ctap_message.specs.Answers as spec;
 
-use crate::answer::{Answer, zeroed_answer};
+use crate::answer::{Answer, LONGEST_MAP};
 use ctap_cbor::Sink;
 
 /// The version that is supported.
@@ -27,7 +27,7 @@ pub(crate) const ES256: i128 = -7;
 pub fn write_info(aaguid: &[u8; 16]) -> Answer
     ensures { result.items ≡ spec.info_answer aaguid.now }
 {
-    let mut answer = zeroed_answer();
+    let mut answer = Answer::from([0x00; 1 + LONGEST_MAP]);
     let len = info_into(&mut answer.as_mut_slice()[1..], aaguid);
     answer.truncate(1 + len);
     answer

@@ -5,8 +5,8 @@ ghost use Rattle.ctap_cbor.specs.Views.{part_of, head_of};
 ghost use Rattle.ctap_cbor.specs.Reading.{Halts};
 ghost use Rattle.ctap_message.specs.Members.{suits, array_of, map_of};
 ghost use Rattle.ctap_message.specs.Walks.{Reads, typed, HasPairs, HasEntries};
-ghost use Rattle.ctap_message.specs.Descriptors.{parameter_types, is_es256};
-ghost use Rattle.ctap_message.specs.Fields.{parameter_in, is_whole_parameter, names_es256, parameters_in};
+ghost use Rattle.ctap_message.specs.Descriptors.{parameter_types};
+ghost use Rattle.ctap_message.specs.Fields.{parameter_in, parameters_in};
 ghost use Rattle.ctap_message.specs.Collected.{shown_parameter, parameter_next, shown_parameters};
 
 use crate::item::is_public_key;
@@ -42,30 +42,6 @@ impl<'a> Parameter<'a> {
             _ => true,
         }
     }
-
-    /// Returns whether alg and type are there.
-    fn is_whole(&self) -> bool
-        ensures { result ≡ is_whole_parameter (shown_parameter self.now) }
-    {
-        self.alg.is_some() && self.kind.is_some()
-    }
-
-    /// Returns whether it names ES256 for public keys.
-    fn names_es256(&self) -> bool
-        ensures { result ≡ names_es256 (shown_parameter self.now) }
-    {
-        is_es256_alg(self.alg) && is_public_key(self.kind)
-    }
-}
-
-/// Returns whether an algorithm is ES256.
-fn is_es256_alg(alg: Option<i128>) -> bool
-    ensures { result ≡ is_es256 alg }
-{
-    match alg {
-        Some(n) => n == ES256,
-        None => false,
-    }
 }
 
 impl<'a> Members<'a> for Parameter<'a> {
@@ -75,23 +51,6 @@ impl<'a> Members<'a> for Parameter<'a> {
         let value = cursor.whole(level)?;
         Ok(self.put(key, value))
     }
-}
-
-/// Reads a credential parameter. Returns whether it has its type too.
-fn read_parameter<'a>(cursor: &mut Cursor<'a>, level: u8) -> Result<(bool, Parameter<'a>), Fault>
-    requires low { 1 ≤ level }
-    requires high { level ≤ 5 }
-    ensures { MatchResult result
-        (λ r. Reads (typed (map_of parameter_types) parameter_in) (5 - level) (r.0, shown_parameter r.1)
-        cursor.old cursor.new)
-        (λ f. Halts (5 - level) cursor.old cursor.new f.at f.kind) }
-{
-    let mut found = Parameter {
-        alg: None,
-        kind: None,
-    };
-    let typed = read_map(&mut found, cursor, level)?.unwrap_or(false);
-    Ok((typed, found))
 }
 
 /// What is known of pubKeyCredParams.
@@ -105,9 +64,13 @@ impl<'a> Entries<'a> for Parameters {
     ghost HoldsAll = { λ x ok ts. HasEntries (map_of parameter_types) parameters_in (shown_parameters x) ok ts };
 
     fn entry(&mut self, cursor: &mut Cursor<'a>, level: u8) -> Result<bool, Fault> {
-        let (typed, parameter) = read_parameter(cursor, level)?;
-        self.is_whole &= parameter.is_whole();
-        self.has_es256 |= parameter.names_es256();
+        let mut parameter = Parameter {
+            alg: None,
+            kind: None,
+        };
+        let typed = read_map(&mut parameter, cursor, level)?.unwrap_or(false);
+        self.is_whole &= parameter.alg.is_some() && parameter.kind.is_some();
+        self.has_es256 |= parameter.alg == Some(ES256) && is_public_key(parameter.kind);
         Ok(typed)
     }
 }

@@ -1,26 +1,21 @@
 //! What a message asks.
 
-ghost use Rattle.std.specs.Prelude.{◌≡◌, ◌⊎◌, ◌≤◌, length, min, Ok, MatchResult};
-ghost use Rattle.ctap_cbor.specs.Reading.{Reading, PassesOne, Halts, Ends, GoesOn};
+ghost use Rattle.std.specs.Prelude.{◌≡◌, ◌≤◌, length, min, Ok};
 ghost use Rattle.ctap_cbor.specs.Telling.{canonical_tree};
-ghost use Rattle.ctap_message.specs.Members.{map_of};
-ghost use Rattle.ctap_message.specs.Walks.{Reads, typed};
-ghost use Rattle.ctap_message.specs.CollectedRequests.{make_in, shown_make, assertion_in, shown_assert};
-ghost use Rattle.ctap_message.specs.MakeCredential.{make_types, make_request};
-ghost use Rattle.ctap_message.specs.GetAssertion.{assertion_types, assertion_request};
+ghost use Rattle.ctap_message.specs.MakeCredential.{make_request};
+ghost use Rattle.ctap_message.specs.GetAssertion.{assertion_request};
 ghost use Rattle.ctap_message.specs.Requests.{read_of, steps_of, alone as alone_of, reading_steps, LARGEST};
-ghost use Rattle.ctap_message.specs.Commands.{request_of, command_steps};
 ghost use Rattle.ctap_message.specs.Shown.{shown, asked, IsFresh, HasLengths};
 
-use crate::assert::{Assert, read_assert};
+use crate::assert::read_assert;
 use crate::command::Command;
 use crate::descriptors::Descriptors;
 use crate::judge::{judge_assert, judge_make};
 use crate::laws::steps_are_bounded;
-use crate::make::{Make, read_make};
+use crate::make::read_make;
 use crate::status::Status;
 use ctap_cbor::laws::whole_readings;
-use ctap_cbor::{Cursor, Fault, read_whole};
+use ctap_cbor::{Cursor, read_whole};
 
 /// A request that passed all checks of its command. What it holds is lent from the message.
 #[derive(Drop)]
@@ -84,25 +79,13 @@ pub fn read_request<'a>(message: &'a [u8]) -> (Result<Request<'a>, Status>, u64)
         return (Err(Status::INVALID_LENGTH), 0);
     };
     match Command::named(*byte) {
-        Some(command) => read_command(command, parameters),
+        Some(Command::MakeCredential) => read_make_credential(parameters),
+        Some(Command::GetAssertion) => read_get_assertion(parameters),
+        Some(Command::GetInfo) => (alone(parameters, Request::Info), 0),
+        Some(Command::Reset) => (alone(parameters, Request::Reset), 0),
+        Some(Command::GetNextAssertion) => (alone(parameters, Request::Next), 0),
+        Some(Command::Selection) => (alone(parameters, Request::Select), 0),
         None => (Err(Status::INVALID_COMMAND), 0),
-    }
-}
-
-/// What a command asks with these bytes after it.
-fn read_command<'a>(command: Command, parameters: &'a [u8]) -> (Result<Request<'a>, Status>, u64)
-    ensures request { shown result.0 ≡ request_of command parameters.now }
-    ensures steps { result.1 ≡ min (command_steps command parameters.now) LARGEST }
-    ensures fresh { IsFresh result.0 }
-    ensures lens { HasLengths result.0 }
-{
-    match command {
-        Command::MakeCredential => read_make_credential(parameters),
-        Command::GetAssertion => read_get_assertion(parameters),
-        Command::GetInfo => (alone(parameters, Request::Info), 0),
-        Command::Reset => (alone(parameters, Request::Reset), 0),
-        Command::GetNextAssertion => (alone(parameters, Request::Next), 0),
-        Command::Selection => (alone(parameters, Request::Select), 0),
     }
 }
 
@@ -134,23 +117,10 @@ fn read_make_credential<'a>(parameters: &'a [u8]) -> (Result<Request<'a>, Status
         return (Err(Status::INVALID_CBOR), cursor.steps());
     }
     cursor.rewind();
-    match read_make_again(&mut cursor) {
+    match read_make(&mut cursor) {
         Ok((typed, make)) => (judge_make(typed, make), cursor.steps()),
         Err(_) => unreachable!(),
     }
-}
-
-/// The parameters of a makeCredential, up to their end.
-fn read_make_again<'a>(cursor: &mut Cursor<'a>) -> Result<(bool, Make<'a>), Fault>
-    ensures { MatchResult result
-        (λ r. (middle : Reading) × Reads (typed (map_of make_types) make_in) 4 (r.0, shown_make r.1) cursor.old middle
-        × Ends middle cursor.new)
-        (λ f. Halts 4 cursor.old cursor.new f.at f.kind
-        ⊎ ((middle : Reading) × PassesOne 4 cursor.old middle × GoesOn middle cursor.new f.at f.kind)) }
-{
-    let found = read_make(cursor)?;
-    cursor.end()?;
-    Ok(found)
 }
 
 /// authenticatorGetAssertion: the parameters are checked whole, and then read by the same cursor.
@@ -166,21 +136,8 @@ fn read_get_assertion<'a>(parameters: &'a [u8]) -> (Result<Request<'a>, Status>,
         return (Err(Status::INVALID_CBOR), cursor.steps());
     }
     cursor.rewind();
-    match read_assert_again(&mut cursor) {
+    match read_assert(&mut cursor) {
         Ok((typed, assert)) => (judge_assert(typed, assert), cursor.steps()),
         Err(_) => unreachable!(),
     }
-}
-
-/// The parameters of a getAssertion, up to their end.
-fn read_assert_again<'a>(cursor: &mut Cursor<'a>) -> Result<(bool, Assert<'a>), Fault>
-    ensures { MatchResult result
-        (λ r. (middle : Reading) × Reads (typed (map_of assertion_types) assertion_in) 4 (r.0, shown_assert r.1)
-        cursor.old middle × Ends middle cursor.new)
-        (λ f. Halts 4 cursor.old cursor.new f.at f.kind
-        ⊎ ((middle : Reading) × PassesOne 4 cursor.old middle × GoesOn middle cursor.new f.at f.kind)) }
-{
-    let found = read_assert(cursor)?;
-    cursor.end()?;
-    Ok(found)
 }

@@ -1,15 +1,14 @@
 //! The parameter rp: the relying party (WebAuthn Level 2, section 5.4.2).
 
-ghost use Rattle.std.specs.Prelude.{◌≡◌, ◌-◌, ◌≤◌, MatchResult};
+ghost use Rattle.std.specs.Prelude.{◌≡◌};
 ghost use Rattle.ctap_cbor.specs.Views.{part_of, head_of};
-ghost use Rattle.ctap_cbor.specs.Reading.{Halts};
-ghost use Rattle.ctap_message.specs.Members.{suits, map_of};
-ghost use Rattle.ctap_message.specs.Walks.{Reads, typed, HasPairs};
+ghost use Rattle.ctap_message.specs.Members.{suits};
+ghost use Rattle.ctap_message.specs.Walks.{HasPairs};
 ghost use Rattle.ctap_message.specs.MakeCredential.{rp_types};
 ghost use Rattle.ctap_message.specs.Fields.{rp_in};
 ghost use Rattle.ctap_message.specs.Collected.{shown_rp, rp_next};
 
-use ctap_cbor::{Cursor, Fault, Item, Members, read_map};
+use ctap_cbor::{Cursor, Fault, Item, Members};
 
 /// What is known of rp.
 #[derive(Clone, Copy, Drop)]
@@ -42,17 +41,4 @@ impl<'a> Members<'a> for Rp<'a> {
         let value = cursor.whole(level)?;
         Ok(self.put(key, value))
     }
-}
-
-/// Reads rp. Returns whether it has its type too.
-pub(crate) fn read_rp<'a>(cursor: &mut Cursor<'a>, level: u8) -> Result<(bool, Rp<'a>), Fault>
-    requires low { 1 ≤ level }
-    requires high { level ≤ 5 }
-    ensures { MatchResult result
-        (λ r. Reads (typed (map_of rp_types) rp_in) (5 - level) (r.0, shown_rp r.1) cursor.old cursor.new)
-        (λ f. Halts (5 - level) cursor.old cursor.new f.at f.kind) }
-{
-    let mut found = Rp { id: None };
-    let typed = read_map(&mut found, cursor, level)?.unwrap_or(false);
-    Ok((typed, found))
 }

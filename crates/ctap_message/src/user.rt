@@ -1,15 +1,14 @@
 //! The parameter user: the account (WebAuthn Level 2, section 5.4.3).
 
-ghost use Rattle.std.specs.Prelude.{◌≡◌, ◌-◌, ◌≤◌, MatchResult};
+ghost use Rattle.std.specs.Prelude.{◌≡◌};
 ghost use Rattle.ctap_cbor.specs.Views.{part_of, head_of};
-ghost use Rattle.ctap_cbor.specs.Reading.{Halts};
-ghost use Rattle.ctap_message.specs.Members.{suits, map_of};
-ghost use Rattle.ctap_message.specs.Walks.{Reads, typed, HasPairs};
+ghost use Rattle.ctap_message.specs.Members.{suits};
+ghost use Rattle.ctap_message.specs.Walks.{HasPairs};
 ghost use Rattle.ctap_message.specs.MakeCredential.{user_types};
 ghost use Rattle.ctap_message.specs.Fields.{user_in};
 ghost use Rattle.ctap_message.specs.Collected.{shown_user, user_next};
 
-use ctap_cbor::{Cursor, Fault, Item, Members, read_map};
+use ctap_cbor::{Cursor, Fault, Item, Members};
 
 /// What is known of user.
 #[derive(Clone, Copy, Drop)]
@@ -47,20 +46,4 @@ impl<'a> Members<'a> for User<'a> {
         let value = cursor.whole(level)?;
         Ok(self.put(key, value))
     }
-}
-
-/// Reads user. Returns whether it has its type too.
-pub(crate) fn read_user<'a>(cursor: &mut Cursor<'a>, level: u8) -> Result<(bool, User<'a>), Fault>
-    requires low { 1 ≤ level }
-    requires high { level ≤ 5 }
-    ensures { MatchResult result
-        (λ r. Reads (typed (map_of user_types) user_in) (5 - level) (r.0, shown_user r.1) cursor.old cursor.new)
-        (λ f. Halts (5 - level) cursor.old cursor.new f.at f.kind) }
-{
-    let mut found = User {
-        id: None,
-        name: None,
-    };
-    let typed = read_map(&mut found, cursor, level)?.unwrap_or(false);
-    Ok((typed, found))
 }

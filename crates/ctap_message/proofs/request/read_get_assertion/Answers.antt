@@ -23,14 +23,14 @@ pub unreachable-requires : goal.unreachable-requires
 unreachable-requires c =
     let ok = sym c.is_err.ensures.value ∙ c.if-is_err.false in
     let first = accepted c.args.parameters.now c.new-cursor.result c.read_whole.new.cursor c.read_whole.result c.whole_readings.ensures c.new-cursor.ensures ok c.read_whole.ensures in
-    never c.args.parameters.now c.read_whole.new.cursor c.rewind.new.self c.read_assert_again.new.cursor c.in-Err.field-0 c.whole_readings.ensures first (c.rewind.ensures ∙ first.back) c.in-Err.ensures
+    never c.args.parameters.now c.read_whole.new.cursor c.rewind.new.self c.read_assert.new.cursor c.in-Err.field-0 c.whole_readings.ensures first (c.rewind.ensures ∙ first.back) c.in-Err.ensures
 
 pub returns-clause-request : goal.returns-clause-request
 returns-clause-request c =
     let ok = sym c.is_err.ensures.value ∙ c.if-is_err.false in
     let first = accepted c.args.parameters.now c.new-cursor.result c.read_whole.new.cursor c.read_whole.result c.whole_readings.ensures c.new-cursor.ensures ok c.read_whole.ensures in
     let h = c.in-Ok.ensures in
-    let t = told (typed (map_of assertion_types) assertion_in) c.args.parameters.now (c.in-Ok.typed, shown_assert c.in-Ok.assert) c.read_whole.new.cursor c.rewind.new.self h.0 c.read_assert_again.new.cursor c.whole_readings.ensures first (c.rewind.ensures ∙ first.back) h.1 h.2 in
+    let t = told (typed (map_of assertion_types) assertion_in) c.args.parameters.now (c.in-Ok.typed, shown_assert c.in-Ok.assert) c.read_whole.new.cursor c.rewind.new.self h.0 c.read_assert.new.cursor c.whole_readings.ensures first (c.rewind.ensures ∙ first.back) h.1 h.2 in
     c.judge_assert.ensures.request ∙ ap (λ (x : Bool × (AssertionParameters × Trees)). assertion_judged true x.0 x.1.0) t.value_is ∙ sym (ap assertion_request t.tree_is)
 
 pub returns-clause-steps : goal.returns-clause-steps
@@ -38,5 +38,5 @@ returns-clause-steps c =
     let ok = sym c.is_err.ensures.value ∙ c.if-is_err.false in
     let first = accepted c.args.parameters.now c.new-cursor.result c.read_whole.new.cursor c.read_whole.result c.whole_readings.ensures c.new-cursor.ensures ok c.read_whole.ensures in
     let h = c.in-Ok.ensures in
-    let t = told (typed (map_of assertion_types) assertion_in) c.args.parameters.now (c.in-Ok.typed, shown_assert c.in-Ok.assert) c.read_whole.new.cursor c.rewind.new.self h.0 c.read_assert_again.new.cursor c.whole_readings.ensures first (c.rewind.ensures ∙ first.back) h.1 h.2 in
+    let t = told (typed (map_of assertion_types) assertion_in) c.args.parameters.now (c.in-Ok.typed, shown_assert c.in-Ok.assert) c.read_whole.new.cursor c.rewind.new.self h.0 c.read_assert.new.cursor c.whole_readings.ensures first (c.rewind.ensures ∙ first.back) h.1 h.2 in
     c.steps-in-Ok.ensures ∙ t.steps_are

@@ -1,36 +1,48 @@
-use Rattle.std.proofs.Common.{◌≡◌, ◌-◌, true, rules}
+use Rattle.std.proofs.Common.{◌≡◌, ◌-◌, true, Some, ap, rules}
 use Rattle.ctap_cbor.specs.Views.{part_of, head_of}
 use Rattle.ctap_message.specs.Members.{Number, is_key}
-use Rattle.ctap_message.specs.MakeCredential.{make_types}
+use Rattle.ctap_message.specs.MakeCredential.{rp_types, user_types, make_types}
+use Rattle.ctap_message.specs.Fields.{rp_in, user_in}
+use Rattle.ctap_message.specs.Collected.{shown_rp, shown_user}
 use Rattle.ctap_message.specs.CollectedRequests.{make_in, shown_make, make_next}
-use Rattle.ctap_message.proofs.Collecting.{adds_head}
-use Rattle.ctap_message.proofs.Growing.{make_grows, make_heads, make_arm, number_key}
+use Rattle.ctap_message.proofs.Collecting.{adds_head, map_read}
+use Rattle.ctap_message.proofs.Growing.{rp_start, user_start, make_grows, make_heads, make_took}
 use Rattle.ctap_message.proofs.make.MakeMembers.member.Goals as goal
 
-pub returns-in-Int-eq2 : goal.returns-in-Int-eq2
-returns-in-Int-eq2 c =
+pub returns-in_ok-read_map-in-Int-eq2 : goal.returns-in_ok-read_map-in-Int-eq2
+returns-in_ok-read_map-in-Int-eq2 c =
     let n : is_key (Number 2) (head_of (part_of c.args.key)) ≡ true = search rules in
-    make_arm (5 - c.args.level) 2 (part_of c.args.key) c.args.self.now c.take_rp.new.self c.args.cursor.now c.take_rp.new.cursor c.take_rp.result (number_key 2 (part_of c.args.key) n) c.take_rp.ensures
+    let h = map_read shown_rp rp_types rp_in (5 - c.args.level) c.in_ok-read_map-in-Int-eq2.field-0 c.unwrap_or.result _ c.read_map.new.members c.args.cursor.now c.read_map.new.cursor c.unwrap_or.ensures c.in_ok-read_map-in-Int-eq2.ensures rp_start in
+    let x = shown_make c.args.self.now in
+    make_took (5 - c.args.level) 2 (part_of c.args.key) c.unwrap_or.result c.args.self.now (record c.args.self.now { rp = c.read_map.new.members }) c.args.cursor.now c.read_map.new.cursor n (h.0, h.1, ap (λ p. p.0) h.2, ap (λ p. (record x.0 { rp_id = p.1 }, x.1)) h.2)
 
-pub returns-in-Int-eq3 : goal.returns-in-Int-eq3
-returns-in-Int-eq3 c =
+pub returns-in_ok-read_map-in-Int-eq3 : goal.returns-in_ok-read_map-in-Int-eq3
+returns-in_ok-read_map-in-Int-eq3 c =
     let n : is_key (Number 3) (head_of (part_of c.args.key)) ≡ true = search rules in
-    make_arm (5 - c.args.level) 3 (part_of c.args.key) c.args.self.now c.take_user.new.self c.args.cursor.now c.take_user.new.cursor c.take_user.result (number_key 3 (part_of c.args.key) n) c.take_user.ensures
+    let h = map_read shown_user user_types user_in (5 - c.args.level) c.in_ok-read_map-in-Int-eq3.field-0 c.unwrap_or-in-Int-eq3.result _ c.read_map-in-Int-eq3.new.members c.args.cursor.now c.read_map-in-Int-eq3.new.cursor c.unwrap_or-in-Int-eq3.ensures c.in_ok-read_map-in-Int-eq3.ensures user_start in
+    let x = shown_make c.args.self.now in
+    make_took (5 - c.args.level) 3 (part_of c.args.key) c.unwrap_or-in-Int-eq3.result c.args.self.now (record c.args.self.now { user = c.read_map-in-Int-eq3.new.members }) c.args.cursor.now c.read_map-in-Int-eq3.new.cursor n (h.0, h.1, ap (λ p. p.0) h.2, ap (λ p. (record x.0 { user = p.1 }, x.1)) h.2)
 
-pub returns-in-Int-eq4 : goal.returns-in-Int-eq4
-returns-in-Int-eq4 c =
+pub returns-in_ok-typed-in-Int-eq4 : goal.returns-in_ok-typed-in-Int-eq4
+returns-in_ok-typed-in-Int-eq4 c =
     let n : is_key (Number 4) (head_of (part_of c.args.key)) ≡ true = search rules in
-    make_arm (5 - c.args.level) 4 (part_of c.args.key) c.args.self.now c.take_parameters.new.self c.args.cursor.now c.take_parameters.new.cursor c.take_parameters.result (number_key 4 (part_of c.args.key) n) c.take_parameters.ensures
+    let h = c.in_ok-typed-in-Int-eq4.ensures in
+    let x = shown_make c.args.self.now in
+    make_took (5 - c.args.level) 4 (part_of c.args.key) c.in_ok-typed-in-Int-eq4.typed c.args.self.now (record c.args.self.now { parameters = Some c.in_ok-typed-in-Int-eq4.parameters }) c.args.cursor.now c.read_parameters.new.cursor n (h.0, h.1, ap (λ p. p.0) h.2, ap (λ p. (record x.0 { has_parameters = true; parameters = p.1 }, x.1)) h.2)
 
-pub returns-in-Int-eq5 : goal.returns-in-Int-eq5
-returns-in-Int-eq5 c =
+pub returns-in_ok-typed-in-Int-eq5 : goal.returns-in_ok-typed-in-Int-eq5
+returns-in_ok-typed-in-Int-eq5 c =
     let n : is_key (Number 5) (head_of (part_of c.args.key)) ≡ true = search rules in
-    make_arm (5 - c.args.level) 5 (part_of c.args.key) c.args.self.now c.take_exclude_list.new.self c.args.cursor.now c.take_exclude_list.new.cursor c.take_exclude_list.result (number_key 5 (part_of c.args.key) n) c.take_exclude_list.ensures
+    let h = c.in_ok-typed-in-Int-eq5.ensures in
+    let x = shown_make c.args.self.now in
+    make_took (5 - c.args.level) 5 (part_of c.args.key) c.in_ok-typed-in-Int-eq5.typed c.args.self.now (record c.args.self.now { exclude = c.in_ok-typed-in-Int-eq5.exclude }) c.args.cursor.now c.read_list.new.cursor n (h.0, h.1, ap (λ p. p.0) h.2, ap (λ p. (record x.0 { exclude_list = p.1.0 }, p.1.1)) h.2)
 
-pub returns-in-Int-eq7 : goal.returns-in-Int-eq7
-returns-in-Int-eq7 c =
+pub returns-in_ok-typed-in-Int-eq7 : goal.returns-in_ok-typed-in-Int-eq7
+returns-in_ok-typed-in-Int-eq7 c =
     let n : is_key (Number 7) (head_of (part_of c.args.key)) ≡ true = search rules in
-    make_arm (5 - c.args.level) 7 (part_of c.args.key) c.args.self.now c.take_options.new.self c.args.cursor.now c.take_options.new.cursor c.take_options.result (number_key 7 (part_of c.args.key) n) c.take_options.ensures
+    let h = c.in_ok-typed-in-Int-eq7.ensures in
+    let x = shown_make c.args.self.now in
+    make_took (5 - c.args.level) 7 (part_of c.args.key) c.in_ok-typed-in-Int-eq7.typed c.args.self.now (record c.args.self.now { options = c.in_ok-typed-in-Int-eq7.options }) c.args.cursor.now c.read_options.new.cursor n (h.0, h.1, ap (λ p. p.0) h.2, ap (λ p. (record x.0 { options = p.1 }, x.1)) h.2)
 
 pub returns-in_ok-value-in_default : goal.returns-in_ok-value-in_default
 returns-in_ok-value-in_default c =
