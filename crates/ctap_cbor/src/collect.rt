@@ -1,9 +1,9 @@
 //! Reading maps and arrays whole: one loop for each, whatever is collected of them.
 
-ghost use Rattle.std.specs.Prelude.{◌≡◌, ℕ, Bool, ◌&&◌, ◌-◌, ◌≤◌, List, Option, MatchResult};
+ghost use Rattle.std.specs.Prelude.{Bool, ◌-◌, ◌≤◌, MatchResult};
 ghost use Rattle.ctap_cbor.specs.Views.{part_of};
-ghost use Rattle.ctap_cbor.specs.Reading.{Halts, HaltsInPairs, HaltsInAll};
-ghost use Rattle.ctap_cbor.specs.Collecting.{Adds, AddsEntry, AddsPairs, AddsAll, ReadsMap, ReadsArray};
+ghost use Rattle.ctap_cbor.specs.Reading.{Halts};
+ghost use Rattle.ctap_cbor.specs.Collecting.{Adds, AddsEntry, ReadsMap, ReadsArray};
 
 use crate::cursor::Cursor;
 use crate::fault::Fault;
@@ -42,52 +42,6 @@ pub trait Entries<'a> {
             (λ f. Halts (5 - level) cursor.old cursor.new f.at f.kind) };
 }
 
-/// Takes so many pairs. Returns whether each was taken.
-fn read_pairs<'a, M: Members<'a>>(
-    members: &mut M,
-    cursor: &mut Cursor<'a>,
-    level: u8,
-    count: u64,
-) -> Result<bool, Fault>
-    requires low { 1 ≤ level }
-    requires high { level ≤ 5 }
-    ensures { MatchResult result
-        (λ ok. (last : Option (List ℕ)) × AddsPairs M.Holds
-        (5 - level) count last ok members.old members.new cursor.old cursor.new)
-        (λ f. HaltsInPairs (5 - level) count cursor.old cursor.new f.at f.kind) }
-{
-    let mut previous = None;
-    let mut ok = true;
-    for done in 0..count {
-        let key = cursor.key(previous)?;
-        previous = Some(key.bytes);
-        let taken = members.member(cursor, key.item, level)?;
-        ok &= taken;
-    }
-    Ok(ok)
-}
-
-/// Takes so many entries. Returns whether each was taken.
-fn read_entries<'a, M: Entries<'a>>(
-    entries: &mut M,
-    cursor: &mut Cursor<'a>,
-    level: u8,
-    count: u64,
-) -> Result<bool, Fault>
-    requires low { 1 ≤ level }
-    requires high { level ≤ 5 }
-    ensures { MatchResult result
-        (λ ok. AddsAll M.HoldsAll (5 - level) count ok entries.old entries.new cursor.old cursor.new)
-        (λ f. HaltsInAll (5 - level) count cursor.old cursor.new f.at f.kind) }
-{
-    let mut ok = true;
-    for done in 0..count {
-        let taken = entries.entry(cursor, level)?;
-        ok &= taken;
-    }
-    Ok(ok)
-}
-
 /// Takes a whole item at this level, from 1 to 5, and hands the pairs of a map to `members`. Returns None where it
 /// isn't a map, and else whether each member was taken.
 ///
@@ -103,16 +57,22 @@ pub fn read_map<'a, M: Members<'a>>(
         (λ r. ReadsMap M.Holds (5 - level) r members.old members.new cursor.old cursor.new)
         (λ f. Halts (5 - level) cursor.old cursor.new f.at f.kind) }
 {
-    match cursor.item(level)? {
-        Item::Map(count) => {
-            let ok = read_pairs(members, cursor, level + 1, count)?;
-            Ok(Some(ok))
-        }
+    let count = match cursor.item(level)? {
+        Item::Map(count) => count,
         other => {
             cursor.inside(other, level)?;
-            Ok(None)
+            return Ok(None);
         }
+    };
+    let mut previous = None;
+    let mut ok = true;
+    for done in 0..count {
+        let key = cursor.key(previous)?;
+        previous = Some(key.bytes);
+        let taken = members.member(cursor, key.item, level + 1)?;
+        ok &= taken;
     }
+    Ok(Some(ok))
 }
 
 /// Takes a whole item at this level, from 1 to 5, and hands the entries of an array to `entries`. Returns None where
@@ -130,14 +90,17 @@ pub fn read_array<'a, M: Entries<'a>>(
         (λ r. ReadsArray M.HoldsAll (5 - level) r entries.old entries.new cursor.old cursor.new)
         (λ f. Halts (5 - level) cursor.old cursor.new f.at f.kind) }
 {
-    match cursor.item(level)? {
-        Item::Array(count) => {
-            let ok = read_entries(entries, cursor, level + 1, count)?;
-            Ok(Some(ok))
-        }
+    let count = match cursor.item(level)? {
+        Item::Array(count) => count,
         other => {
             cursor.inside(other, level)?;
-            Ok(None)
+            return Ok(None);
         }
+    };
+    let mut ok = true;
+    for done in 0..count {
+        let taken = entries.entry(cursor, level + 1)?;
+        ok &= taken;
     }
+    Ok(Some(ok))
 }

@@ -79,7 +79,7 @@ impl<'a> Cursor<'a> {
             (λ f. read (5 - level) AnItem (rest_of self.old) ≡ Err f.kind) }
         ensures only { TakesOnly (5 - level) self.old self.new result }
     {
-        let at = self.place();
+        let at = self.place;
         let rest = self.rest();
         match find(rest, 5 - level, false) {
             Ok((item, len)) => {
@@ -104,13 +104,14 @@ impl<'a> Cursor<'a> {
             ≡ Ok (part_of k.item, rest_of self.new))
             (λ f. read 0 (AKey (option_copied previous.entry)) (rest_of self.old) ≡ Err f.kind) }
     {
-        let at = self.place();
+        let at = self.place;
         let rest = self.rest();
         match find(rest, 0, true) {
             Ok((item, len)) => {
                 let bytes = &rest[..len];
-                self.pass(len, steps_to_compare(previous, len));
-                if is_key_above(previous, bytes) {
+                let (is_above, steps) = compare(previous, bytes);
+                self.pass(len, steps);
+                if is_above {
                     Ok(Key { item, bytes })
                 } else {
                     Err(Fault {
@@ -211,7 +212,7 @@ impl<'a> Cursor<'a> {
     pub fn end(&mut self) -> Result<(), Fault>
         ensures { MatchResult result (λ _. Ends self.old self.new) (λ f. GoesOn self.old self.new f.at f.kind) }
     {
-        let at = self.place();
+        let at = self.place;
         if self.rest().is_empty() {
             self.pass(0, 1);
             Ok(())
@@ -261,23 +262,15 @@ impl<'a> Cursor<'a> {
     }
 }
 
-/// The steps of comparing a key with the one before it: one for each of its bytes.
-fn steps_to_compare(previous: Option<&[u8]>, len: usize) -> usize
-    ensures { result ≡ compared (option_copied previous.entry) len }
+/// Returns whether a key is above the one before it, in lexical order, and the steps of comparing them: one for each of
+/// its bytes.
+fn compare(previous: Option<&[u8]>, key: &[u8]) -> (bool, usize)
+    ensures above { result.0 ≡ is_above (AKey (option_copied previous.entry)) key.now }
+    ensures steps { result.1 ≡ compared (option_copied previous.entry) (length key.now) }
 {
     match previous {
-        None => 0,
-        Some(_) => len,
-    }
-}
-
-/// Whether the key is above the one before it, in lexical order.
-fn is_key_above(previous: Option<&[u8]>, key: &[u8]) -> bool
-    ensures { result ≡ is_above (AKey (option_copied previous.entry)) key.now }
-{
-    match previous {
-        None => true,
-        Some(before) => before.cmp(key).is_lt(),
+        None => (true, 0),
+        Some(before) => (before.cmp(key).is_lt(), key.len()),
     }
 }
 

@@ -60,12 +60,12 @@ fn find_rest<'a>(first: u8, rest: &'a [u8]) -> Result<(Item<'a>, usize), (Kind, 
 {
     let major = first / 32;
     let info = first % 32;
-    let len = len_of_argument(info);
+    let (len, least) = argument_form(info);
     if rest.len() < len {
         return Err((Kind::Truncated, 1 + rest.len()));
     }
     let argument = argument_of(first, rest);
-    if argument < least(info) {
+    if argument < least {
         return Err((Kind::NotShortest, 1 + len));
     }
     if major != 2 && major != 3 {
@@ -85,34 +85,21 @@ fn find_rest<'a>(first: u8, rest: &'a [u8]) -> Result<(Item<'a>, usize), (Kind, 
     }
 }
 
-/// How many bytes of an argument follow a first byte with this additional information.
-#[tactic(auto, unfolding(crate::specs::Head::argument_len))]
-fn len_of_argument(info: u8) -> usize
+/// Returns how many bytes of an argument follow a first byte with this additional information, and the least argument
+/// that needs so many.
+#[tactic(auto, unfolding(crate::specs::Head::argument_len, crate::specs::Head::least_argument))]
+fn argument_form(info: u8) -> (usize, u64)
     requires { info < 28 }
-    ensures len { result ≡ argument_len info }
-    ensures small { result ≤ 8 }
+    ensures len { result.0 ≡ argument_len info }
+    ensures small { result.0 ≤ 8 }
+    ensures least { result.1 ≡ least_argument info }
 {
     match info {
-        24 => 1,
-        25 => 2,
-        26 => 4,
-        27 => 8,
-        _ => 0,
-    }
-}
-
-/// The least argument that needs this additional information.
-#[tactic(auto, unfolding(crate::specs::Head::least_argument))]
-fn least(info: u8) -> u64
-    requires { info < 28 }
-    ensures { result ≡ least_argument info }
-{
-    match info {
-        24 => 24,
-        25 => 0x100,
-        26 => 0x1_0000,
-        27 => 0x1_0000_0000,
-        _ => 0,
+        24 => (1, 24),
+        25 => (2, 0x100),
+        26 => (4, 0x1_0000),
+        27 => (8, 0x1_0000_0000),
+        _ => (0, 0),
     }
 }
 

@@ -1,6 +1,0 @@
-use Rattle.std.proofs.Common.{◌-◌}
-use Rattle.ctap_cbor.specs.Collecting.{AddsAll}
-use Rattle.ctap_cbor.proofs.collect.read_entries.Given as goal
-
-abbrev pub invariant-loop-done : goal.invariant-loop-done
-invariant-loop-done g l = AddsAll g.M.Entries.HoldsAll (5 - l.level) l.done l.ok l.fn.entries l.entries l.fn.cursor l.cursor
