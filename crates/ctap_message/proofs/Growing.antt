@@ -13,19 +13,22 @@ use Rattle.ctap_cbor.specs.Views.{head_of}
 use Rattle.ctap_cbor.specs.Collecting.{Adds, AddsEntry, InArray, ReadsArray}
 use Rattle.ctap_message.specs.declared.descriptor.Descriptor.{Descriptor as DescriptorFields}
 use Rattle.ctap_message.specs.declared.make.Make.{Make}
+use Rattle.ctap_message.specs.declared.parameters.Parameter.{Parameter as ParameterFields}
+use Rattle.ctap_message.specs.declared.rp.Rp.{Rp as RpFields}
+use Rattle.ctap_message.specs.declared.user.User.{User as UserFields}
 use Rattle.ctap_message.specs.declared.assert.Assert.{Assert}
-use Rattle.ctap_message.specs.Members.{Number, Name, is_key, value_at, all_entries, some_entry, entries_of, map_of, array_of, is_text}
+use Rattle.ctap_message.specs.Members.{Number, Name, is_key, suits, value_at, all_entries, some_entry, entries_of, map_of, array_of, is_text}
 use Rattle.ctap_message.specs.MakeCredential.{rp_types, user_types, make_types}
 use Rattle.ctap_message.specs.GetAssertion.{assertion_types}
 use Rattle.ctap_message.specs.Descriptors.{option_types, parameter_types, descriptor_types}
 use Rattle.ctap_message.specs.Fields.{Descriptor, descriptor_in, DescriptorList, descriptors_in, Options, options_in, Parameter, parameter_in, is_whole_parameter, names_es256, Parameters, parameters_in, rp_in, User, user_in}
 use Rattle.ctap_message.specs.Judged.{MakeParameters, AssertionParameters}
 use Rattle.ctap_message.specs.Walks.{Reads, typed, HasPairs}
-use Rattle.ctap_message.specs.Collected.{rp_next, user_next, options_next, parameter_next, descriptor_next, IsPlainName, shown_descriptor}
+use Rattle.ctap_message.specs.Collected.{rp_next, user_next, options_next, parameter_next, descriptor_next, IsPlainName, shown_rp, shown_user, shown_parameter, shown_descriptor}
 use Rattle.ctap_message.specs.CollectedRequests.{make_in, make_next, shown_make, IsPlainMake, TakesMake, no_parameters, assertion_in, assert_next, shown_assert, IsPlainAssert, TakesAssert}
 use Rattle.ctap_message.specs.DescriptorWalk.{DescriptorWalk, list_of, left_of, IsWhole}
 use Rattle.ctap_message.proofs.Pushes.{ap2, ap3, ap4, field_push, entries_push, some_push, head_bytes, head_text, head_int, head_uint, head_flag, head_map, is_head_bytes, is_head_text, is_head_int, is_head_uint, is_head_flag}
-use Rattle.ctap_message.proofs.Collecting.{Grows, HeadDecides, adds_tree}
+use Rattle.ctap_message.proofs.Collecting.{Grows, HeadDecides, adds_head, adds_tree}
 
 -- ---- keys
 
@@ -50,14 +53,18 @@ name_key name (OpensMap m) e = absurd cc
 
 -- ---- rp
 
-pub rp_grows : Grows rp_in rp_next
+rp_grows : Grows rp_in rp_next
 rp_grows ps k v = field_push (option_and_then as_text) (Name "id") ps k v
 
-pub rp_heads : (k : Tree) → HeadDecides rp_types rp_next k
+rp_heads : (k : Tree) → HeadDecides rp_types rp_next k
 rp_heads k v = (
   ap (λ b. if is_key (Name "id") k then b else (if is_key (Name "name") k then b else true)) (is_head_text v),
   λ z. ap (λ x. if is_key (Name "id") k then x else z) (head_text v),
 )
+
+pub rp_adds : (room : ℕ) (key part : Part) (taken : Bool) (x y : RpFields) (a c : Reading) → PassesAs room part a c → taken ≡ suits rp_types (head_of key) (head_of part) → shown_rp y ≡ rp_next (head_of key) (head_of part) (shown_rp x)
+    → Adds (λ m ok ps. HasPairs rp_types rp_in (shown_rp m) ok ps) room key taken x y a c
+rp_adds room key part taken x y a c = adds_head shown_rp rp_types rp_in rp_next room key part taken x y a c rp_grows (rp_heads (head_of key))
 
 pub rp_start : ◌≡◌ {A = Option (List ℕ)} None (rp_in (Some (Map no_pairs)))
 unfolding value_at
@@ -68,14 +75,18 @@ rp_start = refl
 abbrev make_user : Option (List ℕ) → Option (List ℕ) → User
 make_user a b = record { id = a; name = b }
 
-pub user_grows : Grows user_in user_next
+user_grows : Grows user_in user_next
 user_grows ps k v = ap2 make_user (field_push (option_and_then as_bytes) (Name "id") ps k v) (field_push (option_and_then as_text) (Name "name") ps k v)
 
-pub user_heads : (k : Tree) → HeadDecides user_types user_next k
+user_heads : (k : Tree) → HeadDecides user_types user_next k
 user_heads k v = (
   ap2 (λ a b. if is_key (Name "id") k then a else (if is_key (Name "name") k then b else (if is_key (Name "displayName") k then b else true))) (is_head_bytes v) (is_head_text v),
   λ z. ap2 (λ a b. make_user (if is_key (Name "id") k then a else z.id) (if is_key (Name "name") k then b else z.name)) (head_bytes v) (head_text v),
 )
+
+pub user_adds : (room : ℕ) (key part : Part) (taken : Bool) (x y : UserFields) (a c : Reading) → PassesAs room part a c → taken ≡ suits user_types (head_of key) (head_of part) → shown_user y ≡ user_next (head_of key) (head_of part) (shown_user x)
+    → Adds (λ m ok ps. HasPairs user_types user_in (shown_user m) ok ps) room key taken x y a c
+user_adds room key part taken x y a c = adds_head shown_user user_types user_in user_next room key part taken x y a c user_grows (user_heads (head_of key))
 
 pub user_start : make_user None None ≡ user_in (Some (Map no_pairs))
 unfolding value_at
@@ -105,14 +116,18 @@ options_start = refl
 abbrev make_parameter : Option ℤ → Option (List ℕ) → Parameter
 make_parameter a b = record { alg = a; credential_type = b }
 
-pub parameter_grows : Grows parameter_in parameter_next
+parameter_grows : Grows parameter_in parameter_next
 parameter_grows ps k v = ap2 make_parameter (field_push (option_and_then as_int) (Name "alg") ps k v) (field_push (option_and_then as_text) (Name "type") ps k v)
 
-pub parameter_heads : (k : Tree) → HeadDecides parameter_types parameter_next k
+parameter_heads : (k : Tree) → HeadDecides parameter_types parameter_next k
 parameter_heads k v = (
   ap2 (λ a b. if is_key (Name "alg") k then a else (if is_key (Name "type") k then b else true)) (is_head_int v) (is_head_text v),
   λ z. ap2 (λ a b. make_parameter (if is_key (Name "alg") k then a else z.alg) (if is_key (Name "type") k then b else z.credential_type)) (head_int v) (head_text v),
 )
+
+pub parameter_adds : (room : ℕ) (key part : Part) (taken : Bool) (x y : ParameterFields) (a c : Reading) → PassesAs room part a c → taken ≡ suits parameter_types (head_of key) (head_of part) → shown_parameter y ≡ parameter_next (head_of key) (head_of part) (shown_parameter x)
+    → Adds (λ m ok ps. HasPairs parameter_types parameter_in (shown_parameter m) ok ps) room key taken x y a c
+parameter_adds room key part taken x y a c = adds_head shown_parameter parameter_types parameter_in parameter_next room key part taken x y a c parameter_grows (parameter_heads (head_of key))
 
 pub parameter_start : make_parameter None None ≡ parameter_in (Some (Map no_pairs))
 unfolding value_at

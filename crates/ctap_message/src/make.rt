@@ -12,10 +12,10 @@ use crate::descriptor::{DescriptorList, read_list};
 use crate::descriptors::Descriptors;
 use crate::item::is_a_map;
 use crate::options::{Options, read_options};
-use crate::parameters::{Parameters, read_parameters};
+use crate::parameters::Parameters;
 use crate::rp::Rp;
 use crate::user::User;
-use ctap_cbor::{Cursor, Fault, Item, Members, read_map};
+use ctap_cbor::{Cursor, Fault, Item, Members, read_array, read_map};
 
 /// What is known of the parameters of authenticatorMakeCredential.
 #[derive(Drop)]
@@ -76,7 +76,11 @@ impl<'a> Members<'a> for Make<'a> {
                 Ok(read_map(&mut self.user, cursor, level)?.unwrap_or(false))
             }
             Item::Int(0x04) => {
-                let (typed, parameters) = read_parameters(cursor, level)?;
+                let mut parameters = Parameters {
+                    is_whole: true,
+                    has_es256: false,
+                };
+                let typed = read_array(&mut parameters, cursor, level)?.unwrap_or(false);
                 self.parameters = Some(parameters);
                 Ok(typed)
             }

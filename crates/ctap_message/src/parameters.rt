@@ -1,16 +1,13 @@
 //! The parameter pubKeyCredParams: the algorithms that a relying party takes (WebAuthn Level 2, section 5.3).
 
-ghost use Rattle.std.specs.Prelude.{◌≡◌, ◌-◌, ◌≤◌, MatchResult};
-ghost use Rattle.ctap_cbor.specs.Views.{part_of, head_of};
-ghost use Rattle.ctap_cbor.specs.Reading.{Halts};
-ghost use Rattle.ctap_message.specs.Members.{suits, array_of, map_of};
-ghost use Rattle.ctap_message.specs.Walks.{Reads, typed, HasPairs, HasEntries};
+ghost use Rattle.ctap_message.specs.Members.{map_of};
+ghost use Rattle.ctap_message.specs.Walks.{HasPairs, HasEntries};
 ghost use Rattle.ctap_message.specs.Descriptors.{parameter_types};
 ghost use Rattle.ctap_message.specs.Fields.{parameter_in, parameters_in};
-ghost use Rattle.ctap_message.specs.Collected.{shown_parameter, parameter_next, shown_parameters};
+ghost use Rattle.ctap_message.specs.Collected.{shown_parameter, shown_parameters};
 
 use crate::item::is_public_key;
-use ctap_cbor::{Cursor, Entries, Fault, Item, Members, read_array, read_map};
+use ctap_cbor::{Cursor, Entries, Fault, Item, Members, read_map};
 
 /// ES256 as a COSE algorithm.
 const ES256: i128 = -7;
@@ -22,15 +19,12 @@ struct Parameter<'a> {
     pub kind: Option<&'a str>,
 }
 
-impl<'a> Parameter<'a> {
-    /// Takes a member. Returns whether it has its type.
-    fn put(&mut self, key: Item<'a>, value: Item<'a>) -> bool
-        ensures typed { result ≡ suits parameter_types (head_of (part_of key.entry)) (head_of (part_of value.entry)) }
-        ensures value { shown_parameter self.new ≡ parameter_next (head_of (part_of key.entry))
-            (head_of (part_of value.entry))
-            (shown_parameter self.old) }
-    {
-        match key {
+impl<'a> Members<'a> for Parameter<'a> {
+    ghost Holds = { λ x ok ps. HasPairs parameter_types parameter_in (shown_parameter x) ok ps };
+
+    fn member(&mut self, cursor: &mut Cursor<'a>, key: Item<'a>, level: u8) -> Result<bool, Fault> {
+        let value = cursor.whole(level)?;
+        let typed = match key {
             Item::Text("alg") => {
                 self.alg = value.as_int();
                 self.alg.is_some()
@@ -40,16 +34,8 @@ impl<'a> Parameter<'a> {
                 self.kind.is_some()
             }
             _ => true,
-        }
-    }
-}
-
-impl<'a> Members<'a> for Parameter<'a> {
-    ghost Holds = { λ x ok ps. HasPairs parameter_types parameter_in (shown_parameter x) ok ps };
-
-    fn member(&mut self, cursor: &mut Cursor<'a>, key: Item<'a>, level: u8) -> Result<bool, Fault> {
-        let value = cursor.whole(level)?;
-        Ok(self.put(key, value))
+        };
+        Ok(typed)
     }
 }
 
@@ -73,24 +59,4 @@ impl<'a> Entries<'a> for Parameters {
         self.has_es256 |= parameter.alg == Some(ES256) && is_public_key(parameter.kind);
         Ok(typed)
     }
-}
-
-/// Reads pubKeyCredParams. Returns whether it has its type too.
-pub(crate) fn read_parameters(
-    cursor: &mut Cursor<'_>,
-    level: u8,
-) -> Result<(bool, Parameters), Fault>
-    requires low { 1 ≤ level }
-    requires high { level ≤ 5 }
-    ensures { MatchResult result
-        (λ r. Reads (typed (array_of (map_of parameter_types)) parameters_in) (5 - level) (r.0, shown_parameters r.1)
-        cursor.old cursor.new)
-        (λ f. Halts (5 - level) cursor.old cursor.new f.at f.kind) }
-{
-    let mut found = Parameters {
-        is_whole: true,
-        has_es256: false,
-    };
-    let typed = read_array(&mut found, cursor, level)?.unwrap_or(false);
-    Ok((typed, found))
 }

@@ -1,12 +1,9 @@
 //! The parameter rp: the relying party (WebAuthn Level 2, section 5.4.2).
 
-ghost use Rattle.std.specs.Prelude.{◌≡◌};
-ghost use Rattle.ctap_cbor.specs.Views.{part_of, head_of};
-ghost use Rattle.ctap_message.specs.Members.{suits};
 ghost use Rattle.ctap_message.specs.Walks.{HasPairs};
 ghost use Rattle.ctap_message.specs.MakeCredential.{rp_types};
 ghost use Rattle.ctap_message.specs.Fields.{rp_in};
-ghost use Rattle.ctap_message.specs.Collected.{shown_rp, rp_next};
+ghost use Rattle.ctap_message.specs.Collected.{shown_rp};
 
 use ctap_cbor::{Cursor, Fault, Item, Members};
 
@@ -16,29 +13,19 @@ pub(crate) struct Rp<'a> {
     pub id: Option<&'a str>,
 }
 
-impl<'a> Rp<'a> {
-    /// Takes a member. Returns whether it has its type.
-    fn put(&mut self, key: Item<'a>, value: Item<'a>) -> bool
-        ensures typed { result ≡ suits rp_types (head_of (part_of key.entry)) (head_of (part_of value.entry)) }
-        ensures value { shown_rp self.new ≡ rp_next (head_of (part_of key.entry)) (head_of (part_of value.entry))
-            (shown_rp self.old) }
-    {
-        match key {
+impl<'a> Members<'a> for Rp<'a> {
+    ghost Holds = { λ x ok ps. HasPairs rp_types rp_in (shown_rp x) ok ps };
+
+    fn member(&mut self, cursor: &mut Cursor<'a>, key: Item<'a>, level: u8) -> Result<bool, Fault> {
+        let value = cursor.whole(level)?;
+        let typed = match key {
             Item::Text("id") => {
                 self.id = value.as_text();
                 self.id.is_some()
             }
             Item::Text("name") => value.as_text().is_some(),
             _ => true,
-        }
-    }
-}
-
-impl<'a> Members<'a> for Rp<'a> {
-    ghost Holds = { λ x ok ps. HasPairs rp_types rp_in (shown_rp x) ok ps };
-
-    fn member(&mut self, cursor: &mut Cursor<'a>, key: Item<'a>, level: u8) -> Result<bool, Fault> {
-        let value = cursor.whole(level)?;
-        Ok(self.put(key, value))
+        };
+        Ok(typed)
     }
 }

@@ -1,12 +1,13 @@
 use Rattle.std.proofs.Common.{◌≡◌, ◌-◌, true, Some, ap, rules}
 use Rattle.ctap_cbor.specs.Views.{part_of, head_of}
-use Rattle.ctap_message.specs.Members.{Number, is_key}
+use Rattle.ctap_message.specs.Members.{Number, is_key, map_of}
 use Rattle.ctap_message.specs.MakeCredential.{rp_types, user_types, make_types}
-use Rattle.ctap_message.specs.Fields.{rp_in, user_in}
-use Rattle.ctap_message.specs.Collected.{shown_rp, shown_user}
+use Rattle.ctap_message.specs.Descriptors.{parameter_types}
+use Rattle.ctap_message.specs.Fields.{rp_in, user_in, parameters_in}
+use Rattle.ctap_message.specs.Collected.{shown_rp, shown_user, shown_parameters}
 use Rattle.ctap_message.specs.CollectedRequests.{make_in, shown_make, make_next}
-use Rattle.ctap_message.proofs.Collecting.{adds_head, map_read}
-use Rattle.ctap_message.proofs.Growing.{rp_start, user_start, make_grows, make_heads, make_took}
+use Rattle.ctap_message.proofs.Collecting.{adds_head, map_read, array_read}
+use Rattle.ctap_message.proofs.Growing.{rp_start, user_start, parameters_start, make_grows, make_heads, make_took}
 use Rattle.ctap_message.proofs.make.MakeMembers.member.Goals as goal
 
 pub returns-in_ok-read_map-in-Int-eq2 : goal.returns-in_ok-read_map-in-Int-eq2
@@ -23,12 +24,12 @@ returns-in_ok-read_map-in-Int-eq3 c =
     let x = shown_make c.args.self.now in
     make_took (5 - c.args.level) 3 (part_of c.args.key) c.unwrap_or-in-Int-eq3.result c.args.self.now (record c.args.self.now { user = c.read_map-in-Int-eq3.new.members }) c.args.cursor.now c.read_map-in-Int-eq3.new.cursor n (h.0, h.1, ap (λ p. p.0) h.2, ap (λ p. (record x.0 { user = p.1 }, x.1)) h.2)
 
-pub returns-in_ok-typed-in-Int-eq4 : goal.returns-in_ok-typed-in-Int-eq4
-returns-in_ok-typed-in-Int-eq4 c =
+pub returns-in_ok-read_array-in-Int-eq4 : goal.returns-in_ok-read_array-in-Int-eq4
+returns-in_ok-read_array-in-Int-eq4 c =
     let n : is_key (Number 4) (head_of (part_of c.args.key)) ≡ true = search rules in
-    let h = c.in_ok-typed-in-Int-eq4.ensures in
+    let h = array_read shown_parameters (map_of parameter_types) parameters_in (5 - c.args.level) c.in_ok-read_array-in-Int-eq4.field-0 c.unwrap_or-typed.result _ c.read_array.new.entries c.args.cursor.now c.read_array.new.cursor c.unwrap_or-typed.ensures c.in_ok-read_array-in-Int-eq4.ensures parameters_start in
     let x = shown_make c.args.self.now in
-    make_took (5 - c.args.level) 4 (part_of c.args.key) c.in_ok-typed-in-Int-eq4.typed c.args.self.now (record c.args.self.now { parameters = Some c.in_ok-typed-in-Int-eq4.parameters }) c.args.cursor.now c.read_parameters.new.cursor n (h.0, h.1, ap (λ p. p.0) h.2, ap (λ p. (record x.0 { has_parameters = true; parameters = p.1 }, x.1)) h.2)
+    make_took (5 - c.args.level) 4 (part_of c.args.key) c.unwrap_or-typed.result c.args.self.now (record c.args.self.now { parameters = Some c.read_array.new.entries }) c.args.cursor.now c.read_array.new.cursor n (h.0, h.1, ap (λ p. p.0) h.2, ap (λ p. (record x.0 { has_parameters = true; parameters = p.1 }, x.1)) h.2)
 
 pub returns-in_ok-typed-in-Int-eq5 : goal.returns-in_ok-typed-in-Int-eq5
 returns-in_ok-typed-in-Int-eq5 c =

@@ -1,13 +1,16 @@
-use Rattle.std.proofs.Common.{◌-◌}
-use Rattle.ctap_cbor.specs.Views.{part_of, head_of}
-use Rattle.ctap_message.specs.Descriptors.{parameter_types}
-use Rattle.ctap_message.specs.Fields.{parameter_in}
-use Rattle.ctap_message.specs.Collected.{shown_parameter, parameter_next}
-use Rattle.ctap_message.proofs.Collecting.{adds_head}
-use Rattle.ctap_message.proofs.Growing.{parameter_grows, parameter_heads}
+use Rattle.std.proofs.Common.{◌-◌, true, rules}
+use Rattle.ctap_cbor.specs.Views.{part_of}
+use Rattle.ctap_message.proofs.Growing.{parameter_adds}
 use Rattle.ctap_message.proofs.parameters.ParameterMembers.member.Goals as goal
 
-pub returns : goal.returns
-returns c =
-    adds_head shown_parameter parameter_types parameter_in parameter_next (5 - c.args.level) (part_of c.args.key) (part_of c.in_ok-value.value) c.put.result c.args.self.now c.put.new.self c.args.cursor.now c.whole.new.self
-    parameter_grows (parameter_heads (head_of (part_of c.args.key))) c.in_ok-value.ensures c.put.ensures.typed c.put.ensures.value
+pub returns-in-Text-alg : goal.returns-in-Text-alg
+returns-in-Text-alg c = parameter_adds (5 - c.args.level) (part_of c.args.key) (part_of c.in_ok-value.value) c.is_some-typed.result c.args.self.now (record c.args.self.now { alg = c.as_int-self.result }) c.args.cursor.now c.whole.new.self c.in_ok-value.ensures (search rules) (search rules)
+
+pub returns-in-Text-type : goal.returns-in-Text-type
+returns-in-Text-type c = parameter_adds (5 - c.args.level) (part_of c.args.key) (part_of c.in_ok-value.value) c.is_some-typed-in-Text-type.result c.args.self.now (record c.args.self.now { kind = c.as_text-self.result }) c.args.cursor.now c.whole.new.self c.in_ok-value.ensures (search rules) (search rules)
+
+pub returns-in_default : goal.returns-in_default
+returns-in_default c = parameter_adds (5 - c.args.level) (part_of c.args.key) (part_of c.in_ok-value.value) true c.args.self.now c.args.self.now c.args.cursor.now c.whole.new.self c.in_ok-value.ensures (search rules) (search rules)
+
+pub returns-in_default-2 : goal.returns-in_default-2
+returns-in_default-2 c = parameter_adds (5 - c.args.level) (part_of c.args.key) (part_of c.in_ok-value.value) true c.args.self.now c.args.self.now c.args.cursor.now c.whole.new.self c.in_ok-value.ensures (search rules) (search rules)

@@ -1,13 +1,16 @@
-use Rattle.std.proofs.Common.{◌-◌}
-use Rattle.ctap_cbor.specs.Views.{part_of, head_of}
-use Rattle.ctap_message.specs.MakeCredential.{rp_types}
-use Rattle.ctap_message.specs.Fields.{rp_in}
-use Rattle.ctap_message.specs.Collected.{shown_rp, rp_next}
-use Rattle.ctap_message.proofs.Collecting.{adds_head}
-use Rattle.ctap_message.proofs.Growing.{rp_grows, rp_heads}
+use Rattle.std.proofs.Common.{◌-◌, true, rules}
+use Rattle.ctap_cbor.specs.Views.{part_of}
+use Rattle.ctap_message.proofs.Growing.{rp_adds}
 use Rattle.ctap_message.proofs.rp.RpMembers.member.Goals as goal
 
-pub returns : goal.returns
-returns c =
-    adds_head shown_rp rp_types rp_in rp_next (5 - c.args.level) (part_of c.args.key) (part_of c.in_ok-value.value) c.put.result c.args.self.now c.put.new.self c.args.cursor.now c.whole.new.self
-    rp_grows (rp_heads (head_of (part_of c.args.key))) c.in_ok-value.ensures c.put.ensures.typed c.put.ensures.value
+pub returns-in-Text-id : goal.returns-in-Text-id
+returns-in-Text-id c = rp_adds (5 - c.args.level) (part_of c.args.key) (part_of c.in_ok-value.value) c.is_some-typed.result c.args.self.now (record c.args.self.now { id = c.as_text-self.result }) c.args.cursor.now c.whole.new.self c.in_ok-value.ensures (search rules) (search rules)
+
+pub returns-in-Text-name : goal.returns-in-Text-name
+returns-in-Text-name c = rp_adds (5 - c.args.level) (part_of c.args.key) (part_of c.in_ok-value.value) c.is_some-typed-in-Text-name.result c.args.self.now c.args.self.now c.args.cursor.now c.whole.new.self c.in_ok-value.ensures (search rules) (search rules)
+
+pub returns-in_default : goal.returns-in_default
+returns-in_default c = rp_adds (5 - c.args.level) (part_of c.args.key) (part_of c.in_ok-value.value) true c.args.self.now c.args.self.now c.args.cursor.now c.whole.new.self c.in_ok-value.ensures (search rules) (search rules)
+
+pub returns-in_default-2 : goal.returns-in_default-2
+returns-in_default-2 c = rp_adds (5 - c.args.level) (part_of c.args.key) (part_of c.in_ok-value.value) true c.args.self.now c.args.self.now c.args.cursor.now c.whole.new.self c.in_ok-value.ensures (search rules) (search rules)
