@@ -13,6 +13,7 @@ use Rattle.ctap_cbor.specs.Views.{head_of}
 use Rattle.ctap_cbor.specs.Collecting.{Adds, AddsEntry, InArray, ReadsArray}
 use Rattle.ctap_message.specs.declared.descriptor.Descriptor.{Descriptor as DescriptorFields}
 use Rattle.ctap_message.specs.declared.make.Make.{Make}
+use Rattle.ctap_message.specs.declared.options.Options.{Options as OptionsFields}
 use Rattle.ctap_message.specs.declared.parameters.Parameter.{Parameter as ParameterFields}
 use Rattle.ctap_message.specs.declared.rp.Rp.{Rp as RpFields}
 use Rattle.ctap_message.specs.declared.user.User.{User as UserFields}
@@ -24,7 +25,7 @@ use Rattle.ctap_message.specs.Descriptors.{option_types, parameter_types, descri
 use Rattle.ctap_message.specs.Fields.{Descriptor, descriptor_in, DescriptorList, descriptors_in, Options, options_in, Parameter, parameter_in, is_whole_parameter, names_es256, Parameters, parameters_in, rp_in, User, user_in}
 use Rattle.ctap_message.specs.Judged.{MakeParameters, AssertionParameters}
 use Rattle.ctap_message.specs.Walks.{Reads, typed, HasPairs}
-use Rattle.ctap_message.specs.Collected.{rp_next, user_next, options_next, parameter_next, descriptor_next, IsPlainName, shown_rp, shown_user, shown_parameter, shown_descriptor}
+use Rattle.ctap_message.specs.Collected.{rp_next, user_next, options_next, parameter_next, descriptor_next, IsPlainName, shown_rp, shown_user, shown_options, shown_parameter, shown_descriptor}
 use Rattle.ctap_message.specs.CollectedRequests.{make_in, make_next, shown_make, IsPlainMake, TakesMake, no_parameters, assertion_in, assert_next, shown_assert, IsPlainAssert, TakesAssert}
 use Rattle.ctap_message.specs.DescriptorWalk.{DescriptorWalk, list_of, left_of, IsWhole}
 use Rattle.ctap_message.proofs.Pushes.{ap2, ap3, ap4, field_push, entries_push, some_push, head_bytes, head_text, head_int, head_uint, head_flag, head_map, is_head_bytes, is_head_text, is_head_int, is_head_uint, is_head_flag}
@@ -97,15 +98,19 @@ user_start = refl
 abbrev make_options : Option Bool → Option Bool → Option Bool → Options
 make_options a b c = record { rk = a; up = b; uv = c }
 
-pub options_grows : Grows options_in options_next
+options_grows : Grows options_in options_next
 options_grows ps k v =
     ap3 make_options (field_push (option_and_then as_flag) (Name "rk") ps k v) (field_push (option_and_then as_flag) (Name "up") ps k v) (field_push (option_and_then as_flag) (Name "uv") ps k v)
 
-pub options_heads : (k : Tree) → HeadDecides option_types options_next k
+options_heads : (k : Tree) → HeadDecides option_types options_next k
 options_heads k v = (
   ap (λ a. if is_key (Name "rk") k then a else (if is_key (Name "up") k then a else (if is_key (Name "uv") k then a else true))) (is_head_flag v),
   λ z. ap (λ a. make_options (if is_key (Name "rk") k then a else z.rk) (if is_key (Name "up") k then a else z.up) (if is_key (Name "uv") k then a else z.uv)) (head_flag v),
 )
+
+pub options_adds : (room : ℕ) (key part : Part) (taken : Bool) (x y : OptionsFields) (a c : Reading) → PassesAs room part a c → taken ≡ suits option_types (head_of key) (head_of part) → shown_options y ≡ options_next (head_of key) (head_of part) (shown_options x)
+    → Adds (λ m ok ps. HasPairs option_types options_in (shown_options m) ok ps) room key taken x y a c
+options_adds room key part taken x y a c = adds_head shown_options option_types options_in options_next room key part taken x y a c options_grows (options_heads (head_of key))
 
 pub options_start : make_options None None None ≡ options_in (Some (Map no_pairs))
 unfolding value_at

@@ -1,13 +1,12 @@
 //! The parameter options: a credential's discoverability (rk), the user's presence (up) and verification (uv).
 
-ghost use Rattle.std.specs.Prelude.{◌≡◌, ◌-◌, ◌≤◌, MatchResult};
-ghost use Rattle.ctap_cbor.specs.Views.{part_of, head_of};
+ghost use Rattle.std.specs.Prelude.{◌-◌, ◌≤◌, MatchResult};
 ghost use Rattle.ctap_cbor.specs.Reading.{Halts};
-ghost use Rattle.ctap_message.specs.Members.{suits, map_of};
+ghost use Rattle.ctap_message.specs.Members.{map_of};
 ghost use Rattle.ctap_message.specs.Walks.{Reads, typed, HasPairs};
 ghost use Rattle.ctap_message.specs.Descriptors.{option_types};
 ghost use Rattle.ctap_message.specs.Fields.{options_in};
-ghost use Rattle.ctap_message.specs.Collected.{shown_options, options_next};
+ghost use Rattle.ctap_message.specs.Collected.{shown_options};
 
 use ctap_cbor::{Cursor, Fault, Item, Members, read_map};
 
@@ -26,15 +25,14 @@ impl Options {
         up: None,
         uv: None,
     };
+}
 
-    /// Takes a member. Returns whether it has its type.
-    fn put(&mut self, key: Item<'_>, value: Item<'_>) -> bool
-        ensures typed { result ≡ suits option_types (head_of (part_of key.entry)) (head_of (part_of value.entry)) }
-        ensures value { shown_options self.new ≡ options_next (head_of (part_of key.entry))
-            (head_of (part_of value.entry))
-            (shown_options self.old) }
-    {
-        match key {
+impl<'a> Members<'a> for Options {
+    ghost Holds = { λ x ok ps. HasPairs option_types options_in (shown_options x) ok ps };
+
+    fn member(&mut self, cursor: &mut Cursor<'a>, key: Item<'a>, level: u8) -> Result<bool, Fault> {
+        let value = cursor.whole(level)?;
+        let typed = match key {
             Item::Text("rk") => {
                 self.rk = value.as_bool();
                 self.rk.is_some()
@@ -48,16 +46,8 @@ impl Options {
                 self.uv.is_some()
             }
             _ => true,
-        }
-    }
-}
-
-impl<'a> Members<'a> for Options {
-    ghost Holds = { λ x ok ps. HasPairs option_types options_in (shown_options x) ok ps };
-
-    fn member(&mut self, cursor: &mut Cursor<'a>, key: Item<'a>, level: u8) -> Result<bool, Fault> {
-        let value = cursor.whole(level)?;
-        Ok(self.put(key, value))
+        };
+        Ok(typed)
     }
 }
 
