@@ -12,7 +12,7 @@ ghost use Rattle.ctap_cbor.specs.Writes.{Writes, WritesAll, WritesPairs, WritesK
 
 use crate::fault::Kind;
 use crate::laws::known_bytes;
-use crate::sink::{head_into, negative_argument};
+use crate::sink::head_into;
 use crate::value::Value;
 use std::alloc::{AllocError, AllocFailed};
 
@@ -208,7 +208,7 @@ fn write_int(value: i128, out: &mut Vec<u8>) -> Result<(), Kind>
     if value >= 0 {
         write_head(0, value as u64, out)?;
     } else {
-        write_head(1, negative_argument(value), out)?;
+        write_head(1, (-1 - value) as u64, out)?;
     }
     Ok(())
 }

@@ -1,6 +1,6 @@
 //! Writing into a lent buffer, each head in its shortest form.
 
-ghost use Rattle.std.specs.Prelude.{◌≡◌, ◌<◌, ◌≤◌, ◌<ℤ◌, ◌↔◌, pos, negsuc, IsTrue, [], ◌∷◌, length, take};
+ghost use Rattle.std.specs.Prelude.{◌≡◌, ◌<◌, ◌≤◌, ◌↔◌, IsTrue, [], ◌∷◌, length, take};
 ghost use Rattle.ctap_cbor.specs.Head.{head, head_len};
 ghost use Rattle.ctap_cbor.specs.Tree.{Int, Bytes, Text, Flag, Null};
 ghost use Rattle.ctap_cbor.specs.Grammar.{scalar_text, Fits};
@@ -63,7 +63,7 @@ impl<'a> Sink<'a> {
         if value >= 0 {
             self.head(0, value as u64);
         } else {
-            self.head(1, negative_argument(value));
+            self.head(1, (-1 - value) as u64);
         }
     }
 
@@ -167,15 +167,6 @@ impl<'a> Sink<'a> {
         self.buffer[self.len..end].copy_from_slice(bytes);
         self.len = end;
     }
-}
-
-/// The argument of a negative integer's head: -1 less the integer.
-pub(crate) fn negative_argument(value: i128) -> u64
-    requires negative { value <ℤ pos 0 }
-    requires range { Fits (Int value) }
-    ensures { value ≡ negsuc result }
-{
-    (-1 - value) as u64
 }
 
 /// Writes the shortest head of a major type with an argument into a buffer that holds any head, and returns its length.
