@@ -40,16 +40,16 @@ enum Contents {
 }
 
 impl OpenMessage {
-    /// Returns it as its initialization packet began it.
-    fn new(cid: u32, cmd: u8, len: u16, at: u64) -> Self
-        ensures { result ≡ record { cid = cid; cmd = cmd; len = len; kept = 0; last = at } }
+    /// Returns it as its initialization packet says, before a moment is known.
+    fn new(cid: u32, cmd: u8, len: u16) -> Self
+        ensures { result ≡ record { cid = cid; cmd = cmd; len = len; kept = 0; last = 0 } }
     {
         OpenMessage {
             cid,
             cmd,
             len,
             kept: 0,
-            last: at,
+            last: 0,
         }
     }
 }
@@ -254,7 +254,9 @@ impl Assembler {
             }
             Row::Long => {
                 put_data(&mut self.buffer, 0, part);
-                self.contents = Contents::Open(OpenMessage::new(cid, cmd, len, at));
+                let mut message = OpenMessage::new(cid, cmd, len);
+                message.last = at;
+                self.contents = Contents::Open(message);
                 Verdict::Kept
             }
         }
