@@ -17,7 +17,7 @@ use Rattle.ctap_message.specs.Requests.{read_of}
 use Rattle.authn_core.specs.declared.replies.Presence.{Presence}
 use Rattle.authn_core.specs.declared.replies.Presence.TheVariants.{Granted, Denied, TimedOut}
 use Rattle.sha2.specs.Sha256.{sha256}
-use Rattle.authn_core.specs.State.{Setup, Asserting, Task, Resets, Selects, AsksMake, WantsKey, SignsMake, AsksAssert, SignsAssert, Job, State, Event, Request, PresenceIs, KeyIs, SignatureIs, Cancel, Drop, Turned, answers, refuses, waits, signing, signs}
+use Rattle.authn_core.specs.State.{Setup, Asserting, Task, Resets, Selects, AsksMake, WantsKey, SignsMake, AsksAssert, SignsAssert, Job, State, Event, Request, PresenceIs, KeyIs, SignatureIs, Cancel, Drop, Turned, answers, refuses, waits, signs}
 use Rattle.authn_core.specs.Asking.{RESET_LIMIT, asked_alone}
 use Rattle.authn_core.specs.MakeCredential.{fits}
 use Rattle.authn_core.specs.GetAssertion.{find_named, applicable, told, MOST, NEXT_LIMIT, begun, begins, row_signs, next_signs, next_begins}
@@ -157,10 +157,11 @@ signs_ready : (room : ℕ) (rows : List Row) (p : Option Waiting) (cid : ℕ) (a
 signs_ready room rows p cid a q h = record { pending = pending_raised a.id rows p q; work = there_raised a.id a.id rows ∙ h }
 
 -- the same of the fields
-pub signed_ready : (room : ℕ) (rows : List Row) (p : Option Waiting) (cid : ℕ) (a : Asserting) (after : List Row) (work : Option Job) → after ≡ raised a.id rows →
-    work ≡ Some (record { cid = cid; task = signing a (counter_of a.id rows + 1) }) → PendingReady rows p → is_some (find (has_id a.id) rows) ≡ true → Ready room (record { rows = after; pending = p; work = work })
-signed_ready room rows p cid a after work e f q h =
-    subst (λ (s : State). Ready room s) (sym (λ i. record { rows = e i; pending = p; work = f i })) (signs_ready room rows p cid a q h)
+pub signed_ready : (id : List ℕ) (rows after : List Row) (p : Option Waiting) → after ≡ raised id rows → PendingReady rows p → is_some (find (has_id id) rows) ≡ true
+    → PendingReady after p × (is_some (find (has_id id) after) ≡ true)
+signed_ready id rows after p e q h =
+    let P : List Row → Type 0 = λ r. PendingReady r p × (is_some (find (has_id id) r) ≡ true) in
+    subst P (sym e) (pending_raised id rows p q, there_raised id id rows ∙ h)
 
 ended_ready : (room : ℕ) (rows : List Row) (p : Option Waiting) → PendingReady rows p → Ready room (record { rows = rows; pending = p; work = None })
 ended_ready room rows p q = record { pending = q; work = tt }

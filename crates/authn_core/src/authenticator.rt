@@ -7,14 +7,13 @@ ghost use Rattle.cred_table.specs.Waiting.{pending_count};
 ghost use Rattle.authn_core.specs.State.{Request as Asks, PresenceIs, KeyIs, SignatureIs, Cancel, Drop as DropWork, Nothing};
 ghost use Rattle.authn_core.specs.Turn.{waiting};
 ghost use Rattle.authn_core.specs.Needs.{IsNeed};
-ghost use Rattle.authn_core.specs.Views.{IsTurn, answer_of, first_held, event_of, needs, needed, is_presence, is_key, is_sign, work_of};
+ghost use Rattle.authn_core.specs.Views.{IsTurn, answer_of, first_held, event_of, needs, needed, is_presence, is_key, is_sign, sign as needs_sign, work_of};
 
 use crate::event::Event;
 use crate::replies::{NewKey, Presence, Signature};
-use crate::rows::known_capacity;
-use crate::steps::{need_of, status_of};
-use crate::task::Job;
+use crate::task::{Job, Task};
 use crate::work::{KeepaliveStatus, Work};
+use arrayvec::ArrayVec;
 use cred_table::{Pending, SnapshotFault, Table, load};
 use ctap_message::{Answer, Status, read_request};
 use std::marker::Model;
@@ -70,6 +69,17 @@ impl Need<'_> {
         ensures { result ≡ is_sign (needed self.now) }
     {
         matches!(self, Need::Sign { .. })
+    }
+}
+
+/// Returns that these bytes are signed by the key of the credential.
+fn signature_need<'a>(id: &'a [u8; 32], signed: &'a ArrayVec<u8, 196>) -> Need<'a>
+    ensures value { needed result ≡ needs_sign id.now signed.now.items }
+    ensures sized { IsNeed (needed result) }
+{
+    Need::Sign {
+        id,
+        signed: signed.as_slice(),
     }
 }
 
@@ -196,7 +206,7 @@ impl<T: Table<C>, const C: usize> Core<T, C> {
     pub fn take(&mut self, at: u64, event: &Event<'_>) -> Turn
         ensures { IsTurn self.old self.new (answer_of result) at (event_of event.now) }
     {
-        self.reach(at);
+        self.latest = self.latest.max(at);
         match event {
             Event::Request { cid, message } => {
                 let (request, steps) = read_request(message);
@@ -207,7 +217,11 @@ impl<T: Table<C>, const C: usize> Core<T, C> {
             Event::Key(key) => self.take_key(key),
             Event::Signature(signature) => self.take_signature(signature),
             Event::Cancel => self.refuse_all(Status::KEEPALIVE_CANCEL),
-            Event::Drop => self.drop_all(),
+            Event::Drop => {
+                self.pending.clear();
+                self.work = None;
+                Turn::Nothing
+            }
         }
     }
 
@@ -216,20 +230,31 @@ impl<T: Table<C>, const C: usize> Core<T, C> {
         ensures value { needed result ≡ needs self.now.core.state.work }
         ensures sized { IsNeed (needed result) }
     {
-        need_of(&self.work)
+        match &self.work {
+            None => Need::None,
+            Some(Job { task, .. }) => match task {
+                Task::Resets | Task::Selects | Task::AsksMake(..) | Task::AsksAssert(_) =>
+                    Need::Presence,
+                Task::WantsKey(_) => Need::Key,
+                Task::SignsMake(_, key, signed) => signature_need(&key.id, signed),
+                Task::SignsAssert(a, _, signed) => signature_need(&a.id, signed),
+            },
+        }
     }
 
     /// The work that waits.
     pub fn work(&self) -> Option<Work>
         ensures { waiting self.now.core ≡ option_map work_of result }
     {
-        match &self.work {
-            Some(job) => Some(Work {
-                cid: job.cid,
-                status: status_of(&job.task),
-            }),
-            None => None,
-        }
+        let Some(Job { cid, task }) = &self.work else {
+            return None;
+        };
+        let status = match task {
+            Task::WantsKey(_) | Task::SignsMake(..) | Task::SignsAssert(..) =>
+                KeepaliveStatus::Processing,
+            _ => KeepaliveStatus::PresenceNeeded,
+        };
+        Some(Work { cid: *cid, status })
     }
 
     /// The table.
@@ -244,7 +269,6 @@ impl<T: Table<C>, const C: usize> Core<T, C> {
         ensures value { result ≡ length self.now.core.state.rows }
         ensures few { (result ≤ C) × (C ≤ 256) }
     {
-        known_capacity(&self.table);
         self.table.len()
     }
 

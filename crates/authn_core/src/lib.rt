@@ -18,12 +18,10 @@
 mod authenticator;
 mod commands;
 mod event;
-mod hashes;
 pub mod laws;
 mod refusals;
 mod replies;
 mod rows;
-mod steps;
 mod task;
 mod turns;
 mod work;

@@ -31,20 +31,8 @@ pub(crate) fn user_of<'a, T: Table<C>, const C: usize>(
     ensures short { ForSome result (λ u. length u.now ≤ 64) }
 {
     match table.find(id) {
-        Some(row) => handle_of(row),
-        None => None,
-    }
-}
-
-/// Returns the user handle of a discoverable row.
-fn handle_of(row: &Row) -> Option<&[u8]>
-    ensures value { option_copied result ≡ user_in (Some row.now) }
-    ensures short { ForSome result (λ u. length u.now ≤ 64) }
-{
-    if row.discoverable {
-        Some(row.user.as_slice())
-    } else {
-        None
+        Some(row) if row.discoverable => Some(row.user.as_slice()),
+        _ => None,
     }
 }
 
@@ -59,9 +47,11 @@ pub(crate) fn fits<T: Table<C>, const C: usize>(table: &T, making: &Making) -> b
                 .is_some()
 }
 
-/// Returns the row that is made.
-fn row_of(making: Making, key: NewKey) -> Row
-    ensures { result ≡ new_row (making_of making) key }
+/// Stores the row of a new credential, in place of the one that it replaces.
+pub(crate) fn store<T: Table<C>, const C: usize>(table: &mut T, making: Making, key: NewKey)
+    requires room { fits C (making_of making) (T.rows table.old) ≡ true }
+    requires fresh { is_some (find (has_id key.id) (T.rows table.old)) ≡ false }
+    ensures { T.rows table.new ≡ stored (new_row (making_of making) key) (T.rows table.old) }
 {
     let Making {
         hash: _,
@@ -71,7 +61,12 @@ fn row_of(making: Making, key: NewKey) -> Row
         discoverable,
     } = making;
     let NewKey { id, x, y } = key;
-    Row {
+    let replaced = if discoverable {
+        table.same_user(&rp, user.as_slice())
+    } else {
+        None
+    };
+    let row = Row {
         rp,
         id,
         x,
@@ -80,49 +75,9 @@ fn row_of(making: Making, key: NewKey) -> Row
         discoverable,
         counter: 0,
         name,
-    }
-}
-
-/// Stores the new row.
-pub(crate) fn store<T: Table<C>, const C: usize>(table: &mut T, making: Making, key: NewKey)
-    requires room { fits C (making_of making) (T.rows table.old) ≡ true }
-    requires fresh { is_some (find (has_id key.id) (T.rows table.old)) ≡ false }
-    ensures { T.rows table.new ≡ stored (new_row (making_of making) key) (T.rows table.old) }
-{
-    let row = row_of(making, key);
-    put(table, row);
-}
-
-/// Puts a row in, in place of the one that it replaces.
-fn put<T: Table<C>, const C: usize>(table: &mut T, row: Row)
-    requires room { (length (T.rows table.old) < C) ⊎ ((row.discoverable ≡ true)
-        × (is_some (find (is_user row.rp row.user.items) (T.rows table.old)) ≡ true)) }
-    requires fresh { is_some (find (has_id row.id) (T.rows table.old)) ≡ false }
-    ensures { T.rows table.new ≡ stored row (T.rows table.old) }
-{
-    match replaced(table, &row) {
+    };
+    match replaced {
         Some(old) => table.replace(&old, row),
         None => table.put(row),
     }
-}
-
-/// Returns the id of the row that a new one takes the place of.
-fn replaced<T: Table<C>, const C: usize>(table: &T, row: &Row) -> Option<[u8; 32]>
-    ensures { result ≡ option_map (λ old. old.id) (if row.now.discoverable
-        then find (is_user row.now.rp row.now.user.items) (T.rows table.now) else None) }
-{
-    if row.discoverable {
-        table.same_user(&row.rp, row.user.as_slice())
-    } else {
-        None
-    }
-}
-
-/// A table has capacity for 1 to 256 rows, and at most as many rows.
-pub(crate) fn known_capacity<T: Table<C>, const C: usize>(table: &T)
-    ensures least { 1 ≤ C }
-    ensures most { C ≤ 256 }
-    ensures rows { length (T.rows table.now) ≤ C }
-{
-    let _ = table;
 }

@@ -1,27 +1,22 @@
 //! The turns, by what waits.
 
-ghost use Rattle.std.specs.Prelude.{◌≡◌, max, None};
+ghost use Rattle.std.specs.Prelude.{◌≡◌, ◌<◌, ◌-◌, ◌^◌, None, true, is_some};
+ghost use Rattle.std.specs.List.{find};
+ghost use Rattle.cred_table.specs.Rows.{has_id, counter_of};
 ghost use Rattle.ctap_message.specs.Shown.{shown, IsFresh, HasLengths};
-ghost use Rattle.authn_core.specs.State.{PresenceIs, KeyIs, SignatureIs, refuses};
+ghost use Rattle.authn_core.specs.State.{PresenceIs, KeyIs, SignatureIs, refuses, signs};
 ghost use Rattle.authn_core.specs.Turn.{requested, reply_turn};
-ghost use Rattle.authn_core.specs.Views.{Takes, drops, moved};
+ghost use Rattle.authn_core.specs.Views.{Takes, asserting_of};
 
 use crate::authenticator::{Core, Turn};
-use crate::commands::make_credential::making_from;
 use crate::replies::{NewKey, Presence, Signature};
-use crate::steps::{end, refuse};
-use crate::task::{Job, Task};
+use crate::task::{Asserting, Job, Task};
+use crate::work::KeepaliveStatus;
 use cred_table::Table;
-use ctap_message::{Request, Status};
+use ctap_message::{Request, Status, write_status};
+use fido_authdata::{AuthData, to_sign};
 
 impl<T: Table<C>, const C: usize> Core<T, C> {
-    /// Lets the time come to `at`.
-    pub(crate) fn reach(&mut self, at: u64)
-        ensures { self.new ≡ moved self.old (max self.old.latest at) self.old.last_steps }
-    {
-        self.latest = self.latest.max(at);
-    }
-
     /// Begins what a request asks.
     pub(crate) fn serve(&mut self, cid: u32, read: Result<Request<'_>, Status>) -> Turn
         requires fresh { IsFresh read }
@@ -40,10 +35,7 @@ impl<T: Table<C>, const C: usize> Core<T, C> {
                     discoverable,
                     exclude,
                 },
-            ) => {
-                let making = making_from(hash, rp_id, user_id, user_name, discoverable);
-                self.begin_make(cid, making, exclude)
-            }
+            ) => self.begin_make(cid, hash, rp_id, user_id, user_name, discoverable, exclude),
             Ok(
                 Request::Assert {
                     hash,
@@ -59,21 +51,34 @@ impl<T: Table<C>, const C: usize> Core<T, C> {
         }
     }
 
+    /// Ends the work with a status.
+    pub(crate) fn refuse(&mut self, status: Status) -> Turn
+        ensures { Takes self.old self.new result (refuses self.old.core.state.rows self.old.core.state.pending status.0) }
+    {
+        self.work = None;
+        Turn::Answer(write_status(status))
+    }
+
     /// Ends the work with a status, and nothing is pending.
     pub(crate) fn refuse_all(&mut self, status: Status) -> Turn
         ensures { Takes self.old self.new result (refuses self.old.core.state.rows None status.0) }
     {
         self.pending.clear();
-        refuse(&mut self.work, status)
+        self.refuse(status)
     }
 
-    /// Ends the work with no answer, and nothing is pending.
-    pub(crate) fn drop_all(&mut self) -> Turn
-        ensures { Takes self.old self.new result (drops self.old.core.state.rows) }
+    /// Lets an assertion go on: its row's counter is raised, and it waits for the signature.
+    pub(crate) fn sign(&mut self, cid: u32, a: &Asserting) -> Turn
+        requires there { is_some (find (has_id a.now.id) self.old.core.state.rows) ≡ true }
+        requires below { counter_of a.now.id self.old.core.state.rows < 2 ^ 32 - 1 }
+        ensures { Takes self.old self.new result (signs self.old.core.state.rows self.old.core.state.pending cid
+            (asserting_of a.now)) }
     {
-        self.pending.clear();
-        end(&mut self.work);
-        Turn::Nothing
+        let counter = self.table.raise(&a.id);
+        let data = AuthData::assertion(&a.rp, a.presence, counter);
+        let task = Task::SignsAssert(*a, counter, to_sign(&data, &a.hash));
+        self.work = Some(Job { cid, task });
+        Turn::Waits(KeepaliveStatus::Processing)
     }
 
     /// Goes on by the reply of a test of user presence.

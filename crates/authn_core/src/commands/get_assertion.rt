@@ -12,17 +12,16 @@ ghost use Rattle.authn_core.specs.Views.{Takes, asserting_of};
 ghost use Rattle.authn_core.specs.Ready.{AllThere};
 
 use crate::authenticator::{Core, Turn};
-use crate::hashes::{hash_of, rp_hash_of};
 use crate::refusals;
 use crate::replies::{Presence, Signature};
-use crate::rows::{counter_of, known_capacity, user_of};
-use crate::steps::{end, refuse, sign};
+use crate::rows::{counter_of, user_of};
 use crate::task::{Asserting, Job, Task};
 use crate::work::KeepaliveStatus;
 use arrayvec::ArrayVec;
 use cred_table::{Pending, Table};
 use ctap_message::{Descriptors, write_assertion};
 use fido_authdata::AuthData;
+use sha2::{Digest, Sha256};
 
 /// How long after an assertion's answer the next one may be asked for, in milliseconds.
 const NEXT_LIMIT: u64 = 30_000;
@@ -58,24 +57,10 @@ fn put_applicable<T: Table<C>, const C: usize>(
 {
     if allow.is_given() {
         if let Some(id) = named_first(table, rp, allow) {
-            known_capacity(table);
             found.push(id);
         }
     } else {
         table.rows_of(rp, found);
-    }
-}
-
-/// Returns the number of applicable rows, where the answer has it.
-fn told_number<T: Table<C>, const C: usize>(table: &T, given: bool, n: usize) -> Option<u16>
-    requires { n ≤ C }
-    ensures { result ≡ get.told given n }
-{
-    known_capacity(table);
-    if n > 1 && !given {
-        Some(n as u16)
-    } else {
-        None
     }
 }
 
@@ -105,12 +90,13 @@ impl<T: Table<C>, const C: usize> Core<T, C> {
             (sha256 rp_id.now) presence (has_entries (left_of allow.entry)) (ids (get.applicable self.old.core.state.rows
             (sha256 rp_id.now) (has_entries (left_of allow.entry)) (ids_of (left_of allow.entry))))) }
     {
-        let rp = rp_hash_of(rp_id);
-        let hash = hash_of(hash);
+        let rp = Sha256::digest(rp_id);
+        let mut client = [0; 32];
+        client.copy_from_slice(hash);
         let given = allow.is_given();
         let mut found: ArrayVec<[u8; 32], C> = ArrayVec::new();
         put_applicable(&self.table, &rp, allow, &mut found);
-        self.begin_by(cid, &hash, &rp, presence, given, found.as_slice())
+        self.begin_by(cid, &client, &rp, presence, given, found.as_slice())
     }
 
     /// Lets the row with the first of the ids sign; the others are pending. With `presence` the user is asked first.
@@ -130,25 +116,30 @@ impl<T: Table<C>, const C: usize> Core<T, C> {
     {
         self.pending.fill(cid, hash, presence, self.latest, ids);
         let Some(first) = self.pending.next() else {
-            return refuse(&mut self.work, refusals::NO_CREDENTIALS);
+            return self.refuse(refusals::NO_CREDENTIALS);
         };
         if counter_of(&self.table, &first) >= u32::MAX {
             self.pending.clear();
-            return refuse(&mut self.work, refusals::LIMIT_EXCEEDED);
+            return self.refuse(refusals::LIMIT_EXCEEDED);
         }
+        let number = if ids.len() > 1 && !given {
+            Some(ids.len() as u16)
+        } else {
+            None
+        };
         let a = Asserting {
             hash: *hash,
             rp: *rp,
             id: first,
             presence,
-            number: told_number(&self.table, given, ids.len()),
+            number,
         };
         if presence {
             let task = Task::AsksAssert(a);
             self.work = Some(Job { cid, task });
             Turn::Waits(KeepaliveStatus::PresenceNeeded)
         } else {
-            sign(&mut self.table, &mut self.work, cid, &a)
+            self.sign(cid, &a)
         }
     }
 
@@ -160,7 +151,7 @@ impl<T: Table<C>, const C: usize> Core<T, C> {
             self.old.core.state.pending cid (asserting_of a) reply) }
     {
         match reply {
-            Presence::Granted => sign(&mut self.table, &mut self.work, cid, &a),
+            Presence::Granted => self.sign(cid, &a),
             _ => self.refuse_all(refusals::OPERATION_DENIED),
         }
     }
@@ -179,7 +170,7 @@ impl<T: Table<C>, const C: usize> Core<T, C> {
             return self.refuse_all(refusals::OTHER);
         };
         self.pending.stamp(self.latest);
-        end(&mut self.work);
+        self.work = None;
         let data = AuthData::assertion(&a.rp, a.presence, counter);
         let user = user_of(&self.table, &a.id);
         Turn::Answer(write_assertion(
@@ -204,7 +195,7 @@ impl<T: Table<C>, const C: usize> Core<T, C> {
         let hash = self.pending.hash();
         let presence = self.pending.presence();
         let Some(id) = self.pending.next() else {
-            return refuse(&mut self.work, refusals::NOT_ALLOWED);
+            return self.refuse(refusals::NOT_ALLOWED);
         };
         self.next_signs(cid, hash, presence, id)
     }
@@ -229,6 +220,6 @@ impl<T: Table<C>, const C: usize> Core<T, C> {
             presence,
             number: None,
         };
-        sign(&mut self.table, &mut self.work, cid, &a)
+        self.sign(cid, &a)
     }
 }

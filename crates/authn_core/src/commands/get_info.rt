@@ -6,7 +6,6 @@ ghost use Rattle.authn_core.specs.State.{answers};
 ghost use Rattle.authn_core.specs.Views.{Takes};
 
 use crate::authenticator::{Core, Turn};
-use crate::steps::end;
 use cred_table::Table;
 use ctap_message::write_info;
 
@@ -17,7 +16,7 @@ impl<T: Table<C>, const C: usize> Core<T, C> {
             (answers self.old.core.state.rows None (info_answer self.old.core.setup.aaguid)) }
     {
         self.pending.clear();
-        end(&mut self.work);
+        self.work = None;
         Turn::Answer(write_info(&self.config.aaguid))
     }
 }

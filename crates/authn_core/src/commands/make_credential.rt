@@ -1,53 +1,24 @@
 //! authenticatorMakeCredential (CTAP 2.1, section 6.1).
 
-ghost use Rattle.std.specs.Prelude.{◌≡◌, ◌≤◌, ◌++◌, true, false, length, is_some};
+ghost use Rattle.std.specs.Prelude.{◌≡◌, ◌≤◌, true, false, length, is_some};
 ghost use Rattle.std.specs.List.{find};
 ghost use Rattle.cred_table.specs.Rows.{has_id};
-ghost use Rattle.fido_authdata.specs.AuthData.{created_bytes};
 ghost use Rattle.ctap_message.specs.Descriptors.{ids_of};
 ghost use Rattle.ctap_message.specs.DescriptorWalk.{left_of};
-ghost use Rattle.sha2.specs.Sha256.{sha256};
 ghost use Rattle.authn_core.specs.MakeCredential as make;
 ghost use Rattle.authn_core.specs.Views.{Takes, making_of};
 
 use crate::authenticator::{Core, Turn};
-use crate::hashes::{hash_of, rp_hash_of};
 use crate::refusals;
 use crate::replies::{NewKey, Presence, Signature};
 use crate::rows::{fits, store};
-use crate::steps::{end, refuse};
 use crate::task::{Job, Making, Task};
 use crate::work::KeepaliveStatus;
 use arrayvec::ArrayVec;
 use cred_table::{Name, Table};
 use ctap_message::{Descriptors, write_created};
 use fido_authdata::{AuthData, to_sign};
-
-/// Returns what is to be made.
-pub(crate) fn making_from(
-    hash: &[u8],
-    rp_id: &str,
-    user_id: &[u8],
-    user_name: &str,
-    discoverable: bool,
-) -> Making
-    requires hash { length hash.now ≡ 32 }
-    requires user { length user_id.now ≤ 64 }
-    ensures { making_of result ≡ make.making hash.now rp_id.now user_id.now user_name.now discoverable }
-{
-    let mut user: ArrayVec<u8, 64> = ArrayVec::new();
-    user.try_extend_from_slice(user_id).unwrap();
-    let hash = hash_of(hash);
-    let rp = rp_hash_of(rp_id);
-    let name = Name::cut(user_name);
-    Making {
-        hash,
-        rp,
-        user,
-        name,
-        discoverable,
-    }
-}
+use sha2::{Digest, Sha256};
 
 /// Whether one of the ids names a row of the RP.
 fn names_one<T: Table<C>, const C: usize>(
@@ -66,20 +37,32 @@ fn names_one<T: Table<C>, const C: usize>(
     false
 }
 
-/// Returns the bytes to sign of a new credential.
-fn credential_to_sign(aaguid: &[u8; 16], making: &Making, key: &NewKey) -> ArrayVec<u8, 196>
-    ensures { result.items ≡ created_bytes making.now.rp aaguid.now key.now.id key.now.x key.now.y ++ making.now.hash }
-{
-    let data = AuthData::created(&making.rp, aaguid, &key.id, &key.x, &key.y);
-    to_sign(&data, &making.hash)
-}
-
 impl<T: Table<C>, const C: usize> Core<T, C> {
     /// Asks for the user's presence, also where a credential is excluded.
-    pub(crate) fn begin_make(&mut self, cid: u32, making: Making, exclude: Descriptors<'_>) -> Turn
-        ensures { Takes self.old self.new result (make.make_begins self.old.core.state.rows cid (making_of making)
-            (ids_of (left_of exclude.entry))) }
+    pub(crate) fn begin_make(
+        &mut self,
+        cid: u32,
+        hash: &[u8],
+        rp_id: &str,
+        user_id: &[u8],
+        user_name: &str,
+        discoverable: bool,
+        exclude: Descriptors<'_>,
+    ) -> Turn
+        requires hash { length hash.now ≡ 32 }
+        requires user { length user_id.now ≤ 64 }
+        ensures { Takes self.old self.new result (make.make_begins self.old.core.state.rows cid
+            (make.making hash.now rp_id.now user_id.now user_name.now discoverable) (ids_of (left_of exclude.entry))) }
     {
+        let mut making = Making {
+            hash: [0; 32],
+            rp: Sha256::digest(rp_id),
+            user: ArrayVec::new(),
+            name: Name::cut(user_name),
+            discoverable,
+        };
+        making.hash.copy_from_slice(hash);
+        making.user.try_extend_from_slice(user_id).unwrap();
         let excluded = names_one(&self.table, &making.rp, exclude);
         self.pending.clear();
         let task = Task::AsksMake(making, excluded);
@@ -99,13 +82,13 @@ impl<T: Table<C>, const C: usize> Core<T, C> {
             self.old.core.state.pending cid (making_of making) excluded reply) }
     {
         if excluded {
-            return refuse(&mut self.work, refusals::CREDENTIAL_EXCLUDED);
+            return self.refuse(refusals::CREDENTIAL_EXCLUDED);
         }
         let Presence::Granted = reply else {
-            return refuse(&mut self.work, refusals::OPERATION_DENIED);
+            return self.refuse(refusals::OPERATION_DENIED);
         };
         if !fits(&self.table, &making) {
-            return refuse(&mut self.work, refusals::KEY_STORE_FULL);
+            return self.refuse(refusals::KEY_STORE_FULL);
         }
         let task = Task::WantsKey(making);
         self.work = Some(Job { cid, task });
@@ -119,12 +102,13 @@ impl<T: Table<C>, const C: usize> Core<T, C> {
             self.old.core.state.rows self.old.core.state.pending cid (making_of making) key.now) }
     {
         let Some(key) = key else {
-            return refuse(&mut self.work, refusals::OTHER);
+            return self.refuse(refusals::OTHER);
         };
         if self.table.find(&key.id).is_some() {
-            return refuse(&mut self.work, refusals::OTHER);
+            return self.refuse(refusals::OTHER);
         }
-        let signed = credential_to_sign(&self.config.aaguid, &making, key);
+        let data = AuthData::created(&making.rp, &self.config.aaguid, &key.id, &key.x, &key.y);
+        let signed = to_sign(&data, &making.hash);
         let task = Task::SignsMake(making, *key, signed);
         self.work = Some(Job { cid, task });
         Turn::Waits(KeepaliveStatus::Processing)
@@ -143,13 +127,13 @@ impl<T: Table<C>, const C: usize> Core<T, C> {
             self.old.core.state.rows self.old.core.state.pending (making_of making) key signature.now) }
     {
         let Some(signature) = signature else {
-            return refuse(&mut self.work, refusals::OTHER);
+            return self.refuse(refusals::OTHER);
         };
         let aaguid = &self.config.aaguid;
         let data = AuthData::created(&making.rp, aaguid, &key.id, &key.x, &key.y);
         store(&mut self.table, making, key);
         self.pending.clear();
-        end(&mut self.work);
+        self.work = None;
         Turn::Answer(write_created(data.bytes().as_slice(), signature.bytes()))
     }
 }

@@ -12,5 +12,5 @@ begin_by-requires g c =
     let rows = g.T.Table.rows c.self.inside.table in
     let P : Held → Type 0 = λ v. AllThere v.core.state.rows c.as_slice.result.now in
     let Q : List (List ℕ) → Type 0 = AllThere rows in
-    let there : P c.args.self.now = subst P c.self.view_is (subst Q (sym (c.as_slice.ensures.value ∙ c.put_applicable.ensures)) (applicable_there rows c.rp_hash_of-rp.result (has_entries (left_of c.args.allow)) (ids_of (left_of c.args.allow)))) in
+    let there : P c.args.self.now = subst P c.self.view_is (subst Q (sym (c.as_slice.ensures.value ∙ c.put_applicable.ensures)) (applicable_there rows c.digest-rp.result (has_entries (left_of c.args.allow)) (ids_of (left_of c.args.allow)))) in
     (search rules, (c.as_slice.ensures.fits, there))

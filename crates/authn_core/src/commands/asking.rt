@@ -1,14 +1,13 @@
-//! authenticatorReset (CTAP 2.1, section 6.6).
+//! authenticatorReset and authenticatorSelection (CTAP 2.1, sections 6.6 and 6.9), which ask for presence alone.
 
 ghost use Rattle.std.specs.Prelude.{[], None};
-ghost use Rattle.authn_core.specs.State.{refuses};
+ghost use Rattle.authn_core.specs.State.{Selects, refuses, waits};
 ghost use Rattle.authn_core.specs.Asking.{reset_begins, asked_alone};
 ghost use Rattle.authn_core.specs.Views.{Takes};
 
 use crate::authenticator::{Core, Turn};
 use crate::refusals;
 use crate::replies::Presence;
-use crate::steps::refuse;
 use crate::task::{Job, Task};
 use crate::work::KeepaliveStatus;
 use cred_table::Table;
@@ -39,12 +38,34 @@ impl<T: Table<C>, const C: usize> Core<T, C> {
     {
         match reply {
             Presence::Granted => {
+                let turn = self.refuse_all(Status::OK);
                 self.table.clear();
-                self.pending.clear();
-                refuse(&mut self.work, Status::OK)
+                turn
             }
-            Presence::Denied => refuse(&mut self.work, refusals::OPERATION_DENIED),
-            Presence::TimedOut => refuse(&mut self.work, refusals::USER_ACTION_TIMEOUT),
+            Presence::Denied | Presence::TimedOut => self.select(reply),
         }
+    }
+
+    /// Asks for the user's presence.
+    pub(crate) fn begin_selection(&mut self, cid: u32) -> Turn
+        ensures { Takes self.old self.new result (waits self.old.core.state.rows None cid Selects) }
+    {
+        self.pending.clear();
+        let task = Task::Selects;
+        self.work = Some(Job { cid, task });
+        Turn::Waits(KeepaliveStatus::PresenceNeeded)
+    }
+
+    /// Answers what the user did.
+    pub(crate) fn select(&mut self, reply: Presence) -> Turn
+        ensures { Takes self.old self.new result (asked_alone (refuses self.old.core.state.rows
+            self.old.core.state.pending 0x00) self.old.core.state.rows self.old.core.state.pending reply) }
+    {
+        let status = match reply {
+            Presence::Granted => Status::OK,
+            Presence::Denied => refusals::OPERATION_DENIED,
+            Presence::TimedOut => refusals::USER_ACTION_TIMEOUT,
+        };
+        self.refuse(status)
     }
 }
