@@ -1,65 +1,30 @@
 -- All that the transport needs to know of the authenticator.
-use Rattle.std.proofs.Common.{◌≡◌, ℕ, ◌≤◌, List, true, false, Option, Some, None, option_map, is_some, Result, Ok, refl, ◌∙◌, ap, subst, arith}
-use Rattle.std.specs.List.{find}
-use Rattle.cred_table.specs.declared.row.Row.{Row}
-use Rattle.cred_table.specs.Rows.{has_id}
-use Rattle.cred_table.specs.Waiting.{Waiting}
-use Rattle.ctap_message.specs.Asked.{Asked, GetInfo}
+use Rattle.std.proofs.Common.{◌≡◌, ℕ, ◌≤◌, List, false, Option, Some, None, option_map, Ok, refl, sym, ◌∙◌, ap, subst, arith}
+use Rattle.ctap_message.specs.Asked.{GetInfo}
 use Rattle.ctap_message.specs.Requests.{read_of}
 use Rattle.authn_core.specs.declared.replies.Presence.{Presence}
-use Rattle.authn_core.specs.declared.replies.Presence.TheVariants.{Granted}
 use Rattle.authn_core.specs.declared.replies.NewKey.{NewKey}
-use Rattle.authn_core.specs.State.{Setup, Task, Resets, Selects, AsksMake, WantsKey, SignsMake, AsksAssert, SignsAssert, Job, State, Event, Request, PresenceIs, KeyIs, SignatureIs, Cancel, Drop, Answered, Nothing, Turned, ignores}
-use Rattle.authn_core.specs.MakeCredential.{fits}
+use Rattle.authn_core.specs.State.{Setup, Task, Resets, Selects, AsksMake, WantsKey, SignsMake, AsksAssert, SignsAssert, Job, State, Event, Request, PresenceIs, KeyIs, SignatureIs, Cancel, Drop, Answered, Nothing, ignores}
 use Rattle.ctap_message.specs.Answers.{info_answer}
 use Rattle.authn_core.specs.Views.{as_work}
 use Rattle.authn_core.specs.Turn.{CoreState, Work, working, core_after, core_answer, requested, replied, reply_turn, turn}
 use Rattle.authn_core.specs.Views.{wants_presence, wants_key, wants_signature}
-use Rattle.authn_core.proofs.Readiness.{alone_case, cond_case, requested_case}
+use Rattle.authn_core.proofs.Readiness.{requested_case, reply_case}
 
 -- the work is none, or on the channel
-abbrev pub On : ℕ → Turned → Type 0
-On cid v = (job : Job) → v.state.work ≡ Some job → job.cid ≡ cid
-
-none_on : (cid : ℕ) (job : Job) → None ≡ Some job → job.cid ≡ cid
-none_on cid job e = cc
-
-some_on : (cid : ℕ) (k : Task) (job : Job) → Some (record { cid = cid; task = k }) ≡ Some job → job.cid ≡ cid
-some_on cid k job e = let f = e in cc
-
-requested_on : (u : Setup) (rows : List Row) (p : Option Waiting) (t cid : ℕ) (read : Result Asked ℕ) → On cid (requested u rows p t cid read)
-requested_on u rows p t cid read =
-    requested_case (On cid) u rows p t cid read (λ _. none_on cid) (λ k _. some_on cid k)
-    (λ hash rp up given allow id others _ _. cond_case (On cid) up _ _ (λ _. some_on cid _) (λ _. some_on cid _)) (λ _ _ _. some_on cid _)
-
-replied_on : (u : Setup) (s : State) (t cid : ℕ) (k : Task) (e : Event) → s.work ≡ Some (record { cid = cid; task = k }) → On cid (replied u s t cid k e)
-replied_on u s t cid Resets (PresenceIs p) h = alone_case (On cid) _ s.rows s.pending p (none_on cid) (λ _. none_on cid)
-replied_on u s t cid Selects (PresenceIs p) h = alone_case (On cid) _ s.rows s.pending p (none_on cid) (λ _. none_on cid)
-replied_on u s t cid (AsksMake m true) (PresenceIs p) h = none_on cid
-replied_on u s t cid (AsksMake m false) (PresenceIs Granted) h = cond_case (On cid) (fits u.room m s.rows) _ _ (λ _. some_on cid _) (λ _. none_on cid)
-replied_on u s t cid (AsksMake m false) (PresenceIs p) h = none_on cid
-replied_on u s t cid (WantsKey m) (KeyIs None) h = none_on cid
-replied_on u s t cid (WantsKey m) (KeyIs (Some key)) h = cond_case (On cid) (is_some (find (has_id key.id) s.rows)) _ _ (λ _. none_on cid) (λ _. some_on cid _)
-replied_on u s t cid (SignsMake m key d) (SignatureIs None) h = none_on cid
-replied_on u s t cid (SignsMake m key d) (SignatureIs (Some sig)) h = none_on cid
-replied_on u s t cid (AsksAssert a) (PresenceIs Granted) h = some_on cid _
-replied_on u s t cid (AsksAssert a) (PresenceIs p) h = none_on cid
-replied_on u s t cid (SignsAssert a n d) (SignatureIs None) h = none_on cid
-replied_on u s t cid (SignsAssert a n d) (SignatureIs (Some sig)) h = none_on cid
-replied_on u s t cid k e h = λ job f. some_on cid k job (let g = h in cc)
+abbrev pub On : ℕ → State → Type 0
+On cid s = (job : Job) → s.work ≡ Some job → job.cid ≡ cid
 
 -- work after a request is on the request's channel
-pub request_on : (u : Setup) (s : State) (t cid : ℕ) (bytes : List ℕ) (job : Job) → (turn u s t (Request cid bytes)).state.work ≡ Some job → job.cid ≡ cid
+pub request_on : (u : Setup) (s : State) (t cid : ℕ) (bytes : List ℕ) → On cid (turn u s t (Request cid bytes)).state
 unfolding turn
-request_on u s t cid bytes = requested_on u s.rows s.pending t cid (read_of bytes)
+request_on u s t cid bytes = requested_case (On cid) u s.rows s.pending t cid (read_of bytes) (λ _ e. cc) (λ _ _ _ e. cc) (λ _ _ _ _ _ e. cc) (λ _ _ _ _ e. cc)
 
 -- work after a reply is on the channel that it was on: with none before, there is none
 reply_keeps : (u : Setup) (s : State) (t : ℕ) (e : Event) (job : Job) → (reply_turn u s t s.work e).state.work ≡ Some job → option_map (λ (j : Job). j.cid) s.work ≡ Some job.cid
-reply_keeps u s t e job f = go s.work refl f
-  where
-    go : (v : Option Job) → s.work ≡ v → (reply_turn u s t v e).state.work ≡ Some job → option_map (λ (j : Job). j.cid) v ≡ Some job.cid
-    go None h f = cc
-    go (Some v) h f = let g = replied_on u s t v.cid v.task e h job f in cc
+reply_keeps u s t e =
+    reply_case (λ v _ x. s.work ≡ v → (job : Job) → x.work ≡ Some job → option_map (λ (j : Job). j.cid) v ≡ Some job.cid) u s t (λ v _ _ w job f. ap (option_map (λ (j : Job). j.cid)) (sym w ∙ f))
+    (λ _ _ _ _ _ _ _ f. cc) (λ _ _ _ _ _ _ f. cc) (λ _ _ _ _ _ _ _ f. cc) (λ _ _ _ f. cc) (λ _ _ _ _ _ f. cc) (λ _ _ _ _ _ _ f. cc) (λ _ _ _ _ f. cc) (λ _ _ _ _ _ _ _ f. cc) s.work e refl
 
 -- A drop answers nothing.
 pub drop_is_silent : (u : Setup) (s : State) (t : ℕ) → (turn u s t Drop).answer ≡ Nothing

@@ -1,39 +1,36 @@
--- Turns lead from ready states to ready states.
+-- What a turn comes to, case by case, and that turns lead from ready states to ready states.
 use Rattle.std.specs.Prelude.{drop, slice_get}
-use Rattle.std.proofs.Common.{◌≡◌, ℕ, ◌+◌, ◌-◌, ◌^◌, ◌==◌, ◌&&◌, nat_le, nat_lt, ◌<◌, List, [], ◌∷◌, ◌++◌, length, reverse, Bool, true, false, cond, Option, Some, None, option_to_list, is_some, Result, Ok, Err, refl, sym, ◌∙◌, ap, subst, arith, filter}
+use Rattle.std.proofs.Common.{◌≡◌, ℕ, ◌+◌, ◌-◌, ◌^◌, ◌==◌, ◌&&◌, nat_le, nat_lt, ◌<◌, ◌≤◌, List, [], ◌∷◌, ◌++◌, length, reverse, Bool, true, false, cond, Option, Some, None, option_to_list, is_some, Result, Ok, Err, refl, sym, ◌∙◌, ap, subst, arith, filter}
 use Rattle.std.proofs.lemmas.Bool.Decides.{nat_tests}
-use Rattle.std.proofs.lemmas.List.{reverse-append, map-append}
+use Rattle.std.proofs.lemmas.List.{reverse-append, map-append, length-map, length-reverse, length-drop}
 use Rattle.std.specs.Option.{option_or}
 use Rattle.std.specs.List.{AllByRecursion, find}
 use Rattle.std.specs.Str.{bytes_eq}
 use Rattle.std.proofs.lemmas.Slice.Eq.{bytes_eq-Decides}
 use Rattle.cred_table.specs.declared.row.Row.{Row}
-use Rattle.cred_table.specs.Rows.{has_id, is_named, is_listed, raised, listed, ids, counter_of}
-use Rattle.cred_table.specs.Waiting.{Waiting, pending_of, stamped, first_of, rest_of, hash_of, presence_of}
+use Rattle.cred_table.specs.Rows.{has_id, is_named, is_listed, stored, raised, listed, ids, counter_of}
+use Rattle.cred_table.specs.Waiting.{Waiting, pending_of, pending_count, stamped, first_of, rest_of}
+use Rattle.cred_table.proofs.Stored.{length-filter}
+use Rattle.fido_authdata.specs.AuthData.{created_bytes}
 use Rattle.ctap_message.specs.Asked.{Asked, MakeCredential, GetAssertion, GetInfo, Reset, GetNextAssertion, Selection}
 use Rattle.ctap_message.specs.Members.{has_entries}
 use Rattle.ctap_message.specs.Descriptors.{ids_of}
 use Rattle.ctap_message.specs.Requests.{read_of}
-use Rattle.authn_core.specs.declared.replies.Presence.{Presence}
+use Rattle.authn_core.specs.declared.replies.NewKey.{NewKey}
 use Rattle.authn_core.specs.declared.replies.Presence.TheVariants.{Granted, Denied, TimedOut}
 use Rattle.sha2.specs.Sha256.{sha256}
-use Rattle.authn_core.specs.State.{Setup, Asserting, Task, Resets, Selects, AsksMake, WantsKey, SignsMake, AsksAssert, SignsAssert, Job, State, Event, Request, PresenceIs, KeyIs, SignatureIs, Cancel, Drop, Turned, answers, refuses, waits, signs}
-use Rattle.authn_core.specs.Asking.{RESET_LIMIT, asked_alone}
-use Rattle.authn_core.specs.MakeCredential.{fits}
-use Rattle.authn_core.specs.GetAssertion.{find_named, applicable, told, MOST, NEXT_LIMIT, begun, begins, row_signs, next_signs, next_begins}
+use Rattle.authn_core.specs.State.{Setup, Making, Asserting, Task, Resets, Selects, AsksMake, WantsKey, SignsMake, AsksAssert, SignsAssert, Job, State, Event, Request, PresenceIs, KeyIs, SignatureIs, Cancel, Drop, Turned, signs}
+use Rattle.authn_core.specs.Asking.{RESET_LIMIT}
+use Rattle.authn_core.specs.MakeCredential.{fits, new_row}
+use Rattle.authn_core.specs.GetAssertion.{find_named, applicable, MOST, NEXT_LIMIT, begins, row_signs, next_signs, next_begins}
 use Rattle.authn_core.specs.Turn.{requested, replied, reply_turn, turn}
-use Rattle.authn_core.specs.Marks.{task_raises}
+use Rattle.authn_core.specs.Marks.{made_by, is_reset, task_raises}
+use Rattle.authn_core.specs.Signed.{IsGranted, TaskGranted}
 use Rattle.authn_core.specs.Ready.{AllThere, Ready, PendingReady, WorkReady, TaskReady}
 
 pub cond_case : {A : Type 0} (P : A → Type 0) (b : Bool) (x y : A) → (b ≡ true → P x) → (b ≡ false → P y) → P (cond b x y)
 cond_case P true x y p q = p refl
 cond_case P false x y p q = q refl
-
--- what was asked for by presence alone is granted, or refused
-pub alone_case : (P : Turned → Type 0) (granted : Turned) (rows : List Row) (p : Option Waiting) (reply : Presence) → P granted → ((code : ℕ) → P (refuses rows p code)) → P (asked_alone granted rows p reply)
-alone_case P granted rows p Granted g r = g
-alone_case P granted rows p Denied g r = r 0x27
-alone_case P granted rows p TimedOut g r = r 0x2f
 
 pub same_bytes : (xs : List ℕ) → bytes_eq xs xs ≡ true
 same_bytes xs = (bytes_eq-Decides xs xs).1 refl
@@ -163,109 +160,185 @@ signed_ready id rows after p e q h =
     let P : List Row → Type 0 = λ r. PendingReady r p × (is_some (find (has_id id) r) ≡ true) in
     subst P (sym e) (pending_raised id rows p q, there_raised id id rows ∙ h)
 
-ended_ready : (room : ℕ) (rows : List Row) (p : Option Waiting) → PendingReady rows p → Ready room (record { rows = rows; pending = p; work = None })
-ended_ready room rows p q = record { pending = q; work = tt }
+-- ---- how many are pending
 
--- ---- what a request comes to
+count_is : (cid : ℕ) (hash : List ℕ) (up : Bool) (t : ℕ) (l : List (List ℕ)) → pending_count (pending_of cid hash up t l) ≡ length l
+count_is cid hash up t [] = refl
+count_is cid hash up t (id ∷ l) = refl
+
+rest_few : (room : ℕ) (p : Option Waiting) → pending_count p ≤ room → pending_count (rest_of p) ≤ room
+rest_few room None h = h
+rest_few room (Some w) h =
+    let e = count_is w.cid w.hash w.presence w.moment (drop 1 w.ids) in
+    let d = length-drop 1 w.ids in omega (arith, e, d)
+
+one_at_most : (o : Option Row) → length (option_to_list o) ≤ 1
+one_at_most None = omega arith
+one_at_most (Some r) = omega arith
+
+-- At most one row more applies than there is room for; in truth none more.
+applicable_few : (room : ℕ) (rows : List Row) (rp : List ℕ) (given : Bool) (allow : List (List ℕ)) → length rows ≤ room
+    → length (ids (applicable rows rp given allow)) ≤ room + 1
+applicable_few room rows rp given allow h = go given
+  where
+    go : (b : Bool) → length (ids (applicable rows rp b allow)) ≤ room + 1
+    go true =
+        let e = length-map (option_to_list (find_named rp rows allow)) (λ (r : Row). r.id) in
+        let o = one_at_most (find_named rp rows allow) in omega (arith, e, o)
+    go false =
+        let e = length-map (reverse (filter (is_listed rp) rows)) (λ (r : Row). r.id) in
+        let r = length-reverse (filter (is_listed rp) rows) in
+        let f = length-filter (is_listed rp) rows in omega (arith, e, r, f)
+
+-- ---- what a turn comes to
+
+-- The state where work ended, and where some waits.
+abbrev pub ends : List Row → Option Waiting → State
+ends rows p = record { rows = rows; pending = p; work = None }
+
+abbrev pub job : (cid : ℕ) → Task → Option Job
+job cid k = Some (record { cid = cid; task = k })
+
+abbrev pub works : List Row → Option Waiting → (cid : ℕ) → Task → State
+works rows p cid k = record { rows = rows; pending = p; work = job cid k }
 
 -- what begins with a request and asks for the user's presence
 pub record Asking (rows : List Row) (k : Task) : Type 0 where
   pub ready : (room : ℕ) → TaskReady room rows k
   pub raises : (before : Option Job) → task_raises before k ≡ None
 
--- the assertion of the first of some ids
-abbrev pub first_of_ids : (hash rp : List ℕ) (up given : Bool) → List ℕ → List (List ℕ) → Asserting
-first_of_ids hash rp up given id others = record { hash = hash; rp = rp; id = id; presence = up; number = told given (length others + 1) }
+-- an assertion by the row with the id, after which `p` is pending
+pub record Asserts (rows : List Row) (before p : Option Waiting) (id : List ℕ) : Type 0 where
+  pub there : PendingReady rows before → is_some (find (has_id id) rows) ≡ true
+  pub ready : PendingReady rows before → PendingReady rows p
+  pub few : (room : ℕ) → length rows ≤ room → pending_count before ≤ room → pending_count p ≤ room
 
-begins_case : (P : Turned → Type 0) (rows : List Row) (t cid : ℕ) (hash rp : List ℕ) (up given : Bool) (l : List (List ℕ)) → ((bytes : List ℕ) → P (answers rows None bytes))
-    → ((id : List ℕ) (others : List (List ℕ)) → l ≡ id ∷ others → nat_lt (counter_of id rows) MOST ≡ true → P (begun rows (pending_of cid hash up t others) cid (first_of_ids hash rp up given id others)))
-    → P (begins rows t cid hash rp up given l)
-begins_case P rows t cid hash rp up given [] ended begin = ended _
-begins_case P rows t cid hash rp up given (id ∷ others) ended begin =
-    cond_case P (nat_lt (counter_of id rows) MOST) _ _ (λ below. begin id others refl below) (λ _. ended _)
+first_asserts : (rows : List Row) (before : Option Waiting) (cid : ℕ) (hash rp : List ℕ) (up given : Bool) (t : ℕ) (allow : List (List ℕ)) (id : List ℕ) (others : List (List ℕ))
+    → ids (applicable rows rp given allow) ≡ id ∷ others → Asserts rows before (pending_of cid hash up t others) id
+first_asserts rows before cid hash rp up given t allow id others e =
+    let all : AllThere rows (id ∷ others) = subst (AllThere rows) e (applicable_there rows rp given allow) in
+    let n : length (ids (applicable rows rp given allow)) ≡ length (id ∷ others) = ap length e in
+    record {
+      there = λ _. all.0;
+      ready = λ _. pending_ready rows cid hash up t others all.1;
+      few = λ room l _. omega (arith, count_is cid hash up t others, applicable_few room rows rp given allow l, n);
+    }
 
-next_case : (P : Turned → Type 0) (rows : List Row) (p : Option Waiting) (t cid : ℕ) → ((bytes : List ℕ) → P (answers rows None bytes))
-    → ((id rp : List ℕ) → first_of p ≡ Some id → P (signs rows (rest_of p) cid (record { hash = hash_of p; rp = rp; id = id; presence = presence_of p; number = None })))
-    → P (next_begins rows p t cid)
-next_case P rows None t cid ended next = ended _
-next_case P rows (Some w) t cid ended next = cond_case P ((w.cid == cid) && nat_le t (w.moment + NEXT_LIMIT)) _ _ (λ _. go w.ids refl) (λ _. ended _)
+begins_case : (P : State → Type 0) (rows : List Row) (before : Option Waiting) (t cid : ℕ) (hash rp : List ℕ) (up given : Bool) (allow : List (List ℕ)) → P (ends rows None)
+    → ((p : Option Waiting) (a : Asserting) → Asserts rows before p a.id → counter_of a.id rows < 2 ^ 32 - 1 → P (works rows p cid (AsksAssert a)))
+    → ((p : Option Waiting) (a : Asserting) → Asserts rows before p a.id → P (signs rows p cid a).state)
+    → P (begins rows t cid hash rp up given (ids (applicable rows rp given allow))).state
+begins_case P rows before t cid hash rp up given allow ended begin goes = go (ids (applicable rows rp given allow)) refl
   where
-    Goes : List ℕ → List ℕ → List (List ℕ) → Type 0
-    Goes id rp others = P (signs rows (pending_of w.cid w.hash w.presence w.moment others) cid (record { hash = w.hash; rp = rp; id = id; presence = w.presence; number = None }))
+    low : (id : List ℕ) → nat_lt (counter_of id rows) MOST ≡ true → counter_of id rows < 2 ^ 32 - 1
+    low id e = grind (arith, nat_tests)
 
-    row : (id : List ℕ) (others : List (List ℕ)) (o : Option Row) → w.ids ≡ id ∷ others → P (row_signs rows (pending_of w.cid w.hash w.presence w.moment others) cid w.hash w.presence id o)
-    row id others None e = ended _
-    row id others (Some r) e =
-        cond_case P (nat_lt (counter_of id rows) MOST) _ _ (λ _. subst (λ l. Goes id r.rp (drop 1 l)) e (next id r.rp (ap (λ l. slice_get l 0) e))) (λ _. ended _)
+    go : (l : List (List ℕ)) → ids (applicable rows rp given allow) ≡ l → P (begins rows t cid hash rp up given l).state
+    go [] e = ended
+    go (id ∷ others) e =
+        let a = first_asserts rows before cid hash rp up given t allow id others e in
+        cond_case (λ (v : Turned). P v.state) (nat_lt (counter_of id rows) MOST) _ _ (λ below. cond_case (λ (v : Turned). P v.state) up _ _ (λ _. begin _ _ a (low id below)) (λ _. goes _ _ a)) (λ _. ended)
 
-    go : (l : List (List ℕ)) → w.ids ≡ l → P (next_signs rows w cid l)
-    go [] e = ended _
+next_case : (P : State → Type 0) (rows : List Row) (p : Option Waiting) (t cid : ℕ) → P (ends rows None) → ((q : Option Waiting) (a : Asserting) → Asserts rows p q a.id → P (signs rows q cid a).state) → P (next_begins rows p t cid).state
+next_case P rows None t cid ended goes = ended
+next_case P rows (Some w) t cid ended goes = cond_case (λ (v : Turned). P v.state) ((w.cid == cid) && nat_le t (w.moment + NEXT_LIMIT)) _ _ (λ _. go w.ids refl) (λ _. ended)
+  where
+    rest : (id : List ℕ) (others : List (List ℕ)) → w.ids ≡ id ∷ others → Asserts rows (Some w) (pending_of w.cid w.hash w.presence w.moment others) id
+    rest id others e =
+        let Q : List (List ℕ) → Type 0 = λ l. Asserts rows (Some w) (pending_of w.cid w.hash w.presence w.moment (drop 1 l)) id in
+        subst Q e (record { there = λ h. first_there rows (Some w) id h (ap (λ l. slice_get l 0) e); ready = rest_ready rows (Some w); few = λ room l h. rest_few room (Some w) h })
+
+    row : (id : List ℕ) (others : List (List ℕ)) (o : Option Row) → w.ids ≡ id ∷ others → P (row_signs rows (pending_of w.cid w.hash w.presence w.moment others) cid w.hash w.presence id o).state
+    row id others None e = ended
+    row id others (Some r) e = cond_case (λ (v : Turned). P v.state) (nat_lt (counter_of id rows) MOST) _ _ (λ _. goes _ _ (rest id others e)) (λ _. ended)
+
+    go : (l : List (List ℕ)) → w.ids ≡ l → P (next_signs rows w cid l).state
+    go [] e = ended
     go (id ∷ others) e = row id others (find (has_id id) rows) e
 
--- It is answered, asks for the user's presence, begins an assertion of the rows that apply, or goes on with a pending one.
-pub requested_case : (P : Turned → Type 0) (u : Setup) (rows : List Row) (p : Option Waiting) (t cid : ℕ) (read : Result Asked ℕ) → ((bytes : List ℕ) → P (answers rows None bytes))
-    → ((k : Task) → Asking rows k → P (waits rows None cid k))
-    → ((hash rp : List ℕ) (up given : Bool) (allow : List (List ℕ)) (id : List ℕ) (others : List (List ℕ)) → ids (applicable rows rp given allow) ≡ id ∷ others → nat_lt (counter_of id rows) MOST ≡ true
-    → P (begun rows (pending_of cid hash up t others) cid (first_of_ids hash rp up given id others)))
-    → ((id rp : List ℕ) → first_of p ≡ Some id → P (signs rows (rest_of p) cid (record { hash = hash_of p; rp = rp; id = id; presence = presence_of p; number = None })))
-    → P (requested u rows p t cid read)
-requested_case P u rows p t cid (Err code) ended asks begin next = ended _
-requested_case P u rows p t cid (Ok GetInfo) ended asks begin next = ended _
-requested_case P u rows p t cid (Ok Reset) ended asks begin next =
-    cond_case P (nat_lt (u.began + RESET_LIMIT) t) _ _ (λ _. ended _) (λ _. asks Resets (record { ready = λ _. tt; raises = λ _. refl }))
-requested_case P u rows p t cid (Ok Selection) ended asks begin next = asks Selects (record { ready = λ _. tt; raises = λ _. refl })
-requested_case P u rows p t cid (Ok (MakeCredential hash rp_id user_id user_name discoverable exclude)) ended asks begin next = asks (AsksMake _ _) (record { ready = λ _. tt; raises = λ _. refl })
-requested_case P u rows p t cid (Ok (GetAssertion hash rp_id allow up)) ended asks begin next =
-    begins_case P rows t cid hash (sha256 rp_id) up (has_entries allow) (ids (applicable rows (sha256 rp_id) (has_entries allow) (ids_of allow))) ended (begin hash (sha256 rp_id) up (has_entries allow) (ids_of allow))
-requested_case P u rows p t cid (Ok GetNextAssertion) ended asks begin next = next_case P rows p t cid ended next
+-- A request is answered, asks for the user's presence, or begins an assertion, which may ask for it too.
+pub requested_case : (P : State → Type 0) (u : Setup) (rows : List Row) (p : Option Waiting) (t cid : ℕ) (read : Result Asked ℕ) → P (ends rows None)
+    → ((k : Task) → Asking rows k → P (works rows None cid k))
+    → ((q : Option Waiting) (a : Asserting) → Asserts rows p q a.id → counter_of a.id rows < 2 ^ 32 - 1 → P (works rows q cid (AsksAssert a)))
+    → ((q : Option Waiting) (a : Asserting) → Asserts rows p q a.id → P (signs rows q cid a).state)
+    → P (requested u rows p t cid read).state
+requested_case P u rows p t cid (Err code) ended asks begin goes = ended
+requested_case P u rows p t cid (Ok GetInfo) ended asks begin goes = ended
+requested_case P u rows p t cid (Ok Reset) ended asks begin goes =
+    cond_case (λ (v : Turned). P v.state) (nat_lt (u.began + RESET_LIMIT) t) _ _ (λ _. ended) (λ _. asks Resets (record { ready = λ _. tt; raises = λ _. refl }))
+requested_case P u rows p t cid (Ok Selection) ended asks begin goes = asks Selects (record { ready = λ _. tt; raises = λ _. refl })
+requested_case P u rows p t cid (Ok (MakeCredential hash rp_id user_id user_name discoverable exclude)) ended asks begin goes = asks (AsksMake _ _) (record { ready = λ _. tt; raises = λ _. refl })
+requested_case P u rows p t cid (Ok (GetAssertion hash rp_id allow up)) ended asks begin goes =
+    begins_case P rows p t cid hash (sha256 rp_id) up (has_entries allow) (ids_of allow) ended begin goes
+requested_case P u rows p t cid (Ok GetNextAssertion) ended asks begin goes = next_case P rows p t cid ended goes
 
-pub requested_ready : (u : Setup) (rows : List Row) (p : Option Waiting) (t cid : ℕ) (read : Result Asked ℕ) → PendingReady rows p → Ready u.room (requested u rows p t cid read).state
-requested_ready u rows p t cid read h =
-    requested_case (λ (v : Turned). Ready u.room v.state) u rows p t cid read (λ _. ended_ready u.room rows None tt) (λ k a. record { pending = tt; work = a.ready u.room }) begin
-    (λ id rp e. signs_ready u.room rows _ cid _ (rest_ready rows p h) (first_there rows p id h e))
+-- a reply that makes no row, and is no granted reset
+pub record Plain (v : Option Job) (e : Event) : Type 0 where
+  pub made : made_by v e ≡ None
+  pub resets : is_reset v e ≡ false
+
+-- one that ends work other than an assertion that asks for presence
+pub record Ending (k : Task) : Type 0 where
+  pub granted : (granted : Bool) (p : Option Waiting) → TaskGranted granted p k → IsGranted granted p
+
+-- A reply is ignored; ends the work, and what is pending stays, is emptied or is renewed; takes all rows out; goes on
+-- to a key, to its signature, or to that of an assertion; or stores a row.
+pub reply_case : (P : Option Job → Event → State → Type 0) (u : Setup) (s : State) (t : ℕ) → ((v : Option Job) (e : Event) → Plain v e → P v e s)
+    → ((cid : ℕ) (k : Task) (e : Event) → Plain (job cid k) e → Ending k → P (job cid k) e (ends s.rows s.pending))
+    → ((cid : ℕ) (k : Task) (e : Event) → Plain (job cid k) e → P (job cid k) e (ends s.rows None))
+    → ((cid : ℕ) (k : Task) (e : Event) → Plain (job cid k) e → Ending k → P (job cid k) e (ends s.rows (stamped t s.pending)))
+    → ((cid : ℕ) → P (job cid Resets) (PresenceIs Granted) (ends [] None))
+    → ((cid : ℕ) (m : Making) → fits u.room m s.rows ≡ true → P (job cid (AsksMake m false)) (PresenceIs Granted) (works s.rows s.pending cid (WantsKey m)))
+    → ((cid : ℕ) (m : Making) (key : NewKey) → is_some (find (has_id key.id) s.rows) ≡ false
+    → P (job cid (WantsKey m)) (KeyIs (Some key)) (works s.rows s.pending cid (SignsMake m key (created_bytes m.rp u.aaguid key.id key.x key.y ++ m.hash))))
+    → ((cid : ℕ) (a : Asserting) → P (job cid (AsksAssert a)) (PresenceIs Granted) (signs s.rows s.pending cid a).state)
+    → ((cid : ℕ) (m : Making) (key : NewKey) (d sig : List ℕ) → P (job cid (SignsMake m key d)) (SignatureIs (Some sig)) (ends (stored (new_row m key) s.rows) None))
+    → (v : Option Job) (e : Event) → P v e (reply_turn u s t v e).state
+reply_case P u s t kept ended emptied renewed reset to_key to_sign asserts makes None e = kept None e (record { made = refl; resets = refl })
+reply_case P u s t kept ended emptied renewed reset to_key to_sign asserts makes (Some w) e = go w.cid w.task e
   where
-    below : (id : List ℕ) → nat_lt (counter_of id rows) MOST ≡ true → counter_of id rows < 2 ^ 32 - 1
-    below id e = grind (arith, nat_tests)
+    one : (cid : ℕ) (k : Task) (e : Event) → made_by (job cid k) e ≡ None → is_reset (job cid k) e ≡ false → Plain (job cid k) e
+    one cid k e m r = record { made = m; resets = r }
 
-    begin : (hash rp : List ℕ) (up given : Bool) (allow : List (List ℕ)) (id : List ℕ) (others : List (List ℕ)) → ids (applicable rows rp given allow) ≡ id ∷ others → nat_lt (counter_of id rows) MOST ≡ true
-        → Ready u.room (begun rows (pending_of cid hash up t others) cid (first_of_ids hash rp up given id others)).state
-    begin hash rp up given allow id others e low =
-        let p : AllThere rows (id ∷ others) = subst (AllThere rows) e (applicable_there rows rp given allow) in
-        let q = pending_ready rows cid hash up t others p.1 in
-        cond_case (λ (v : Turned). Ready u.room v.state) up _ _ (λ _. record { pending = q; work = (p.0, below id low) }) (λ _. signs_ready u.room rows _ cid _ q p.0)
+    go : (cid : ℕ) (k : Task) (e : Event) → P (job cid k) e (replied u s t cid k e).state
+    go cid Resets (PresenceIs Granted) = reset cid
+    go cid Resets (PresenceIs Denied) = ended cid _ _ (one cid _ _ refl refl) (record { granted = λ _ _ h. h })
+    go cid Resets (PresenceIs TimedOut) = ended cid _ _ (one cid _ _ refl refl) (record { granted = λ _ _ h. h })
+    go cid Selects (PresenceIs Granted) = ended cid _ _ (one cid _ _ refl refl) (record { granted = λ _ _ h. h })
+    go cid Selects (PresenceIs Denied) = ended cid _ _ (one cid _ _ refl refl) (record { granted = λ _ _ h. h })
+    go cid Selects (PresenceIs TimedOut) = ended cid _ _ (one cid _ _ refl refl) (record { granted = λ _ _ h. h })
+    go cid (AsksMake m true) (PresenceIs Granted) = ended cid _ _ (one cid _ _ refl refl) (record { granted = λ _ _ h. h })
+    go cid (AsksMake m true) (PresenceIs p) = ended cid _ _ (one cid _ _ refl refl) (record { granted = λ _ _ h. h })
+    go cid (AsksMake m false) (PresenceIs Granted) =
+        cond_case (λ (v : Turned). P (job cid (AsksMake m false)) (PresenceIs Granted) v.state) (fits u.room m s.rows) _ _ (λ f. to_key cid m f)
+        (λ _. ended cid _ _ (one cid _ _ refl refl) (record { granted = λ _ _ h. h }))
+    go cid (AsksMake m false) (PresenceIs p) = ended cid _ _ (one cid _ _ refl refl) (record { granted = λ _ _ h. h })
+    go cid (WantsKey m) (KeyIs None) = ended cid _ _ (one cid _ _ refl refl) (record { granted = λ _ _ h. h })
+    go cid (WantsKey m) (KeyIs (Some key)) =
+        cond_case (λ (v : Turned). P (job cid (WantsKey m)) (KeyIs (Some key)) v.state) (is_some (find (has_id key.id) s.rows)) _ _
+        (λ _. ended cid _ _ (one cid _ _ refl refl) (record { granted = λ _ _ h. h })) (λ f. to_sign cid m key f)
+    go cid (SignsMake m key d) (SignatureIs None) = ended cid _ _ (one cid _ _ refl refl) (record { granted = λ _ _ h. h })
+    go cid (SignsMake m key d) (SignatureIs (Some sig)) = makes cid m key d sig
+    go cid (AsksAssert a) (PresenceIs Granted) = asserts cid a
+    go cid (AsksAssert a) (PresenceIs p) = emptied cid _ _ (one cid _ _ refl refl)
+    go cid (SignsAssert a n d) (SignatureIs None) = emptied cid _ _ (one cid _ _ refl refl)
+    go cid (SignsAssert a n d) (SignatureIs (Some sig)) = renewed cid _ _ (one cid _ _ refl refl) (record { granted = λ _ _ h. h })
+    go cid k (SignatureIs None) = kept _ _ (one cid _ _ refl refl)
+    go cid k (SignatureIs (Some sig)) = kept _ _ (one cid _ _ refl refl)
+    go cid k (PresenceIs Granted) = kept _ _ (one cid _ _ refl refl)
+    go cid k (PresenceIs p) = kept _ _ (one cid _ _ refl refl)
+    go cid k e = kept _ _ (one cid _ _ refl refl)
 
--- ---- replies
-
-replied_ready : (u : Setup) (s : State) (t cid : ℕ) (k : Task) (e : Event) → Ready u.room s → TaskReady u.room s.rows k → Ready u.room (replied u s t cid k e).state
-replied_ready u s t cid Resets (PresenceIs p) h w = alone_case (λ (v : Turned). Ready u.room v.state) _ s.rows s.pending p (record { pending = tt; work = tt }) (λ _. ended_ready u.room s.rows s.pending h.pending)
-replied_ready u s t cid Selects (PresenceIs p) h w =
-    alone_case (λ (v : Turned). Ready u.room v.state) _ s.rows s.pending p (ended_ready u.room s.rows s.pending h.pending) (λ _. ended_ready u.room s.rows s.pending h.pending)
-replied_ready u s t cid (AsksMake m true) (PresenceIs p) h w = ended_ready u.room s.rows s.pending h.pending
-replied_ready u s t cid (AsksMake m false) (PresenceIs Granted) h w =
-    cond_case (λ (v : Turned). Ready u.room v.state) (fits u.room m s.rows) _ _ (λ e. record { pending = h.pending; work = e }) (λ _. ended_ready u.room s.rows s.pending h.pending)
-replied_ready u s t cid (AsksMake m false) (PresenceIs p) h w = ended_ready u.room s.rows s.pending h.pending
-replied_ready u s t cid (WantsKey m) (KeyIs None) h w = ended_ready u.room s.rows s.pending h.pending
-replied_ready u s t cid (WantsKey m) (KeyIs (Some key)) h w =
-    cond_case (λ (v : Turned). Ready u.room v.state) (is_some (find (has_id key.id) s.rows)) _ _ (λ _. ended_ready u.room s.rows s.pending h.pending)
-    (λ e. record { pending = h.pending; work = (w, e) })
-replied_ready u s t cid (SignsMake m key d) (SignatureIs None) h w = ended_ready u.room s.rows s.pending h.pending
-replied_ready u s t cid (SignsMake m key d) (SignatureIs (Some sig)) h w = record { pending = tt; work = tt }
-replied_ready u s t cid (AsksAssert a) (PresenceIs Granted) h w = signs_ready u.room s.rows s.pending cid a h.pending w.0
-replied_ready u s t cid (AsksAssert a) (PresenceIs p) h w = ended_ready u.room s.rows None tt
-replied_ready u s t cid (SignsAssert a n d) (SignatureIs None) h w = ended_ready u.room s.rows None tt
-replied_ready u s t cid (SignsAssert a n d) (SignatureIs (Some sig)) h w = ended_ready u.room s.rows (stamped t s.pending) (stamped_ready s.rows t s.pending h.pending)
-replied_ready u s t cid k e h w = h
-
-reply_ready : (u : Setup) (s : State) (t : ℕ) (e : Event) → Ready u.room s → Ready u.room (reply_turn u s t s.work e).state
-reply_ready u s t e h = go s.work h.work
-  where
-    go : (v : Option Job) → WorkReady u.room s.rows v → Ready u.room (reply_turn u s t v e).state
-    go None w = h
-    go (Some v) w = replied_ready u s t v.cid v.task e h w
+-- ---- turns keep a state ready
 
 pub turn_ready : (u : Setup) (s : State) (t : ℕ) (e : Event) → Ready u.room s → Ready u.room (turn u s t e).state
 unfolding turn
-turn_ready u s t (Request cid bytes) h = requested_ready u s.rows s.pending t cid (read_of bytes) h.pending
-turn_ready u s t Cancel h = ended_ready u.room s.rows None tt
-turn_ready u s t Drop h = ended_ready u.room s.rows None tt
-turn_ready u s t reply h = reply_ready u s t reply h
+turn_ready u s t (Request cid bytes) h =
+    requested_case (Ready u.room) u s.rows s.pending t cid (read_of bytes) (record { pending = tt; work = tt }) (λ k a. record { pending = tt; work = a.ready u.room })
+    (λ q a n low. record { pending = n.ready h.pending; work = (n.there h.pending, low) }) (λ q a n. signs_ready u.room s.rows q cid a (n.ready h.pending) (n.there h.pending))
+turn_ready u s t Cancel h = record { pending = tt; work = tt }
+turn_ready u s t Drop h = record { pending = tt; work = tt }
+turn_ready u s t reply h =
+    reply_case (λ v _ x. WorkReady u.room s.rows v → Ready u.room x) u s t (λ _ _ _ _. h) (λ _ _ _ _ _ _. record { pending = h.pending; work = tt }) (λ _ _ _ _ _. record { pending = tt; work = tt })
+    (λ _ _ _ _ _ _. record { pending = stamped_ready s.rows t s.pending h.pending; work = tt }) (λ _ _. record { pending = tt; work = tt }) (λ _ m f _. record { pending = h.pending; work = f })
+    (λ _ m key f w. record { pending = h.pending; work = (w, f) }) (λ cid a w. signs_ready u.room s.rows s.pending cid a h.pending w.0) (λ _ m key d sig _. record { pending = tt; work = tt }) s.work reply h.work

@@ -15,18 +15,18 @@ use Rattle.ctap_message.specs.Asked.{Asked, MakeCredential, GetAssertion, GetInf
 use Rattle.ctap_message.specs.Members.{has_entries}
 use Rattle.ctap_message.specs.Descriptors.{ids_of}
 use Rattle.ctap_message.specs.Requests.{read_of}
-use Rattle.authn_core.specs.declared.replies.Presence.TheVariants.{Granted, Denied, TimedOut}
+use Rattle.authn_core.specs.declared.replies.Presence.TheVariants.{Granted}
 use Rattle.authn_core.specs.declared.replies.NewKey.{NewKey}
 use Rattle.sha2.specs.Sha256.{sha256}
 use Rattle.authn_core.specs.State.{Setup, Making, Asserting, Task, Resets, Selects, AsksMake, WantsKey, SignsMake, AsksAssert, SignsAssert, Job, State, Event, Request, PresenceIs, KeyIs, SignatureIs, Cancel, Drop, Answer, Answered, Turned, signs}
 use Rattle.authn_core.specs.Asking.{RESET_LIMIT}
-use Rattle.authn_core.specs.MakeCredential.{fits, new_row}
+use Rattle.authn_core.specs.MakeCredential.{new_row}
 use Rattle.authn_core.specs.GetAssertion.{find_named, applicable, MOST, NEXT_LIMIT, told, begins, next_begins, next_signs, row_signs, user_in}
 use Rattle.authn_core.specs.Turn.{Start, core_answer, first_state, requested, replied, reply_turn, turn}
 use Rattle.authn_core.specs.Views.{Needed, needs, sign}
 use Rattle.authn_core.specs.Marks.{Step, Comes, Orderly, core_at}
 use Rattle.authn_core.specs.Signed.{Heard, newer, hears, heard, IsAmong, rp_of, IsToSign, IsNeeded, IsSigned, Claim, assertion_asked, creation_asked, AssertsFor, TaskSigns, WorkSigns, AllOf, PendingFor, IsGranted, TaskGranted, WorkGranted, Signs}
-use Rattle.authn_core.proofs.Readiness.{all_reversed, cond_case, same_bytes}
+use Rattle.authn_core.proofs.Readiness.{all_reversed, cond_case, reply_case, same_bytes}
 use Rattle.authn_core.proofs.Texts.{rows_lawful, setup_stays}
 
 -- ---- rows
@@ -277,37 +277,15 @@ more_keys : (aaguid : List ℕ) (h : Heard) (s : State) (key : NewKey) → Signs
 more_keys aaguid h s key g = record { pending = g.pending; granted = g.granted; work = more_work aaguid h s.rows key s.work g.work }
 
 -- What a reply makes of the work keeps the invariant, which holds of what was heard.
-replied_signs : (u : Setup) (s : State) (t cid : ℕ) (k : Task) (e : Event) (h : Heard) → Signs u.aaguid (hears e h) s → TaskSigns u.aaguid (hears e h) s.rows k → TaskGranted (hears e h).granted s.pending k
-    → Signs u.aaguid (hears e h) (replied u s t cid k e).state
-replied_signs u s t cid Resets (PresenceIs Granted) h g w q = record { pending = tt; granted = tt; work = tt }
-replied_signs u s t cid Resets (PresenceIs Denied) h g w q = ended u.aaguid h s.rows s.pending g.pending q
-replied_signs u s t cid Resets (PresenceIs TimedOut) h g w q = ended u.aaguid h s.rows s.pending g.pending q
-replied_signs u s t cid Selects (PresenceIs Granted) h g w q = ended u.aaguid (hears (PresenceIs Granted) h) s.rows s.pending g.pending q
-replied_signs u s t cid Selects (PresenceIs Denied) h g w q = ended u.aaguid h s.rows s.pending g.pending q
-replied_signs u s t cid Selects (PresenceIs TimedOut) h g w q = ended u.aaguid h s.rows s.pending g.pending q
-replied_signs u s t cid (AsksMake m true) (PresenceIs Granted) h g w q = ended u.aaguid (hears (PresenceIs Granted) h) s.rows s.pending g.pending q
-replied_signs u s t cid (AsksMake m true) (PresenceIs p) h g w q = ended u.aaguid h s.rows s.pending g.pending q
-replied_signs u s t cid (AsksMake m false) (PresenceIs Granted) h g w q =
-    cond_case (λ (v : Turned). Signs u.aaguid (hears (PresenceIs Granted) h) v.state) (fits u.room m s.rows) _ _ (λ _. record { pending = g.pending; granted = q; work = (w, refl) })
-    (λ _. ended u.aaguid (hears (PresenceIs Granted) h) s.rows s.pending g.pending q)
-replied_signs u s t cid (AsksMake m false) (PresenceIs p) h g w q = ended u.aaguid h s.rows s.pending g.pending q
-replied_signs u s t cid (AsksAssert a) (PresenceIs Granted) h g w q = signs_signs u.aaguid (hears (PresenceIs Granted) h) s.rows s.pending cid a g.pending (all_granted s.pending) w (λ _. refl)
-replied_signs u s t cid (AsksAssert a) (PresenceIs p) h g w q = ended u.aaguid h s.rows None tt tt
-replied_signs u s t cid (WantsKey m) (KeyIs None) h g w q = ended u.aaguid h s.rows s.pending g.pending q
-replied_signs u s t cid (WantsKey m) (KeyIs (Some key)) h g w q =
-    cond_case (λ (v : Turned). Signs u.aaguid (hears (KeyIs (Some key)) h) v.state) (is_some (find (has_id key.id) s.rows)) _ _
-    (λ _. ended u.aaguid (hears (KeyIs (Some key)) h) s.rows s.pending g.pending q) (λ _. record { pending = g.pending; granted = q; work = (w.0, inl refl, refl, w.1) })
-replied_signs u s t cid (SignsMake m key d) (SignatureIs None) h g w q = ended u.aaguid h s.rows s.pending g.pending q
-replied_signs u s t cid (SignsMake m key d) (SignatureIs (Some sig)) h g w q = record { pending = tt; granted = tt; work = tt }
-replied_signs u s t cid (SignsAssert a n d) (SignatureIs None) h g w q = ended u.aaguid h s.rows None tt tt
-replied_signs u s t cid (SignsAssert a n d) (SignatureIs (Some sig)) h g w q =
-    ended u.aaguid h s.rows (stamped t s.pending) (pending_stamped h.asked s.rows t s.pending g.pending) (granted_stamped h.granted t s.pending q)
-replied_signs u s t cid k e h g w q = g
-
-reply_signs : (u : Setup) (s : State) (t : ℕ) (e : Event) (h : Heard) (v : Option Job) → Signs u.aaguid (hears e h) s → WorkSigns u.aaguid (hears e h) s.rows v → WorkGranted (hears e h).granted s.pending v
-    → Signs u.aaguid (hears e h) (reply_turn u s t v e).state
-reply_signs u s t e h None g w q = g
-reply_signs u s t e h (Some v) g w q = replied_signs u s t v.cid v.task e h g w q
+reply_signs : (u : Setup) (s : State) (t : ℕ) (e : Event) (h : Heard) → Signs u.aaguid (hears e h) s → Signs u.aaguid (hears e h) (reply_turn u s t s.work e).state
+reply_signs u s t e h g =
+    reply_case (λ v e x. Signs u.aaguid (hears e h) s → WorkSigns u.aaguid (hears e h) s.rows v → WorkGranted (hears e h).granted s.pending v → Signs u.aaguid (hears e h) x) u s t
+    (λ _ _ _ g _ _. g) (λ _ _ e _ k g _ q. ended u.aaguid (hears e h) s.rows s.pending g.pending (k.granted _ _ q)) (λ _ _ e _ _ _ _. ended u.aaguid (hears e h) s.rows None tt tt)
+    (λ _ _ e _ k g _ q. ended u.aaguid (hears e h) s.rows (stamped t s.pending) (pending_stamped (hears e h).asked s.rows t s.pending g.pending) (granted_stamped (hears e h).granted t s.pending (k.granted _ _ q)))
+    (λ _ _ _ _. record { pending = tt; granted = tt; work = tt }) (λ _ m _ g w q. record { pending = g.pending; granted = q; work = (w, refl) })
+    (λ _ m key _ g w q. record { pending = g.pending; granted = q; work = (w.0, inl refl, refl, w.1) })
+    (λ cid a g w _. signs_signs u.aaguid (hears (PresenceIs Granted) h) s.rows s.pending cid a g.pending (all_granted s.pending) w (λ _. refl))
+    (λ _ m key _ _ _ _ _. record { pending = tt; granted = tt; work = tt }) s.work e g g.work g.granted
 
 -- what is heard of a reply keeps it
 abbrev IsReply : Event → Type 0
@@ -328,9 +306,9 @@ unfolding turn
 turn_signs u s t (Request cid bytes) h c l g = requested_signs u h s.rows s.pending t cid (read_of bytes) l.distinct g.pending (subst (WorkGranted h.granted s.pending) c g.granted)
 turn_signs u s t Cancel h c l g = record { pending = tt; granted = tt; work = tt }
 turn_signs u s t Drop h c l g = record { pending = tt; granted = tt; work = tt }
-turn_signs u s t (PresenceIs p) h c l g = let n = heard_signs u.aaguid (PresenceIs p) h s tt g in reply_signs u s t (PresenceIs p) h s.work n n.work n.granted
-turn_signs u s t (KeyIs key) h c l g = let n = heard_signs u.aaguid (KeyIs key) h s tt g in reply_signs u s t (KeyIs key) h s.work n n.work n.granted
-turn_signs u s t (SignatureIs sig) h c l g = reply_signs u s t (SignatureIs sig) h s.work g g.work g.granted
+turn_signs u s t (PresenceIs p) h c l g = reply_signs u s t (PresenceIs p) h (heard_signs u.aaguid (PresenceIs p) h s tt g)
+turn_signs u s t (KeyIs key) h c l g = reply_signs u s t (KeyIs key) h (heard_signs u.aaguid (KeyIs key) h s tt g)
+turn_signs u s t (SignatureIs sig) h c l g = reply_signs u s t (SignatureIs sig) h g
 
 -- ---- histories
 

@@ -54,11 +54,11 @@ pub(crate) fn store<T: Table<C>, const C: usize>(table: &mut T, making: Making, 
     ensures { T.rows table.new ≡ stored (new_row (making_of making) key) (T.rows table.old) }
 {
     let Making {
-        hash: _,
         rp,
         user,
         name,
         discoverable,
+        ..
     } = making;
     let NewKey { id, x, y } = key;
     let replaced = if discoverable {
