@@ -1,5 +1,5 @@
 -- All that the transport needs to know of the authenticator.
-use Rattle.std.proofs.Common.{◌≡◌, ℕ, ◌≤◌, List, false, Option, Some, None, option_map, Ok, refl, sym, ◌∙◌, ap, subst, arith}
+use Rattle.std.proofs.Common.{◌≡◌, ℕ, ◌≤◌, List, Bool, false, Option, Some, None, option_map, Ok, refl, sym, ◌∙◌, ap, subst, arith}
 use Rattle.ctap_message.specs.Asked.{GetInfo}
 use Rattle.ctap_message.specs.Requests.{read_of}
 use Rattle.authn_core.specs.declared.replies.Presence.{Presence}
@@ -26,51 +26,39 @@ reply_keeps u s t e =
     reply_case (λ v _ x. s.work ≡ v → (job : Job) → x.work ≡ Some job → option_map (λ (j : Job). j.cid) v ≡ Some job.cid) u s t (λ v _ _ w job f. ap (option_map (λ (j : Job). j.cid)) (sym w ∙ f))
     (λ _ _ _ _ _ _ _ f. cc) (λ _ _ _ _ _ _ f. cc) (λ _ _ _ _ _ _ _ f. cc) (λ _ _ _ f. cc) (λ _ _ _ _ _ f. cc) (λ _ _ _ _ _ _ f. cc) (λ _ _ _ _ f. cc) (λ _ _ _ _ _ _ _ f. cc) s.work e refl
 
--- A drop answers nothing.
-pub drop_is_silent : (u : Setup) (s : State) (t : ℕ) → (turn u s t Drop).answer ≡ Nothing
-unfolding turn
-drop_is_silent u s t = refl
+-- whether the waiting work needs a reply
+abbrev heeds : Option Job → Event → Bool
+heeds v (PresenceIs p) = wants_presence v
+heeds v (KeyIs key) = wants_key v
+heeds v (SignatureIs sig) = wants_signature v
+heeds v e = false
 
 -- A reply that the waiting work doesn't need leaves the state, and is answered by nothing.
+reply_ignored : (u : Setup) (s : State) (t : ℕ) (v : Option Job) (e : Event) → heeds v e ≡ false → reply_turn u s t v e ≡ ignores s
+reply_ignored u s t None e h = refl
+reply_ignored u s t (Some w) e h = at w.cid w.task e h
+  where
+    at : (cid : ℕ) (k : Task) (e : Event) → heeds (Some (record { cid = cid; task = k })) e ≡ false → replied u s t cid k e ≡ ignores s
+    at cid Resets (PresenceIs p) h = cc
+    at cid Selects (PresenceIs p) h = cc
+    at cid (AsksMake m excluded) (PresenceIs p) h = cc
+    at cid (AsksAssert a) (PresenceIs p) h = cc
+    at cid (WantsKey m) (KeyIs key) h = cc
+    at cid (SignsMake m k d) (SignatureIs sig) h = cc
+    at cid (SignsAssert a n d) (SignatureIs sig) h = cc
+    at cid k e h = refl
+
 pub presence_ignored : (u : Setup) (s : State) (t : ℕ) (p : Presence) → wants_presence s.work ≡ false → turn u s t (PresenceIs p) ≡ ignores s
 unfolding turn
-presence_ignored u s t p h = go s.work h
-  where
-    at : (cid : ℕ) (k : Task) → wants_presence (Some (record { cid = cid; task = k })) ≡ false → replied u s t cid k (PresenceIs p) ≡ ignores s
-    at cid Resets h = cc
-    at cid Selects h = cc
-    at cid (AsksMake m excluded) h = cc
-    at cid (AsksAssert a) h = cc
-    at cid k h = refl
-
-    go : (v : Option Job) → wants_presence v ≡ false → reply_turn u s t v (PresenceIs p) ≡ ignores s
-    go None h = refl
-    go (Some v) h = at v.cid v.task h
+presence_ignored u s t p h = reply_ignored u s t s.work (PresenceIs p) h
 
 pub key_ignored : (u : Setup) (s : State) (t : ℕ) (key : Option NewKey) → wants_key s.work ≡ false → turn u s t (KeyIs key) ≡ ignores s
 unfolding turn
-key_ignored u s t key h = go s.work h
-  where
-    at : (cid : ℕ) (k : Task) → wants_key (Some (record { cid = cid; task = k })) ≡ false → replied u s t cid k (KeyIs key) ≡ ignores s
-    at cid (WantsKey m) h = cc
-    at cid k h = refl
-
-    go : (v : Option Job) → wants_key v ≡ false → reply_turn u s t v (KeyIs key) ≡ ignores s
-    go None h = refl
-    go (Some v) h = at v.cid v.task h
+key_ignored u s t key h = reply_ignored u s t s.work (KeyIs key) h
 
 pub signature_ignored : (u : Setup) (s : State) (t : ℕ) (sig : Option (List ℕ)) → wants_signature s.work ≡ false → turn u s t (SignatureIs sig) ≡ ignores s
 unfolding turn
-signature_ignored u s t sig h = go s.work h
-  where
-    at : (cid : ℕ) (k : Task) → wants_signature (Some (record { cid = cid; task = k })) ≡ false → replied u s t cid k (SignatureIs sig) ≡ ignores s
-    at cid (SignsMake m k d) h = cc
-    at cid (SignsAssert a n d) h = cc
-    at cid k h = refl
-
-    go : (v : Option Job) → wants_signature v ≡ false → reply_turn u s t v (SignatureIs sig) ≡ ignores s
-    go None h = refl
-    go (Some v) h = at v.cid v.task h
+signature_ignored u s t sig h = reply_ignored u s t s.work (SignatureIs sig) h
 
 -- ---- with channels that were given out
 
@@ -134,7 +122,8 @@ signature_starts_none core at sig h = starts_none core at (SignatureIs sig) h
 
 -- A drop of an authenticator answers nothing.
 pub drop_answers_nothing : (core : CoreState) (at : ℕ) → core_answer core at Drop ≡ Nothing
-drop_answers_nothing core at = drop_is_silent core.setup core.state at
+unfolding turn
+drop_answers_nothing core at = refl
 
 -- authenticatorGetInfo is answered by its map, with the AAGUID.
 pub info_answered : (core : CoreState) (at cid : ℕ) (bytes : List ℕ) → read_of bytes ≡ Ok GetInfo

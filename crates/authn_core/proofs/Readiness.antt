@@ -1,6 +1,7 @@
 -- What a turn comes to, case by case, and that turns lead from ready states to ready states.
 use Rattle.std.specs.Prelude.{drop, slice_get}
-use Rattle.std.proofs.Common.{◌≡◌, ℕ, ◌+◌, ◌-◌, ◌^◌, ◌==◌, ◌&&◌, nat_le, nat_lt, ◌<◌, ◌≤◌, List, [], ◌∷◌, ◌++◌, length, reverse, Bool, true, false, cond, Option, Some, None, option_to_list, is_some, Result, Ok, Err, refl, sym, ◌∙◌, ap, subst, arith, filter}
+use Rattle.std.proofs.Common.{◌≡◌, ℕ, ◌+◌, ◌-◌, ◌^◌, ◌==◌, ◌&&◌, nat_le, nat_lt, ◌<◌, ◌≤◌, List, [], ◌∷◌, ◌++◌, length, reverse, Bool, true, false, cond, Option, Some, None, option_to_list, is_some, Result, Ok, Err, refl, sym, ◌∙◌, ap, subst, arith, filter, ◌⊎◌, inl, inr}
+use Rattle.std.proofs.lemmas.Bool.{and_parts}
 use Rattle.std.proofs.lemmas.Bool.Decides.{nat_tests}
 use Rattle.std.proofs.lemmas.List.{reverse-append, map-append, length-map, length-reverse, length-drop}
 use Rattle.std.specs.Option.{option_or}
@@ -36,66 +37,67 @@ pub same_bytes : (xs : List ℕ) → bytes_eq xs xs ≡ true
 same_bytes xs = (bytes_eq-Decides xs xs).1 refl
 
 -- Rows that are there.
-there_more : (q : Row → Bool) (x : Row) (rows : List Row) → is_some (find q rows) ≡ true → is_some (find q (x ∷ rows)) ≡ true
-there_more q x rows h = go (q x)
+abbrev pub IsIn : Row → List Row → Type 0
+IsIn r [] = ⊥
+IsIn r (x ∷ rows) = (x ≡ r) ⊎ IsIn r rows
+
+in_there : (r : Row) (rows : List Row) → IsIn r rows → is_some (find (has_id r.id) rows) ≡ true
+in_there r [] h = absurd h
+in_there r (x ∷ rows) (inl e) = let P : Row → Type 0 = λ y. is_some (find (has_id r.id) (y ∷ rows)) ≡ true in subst P (sym e) (rw (same_bytes r.id) refl)
+in_there r (x ∷ rows) (inr h) = go (has_id r.id x) (in_there r rows h)
   where
-    go : (b : Bool) → is_some (cond b (Some x) (find q rows)) ≡ true
-    go true = refl
-    go false = h
+    go : (b : Bool) → is_some (find (has_id r.id) rows) ≡ true → is_some (cond b (Some x) (find (has_id r.id) rows)) ≡ true
+    go true ih = refl
+    go false ih = ih
 
-there_self : (r : Row) (rows : List Row) → is_some (find (has_id r.id) (r ∷ rows)) ≡ true
-there_self r rows = rw (same_bytes r.id) refl
-
-all_more : (x : Row) (rows : List Row) (l : List (List ℕ)) → AllThere rows l → AllThere (x ∷ rows) l
-all_more x rows [] h = tt
-all_more x rows (id ∷ l) h = (there_more (has_id id) x rows h.0, all_more x rows l h.1)
+-- a row that is found is there, and passes
+pub found_in : (q : Row → Bool) (rows : List Row) (r : Row) → find q rows ≡ Some r → IsIn r rows × (q r ≡ true)
+found_in q [] r h = cc
+found_in q (x ∷ rows) r h = go (q x) refl h (found_in q rows r)
+  where
+    go : (b : Bool) → q x ≡ b → cond b (Some x) (find q rows) ≡ Some r → (find q rows ≡ Some r → IsIn r rows × (q r ≡ true)) → IsIn r (x ∷ rows) × (q r ≡ true)
+    go true k e ih = let f : x ≡ r = cc in (inl f, ap q (sym f) ∙ k)
+    go false k e ih = let i = ih e in (inr i.0, i.1)
 
 -- of lists of ids whose ids all are such
 all_joined : (P : List ℕ → Type 0) (a b : List (List ℕ)) → AllByRecursion P a → AllByRecursion P b → AllByRecursion P (a ++ b)
 all_joined P [] b p q = q
 all_joined P (id ∷ a) b p q = (p.0, all_joined P a b p.1 q)
 
-pub all_reversed : (P : List ℕ → Type 0) (l : List Row) → AllByRecursion P (ids l) → AllByRecursion P (ids (reverse l))
+all_reversed : (P : List ℕ → Type 0) (l : List Row) → AllByRecursion P (ids l) → AllByRecursion P (ids (reverse l))
 all_reversed P [] h = tt
 all_reversed P (r ∷ l) h =
     let e = reverse-append (r ∷ []) l in
     let f = map-append (λ (r : Row). r.id) (reverse l) (r ∷ []) in
     subst (AllByRecursion P) (sym (ap ids e ∙ f)) (all_joined P (ids (reverse l)) (r.id ∷ []) (all_reversed P l h.1) (h.0, tt))
 
-all_filtered : (p : Row → Bool) (rows : List Row) → AllThere rows (ids (filter p rows))
-all_filtered p [] = tt
-all_filtered p (r ∷ rows) = go (all_more r rows (ids (filter p rows)) (all_filtered p rows)) (p r)
+all_filtered : (P : List ℕ → Type 0) (q : Row → Bool) (rows : List Row) → ((r : Row) → IsIn r rows → q r ≡ true → P r.id) → AllByRecursion P (ids (filter q rows))
+all_filtered P q [] h = tt
+all_filtered P q (r ∷ rows) h = go (q r) refl (all_filtered P q rows (λ x i. h x (inr i)))
   where
-    go : AllThere (r ∷ rows) (ids (filter p rows)) → (b : Bool) → AllThere (r ∷ rows) (ids (cond b (r ∷ filter p rows) (filter p rows)))
-    go ih true = (there_self r rows, ih)
-    go ih false = ih
+    go : (b : Bool) → q r ≡ b → AllByRecursion P (ids (filter q rows)) → AllByRecursion P (ids (cond b (r ∷ filter q rows) (filter q rows)))
+    go true e ih = (h r (inl refl) e, ih)
+    go false e ih = ih
 
-found_member : (q : Row → Bool) (rows : List Row) (r : Row) → find q rows ≡ Some r → is_some (find (has_id r.id) rows) ≡ true
-found_member q [] r h = cc
-found_member q (x ∷ rows) r h = go (λ e. found_member q rows r e) (q x) h
+-- What holds of each row of the RP holds of those that may sign.
+pub applicable_all : (P : List ℕ → Type 0) (rows : List Row) (rp : List ℕ) (given : Bool) (allow : List (List ℕ)) → ((r : Row) → IsIn r rows → bytes_eq r.rp rp ≡ true → P r.id)
+    → AllByRecursion P (ids (applicable rows rp given allow))
+applicable_all P rows rp given allow h = go given
   where
-    go : (find q rows ≡ Some r → is_some (find (has_id r.id) rows) ≡ true) → (b : Bool) → cond b (Some x) (find q rows) ≡ Some r → is_some (find (has_id r.id) (x ∷ rows)) ≡ true
-    go ih true e = let f : x ≡ r = cc in let P : Row → Type 0 = λ y. is_some (find (has_id y.id) (x ∷ rows)) ≡ true in subst P f (there_self x rows)
-    go ih false e = there_more (has_id r.id) x rows (ih e)
+    named : (l : List (List ℕ)) → AllByRecursion P (ids (option_to_list (find_named rp rows l)))
+    named [] = tt
+    named (id ∷ l) = one (find (is_named rp id) rows) refl (named l)
+      where
+        one : (o : Option Row) → find (is_named rp id) rows ≡ o → AllByRecursion P (ids (option_to_list (find_named rp rows l))) → AllByRecursion P (ids (option_to_list (option_or o (find_named rp rows l))))
+        one None e ih = ih
+        one (Some r) e ih = let i = found_in (is_named rp id) rows r e in (h r i.0 (and_parts (bytes_eq r.id id) (bytes_eq r.rp rp) i.1).1, tt)
 
-named_member : (rp : List ℕ) (rows : List Row) (l : List (List ℕ)) (r : Row) → find_named rp rows l ≡ Some r → is_some (find (has_id r.id) rows) ≡ true
-named_member rp rows [] r h = cc
-named_member rp rows (id ∷ l) r h = go (λ e. named_member rp rows l r e) (find (is_named rp id) rows) refl h
-  where
-    go : (find_named rp rows l ≡ Some r → is_some (find (has_id r.id) rows) ≡ true) → (o : Option Row) → find (is_named rp id) rows ≡ o → option_or o (find_named rp rows l) ≡ Some r → is_some (find (has_id r.id) rows) ≡ true
-    go ih None e f = ih f
-    go ih (Some x) e f = found_member (is_named rp id) rows r (e ∙ f)
+    go : (b : Bool) → AllByRecursion P (ids (cond b (option_to_list (find_named rp rows allow)) (listed rp rows)))
+    go true = named allow
+    go false = all_reversed P (filter (is_listed rp) rows) (all_filtered P (is_listed rp) rows (λ r i e. h r i (and_parts r.discoverable (bytes_eq r.rp rp) e).1))
 
 pub applicable_there : (rows : List Row) (rp : List ℕ) (given : Bool) (allow : List (List ℕ)) → AllThere rows (ids (applicable rows rp given allow))
-applicable_there rows rp given allow = go given
-  where
-    named : (o : Option Row) → find_named rp rows allow ≡ o → AllThere rows (ids (option_to_list o))
-    named None e = tt
-    named (Some r) e = (named_member rp rows allow r e, tt)
-
-    go : (b : Bool) → AllThere rows (ids (cond b (option_to_list (find_named rp rows allow)) (listed rp rows)))
-    go true = named (find_named rp rows allow) refl
-    go false = all_reversed (λ id. is_some (find (has_id id) rows) ≡ true) (filter (is_listed rp) rows) (all_filtered (is_listed rp) rows)
+applicable_there rows rp given allow = applicable_all (λ id. is_some (find (has_id id) rows) ≡ true) rows rp given allow (λ r i _. in_there r rows i)
 
 -- Raising keeps what is there and what is lawful.
 pub there_raised : (q id : List ℕ) (rows : List Row) → is_some (find (has_id q) (raised id rows)) ≡ is_some (find (has_id q) rows)

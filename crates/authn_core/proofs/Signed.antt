@@ -26,7 +26,7 @@ use Rattle.authn_core.specs.Turn.{Start, core_answer, first_state, requested, re
 use Rattle.authn_core.specs.Views.{Needed, needs, sign}
 use Rattle.authn_core.specs.Marks.{Step, Comes, Orderly, core_at}
 use Rattle.authn_core.specs.Signed.{Heard, newer, hears, heard, IsAmong, rp_of, IsToSign, IsNeeded, IsSigned, Claim, assertion_asked, creation_asked, AssertsFor, TaskSigns, WorkSigns, AllOf, PendingFor, IsGranted, TaskGranted, WorkGranted, Signs}
-use Rattle.authn_core.proofs.Readiness.{all_reversed, cond_case, reply_case, same_bytes}
+use Rattle.authn_core.proofs.Readiness.{IsIn, applicable_all, cond_case, reply_case, same_bytes}
 use Rattle.authn_core.proofs.Texts.{rows_lawful, setup_stays}
 
 -- ---- rows
@@ -45,74 +45,23 @@ apart id x (s ∷ rows) e h =
         let b : s.id ≡ id = (bytes_eq-Decides s.id id).0 k in
         let d : bytes_eq x.id s.id ≡ true = (bytes_eq-Decides x.id s.id).1 (a ∙ sym b) in cc
 
--- what stands behind a row is found past it
-past_one : (id : List ℕ) (x r : Row) (rows : List Row) → list_any (same_id x) rows ≡ false → find (has_id id) rows ≡ Some r → find (has_id id) (x ∷ rows) ≡ Some r
-past_one id x r rows h e = go (has_id id x) refl
-  where
-    go : (b : Bool) → has_id id x ≡ b → cond b (Some x) (find (has_id id) rows) ≡ Some r
-    go false k = e
-    go true k = let n = apart id x rows k h in cc
-
--- a row that is found is found by its id, and passes
-found_self : (q : Row → Bool) (rows : List Row) (r : Row) → no_two same_id rows ≡ true → find q rows ≡ Some r → (find (has_id r.id) rows ≡ Some r) × (q r ≡ true)
-found_self q [] r d h = cc
-found_self q (x ∷ rows) r d h =
+-- in rows that stand apart, each is found by its id
+in_found : (r : Row) (rows : List Row) → no_two same_id rows ≡ true → IsIn r rows → find (has_id r.id) rows ≡ Some r
+in_found r [] d h = absurd h
+in_found r (x ∷ rows) d (inl e) = let P : Row → Type 0 = λ y. find (has_id r.id) (y ∷ rows) ≡ Some r in subst P (sym e) (rw (same_bytes r.id) refl)
+in_found r (x ∷ rows) d (inr h) =
     let p = and_parts (not (list_any (same_id x) rows)) (no_two same_id rows) d in
-    go (not-true (list_any (same_id x) rows) p.0) (found_self q rows r p.1) (q x) refl h
+    go (has_id r.id x) refl (not-true (list_any (same_id x) rows) p.0) (in_found r rows p.1 h)
   where
-    here : q x ≡ true → (find (has_id x.id) (x ∷ rows) ≡ Some x) × (q x ≡ true)
-    here k = (rw (same_bytes x.id) refl, k)
-
-    go : list_any (same_id x) rows ≡ false → (find q rows ≡ Some r → (find (has_id r.id) rows ≡ Some r) × (q r ≡ true)) → (b : Bool) → q x ≡ b → cond b (Some x) (find q rows) ≡ Some r
-        → (find (has_id r.id) (x ∷ rows) ≡ Some r) × (q r ≡ true)
-    go n ih true k e = let P : Row → Type 0 = λ y. (find (has_id y.id) (x ∷ rows) ≡ Some y) × (q y ≡ true) in subst P (same_Some x r e) (here k)
-    go n ih false k e = let i = ih e in (past_one r.id x r rows n i.0, i.1)
-
-rp_past : (id rp : List ℕ) (x : Row) (rows : List Row) → list_any (same_id x) rows ≡ false → rp_of id rows ≡ Some rp → rp_of id (x ∷ rows) ≡ Some rp
-rp_past id rp x rows h e = go (find (has_id id) rows) refl e
-  where
-    go : (o : Option Row) → find (has_id id) rows ≡ o → option_map (λ (r : Row). r.rp) o ≡ Some rp → rp_of id (x ∷ rows) ≡ Some rp
-    go None k f = cc
-    go (Some r) k f = ap (λ (o : Option Row). option_map (λ (r : Row). r.rp) o) (past_one id x r rows h k) ∙ f
-
-all_past : (rp : List ℕ) (x : Row) (rows : List Row) (l : List (List ℕ)) → list_any (same_id x) rows ≡ false → AllOf rp rows l → AllOf rp (x ∷ rows) l
-all_past rp x rows [] h a = tt
-all_past rp x rows (id ∷ l) h a = (rp_past id rp x rows h a.0, all_past rp x rows l h a.1)
-
-of_rp : (rp id : List ℕ) (rows : List Row) (r : Row) → find (has_id id) rows ≡ Some r → bytes_eq r.rp rp ≡ true → rp_of id rows ≡ Some rp
-of_rp rp id rows r e k = ap (λ (o : Option Row). option_map (λ (r : Row). r.rp) o) e ∙ ap (λ (x : List ℕ). Some x) ((bytes_eq-Decides r.rp rp).0 k)
-
-listed_of : (rp : List ℕ) (rows : List Row) → no_two same_id rows ≡ true → AllOf rp rows (ids (filter (is_listed rp) rows))
-listed_of rp [] d = tt
-listed_of rp (r ∷ rows) d =
-    let p = and_parts (not (list_any (same_id r) rows)) (no_two same_id rows) d in
-    go (is_listed rp r) refl (all_past rp r rows (ids (filter (is_listed rp) rows)) (not-true (list_any (same_id r) rows) p.0) (listed_of rp rows p.1))
-  where
-    go : (b : Bool) → is_listed rp r ≡ b → AllOf rp (r ∷ rows) (ids (filter (is_listed rp) rows)) → AllOf rp (r ∷ rows) (ids (cond b (r ∷ filter (is_listed rp) rows) (filter (is_listed rp) rows)))
-    go true k ih = let self : find (has_id r.id) (r ∷ rows) ≡ Some r = rw (same_bytes r.id) refl in (of_rp rp r.id (r ∷ rows) r self (and_parts r.discoverable (bytes_eq r.rp rp) k).1, ih)
-    go false k ih = ih
-
-named_of : (rp : List ℕ) (rows : List Row) (l : List (List ℕ)) (r : Row) → no_two same_id rows ≡ true → find_named rp rows l ≡ Some r → rp_of r.id rows ≡ Some rp
-named_of rp rows [] r d h = cc
-named_of rp rows (id ∷ l) r d h = go (named_of rp rows l r d) (find (is_named rp id) rows) refl h
-  where
-    go : (find_named rp rows l ≡ Some r → rp_of r.id rows ≡ Some rp) → (o : Option Row) → find (is_named rp id) rows ≡ o → option_or o (find_named rp rows l) ≡ Some r → rp_of r.id rows ≡ Some rp
-    go ih None e f = ih f
-    go ih (Some x) e f =
-        let s = found_self (is_named rp id) rows r d (e ∙ f) in
-        of_rp rp r.id rows r s.0 (and_parts (bytes_eq r.id id) (bytes_eq r.rp rp) s.1).1
+    go : (b : Bool) → has_id r.id x ≡ b → list_any (same_id x) rows ≡ false → find (has_id r.id) rows ≡ Some r → cond b (Some x) (find (has_id r.id) rows) ≡ Some r
+    go false k n e = e
+    go true k n e = let f = apart r.id x rows k n in cc
 
 -- the rows that may sign are the RP's
 applicable_of : (rows : List Row) (rp : List ℕ) (given : Bool) (allow : List (List ℕ)) → no_two same_id rows ≡ true → AllOf rp rows (ids (applicable rows rp given allow))
-applicable_of rows rp given allow d = go given
-  where
-    named : (o : Option Row) → find_named rp rows allow ≡ o → AllOf rp rows (ids (option_to_list o))
-    named None e = tt
-    named (Some r) e = (named_of rp rows allow r d e, tt)
-
-    go : (b : Bool) → AllOf rp rows (ids (cond b (option_to_list (find_named rp rows allow)) (listed rp rows)))
-    go true = named (find_named rp rows allow) refl
-    go false = all_reversed (λ id. rp_of id rows ≡ Some rp) (filter (is_listed rp) rows) (listed_of rp rows d)
+applicable_of rows rp given allow d =
+    applicable_all (λ id. rp_of id rows ≡ Some rp) rows rp given allow
+    (λ r i e. ap (λ (o : Option Row). option_map (λ (r : Row). r.rp) o) (in_found r rows d i) ∙ ap (λ (x : List ℕ). Some x) ((bytes_eq-Decides r.rp rp).0 e))
 
 -- Raising changes no RP, and raises the counter.
 rp_raised : (q id : List ℕ) (rows : List Row) → rp_of q (raised id rows) ≡ rp_of q rows
@@ -235,46 +184,34 @@ all_granted : (p : Option Waiting) → IsGranted true p
 all_granted None = tt
 all_granted (Some w) = λ _. refl
 
-more_granted : (aaguid : List ℕ) (h : Heard) (s : State) → Signs aaguid h s → Signs aaguid (record h { granted = true }) s
-more_granted aaguid h s g = record { pending = g.pending; granted = free s.work; work = work s.work g.work }
+-- what is heard of a reply takes nothing back
+more_heard : (aaguid : List ℕ) (h : Heard) (granted : Bool) (keys : List NewKey) (s : State) → (h.granted ≡ true → granted ≡ true) → ((key : NewKey) → IsAmong key h.keys → IsAmong key keys) → Signs aaguid h s
+    → Signs aaguid (record { asked = h.asked; granted = granted; keys = keys }) s
+more_heard aaguid h granted keys s f more g = record { pending = g.pending; granted = free s.work g.granted; work = work s.work g.work }
   where
-    free : (v : Option Job) → WorkGranted true s.pending v
-    free None = all_granted s.pending
-    free (Some job) = at job.task
-      where
-        at : (k : Task) → TaskGranted true s.pending k
-        at (AsksAssert a) = tt
-        at k = all_granted s.pending
+    still : (p : Option Waiting) → IsGranted h.granted p → IsGranted granted p
+    still None q = tt
+    still (Some w) q = λ up. f (q up)
 
-    work : (v : Option Job) → WorkSigns aaguid h s.rows v → WorkSigns aaguid (record h { granted = true }) s.rows v
+    free : (v : Option Job) → WorkGranted h.granted s.pending v → WorkGranted granted s.pending v
+    free None q = still s.pending q
+    free (Some job) q = at job.task q
+      where
+        at : (k : Task) → TaskGranted h.granted s.pending k → TaskGranted granted s.pending k
+        at (AsksAssert a) q = tt
+        at k q = still s.pending q
+
+    work : (v : Option Job) → WorkSigns aaguid h s.rows v → WorkSigns aaguid (record { asked = h.asked; granted = granted; keys = keys }) s.rows v
     work None w = tt
     work (Some job) w = at job.task w
       where
-        at : (k : Task) → TaskSigns aaguid h s.rows k → TaskSigns aaguid (record h { granted = true }) s.rows k
-        at (SignsMake m key d) w = (w.0, w.1, w.2, refl)
+        at : (k : Task) → TaskSigns aaguid h s.rows k → TaskSigns aaguid (record { asked = h.asked; granted = granted; keys = keys }) s.rows k
         at (AsksMake m excluded) w = w
-        at (WantsKey m) w = (w.0, refl)
+        at (WantsKey m) w = (w.0, f w.1)
+        at (SignsMake m key d) w = (w.0, more key w.1, w.2, f w.3)
         at (AsksAssert a) w = w
-        at (SignsAssert a n d) w = (w.0, w.1, w.2, λ _. refl)
-        at Resets w = tt
-        at Selects w = tt
-
--- one more key that was handed in
-more_work : (aaguid : List ℕ) (h : Heard) (rows : List Row) (key : NewKey) (v : Option Job) → WorkSigns aaguid h rows v → WorkSigns aaguid (record h { keys = key ∷ h.keys }) rows v
-more_work aaguid h rows key None w = tt
-more_work aaguid h rows key (Some job) w = go job.task w
-  where
-    go : (k : Task) → TaskSigns aaguid h rows k → TaskSigns aaguid (record h { keys = key ∷ h.keys }) rows k
-    go (SignsMake m k d) w = (w.0, inr w.1, w.2, w.3)
-    go (AsksMake m excluded) w = w
-    go (WantsKey m) w = w
-    go (AsksAssert a) w = w
-    go (SignsAssert a n d) w = w
-    go Resets w = tt
-    go Selects w = tt
-
-more_keys : (aaguid : List ℕ) (h : Heard) (s : State) (key : NewKey) → Signs aaguid h s → Signs aaguid (record h { keys = key ∷ h.keys }) s
-more_keys aaguid h s key g = record { pending = g.pending; granted = g.granted; work = more_work aaguid h s.rows key s.work g.work }
+        at (SignsAssert a n d) w = (w.0, w.1, w.2, λ up. f (w.3 up))
+        at k w = tt
 
 -- What a reply makes of the work keeps the invariant, which holds of what was heard.
 reply_signs : (u : Setup) (s : State) (t : ℕ) (e : Event) (h : Heard) → Signs u.aaguid (hears e h) s → Signs u.aaguid (hears e h) (reply_turn u s t s.work e).state
@@ -287,28 +224,16 @@ reply_signs u s t e h g =
     (λ cid a g w _. signs_signs u.aaguid (hears (PresenceIs Granted) h) s.rows s.pending cid a g.pending (all_granted s.pending) w (λ _. refl))
     (λ _ m key _ _ _ _ _. record { pending = tt; granted = tt; work = tt }) s.work e g g.work g.granted
 
--- what is heard of a reply keeps it
-abbrev IsReply : Event → Type 0
-IsReply (PresenceIs p) = Unit {0}
-IsReply (KeyIs key) = Unit {0}
-IsReply (SignatureIs sig) = Unit {0}
-IsReply e = ⊥
-
-heard_signs : (aaguid : List ℕ) (e : Event) (h : Heard) (s : State) → IsReply e → Signs aaguid h s → Signs aaguid (hears e h) s
-heard_signs aaguid (PresenceIs Granted) h s i g = more_granted aaguid h s g
-heard_signs aaguid (KeyIs (Some key)) h s i g = more_keys aaguid h s key g
-heard_signs aaguid (Request cid bytes) h s i g = absurd i
-heard_signs aaguid other h s i g = g
-
 -- Every turn keeps the invariant, where a request comes only while no work waits.
 pub turn_signs : (u : Setup) (s : State) (t : ℕ) (e : Event) (h : Heard) → Comes s.work e → Lawful u.room s.rows → Signs u.aaguid h s → Signs u.aaguid (hears e h) (turn u s t e).state
 unfolding turn
 turn_signs u s t (Request cid bytes) h c l g = requested_signs u h s.rows s.pending t cid (read_of bytes) l.distinct g.pending (subst (WorkGranted h.granted s.pending) c g.granted)
 turn_signs u s t Cancel h c l g = record { pending = tt; granted = tt; work = tt }
 turn_signs u s t Drop h c l g = record { pending = tt; granted = tt; work = tt }
-turn_signs u s t (PresenceIs p) h c l g = reply_signs u s t (PresenceIs p) h (heard_signs u.aaguid (PresenceIs p) h s tt g)
-turn_signs u s t (KeyIs key) h c l g = reply_signs u s t (KeyIs key) h (heard_signs u.aaguid (KeyIs key) h s tt g)
-turn_signs u s t (SignatureIs sig) h c l g = reply_signs u s t (SignatureIs sig) h g
+turn_signs u s t (PresenceIs Granted) h c l g = reply_signs u s t (PresenceIs Granted) h (more_heard u.aaguid h true h.keys s (λ _. refl) (λ _ a. a) g)
+turn_signs u s t (KeyIs (Some key)) h c l g = reply_signs u s t (KeyIs (Some key)) h (more_heard u.aaguid h h.granted (key ∷ h.keys) s (λ e. e) (λ _ a. inr a) g)
+turn_signs u s t (PresenceIs p) h c l g = reply_signs u s t (PresenceIs p) h g
+turn_signs u s t reply h c l g = reply_signs u s t reply h g
 
 -- ---- histories
 

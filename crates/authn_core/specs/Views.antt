@@ -76,10 +76,6 @@ pub record IsTurn (old new : Held) (said : Answer) (at : ℕ) (e : Event) : Type
   pub latest : new.latest ≡ max old.latest at
   pub steps : new.last_steps ≡ steps_after old.last_steps e
 
--- what a drop makes
-abbrev pub drops : List Row → Turned
-drops rows = record { state = record { rows = rows; pending = None; work = None }; answer = Nothing }
-
 -- an authenticator at its start
 abbrev pub first_held : Start → Held
 first_held start = record { core = first_state start; latest = start.moment; last_steps = 0 }

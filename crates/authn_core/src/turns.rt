@@ -4,12 +4,12 @@ ghost use Rattle.std.specs.Prelude.{◌≡◌, ◌<◌, ◌-◌, ◌^◌, None, 
 ghost use Rattle.std.specs.List.{find};
 ghost use Rattle.cred_table.specs.Rows.{has_id, counter_of};
 ghost use Rattle.ctap_message.specs.Shown.{shown, IsFresh, HasLengths};
-ghost use Rattle.authn_core.specs.State.{PresenceIs, KeyIs, SignatureIs, refuses, signs};
+ghost use Rattle.authn_core.specs.State.{PresenceIs, SignatureIs, refuses, signs};
 ghost use Rattle.authn_core.specs.Turn.{requested, reply_turn};
 ghost use Rattle.authn_core.specs.Views.{Takes, asserting_of};
 
 use crate::authenticator::{Core, Turn};
-use crate::replies::{NewKey, Presence, Signature};
+use crate::replies::{Presence, Signature};
 use crate::task::{Asserting, Job, Task};
 use crate::work::KeepaliveStatus;
 use cred_table::Table;
@@ -94,23 +94,6 @@ impl<T: Table<C>, const C: usize> Core<T, C> {
             Task::Selects => self.select(reply),
             Task::AsksMake(making, excluded) => self.make_presence(cid, making, excluded, reply),
             Task::AsksAssert(a) => self.assert_presence(cid, a, reply),
-            task => {
-                self.work = Some(Job { cid, task });
-                Turn::Ignored
-            }
-        }
-    }
-
-    /// Goes on by a key.
-    pub(crate) fn take_key(&mut self, key: &Option<NewKey>) -> Turn
-        ensures { Takes self.old self.new result (reply_turn self.old.core.setup self.old.core.state self.old.latest
-            self.old.core.state.work (KeyIs key.now)) }
-    {
-        let Some(Job { cid, task }) = self.work.take() else {
-            return Turn::Ignored;
-        };
-        match task {
-            Task::WantsKey(making) => self.make_key(cid, making, key),
             task => {
                 self.work = Some(Job { cid, task });
                 Turn::Ignored

@@ -5,6 +5,8 @@ ghost use Rattle.std.specs.List.{find};
 ghost use Rattle.cred_table.specs.Rows.{has_id};
 ghost use Rattle.ctap_message.specs.Descriptors.{ids_of};
 ghost use Rattle.ctap_message.specs.DescriptorWalk.{left_of};
+ghost use Rattle.authn_core.specs.State.{KeyIs};
+ghost use Rattle.authn_core.specs.Turn.{reply_turn};
 ghost use Rattle.authn_core.specs.MakeCredential as make;
 ghost use Rattle.authn_core.specs.Views.{Takes, making_of};
 
@@ -95,12 +97,18 @@ impl<T: Table<C>, const C: usize> Core<T, C> {
         Turn::Waits(KeepaliveStatus::Processing)
     }
 
-    /// Asks for a signature by a key with a new id.
-    pub(crate) fn make_key(&mut self, cid: u32, making: Making, key: &Option<NewKey>) -> Turn
-        requires { make.fits C (making_of making) self.old.core.state.rows ≡ true }
-        ensures { Takes self.old self.new result (make.key_wanted self.old.core.setup.aaguid
-            self.old.core.state.rows self.old.core.state.pending cid (making_of making) key.now) }
+    /// Asks for a signature by a key with a new id, where a key is waited for.
+    pub(crate) fn take_key(&mut self, key: &Option<NewKey>) -> Turn
+        ensures { Takes self.old self.new result (reply_turn self.old.core.setup self.old.core.state self.old.latest
+            self.old.core.state.work (KeyIs key.now)) }
     {
+        let Some(Job { cid, task }) = self.work.take() else {
+            return Turn::Ignored;
+        };
+        let Task::WantsKey(making) = task else {
+            self.work = Some(Job { cid, task });
+            return Turn::Ignored;
+        };
         let Some(key) = key else {
             return self.refuse(refusals::OTHER);
         };
