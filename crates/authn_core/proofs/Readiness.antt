@@ -1,6 +1,6 @@
 -- What a turn comes to, case by case, and that turns lead from ready states to ready states.
 use Rattle.std.specs.Prelude.{drop, slice_get}
-use Rattle.std.proofs.Common.{◌≡◌, ℕ, ◌+◌, ◌-◌, ◌^◌, ◌==◌, ◌&&◌, nat_le, nat_lt, ◌<◌, ◌≤◌, List, [], ◌∷◌, ◌++◌, length, reverse, Bool, true, false, cond, Option, Some, None, option_to_list, is_some, Result, Ok, Err, refl, sym, ◌∙◌, ap, subst, arith, filter, ◌⊎◌, inl, inr}
+use Rattle.std.proofs.Common.{◌≡◌, ℕ, ◌+◌, ◌-◌, ◌^◌, ◌==◌, ◌&&◌, nat_le, nat_lt, ◌<◌, ◌≤◌, List, [], ◌∷◌, ◌++◌, length, reverse, Bool, true, false, cond, Option, Some, None, option_to_list, option_map, is_some, Result, Ok, Err, refl, sym, ◌∙◌, ap, subst, arith, filter, ◌⊎◌, inl, inr}
 use Rattle.std.proofs.lemmas.Bool.{and_parts}
 use Rattle.std.proofs.lemmas.Bool.Decides.{nat_tests}
 use Rattle.std.proofs.lemmas.List.{reverse-append, map-append, length-map, length-reverse, length-drop}
@@ -26,7 +26,7 @@ use Rattle.authn_core.specs.MakeCredential.{fits, new_row}
 use Rattle.authn_core.specs.GetAssertion.{find_named, applicable, MOST, NEXT_LIMIT, begins, row_signs, next_signs, next_begins}
 use Rattle.authn_core.specs.Turn.{requested, replied, reply_turn, turn}
 use Rattle.authn_core.specs.Marks.{made_by, is_reset, task_raises}
-use Rattle.authn_core.specs.Signed.{IsGranted, TaskGranted}
+use Rattle.authn_core.specs.Signed.{rp_of, IsGranted, TaskGranted}
 use Rattle.authn_core.specs.Ready.{AllThere, Ready, PendingReady, WorkReady, TaskReady}
 
 pub cond_case : {A : Type 0} (P : A → Type 0) (b : Bool) (x y : A) → (b ≡ true → P x) → (b ≡ false → P y) → P (cond b x y)
@@ -99,26 +99,31 @@ applicable_all P rows rp given allow h = go given
 pub applicable_there : (rows : List Row) (rp : List ℕ) (given : Bool) (allow : List (List ℕ)) → AllThere rows (ids (applicable rows rp given allow))
 applicable_there rows rp given allow = applicable_all (λ id. is_some (find (has_id id) rows) ≡ true) rows rp given allow (λ r i _. in_there r rows i)
 
--- Raising keeps what is there and what is lawful.
-pub there_raised : (q id : List ℕ) (rows : List Row) → is_some (find (has_id q) (raised id rows)) ≡ is_some (find (has_id q) rows)
-there_raised q id [] = refl
-there_raised q id (r ∷ rows) = let ih = there_raised q id rows in go (has_id id r) ih
+-- Raising changes no RP, and keeps what is there.
+pub rp_raised : (q id : List ℕ) (rows : List Row) → rp_of q (raised id rows) ≡ rp_of q rows
+rp_raised q id [] = refl
+rp_raised q id (r ∷ rows) = go (has_id id r) (rp_raised q id rows)
   where
-    go : (b : Bool) → is_some (find (has_id q) (raised id rows)) ≡ is_some (find (has_id q) rows) → is_some (find (has_id q) (cond b (record r { counter = r.counter + 1 }) r ∷ raised id rows)) ≡ is_some (find (has_id q) (r ∷ rows))
-    go true ih = at (has_id q r)
-      where
-        at : (c : Bool) → is_some (cond c (Some (record r { counter = r.counter + 1 })) (find (has_id q) (raised id rows))) ≡ is_some (cond c (Some r) (find (has_id q) rows))
-        at true = refl
-        at false = ih
-    go false ih = at (has_id q r)
-      where
-        at : (c : Bool) → is_some (cond c (Some r) (find (has_id q) (raised id rows))) ≡ is_some (cond c (Some r) (find (has_id q) rows))
-        at true = refl
-        at false = ih
+    at : (b c : Bool) → rp_of q (raised id rows) ≡ rp_of q rows
+        → option_map (λ (r : Row). r.rp) (cond c (Some (cond b (record r { counter = r.counter + 1 }) r)) (find (has_id q) (raised id rows))) ≡ option_map (λ (r : Row). r.rp) (cond c (Some r) (find (has_id q) rows))
+    at b false ih = ih
+    at true true ih = refl
+    at false true ih = refl
 
-pub all_raised : (id : List ℕ) (rows : List Row) (l : List (List ℕ)) → AllThere rows l → AllThere (raised id rows) l
-all_raised id rows [] h = tt
-all_raised id rows (q ∷ l) h = (there_raised q id rows ∙ h.0, all_raised id rows l h.1)
+    go : (b : Bool) → rp_of q (raised id rows) ≡ rp_of q rows → rp_of q (cond b (record r { counter = r.counter + 1 }) r ∷ raised id rows) ≡ rp_of q (r ∷ rows)
+    go true ih = at true (has_id q r) ih
+    go false ih = at false (has_id q r) ih
+
+pub has_rp : (o : Option Row) → is_some (option_map (λ (r : Row). r.rp) o) ≡ is_some o
+has_rp None = refl
+has_rp (Some r) = refl
+
+there_raised : (q id : List ℕ) (rows : List Row) → is_some (find (has_id q) (raised id rows)) ≡ is_some (find (has_id q) rows)
+there_raised q id rows = sym (has_rp (find (has_id q) (raised id rows))) ∙ ap is_some (rp_raised q id rows) ∙ has_rp (find (has_id q) rows)
+
+pub all_along : (P Q : List ℕ → Type 0) → ((id : List ℕ) → P id → Q id) → (l : List (List ℕ)) → AllByRecursion P l → AllByRecursion Q l
+all_along P Q f [] h = tt
+all_along P Q f (id ∷ l) h = (f id h.0, all_along P Q f l h.1)
 
 -- Turns keep a state ready.
 pub pending_ready : (rows : List Row) (cid : ℕ) (hash : List ℕ) (up : Bool) (t : ℕ) (l : List (List ℕ)) → AllThere rows l → PendingReady rows (pending_of cid hash up t l)
@@ -127,7 +132,8 @@ pending_ready rows cid hash up t (id ∷ l) h = h
 
 pending_raised : (id : List ℕ) (rows : List Row) (p : Option Waiting) → PendingReady rows p → PendingReady (raised id rows) p
 pending_raised id rows None h = tt
-pending_raised id rows (Some w) h = all_raised id rows w.ids h
+pending_raised id rows (Some w) h =
+    all_along (λ q. is_some (find (has_id q) rows) ≡ true) (λ q. is_some (find (has_id q) (raised id rows)) ≡ true) (λ q e. there_raised q id rows ∙ e) w.ids h
 
 stamped_ready : (rows : List Row) (t : ℕ) (p : Option Waiting) → PendingReady rows p → PendingReady rows (stamped t p)
 stamped_ready rows t None h = tt

@@ -1,21 +1,22 @@
 -- The counters of a credential's signatures rise, and each is its row's.
 use Rattle.std.proofs.Common.{◌≡◌, ℕ, ◌+◌, ◌<◌, ◌==◌, nat_lt, List, [], ◌∷◌, ◌++◌, length, Bool, true, false, cond, ◌&&◌, ◌||◌, not, Option, Some, None, option_to_list, is_some, refl, sym, ◌∙◌, ap, subst, arith}
-use Rattle.std.proofs.lemmas.Bool.{and_from}
+use Rattle.std.proofs.lemmas.Bool.{and_from, and_parts, or_from}
 use Rattle.std.proofs.lemmas.Bool.Decides.{nat_tests}
 use Rattle.std.proofs.lemmas.Option.{same_Some}
 use Rattle.std.proofs.lemmas.Slice.Eq.{bytes_eq-Decides}
-use Rattle.std.specs.List.{find}
+use Rattle.std.specs.List.{find, list_any}
 use Rattle.std.specs.Str.{bytes_eq}
 use Rattle.cred_table.specs.declared.row.Row.{Row}
 use Rattle.cred_table.specs.Rows.{Lawful, has_id, counter_of}
 use Rattle.authn_core.specs.State.{Setup, Task, SignsAssert, Job, State, Event, Request, SignatureIs, Cancel, Drop}
 use Rattle.authn_core.specs.Turn.{CoreState, core_after, turn, replied, reply_turn}
 use Rattle.authn_core.specs.Ready.{Ready}
-use Rattle.authn_core.specs.Marks.{Step, Comes, Orderly, Mark, Text, core_at, makings, marks, raised_by, signs_by, task_counter, task_raises, text_of, texts}
+use Rattle.authn_core.specs.Marks.{Step, Comes, Orderly, Mark, Text, core_at, makings, marks, raised_by, signs_by, task_counter, task_raises, text_of, texts, same_text, all_differ}
 use Rattle.authn_core.specs.Views.{needs, sign}
 use Rattle.authn_core.specs.Rising.{by_one_row, above_all, all_rise, IsTextOf, IsNewest}
 use Rattle.authn_core.proofs.Rises.{RisesTo, turn_rises}
 use Rattle.authn_core.proofs.Signed.{counter_raised}
+use Rattle.authn_core.proofs.Readiness.{reply_case}
 use Rattle.authn_core.proofs.Texts.{AllBounded, core_sound, new_differs, texts_bounded}
 
 -- the new text is above all before it
@@ -55,7 +56,30 @@ texts_rise start (x ∷ past) r l o =
     let k = core_at start past in
     let after = core_after k x.at x.event in
     one_rises (marks start past) k.state.rows after.state.rows k.state.work after.state.work (texts start past)
-    (turn_rises k.setup k.state x.at x.event o.0 (core_sound start past r l).ready) (texts_bounded start past r l o.1).0 (texts_rise start past r l o.1)
+    (turn_rises k.setup k.state x.at x.event o.0 (core_sound start past r l).ready) (texts_bounded start past r l o.1) (texts_rise start past r l o.1)
+
+-- texts that rise differ
+rise_differ : (ts : List Text) → all_rise ts ≡ true → all_differ ts ≡ true
+rise_differ [] h = refl
+rise_differ (t ∷ ts) h =
+    let p = and_parts (above_all t ts) (all_rise ts) h in and_from (not (list_any (same_text t) ts)) (all_differ ts) (ap not (none ts p.0)) (rise_differ ts p.1)
+  where
+    one : (x : Text) (i m c : Bool) → (t.counter == x.counter) ≡ c → (not (i && m) || nat_lt x.counter t.counter) ≡ true → (i && (m && c)) ≡ false
+    one x false m c e h = refl
+    one x true false c e h = refl
+    one x true true false e h = refl
+    one x true true true e h =
+        let d : t.counter ≡ x.counter = grind (arith, nat_tests) in
+        let k : x.counter < t.counter = grind (arith, nat_tests) in absurd (omega arith)
+
+    none : (ts : List Text) → above_all t ts ≡ true → list_any (same_text t) ts ≡ false
+    none [] h = refl
+    none (x ∷ ts) h =
+        let p = and_parts (not (by_one_row t x) || nat_lt x.counter t.counter) (above_all t ts) h in
+        or_from (same_text t x) (list_any (same_text t) ts) (one x (bytes_eq t.id x.id) (t.making == x.making) (t.counter == x.counter) refl p.0) (none ts p.1)
+
+pub texts_differ : (start : CoreState) (h : List Step) → Ready (start.setup).room start.state → Lawful (start.setup).room (start.state).rows → Orderly start h → all_differ (texts start h) ≡ true
+texts_differ start h r l o = rise_differ (texts start h) (texts_rise start h r l o)
 
 -- what raises an id signs by it
 raises_signs : (before : Option Job) (k : Task) (cid : ℕ) (id : List ℕ) → task_raises before k ≡ Some id → (signed : List ℕ) × (needs (Some (record { cid = cid; task = k })) ≡ sign id signed)
@@ -106,23 +130,14 @@ no_signs id None n e = cc
 no_signs id (Some w) n e = cc
 
 -- no reply but a signature changes a state that waits for one
-replied_stays : (u : Setup) (s : State) (t cid : ℕ) (k : Task) (e : Event) (id other : List ℕ) → signs_by id (Some (record { cid = cid; task = k })) ≡ true → signs_by other (replied u s t cid k e).state.work ≡ true
-    → (replied u s t cid k e).state ≡ s
-replied_stays u s t cid (SignsAssert a n d) (SignatureIs None) id other b o = cc
-replied_stays u s t cid (SignsAssert a n d) (SignatureIs (Some sig)) id other b o = cc
-replied_stays u s t cid (SignsAssert a n d) e id other b o = refl
-replied_stays u s t cid k e id other b o = cc
-
-reply_stays : (u : Setup) (s : State) (t : ℕ) (e : Event) (id other : List ℕ) (v : Option Job) → signs_by id v ≡ true → signs_by other (reply_turn u s t v e).state.work ≡ true → (reply_turn u s t v e).state ≡ s
-reply_stays u s t e id other None b o = cc
-reply_stays u s t e id other (Some v) b o = replied_stays u s t v.cid v.task e id other b o
-
 signing_stays : (u : Setup) (s : State) (t : ℕ) (e : Event) (id other : List ℕ) → Comes s.work e → signs_by id s.work ≡ true → signs_by other (turn u s t e).state.work ≡ true → (turn u s t e).state ≡ s
 unfolding turn
 signing_stays u s t (Request cid bytes) id other c b n = absurd (no_signs id s.work c b)
 signing_stays u s t Cancel id other c b n = cc
 signing_stays u s t Drop id other c b n = cc
-signing_stays u s t reply id other c b n = reply_stays u s t reply id other s.work b n
+signing_stays u s t reply id other c b n =
+    reply_case (λ v _ x. signs_by id v ≡ true → signs_by other x.work ≡ true → x ≡ s) u s t (λ _ _ _ _ _. refl) (λ _ _ _ _ _ _ n. cc) (λ _ _ _ _ _ n. cc) (λ _ _ _ _ _ _ n. cc) (λ _ _ n. cc)
+    (λ _ _ _ b _. cc) (λ _ _ _ _ b _. cc) (λ _ _ b _. cc) (λ _ _ _ _ _ _ n. cc) s.work reply b n
 
 kept_signs : (before : Option Job) (cid : ℕ) (k : Task) (id : List ℕ) → signs_by id (Some (record { cid = cid; task = k })) ≡ true → task_raises before k ≡ None → signs_by id before ≡ true
 kept_signs before cid (SignsAssert a n d) id e f = go (signs_by a.id before) refl f

@@ -26,7 +26,7 @@ use Rattle.authn_core.specs.Turn.{Start, core_answer, first_state, requested, re
 use Rattle.authn_core.specs.Views.{Needed, needs, sign}
 use Rattle.authn_core.specs.Marks.{Step, Comes, Orderly, core_at}
 use Rattle.authn_core.specs.Signed.{Heard, newer, hears, heard, IsAmong, rp_of, IsToSign, IsNeeded, IsSigned, Claim, assertion_asked, creation_asked, AssertsFor, TaskSigns, WorkSigns, AllOf, PendingFor, IsGranted, TaskGranted, WorkGranted, Signs}
-use Rattle.authn_core.proofs.Readiness.{IsIn, applicable_all, cond_case, reply_case, same_bytes}
+use Rattle.authn_core.proofs.Readiness.{IsIn, all_along, applicable_all, cond_case, has_rp, reply_case, rp_raised, same_bytes}
 use Rattle.authn_core.proofs.Texts.{rows_lawful, setup_stays}
 
 -- ---- rows
@@ -63,21 +63,7 @@ applicable_of rows rp given allow d =
     applicable_all (λ id. rp_of id rows ≡ Some rp) rows rp given allow
     (λ r i e. ap (λ (o : Option Row). option_map (λ (r : Row). r.rp) o) (in_found r rows d i) ∙ ap (λ (x : List ℕ). Some x) ((bytes_eq-Decides r.rp rp).0 e))
 
--- Raising changes no RP, and raises the counter.
-rp_raised : (q id : List ℕ) (rows : List Row) → rp_of q (raised id rows) ≡ rp_of q rows
-rp_raised q id [] = refl
-rp_raised q id (r ∷ rows) = go (has_id id r) (rp_raised q id rows)
-  where
-    at : (b c : Bool) → rp_of q (raised id rows) ≡ rp_of q rows
-        → option_map (λ (r : Row). r.rp) (cond c (Some (cond b (record r { counter = r.counter + 1 }) r)) (find (has_id q) (raised id rows))) ≡ option_map (λ (r : Row). r.rp) (cond c (Some r) (find (has_id q) rows))
-    at b false ih = ih
-    at true true ih = refl
-    at false true ih = refl
-
-    go : (b : Bool) → rp_of q (raised id rows) ≡ rp_of q rows → rp_of q (cond b (record r { counter = r.counter + 1 }) r ∷ raised id rows) ≡ rp_of q (r ∷ rows)
-    go true ih = at true (has_id q r) ih
-    go false ih = at false (has_id q r) ih
-
+-- Raising raises the counter.
 pub counter_raised : (id : List ℕ) (rows : List Row) → is_some (find (has_id id) rows) ≡ true → counter_of id (raised id rows) ≡ counter_of id rows + 1
 counter_raised id [] h = cc
 counter_raised id (r ∷ rows) h = go (has_id id r) refl h (counter_raised id rows)
@@ -89,21 +75,14 @@ counter_raised id (r ∷ rows) h = go (has_id id r) refl h (counter_raised id ro
     go false e f ih = rw e (ih f)
 
 there : (id rp : List ℕ) (rows : List Row) → rp_of id rows ≡ Some rp → is_some (find (has_id id) rows) ≡ true
-there id rp rows h = go (find (has_id id) rows) h
-  where
-    go : (o : Option Row) → option_map (λ (r : Row). r.rp) o ≡ Some rp → is_some o ≡ true
-    go None h = cc
-    go (Some r) h = refl
-
-all_of_raised : (rp id : List ℕ) (rows : List Row) (l : List (List ℕ)) → AllOf rp rows l → AllOf rp (raised id rows) l
-all_of_raised rp id rows [] h = tt
-all_of_raised rp id rows (q ∷ l) h = (rp_raised q id rows ∙ h.0, all_of_raised rp id rows l h.1)
+there id rp rows h = sym (has_rp (find (has_id id) rows)) ∙ ap is_some h
 
 -- ---- turns
 
 pending_raised : (asked : Option Asked) (id : List ℕ) (rows : List Row) (p : Option Waiting) → PendingFor asked rows p → PendingFor asked (raised id rows) p
 pending_raised asked id rows None h = tt
-pending_raised asked id rows (Some w) h = (h.0, h.1, all_of_raised h.0 id rows w.ids h.2)
+pending_raised asked id rows (Some w) h =
+    (h.0, h.1, all_along (λ q. rp_of q rows ≡ Some h.0) (λ q. rp_of q (raised id rows) ≡ Some h.0) (λ q e. rp_raised q id rows ∙ e) w.ids h.2)
 
 pending_is : (asked : Option Asked) (rows : List Row) (cid : ℕ) (hash rp : List ℕ) (up : Bool) (t : ℕ) (l : List (List ℕ)) → assertion_asked asked ≡ Some (record { rp = rp; presence = up; hash = hash }) → AllOf rp rows l
     → PendingFor asked rows (pending_of cid hash up t l)

@@ -1,4 +1,4 @@
--- No two texts to sign of assertions by one row hold the same counter.
+-- Each text to sign of an assertion is of an earlier making, or its row's counter is above it.
 use Rattle.std.proofs.Common.{◌≡◌, ℕ, ◌+◌, ◌≤◌, ◌<◌, ◌==◌, List, [], ◌∷◌, ◌++◌, length, flat_map, Bool, true, false, cond, ◌&&◌, not, Option, Some, None, option_to_list, is_some, refl, sym, ◌∙◌, ap, subst, arith, filter}
 use Rattle.std.proofs.lemmas.Bool.{and_parts, and_from, or_parts, or_from, not-true}
 use Rattle.std.specs.List.{find, list_any}
@@ -119,48 +119,27 @@ makings_grow id m h = go (makes_id id m)
     go true = omega arith
     go false = omega arith
 
--- the new text differs from all before
-all_new : (h : List Mark) (rows : List Row) (id : List ℕ) (ts : List Text) → is_some (find (has_id id) rows) ≡ true → AllBounded h rows ts →
-    list_any (same_text (record { id = id; making = makings id h; counter = counter_of id rows + 1 })) ts ≡ false
-all_new h rows id [] e b = refl
-all_new h rows id (t ∷ ts) e b =
-    or_from (same_text (record { id = id; making = makings id h; counter = counter_of id rows + 1 }) t)
-    (list_any (same_text (record { id = id; making = makings id h; counter = counter_of id rows + 1 })) ts)
-    (go (bytes_eq id t.id) (makings id h == t.making) (counter_of id rows + 1 == t.counter) refl refl refl) (all_new h rows id ts e b.1)
-  where
-    go : (x y z : Bool) → bytes_eq id t.id ≡ x → (makings id h == t.making) ≡ y → (counter_of id rows + 1 == t.counter) ≡ z → (x && (y && z)) ≡ false
-    go false y z p q r = refl
-    go true false z p q r = refl
-    go true true false p q r = refl
-    go true true true p q r =
-        let a : id ≡ t.id = (bytes_eq-Decides id t.id).0 p in
-        let d : makings id h ≡ t.making = grind (arith, nat_tests) in
-        let f : counter_of id rows + 1 ≡ t.counter = grind (arith, nat_tests) in
-        let k = new_differs h rows id t e b.0 (sym a) (sym d) in
-        absurd (omega arith)
-
 -- The step: the texts of a longer history.
-one_text : (h : List Mark) (rows rows' : List Row) (m : Mark) (before now : Option Job) (ts : List Text) →
-    rows' ≡ marked m rows → no_two same_id rows ≡ true → RisesTo rows before rows' now → AllBounded h rows ts → all_differ ts ≡ true →
-    AllBounded (m ∷ h) rows' (option_to_list (text_of h (raised_by before now) now) ++ ts) × (all_differ (option_to_list (text_of h (raised_by before now) now) ++ ts) ≡ true)
-one_text h rows rows' m before None ts e l r b d =
-    let P : List Row → Type 0 = λ x. AllBounded (m ∷ h) x ts in (subst P (sym e) (all_more_bounded h rows m ts b), d)
-one_text h rows rows' m before (Some w) ts e l r b d = go (task_raises before w.task) refl
+one_text : (h : List Mark) (rows rows' : List Row) (m : Mark) (before now : Option Job) (ts : List Text) → rows' ≡ marked m rows → no_two same_id rows ≡ true → RisesTo rows before rows' now → AllBounded h rows ts
+    → AllBounded (m ∷ h) rows' (option_to_list (text_of h (raised_by before now) now) ++ ts)
+one_text h rows rows' m before now ts e l r b = go now r
   where
     old : AllBounded (m ∷ h) rows' ts
     old = let P : List Row → Type 0 = λ x. AllBounded (m ∷ h) x ts in subst P (sym e) (all_more_bounded h rows m ts b)
 
-    go : (o : Option (List ℕ)) → task_raises before w.task ≡ o →
-        AllBounded (m ∷ h) rows' (option_to_list (text_of h o (Some w)) ++ ts) × (all_differ (option_to_list (text_of h o (Some w)) ++ ts) ≡ true)
-    go None f = (old, d)
-    go (Some id) f =
-        let i = r id f in
-        let P : List Row → Type 0 = λ x. all_above id (counter_of id rows + 1) x in
-        let Q : ℕ → Type 0 = λ n. (Bounded (m ∷ h) rows' (record { id = id; making = makings id h; counter = n }) × AllBounded (m ∷ h) rows' ts)
-        × ((not (list_any (same_text (record { id = id; making = makings id h; counter = n })) ts) && all_differ ts) ≡ true) in
-        let new : Bounded (m ∷ h) rows' (record { id = id; making = makings id h; counter = counter_of id rows + 1 }) =
-        record { earlier = makings_grow id m h; above = λ k. subst P (sym i.raises) (above_raised id (counter_of id rows) rows (raised_above id rows l)) } in
-        subst Q (sym i.counter) ((new, old), and_from (not (list_any (same_text (record { id = id; making = makings id h; counter = counter_of id rows + 1 })) ts)) (all_differ ts) (ap not (all_new h rows id ts i.there b)) d)
+    go : (now : Option Job) → RisesTo rows before rows' now → AllBounded (m ∷ h) rows' (option_to_list (text_of h (raised_by before now) now) ++ ts)
+    go None r = old
+    go (Some w) r = at (task_raises before w.task) refl
+      where
+        at : (o : Option (List ℕ)) → task_raises before w.task ≡ o → AllBounded (m ∷ h) rows' (option_to_list (text_of h o (Some w)) ++ ts)
+        at None f = old
+        at (Some id) f =
+            let i = r id f in
+            let P : List Row → Type 0 = λ x. all_above id (counter_of id rows + 1) x in
+            let Q : ℕ → Type 0 = λ n. Bounded (m ∷ h) rows' (record { id = id; making = makings id h; counter = n }) in
+            let new : Bounded (m ∷ h) rows' (record { id = id; making = makings id h; counter = counter_of id rows + 1 }) =
+            record { earlier = makings_grow id m h; above = λ k. subst P (sym i.raises) (above_raised id (counter_of id rows) rows (raised_above id rows l)) } in
+            (subst Q (sym i.counter) new, old)
 
 -- what holds of the authenticator after every history
 pub record Sound (k : CoreState) : Type 0 where
@@ -195,18 +174,12 @@ pending_few start (x ∷ past) r l f =
     let few : pending_count (k.state).pending ≤ (k.setup).room = subst (λ (u : Setup). pending_count (k.state).pending ≤ u.room) (sym e) (pending_few start past r l f) in
     subst P e (turn_few k.setup k.state x.at x.event ((core_sound start past r l).lawful).few few)
 
-pub texts_bounded : (start : CoreState) (h : List Step) → Ready (start.setup).room start.state → Lawful (start.setup).room (start.state).rows → Orderly start h →
-    AllBounded (marks start h) (core_at start h).state.rows (texts start h) × (all_differ (texts start h) ≡ true)
+pub texts_bounded : (start : CoreState) (h : List Step) → Ready (start.setup).room start.state → Lawful (start.setup).room (start.state).rows → Orderly start h → AllBounded (marks start h) (core_at start h).state.rows (texts start h)
 unfolding core_at marks texts Orderly
-texts_bounded start [] r l o = (tt, refl)
+texts_bounded start [] r l o = tt
 texts_bounded start (x ∷ past) r l o =
     let k = core_at start past in
-    let ih = texts_bounded start past r l o.1 in
     let sound = core_sound start past r l in
     let after = core_after k x.at x.event in
     one_text (marks start past) (k.state).rows (after.state).rows (mark (k.state).work x.event (after.state).work) (k.state).work (after.state).work (texts start past)
-    (turn_marked k.setup k.state x.at x.event o.0) (sound.lawful).distinct (turn_rises k.setup k.state x.at x.event o.0 sound.ready) ih.0 ih.1
-
--- No two texts to sign of assertions by one row hold the same counter.
-pub texts_differ : (start : CoreState) (h : List Step) → Ready (start.setup).room start.state → Lawful (start.setup).room (start.state).rows → Orderly start h → all_differ (texts start h) ≡ true
-texts_differ start h r l o = (texts_bounded start h r l o).1
+    (turn_marked k.setup k.state x.at x.event o.0) (sound.lawful).distinct (turn_rises k.setup k.state x.at x.event o.0 sound.ready) (texts_bounded start past r l o.1)
