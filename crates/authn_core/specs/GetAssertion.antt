@@ -1,6 +1,6 @@
 -- The turns of authenticatorGetAssertion and authenticatorGetNextAssertion (CTAP 2.1, sections 6.2.2, 6.3 and
 -- 8.2). A refusal has its status, and beside it the status's name in section 8.2.
-use Rattle.std.specs.Prelude.{ℕ, ◌+◌, ◌==◌, nat_lt, nat_le, List, [], ◌∷◌, length, Bool, false, ◌&&◌, Option, Some, None, option_to_list, if◌then◌else◌}
+use Rattle.std.specs.Prelude.{ℕ, ◌+◌, ◌==◌, nat_lt, nat_le, List, [], ◌∷◌, length, Bool, ◌&&◌, Option, Some, None, option_to_list, if◌then◌else◌}
 use Rattle.std.specs.List.{find}
 use Rattle.std.specs.Option.{option_or}
 use Rattle.cred_table.specs.declared.row.Row.{Row}
@@ -85,8 +85,3 @@ next_begins rows None now cid = refuses rows None 0x30  -- NOT_ALLOWED
 next_begins rows (Some w) now cid =
     if (w.cid == cid) && nat_le now (w.moment + NEXT_LIMIT) then next_signs rows w cid w.ids
     else refuses rows None 0x30  -- NOT_ALLOWED
-
--- Whether the next one is due, which the code asks first.
-abbrev pub is_due : (now cid : ℕ) → Option Waiting → Bool
-is_due now cid None = false
-is_due now cid (Some w) = (w.cid == cid) && nat_le now (w.moment + NEXT_LIMIT)

@@ -230,15 +230,16 @@ impl<T: Table<C>, const C: usize> Core<T, C> {
         ensures value { needed result ≡ needs self.now.core.state.work }
         ensures sized { IsNeed (needed result) }
     {
-        match &self.work {
-            None => Need::None,
-            Some(Job { task, .. }) => match task {
-                Task::Resets | Task::Selects | Task::AsksMake(..) | Task::AsksAssert(_) =>
-                    Need::Presence,
-                Task::WantsKey(_) => Need::Key,
-                Task::SignsMake(_, key, signed) => signature_need(&key.id, signed),
-                Task::SignsAssert(a, _, signed) => signature_need(&a.id, signed),
-            },
+        let Some(Job { task, .. }) = &self.work else {
+            return Need::None;
+        };
+        match task {
+            Task::Resets | Task::Selects | Task::AsksMake(..) | Task::AsksAssert(_) => {
+                Need::Presence
+            }
+            Task::WantsKey(_) => Need::Key,
+            Task::SignsMake(_, key, signed) => signature_need(&key.id, signed),
+            Task::SignsAssert(a, _, signed) => signature_need(&a.id, signed),
         }
     }
 

@@ -50,16 +50,6 @@ impl Model for Signature {
         (length-kept a.len a.bytes h.1 h.2) };
 }
 
-/// The bytes, with zeros up to 72 places.
-fn with_zeros(bytes: &[u8]) -> [u8; 72]
-    requires { length bytes.now ≤ 72 }
-    ensures { result ≡ padded bytes.now }
-{
-    let mut kept = [0; 72];
-    put_front(&mut kept, bytes);
-    kept
-}
-
 /// Writes the bytes over the first places.
 fn put_front(out: &mut [u8], bytes: &[u8])
     requires { length bytes.now ≤ length out.old }
@@ -77,8 +67,10 @@ impl Signature {
         if bytes.is_empty() || bytes.len() > 72 {
             return None;
         }
+        let mut kept = [0; 72];
+        put_front(&mut kept, bytes);
         Some(Signature {
-            bytes: with_zeros(bytes),
+            bytes: kept,
             len: bytes.len(),
         })
     }

@@ -36,17 +36,6 @@ pub(crate) fn user_of<'a, T: Table<C>, const C: usize>(
     }
 }
 
-/// Whether there is capacity for the new row, or it takes the place of one.
-pub(crate) fn fits<T: Table<C>, const C: usize>(table: &T, making: &Making) -> bool
-    ensures { result ≡ fits C (making_of making.now) (T.rows table.now) }
-{
-    table.len() < C
-        || making.discoverable
-            && table
-                .same_user(&making.rp, making.user.as_slice())
-                .is_some()
-}
-
 /// Stores the row of a new credential, in place of the one that it replaces.
 pub(crate) fn store<T: Table<C>, const C: usize>(table: &mut T, making: Making, key: NewKey)
     requires room { fits C (making_of making) (T.rows table.old) ≡ true }

@@ -18,30 +18,13 @@ use crate::rows::{counter_of, user_of};
 use crate::task::{Asserting, Job, Task};
 use crate::work::KeepaliveStatus;
 use arrayvec::ArrayVec;
-use cred_table::{Pending, Table};
+use cred_table::Table;
 use ctap_message::{Descriptors, write_assertion};
 use fido_authdata::AuthData;
 use sha2::{Digest, Sha256};
 
 /// How long after an assertion's answer the next one may be asked for, in milliseconds.
 const NEXT_LIMIT: u64 = 30_000;
-
-/// Returns the id of the row of the first id that names one of the RP.
-fn named_first<T: Table<C>, const C: usize>(
-    table: &T,
-    rp: &[u8; 32],
-    allow: Descriptors<'_>,
-) -> Option<[u8; 32]>
-    ensures { result ≡ option_map (λ row. row.id) (get.find_named rp.now (T.rows table.now) (ids_of (left_of allow.entry))) }
-{
-    let mut allow = allow;
-    'walk: while let Some(id) = allow.next() {
-        if let Some(row) = table.named(rp, id) {
-            return Some(row.id);
-        }
-    }
-    None
-}
 
 /// Writes the ids of the applicable rows.
 fn put_applicable<T: Table<C>, const C: usize>(
@@ -55,23 +38,15 @@ fn put_applicable<T: Table<C>, const C: usize>(
     ensures { found.new.items ≡ ids (get.applicable (T.rows table.now) rp.now (has_entries (left_of allow.entry))
         (ids_of (left_of allow.entry))) }
 {
-    if allow.is_given() {
-        if let Some(id) = named_first(table, rp, allow) {
-            found.push(id);
+    if !allow.is_given() {
+        return table.rows_of(rp, found);
+    }
+    let mut allow = allow;
+    'walk: while let Some(id) = allow.next() {
+        if let Some(row) = table.named(rp, id) {
+            return found.push(row.id);
         }
-    } else {
-        table.rows_of(rp, found);
     }
-}
-
-/// Whether something is pending for the channel, and the time isn't over.
-fn is_due<const C: usize>(pending: &Pending<C>, now: u64, cid: u32) -> bool
-    ensures { result ≡ get.is_due now cid pending.now }
-{
-    if pending.len() == 0 {
-        return false;
-    }
-    pending.cid() == cid && now.saturating_sub(pending.moment()) <= NEXT_LIMIT
 }
 
 impl<T: Table<C>, const C: usize> Core<T, C> {
@@ -122,11 +97,7 @@ impl<T: Table<C>, const C: usize> Core<T, C> {
             self.pending.clear();
             return self.refuse(refusals::LIMIT_EXCEEDED);
         }
-        let number = if ids.len() > 1 && !given {
-            Some(ids.len() as u16)
-        } else {
-            None
-        };
+        let number = (ids.len() > 1 && !given).then_some(ids.len() as u16);
         let a = Asserting {
             hash: *hash,
             rp: *rp,
@@ -189,7 +160,11 @@ impl<T: Table<C>, const C: usize> Core<T, C> {
         ensures { Takes self.old self.new result (get.next_begins self.old.core.state.rows
             self.old.core.state.pending self.old.latest cid) }
     {
-        if !is_due(&self.pending, self.latest, cid) {
+        let pending = &self.pending;
+        if pending.len() == 0
+            || pending.cid() != cid
+            || self.latest.saturating_sub(pending.moment()) > NEXT_LIMIT
+        {
             return self.refuse_all(refusals::NOT_ALLOWED);
         }
         let hash = self.pending.hash();
@@ -197,15 +172,6 @@ impl<T: Table<C>, const C: usize> Core<T, C> {
         let Some(id) = self.pending.next() else {
             return self.refuse(refusals::NOT_ALLOWED);
         };
-        self.next_signs(cid, hash, presence, id)
-    }
-
-    /// Lets the row with the id sign.
-    fn next_signs(&mut self, cid: u32, hash: [u8; 32], presence: bool, id: [u8; 32]) -> Turn
-        requires { is_some (find (has_id id) self.old.core.state.rows) ≡ true }
-        ensures { Takes self.old self.new result (get.row_signs self.old.core.state.rows self.old.core.state.pending
-            cid hash presence id (find (has_id id) self.old.core.state.rows)) }
-    {
         let Some(row) = self.table.find(&id) else {
             return self.refuse_all(refusals::NOT_ALLOWED);
         };

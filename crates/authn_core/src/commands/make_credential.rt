@@ -13,7 +13,7 @@ ghost use Rattle.authn_core.specs.Views.{Takes, making_of};
 use crate::authenticator::{Core, Turn};
 use crate::refusals;
 use crate::replies::{NewKey, Presence, Signature};
-use crate::rows::{fits, store};
+use crate::rows::store;
 use crate::task::{Job, Making, Task};
 use crate::work::KeepaliveStatus;
 use arrayvec::ArrayVec;
@@ -89,7 +89,9 @@ impl<T: Table<C>, const C: usize> Core<T, C> {
         let Presence::Granted = reply else {
             return self.refuse(refusals::OPERATION_DENIED);
         };
-        if !fits(&self.table, &making) {
+        let is_full = self.table.len() >= C;
+        let user = making.user.as_slice();
+        if is_full && !(making.discoverable && self.table.same_user(&making.rp, user).is_some()) {
             return self.refuse(refusals::KEY_STORE_FULL);
         }
         let task = Task::WantsKey(making);
@@ -137,8 +139,7 @@ impl<T: Table<C>, const C: usize> Core<T, C> {
         let Some(signature) = signature else {
             return self.refuse(refusals::OTHER);
         };
-        let aaguid = &self.config.aaguid;
-        let data = AuthData::created(&making.rp, aaguid, &key.id, &key.x, &key.y);
+        let data = AuthData::created(&making.rp, &self.config.aaguid, &key.id, &key.x, &key.y);
         store(&mut self.table, making, key);
         self.pending.clear();
         self.work = None;
