@@ -23,7 +23,7 @@ use Rattle.sha2.specs.Sha256.{sha256}
 use Rattle.authn_core.specs.State.{Setup, Making, Asserting, Task, Resets, Selects, AsksMake, WantsKey, SignsMake, AsksAssert, SignsAssert, Job, State, Event, Request, PresenceIs, KeyIs, SignatureIs, Cancel, Drop, Turned, signs}
 use Rattle.authn_core.specs.Asking.{RESET_LIMIT}
 use Rattle.authn_core.specs.MakeCredential.{fits, new_row}
-use Rattle.authn_core.specs.GetAssertion.{find_named, applicable, MOST, NEXT_LIMIT, begins, row_signs, next_signs, next_begins}
+use Rattle.authn_core.specs.GetAssertion.{find_named, applicable, told, MOST, NEXT_LIMIT, begins, row_signs, next_signs, next_begins}
 use Rattle.authn_core.specs.Turn.{requested, replied, reply_turn, turn}
 use Rattle.authn_core.specs.Marks.{made_by, is_reset, task_raises}
 use Rattle.authn_core.specs.Signed.{rp_of, IsGranted, TaskGranted}
@@ -139,25 +139,6 @@ stamped_ready : (rows : List Row) (t : ℕ) (p : Option Waiting) → PendingRead
 stamped_ready rows t None h = tt
 stamped_ready rows t (Some w) h = h
 
-pub first_there : (rows : List Row) (p : Option Waiting) (id : List ℕ) → PendingReady rows p → first_of p ≡ Some id → is_some (find (has_id id) rows) ≡ true
-first_there rows None id h e = cc
-first_there rows (Some w) id h e = go w.ids h e
-  where
-    go : (l : List (List ℕ)) → AllThere rows l → first_of (Some (record w { ids = l })) ≡ Some id → is_some (find (has_id id) rows) ≡ true
-    go [] h e = cc
-    go (x ∷ l) h e =
-        let f : x ≡ id = cc in
-        let P : List ℕ → Type 0 = λ y. is_some (find (has_id y) rows) ≡ true in
-        subst P f h.0
-
-pub rest_ready : (rows : List Row) (p : Option Waiting) → PendingReady rows p → PendingReady rows (rest_of p)
-rest_ready rows None h = tt
-rest_ready rows (Some w) h = go w.ids h
-  where
-    go : (l : List (List ℕ)) → AllThere rows l → PendingReady rows (rest_of (Some (record w { ids = l })))
-    go [] h = tt
-    go (x ∷ l) h = pending_ready rows w.cid w.hash w.presence w.moment l h.1
-
 signs_ready : (room : ℕ) (rows : List Row) (p : Option Waiting) (cid : ℕ) (a : Asserting) → PendingReady rows p → is_some (find (has_id a.id) rows) ≡ true → Ready room (signs rows p cid a).state
 signs_ready room rows p cid a q h = record { pending = pending_raised a.id rows p q; work = there_raised a.id a.id rows ∙ h }
 
@@ -173,12 +154,6 @@ signed_ready id rows after p e q h =
 count_is : (cid : ℕ) (hash : List ℕ) (up : Bool) (t : ℕ) (l : List (List ℕ)) → pending_count (pending_of cid hash up t l) ≡ length l
 count_is cid hash up t [] = refl
 count_is cid hash up t (id ∷ l) = refl
-
-rest_few : (room : ℕ) (p : Option Waiting) → pending_count p ≤ room → pending_count (rest_of p) ≤ room
-rest_few room None h = h
-rest_few room (Some w) h =
-    let e = count_is w.cid w.hash w.presence w.moment (drop 1 w.ids) in
-    let d = length-drop 1 w.ids in omega (arith, e, d)
 
 one_at_most : (o : Option Row) → length (option_to_list o) ≤ 1
 one_at_most None = omega arith
@@ -232,37 +207,47 @@ first_asserts rows before cid hash rp up given t allow id others e =
       few = λ room l _. omega (arith, count_is cid hash up t others, applicable_few room rows rp given allow l, n);
     }
 
-begins_case : (P : State → Type 0) (rows : List Row) (before : Option Waiting) (t cid : ℕ) (hash rp : List ℕ) (up given : Bool) (allow : List (List ℕ)) → P (ends rows None)
-    → ((p : Option Waiting) (a : Asserting) → Asserts rows before p a.id → counter_of a.id rows < 2 ^ 32 - 1 → P (works rows p cid (AsksAssert a)))
-    → ((p : Option Waiting) (a : Asserting) → Asserts rows before p a.id → P (signs rows p cid a).state)
-    → P (begins rows t cid hash rp up given (ids (applicable rows rp given allow))).state
-begins_case P rows before t cid hash rp up given allow ended begin goes = go (ids (applicable rows rp given allow)) refl
+rest_asserts : (rows : List Row) (p : Option Waiting) (w : Waiting) (id : List ℕ) (others : List (List ℕ)) → p ≡ Some w → w.ids ≡ id ∷ others → Asserts rows p (pending_of w.cid w.hash w.presence w.moment others) id
+rest_asserts rows p w id others is e =
+    subst (λ (b : Option Waiting). Asserts rows b (pending_of w.cid w.hash w.presence w.moment others) id) (sym is) (record {
+      there = λ h. (all h).0;
+      ready = λ h. pending_ready rows w.cid w.hash w.presence w.moment others (all h).1;
+      few = λ room l h. let n : length w.ids ≡ length (id ∷ others) = ap length e in omega (arith, count_is w.cid w.hash w.presence w.moment others, n);
+    })
   where
-    low : (id : List ℕ) → nat_lt (counter_of id rows) MOST ≡ true → counter_of id rows < 2 ^ 32 - 1
-    low id e = grind (arith, nat_tests)
+    all : AllThere rows w.ids → AllThere rows (id ∷ others)
+    all h = subst (AllThere rows) e h
 
-    go : (l : List (List ℕ)) → ids (applicable rows rp given allow) ≡ l → P (begins rows t cid hash rp up given l).state
-    go [] e = ended
-    go (id ∷ others) e =
-        let a = first_asserts rows before cid hash rp up given t allow id others e in
-        cond_case (λ (v : Turned). P v.state) (nat_lt (counter_of id rows) MOST) _ _ (λ below. cond_case (λ (v : Turned). P v.state) up _ _ (λ _. begin _ _ a (low id below)) (λ _. goes _ _ a)) (λ _. ended)
+-- the assertion of the first of some ids
+abbrev pub first_of_ids : (hash rp : List ℕ) (up given : Bool) → List ℕ → List (List ℕ) → Asserting
+first_of_ids hash rp up given id others = record { hash = hash; rp = rp; id = id; presence = up; number = told given (length others + 1) }
 
-next_case : (P : State → Type 0) (rows : List Row) (p : Option Waiting) (t cid : ℕ) → P (ends rows None) → ((q : Option Waiting) (a : Asserting) → Asserts rows p q a.id → P (signs rows q cid a).state) → P (next_begins rows p t cid).state
+pub begins_case : (P : State → Type 0) (rows : List Row) (t cid : ℕ) (hash rp : List ℕ) (up given : Bool) (l : List (List ℕ)) → P (ends rows None)
+    → ((id : List ℕ) (others : List (List ℕ)) → l ≡ id ∷ others → counter_of id rows < 2 ^ 32 - 1 → P (works rows (pending_of cid hash up t others) cid (AsksAssert (first_of_ids hash rp up given id others))))
+    → ((id : List ℕ) (others : List (List ℕ)) → l ≡ id ∷ others → up ≡ false → P (signs rows (pending_of cid hash up t others) cid (first_of_ids hash rp up given id others)).state)
+    → P (begins rows t cid hash rp up given l).state
+begins_case P rows t cid hash rp up given [] ended begin goes = ended
+begins_case P rows t cid hash rp up given (id ∷ others) ended begin goes =
+    cond_case (λ (v : Turned). P v.state) (nat_lt (counter_of id rows) MOST) _ _
+    (λ e. cond_case (λ (v : Turned). P v.state) up _ _ (λ _. begin id others refl (below e)) (λ f. goes id others refl f)) (λ _. ended)
+  where
+    below : nat_lt (counter_of id rows) MOST ≡ true → counter_of id rows < 2 ^ 32 - 1
+    below e = grind (arith, nat_tests)
+
+pub next_case : (P : State → Type 0) (rows : List Row) (p : Option Waiting) (t cid : ℕ) → P (ends rows None)
+    → ((w : Waiting) (id : List ℕ) (others : List (List ℕ)) (r : Row) → p ≡ Some w → w.ids ≡ id ∷ others → find (has_id id) rows ≡ Some r
+    → P (signs rows (pending_of w.cid w.hash w.presence w.moment others) cid (record { hash = w.hash; rp = r.rp; id = id; presence = w.presence; number = None })).state)
+    → P (next_begins rows p t cid).state
 next_case P rows None t cid ended goes = ended
 next_case P rows (Some w) t cid ended goes = cond_case (λ (v : Turned). P v.state) ((w.cid == cid) && nat_le t (w.moment + NEXT_LIMIT)) _ _ (λ _. go w.ids refl) (λ _. ended)
   where
-    rest : (id : List ℕ) (others : List (List ℕ)) → w.ids ≡ id ∷ others → Asserts rows (Some w) (pending_of w.cid w.hash w.presence w.moment others) id
-    rest id others e =
-        let Q : List (List ℕ) → Type 0 = λ l. Asserts rows (Some w) (pending_of w.cid w.hash w.presence w.moment (drop 1 l)) id in
-        subst Q e (record { there = λ h. first_there rows (Some w) id h (ap (λ l. slice_get l 0) e); ready = rest_ready rows (Some w); few = λ room l h. rest_few room (Some w) h })
-
-    row : (id : List ℕ) (others : List (List ℕ)) (o : Option Row) → w.ids ≡ id ∷ others → P (row_signs rows (pending_of w.cid w.hash w.presence w.moment others) cid w.hash w.presence id o).state
-    row id others None e = ended
-    row id others (Some r) e = cond_case (λ (v : Turned). P v.state) (nat_lt (counter_of id rows) MOST) _ _ (λ _. goes _ _ (rest id others e)) (λ _. ended)
+    row : (id : List ℕ) (others : List (List ℕ)) (o : Option Row) → w.ids ≡ id ∷ others → find (has_id id) rows ≡ o → P (row_signs rows (pending_of w.cid w.hash w.presence w.moment others) cid w.hash w.presence id o).state
+    row id others None e f = ended
+    row id others (Some r) e f = cond_case (λ (v : Turned). P v.state) (nat_lt (counter_of id rows) MOST) _ _ (λ _. goes w id others r refl e f) (λ _. ended)
 
     go : (l : List (List ℕ)) → w.ids ≡ l → P (next_signs rows w cid l).state
     go [] e = ended
-    go (id ∷ others) e = row id others (find (has_id id) rows) e
+    go (id ∷ others) e = row id others (find (has_id id) rows) e refl
 
 -- A request is answered, asks for the user's presence, or begins an assertion, which may ask for it too.
 pub requested_case : (P : State → Type 0) (u : Setup) (rows : List Row) (p : Option Waiting) (t cid : ℕ) (read : Result Asked ℕ) → P (ends rows None)
@@ -277,8 +262,12 @@ requested_case P u rows p t cid (Ok Reset) ended asks begin goes =
 requested_case P u rows p t cid (Ok Selection) ended asks begin goes = asks Selects (record { ready = λ _. tt; raises = λ _. refl })
 requested_case P u rows p t cid (Ok (MakeCredential hash rp_id user_id user_name discoverable exclude)) ended asks begin goes = asks (AsksMake _ _) (record { ready = λ _. tt; raises = λ _. refl })
 requested_case P u rows p t cid (Ok (GetAssertion hash rp_id allow up)) ended asks begin goes =
-    begins_case P rows p t cid hash (sha256 rp_id) up (has_entries allow) (ids_of allow) ended begin goes
-requested_case P u rows p t cid (Ok GetNextAssertion) ended asks begin goes = next_case P rows p t cid ended goes
+    let given = has_entries allow in
+    begins_case P rows t cid hash (sha256 rp_id) up given (ids (applicable rows (sha256 rp_id) given (ids_of allow))) ended
+    (λ id others e below. begin _ _ (first_asserts rows p cid hash (sha256 rp_id) up given t (ids_of allow) id others e) below)
+    (λ id others e _. goes _ _ (first_asserts rows p cid hash (sha256 rp_id) up given t (ids_of allow) id others e))
+requested_case P u rows p t cid (Ok GetNextAssertion) ended asks begin goes =
+    next_case P rows p t cid ended (λ w id others r is e _. goes _ _ (rest_asserts rows p w id others is e))
 
 -- a reply that makes no row, and is no granted reset
 pub record Plain (v : Option Job) (e : Event) : Type 0 where

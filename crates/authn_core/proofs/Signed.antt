@@ -26,7 +26,7 @@ use Rattle.authn_core.specs.Turn.{Start, core_answer, first_state, requested, re
 use Rattle.authn_core.specs.Views.{Needed, needs, sign}
 use Rattle.authn_core.specs.Marks.{Step, Comes, Orderly, core_at}
 use Rattle.authn_core.specs.Signed.{Heard, newer, hears, heard, IsAmong, rp_of, IsToSign, IsNeeded, IsSigned, Claim, assertion_asked, creation_asked, AssertsFor, TaskSigns, WorkSigns, AllOf, PendingFor, IsGranted, TaskGranted, WorkGranted, Signs}
-use Rattle.authn_core.proofs.Readiness.{IsIn, all_along, applicable_all, cond_case, has_rp, reply_case, rp_raised, same_bytes}
+use Rattle.authn_core.proofs.Readiness.{IsIn, all_along, applicable_all, begins_case, cond_case, first_of_ids, next_case, has_rp, reply_case, rp_raised, same_bytes}
 use Rattle.authn_core.proofs.Texts.{rows_lawful, setup_stays}
 
 -- ---- rows
@@ -111,39 +111,26 @@ signs_signs aaguid h rows p cid a q k f up =
 
 begins_signs : (aaguid : List ℕ) (h : Heard) (rows : List Row) (t cid : ℕ) (hash rp : List ℕ) (up given : Bool) (l : List (List ℕ)) → assertion_asked h.asked ≡ Some (record { rp = rp; presence = up; hash = hash }) → AllOf rp rows l
     → Signs aaguid h (begins rows t cid hash rp up given l).state
-begins_signs aaguid h rows t cid hash rp up given [] c a = ended aaguid h rows None tt tt
-begins_signs aaguid h rows t cid hash rp up given (id ∷ l) c a =
-    let p = pending_is h.asked rows cid hash rp up t l c a.1 in
-    cond_case (λ (v : Turned). Signs aaguid h v.state) (nat_lt (counter_of id rows) MOST) _ _
-    (λ _. cond_case (λ (v : Turned). Signs aaguid h v.state) up _ _ (λ _. record { pending = p; granted = tt; work = (c, a.0) })
-    (λ e. signs_signs aaguid h rows (pending_of cid hash up t l) cid (record { hash = hash; rp = rp; id = id; presence = up; number = told given (length l + 1) }) p
-    (still_granted h.granted cid hash up t l (unasked up e)) (c, a.0) (unasked up e)))
-    (λ _. ended aaguid h rows None tt tt)
-  where
-    unasked : (up : Bool) → up ≡ false → up ≡ true → h.granted ≡ true
-    unasked true e k = cc
-    unasked false e k = cc
+begins_signs aaguid h rows t cid hash rp up given l c a =
+    begins_case (Signs aaguid h) rows t cid hash rp up given l (record { pending = tt; granted = tt; work = tt })
+    (λ id others e _. let b : AllOf rp rows (id ∷ others) = subst (AllOf rp rows) e a in record { pending = pending_is h.asked rows cid hash rp up t others c b.1; granted = tt; work = (c, b.0) })
+    (λ id others e f.
+    let b : AllOf rp rows (id ∷ others) = subst (AllOf rp rows) e a in
+    let unasked : up ≡ true → h.granted ≡ true = λ k. cc in
+    signs_signs aaguid h rows (pending_of cid hash up t others) cid (first_of_ids hash rp up given id others) (pending_is h.asked rows cid hash rp up t others c b.1)
+    (still_granted h.granted cid hash up t others unasked) (c, b.0) unasked)
 
 next_signs_on : (aaguid : List ℕ) (h : Heard) (rows : List Row) (p : Option Waiting) (t cid : ℕ) → PendingFor h.asked rows p → IsGranted h.granted p → Signs aaguid h (next_begins rows p t cid).state
-next_signs_on aaguid h rows None t cid f k = ended aaguid h rows None tt tt
-next_signs_on aaguid h rows (Some w) t cid f k =
-    cond_case (λ (v : Turned). Signs aaguid h v.state) ((w.cid == cid) && nat_le t (w.moment + NEXT_LIMIT)) _ _ (λ _. go w.ids f) (λ _. ended aaguid h rows None tt tt)
-  where
-    at : (id : List ℕ) (l : List (List ℕ)) (o : Option Row) → find (has_id id) rows ≡ o → PendingFor h.asked rows (Some (record w { ids = id ∷ l }))
-        → Signs aaguid h (row_signs rows (pending_of w.cid w.hash w.presence w.moment l) cid w.hash w.presence id o).state
-    at id l None e f = ended aaguid h rows None tt tt
-    at id l (Some r) e f =
-        let found : rp_of id rows ≡ Some r.rp = ap (λ (o : Option Row). option_map (λ (r : Row). r.rp) o) e in
-        let same : f.0 ≡ r.rp = same_Some f.0 r.rp (sym f.2.0 ∙ found) in
-        let P : List ℕ → Type 0 = λ rp. assertion_asked h.asked ≡ Some (record { rp = rp; presence = w.presence; hash = w.hash }) in
-        cond_case (λ (v : Turned). Signs aaguid h v.state) (nat_lt (counter_of id rows) MOST) _ _
-        (λ _. signs_signs aaguid h rows (pending_of w.cid w.hash w.presence w.moment l) cid (record { hash = w.hash; rp = r.rp; id = id; presence = w.presence; number = None })
-        (pending_is h.asked rows w.cid w.hash f.0 w.presence w.moment l f.1 f.2.1) (still_granted h.granted w.cid w.hash w.presence w.moment l k) (subst P same f.1, found) k)
-        (λ _. ended aaguid h rows None tt tt)
-
-    go : (l : List (List ℕ)) → PendingFor h.asked rows (Some (record w { ids = l })) → Signs aaguid h (next_signs rows w cid l).state
-    go [] f = ended aaguid h rows None tt tt
-    go (id ∷ l) f = at id l (find (has_id id) rows) refl f
+next_signs_on aaguid h rows p t cid f k =
+    next_case (Signs aaguid h) rows p t cid (record { pending = tt; granted = tt; work = tt }) (λ w id others r is e found.
+    let q : PendingFor h.asked rows (Some w) = subst (PendingFor h.asked rows) is f in
+    let up : w.presence ≡ true → h.granted ≡ true = subst (IsGranted h.granted) is k in
+    let b : AllOf q.0 rows (id ∷ others) = subst (AllOf q.0 rows) e q.2 in
+    let rp : rp_of id rows ≡ Some r.rp = ap (λ (o : Option Row). option_map (λ (r : Row). r.rp) o) found in
+    let P : List ℕ → Type 0 = λ rp. assertion_asked h.asked ≡ Some (record { rp = rp; presence = w.presence; hash = w.hash }) in
+    signs_signs aaguid h rows (pending_of w.cid w.hash w.presence w.moment others) cid (record { hash = w.hash; rp = r.rp; id = id; presence = w.presence; number = None })
+    (pending_is h.asked rows w.cid w.hash q.0 w.presence w.moment others q.1 b.1) (still_granted h.granted w.cid w.hash w.presence w.moment others up)
+    (subst P (same_Some q.0 r.rp (sym b.0 ∙ rp)) q.1, rp) up)
 
 requested_signs : (u : Setup) (h : Heard) (rows : List Row) (p : Option Waiting) (t cid : ℕ) (read : Result Asked ℕ) → no_two same_id rows ≡ true → PendingFor h.asked rows p → IsGranted h.granted p
     → Signs u.aaguid (newer h read) (requested u rows p t cid read).state
