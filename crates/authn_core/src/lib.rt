@@ -21,7 +21,6 @@ mod event;
 pub mod laws;
 mod refusals;
 mod replies;
-mod rows;
 mod task;
 mod turns;
 mod work;

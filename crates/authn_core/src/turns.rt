@@ -1,20 +1,16 @@
 //! The turns, by what waits.
 
-ghost use Rattle.std.specs.Prelude.{◌≡◌, ◌<◌, ◌-◌, ◌^◌, None, true, is_some};
-ghost use Rattle.std.specs.List.{find};
-ghost use Rattle.cred_table.specs.Rows.{has_id, counter_of};
+ghost use Rattle.std.specs.Prelude.{None};
 ghost use Rattle.ctap_message.specs.Shown.{shown, IsFresh, HasLengths};
-ghost use Rattle.authn_core.specs.State.{PresenceIs, SignatureIs, refuses, signs};
+ghost use Rattle.authn_core.specs.State.{PresenceIs, SignatureIs, refuses};
 ghost use Rattle.authn_core.specs.Turn.{requested, reply_turn};
-ghost use Rattle.authn_core.specs.Views.{Takes, asserting_of};
+ghost use Rattle.authn_core.specs.Views.{Takes};
 
 use crate::authenticator::{Core, Turn};
 use crate::replies::{Presence, Signature};
-use crate::task::{Asserting, Job, Task};
-use crate::work::KeepaliveStatus;
+use crate::task::{Job, Task};
 use cred_table::Table;
 use ctap_message::{Request, Status, write_status};
-use fido_authdata::{AuthData, to_sign};
 
 impl<T: Table<C>, const C: usize> Core<T, C> {
     /// Begins what a request asks.
@@ -65,20 +61,6 @@ impl<T: Table<C>, const C: usize> Core<T, C> {
     {
         self.pending.clear();
         self.refuse(status)
-    }
-
-    /// Lets an assertion go on: its row's counter is raised, and it waits for the signature.
-    pub(crate) fn sign(&mut self, cid: u32, a: &Asserting) -> Turn
-        requires there { is_some (find (has_id a.now.id) self.old.core.state.rows) ≡ true }
-        requires below { counter_of a.now.id self.old.core.state.rows < 2 ^ 32 - 1 }
-        ensures { Takes self.old self.new result (signs self.old.core.state.rows self.old.core.state.pending cid
-            (asserting_of a.now)) }
-    {
-        let counter = self.table.raise(&a.id);
-        let data = AuthData::assertion(&a.rp, a.presence, counter);
-        let task = Task::SignsAssert(*a, counter, to_sign(&data, &a.hash));
-        self.work = Some(Job { cid, task });
-        Turn::Waits(KeepaliveStatus::Processing)
     }
 
     /// Goes on by the reply of a test of user presence.

@@ -2,11 +2,13 @@
 
 ghost use Rattle.std.specs.Prelude.{◌≡◌, ◌<◌, ◌≤◌, ◌-◌, ◌^◌, [], true, length, option_map, is_some};
 ghost use Rattle.std.specs.List.{find};
+ghost use Rattle.std.specs.Option.{ForSome, option_copied};
 ghost use Rattle.cred_table.specs.Rows.{has_id, ids, counter_of};
 ghost use Rattle.ctap_message.specs.Descriptors.{ids_of};
 ghost use Rattle.ctap_message.specs.Members.{has_entries};
 ghost use Rattle.ctap_message.specs.DescriptorWalk.{list_of, left_of};
 ghost use Rattle.sha2.specs.Sha256.{sha256};
+ghost use Rattle.authn_core.specs.State.{signs};
 ghost use Rattle.authn_core.specs.GetAssertion as get;
 ghost use Rattle.authn_core.specs.Views.{Takes, asserting_of};
 ghost use Rattle.authn_core.specs.Ready.{AllThere};
@@ -14,17 +16,37 @@ ghost use Rattle.authn_core.specs.Ready.{AllThere};
 use crate::authenticator::{Core, Turn};
 use crate::refusals;
 use crate::replies::{Presence, Signature};
-use crate::rows::{counter_of, user_of};
 use crate::task::{Asserting, Job, Task};
 use crate::work::KeepaliveStatus;
 use arrayvec::ArrayVec;
 use cred_table::Table;
 use ctap_message::{Descriptors, write_assertion};
-use fido_authdata::AuthData;
+use fido_authdata::{AuthData, to_sign};
 use sha2::{Digest, Sha256};
 
 /// How long after an assertion's answer the next one may be asked for, in milliseconds.
 const NEXT_LIMIT: u64 = 30_000;
+
+/// Returns the counter of the row with the id, 0 where there is none.
+fn counter_of<T: Table<C>, const C: usize>(table: &T, id: &[u8; 32]) -> u32
+    ensures { result ≡ counter_of id.now (T.rows table.now) }
+{
+    match table.find(id) {
+        Some(row) => row.counter,
+        None => 0,
+    }
+}
+
+/// Returns the user handle of the row with the id, where it is discoverable.
+fn user_of<'a, T: Table<C>, const C: usize>(table: &'a T, id: &[u8; 32]) -> Option<&'a [u8]>
+    ensures value { option_copied result ≡ get.user_in (find (has_id id.now) (T.rows table.now)) }
+    ensures short { ForSome result (λ u. length u.now ≤ 64) }
+{
+    match table.find(id) {
+        Some(row) if row.discoverable => Some(row.user.as_slice()),
+        _ => None,
+    }
+}
 
 /// Writes the ids of the applicable rows.
 fn put_applicable<T: Table<C>, const C: usize>(
@@ -112,6 +134,20 @@ impl<T: Table<C>, const C: usize> Core<T, C> {
         } else {
             self.sign(cid, &a)
         }
+    }
+
+    /// Lets an assertion go on: its row's counter is raised, and it waits for the signature.
+    pub(crate) fn sign(&mut self, cid: u32, a: &Asserting) -> Turn
+        requires there { is_some (find (has_id a.now.id) self.old.core.state.rows) ≡ true }
+        requires below { counter_of a.now.id self.old.core.state.rows < 2 ^ 32 - 1 }
+        ensures { Takes self.old self.new result (signs self.old.core.state.rows self.old.core.state.pending cid
+            (asserting_of a.now)) }
+    {
+        let counter = self.table.raise(&a.id);
+        let data = AuthData::assertion(&a.rp, a.presence, counter);
+        let task = Task::SignsAssert(*a, counter, to_sign(&data, &a.hash));
+        self.work = Some(Job { cid, task });
+        Turn::Waits(KeepaliveStatus::Processing)
     }
 
     /// Lets the row sign where the user consents.

@@ -2,7 +2,7 @@
 
 ghost use Rattle.std.specs.Prelude.{◌≡◌, ◌≤◌, true, false, length, is_some};
 ghost use Rattle.std.specs.List.{find};
-ghost use Rattle.cred_table.specs.Rows.{has_id};
+ghost use Rattle.cred_table.specs.Rows.{has_id, stored};
 ghost use Rattle.ctap_message.specs.Descriptors.{ids_of};
 ghost use Rattle.ctap_message.specs.DescriptorWalk.{left_of};
 ghost use Rattle.authn_core.specs.State.{KeyIs};
@@ -13,30 +13,60 @@ ghost use Rattle.authn_core.specs.Views.{Takes, making_of};
 use crate::authenticator::{Core, Turn};
 use crate::refusals;
 use crate::replies::{NewKey, Presence, Signature};
-use crate::rows::store;
 use crate::task::{Job, Making, Task};
 use crate::work::KeepaliveStatus;
 use arrayvec::ArrayVec;
-use cred_table::{Name, Table};
+use cred_table::{Name, Row, Table};
 use ctap_message::{Descriptors, write_created};
 use fido_authdata::{AuthData, to_sign};
 use sha2::{Digest, Sha256};
 
 /// Whether one of the ids names a row of the RP.
-fn names_one<T: Table<C>, const C: usize>(
-    table: &T,
-    rp: &[u8; 32],
-    exclude: Descriptors<'_>,
-) -> bool
-    ensures { result ≡ make.names_one rp.now (T.rows table.now) (ids_of (left_of exclude.entry)) }
+fn names_one<T: Table<C>, const C: usize>(table: &T, rp: &[u8; 32], ids: Descriptors<'_>) -> bool
+    ensures { result ≡ make.names_one rp.now (T.rows table.now) (ids_of (left_of ids.entry)) }
 {
-    let mut exclude = exclude;
-    'walk: while let Some(id) = exclude.next() {
+    let mut ids = ids;
+    'walk: while let Some(id) = ids.next() {
         if table.named(rp, id).is_some() {
             return true;
         }
     }
     false
+}
+
+/// Stores the row of a new credential, in place of the one that it replaces.
+fn store<T: Table<C>, const C: usize>(table: &mut T, making: Making, key: NewKey)
+    requires room { make.fits C (making_of making) (T.rows table.old) ≡ true }
+    requires fresh { is_some (find (has_id key.id) (T.rows table.old)) ≡ false }
+    ensures { T.rows table.new ≡ stored (make.new_row (making_of making) key) (T.rows table.old) }
+{
+    let Making {
+        rp,
+        user,
+        name,
+        discoverable,
+        ..
+    } = making;
+    let NewKey { id, x, y } = key;
+    let replaced = if discoverable {
+        table.same_user(&rp, user.as_slice())
+    } else {
+        None
+    };
+    let row = Row {
+        rp,
+        id,
+        x,
+        y,
+        user,
+        discoverable,
+        counter: 0,
+        name,
+    };
+    match replaced {
+        Some(old) => table.replace(&old, row),
+        None => table.put(row),
+    }
 }
 
 impl<T: Table<C>, const C: usize> Core<T, C> {
