@@ -1,5 +1,5 @@
 -- All that the transport needs to know of the authenticator.
-use Rattle.std.proofs.Common.{◌≡◌, ℕ, ◌≤◌, List, Bool, false, Option, Some, None, option_map, Ok, refl, sym, ◌∙◌, ap, subst, arith}
+use Rattle.std.proofs.Common.{◌≡◌, ℕ, ◌≤◌, List, Bool, false, Option, Some, None, option_map, Ok, refl, ◌∙◌, ap}
 use Rattle.ctap_message.specs.Asked.{GetInfo}
 use Rattle.ctap_message.specs.Requests.{read_of}
 use Rattle.authn_core.specs.declared.replies.Presence.{Presence}
@@ -10,21 +10,6 @@ use Rattle.authn_core.specs.Views.{as_work}
 use Rattle.authn_core.specs.Turn.{CoreState, Work, working, core_after, core_answer, requested, replied, reply_turn, turn}
 use Rattle.authn_core.specs.Views.{wants_presence, wants_key, wants_signature}
 use Rattle.authn_core.proofs.Readiness.{requested_case, reply_case}
-
--- the work is none, or on the channel
-abbrev pub On : ℕ → State → Type 0
-On cid s = (job : Job) → s.work ≡ Some job → job.cid ≡ cid
-
--- work after a request is on the request's channel
-pub request_on : (u : Setup) (s : State) (t cid : ℕ) (bytes : List ℕ) → On cid (turn u s t (Request cid bytes)).state
-unfolding turn
-request_on u s t cid bytes = requested_case (On cid) u s.rows s.pending t cid (read_of bytes) (λ _ e. cc) (λ _ _ _ e. cc) (λ _ _ _ _ _ e. cc) (λ _ _ _ _ e. cc)
-
--- work after a reply is on the channel that it was on: with none before, there is none
-reply_keeps : (u : Setup) (s : State) (t : ℕ) (e : Event) (job : Job) → (reply_turn u s t s.work e).state.work ≡ Some job → option_map (λ (j : Job). j.cid) s.work ≡ Some job.cid
-reply_keeps u s t e =
-    reply_case (λ v _ x. s.work ≡ v → (job : Job) → x.work ≡ Some job → option_map (λ (j : Job). j.cid) v ≡ Some job.cid) u s t (λ v _ _ w job f. ap (option_map (λ (j : Job). j.cid)) (sym w ∙ f))
-    (λ _ _ _ _ _ _ _ f. cc) (λ _ _ _ _ _ _ f. cc) (λ _ _ _ _ _ _ _ f. cc) (λ _ _ _ f. cc) (λ _ _ _ _ _ f. cc) (λ _ _ _ _ _ _ f. cc) (λ _ _ _ _ f. cc) (λ _ _ _ _ _ _ _ f. cc) s.work e refl
 
 -- whether the waiting work needs a reply
 abbrev heeds : Option Job → Event → Bool
@@ -75,29 +60,17 @@ EventIsGiven given e = Unit {0}
 abbrev channel_of : Option Job → Option ℕ
 channel_of work = option_map (λ (w : Work). w.cid) (option_map as_work work)
 
-channel_is : (w : Option Job) → channel_of w ≡ option_map (λ (j : Job). j.cid) w
-channel_is None = refl
-channel_is (Some job) = refl
-
-on_given : (given cid : ℕ) (w : Option Job) → ((job : Job) → w ≡ Some job → job.cid ≡ cid) → 1 ≤ cid → cid ≤ given → IsGiven given (channel_of w)
-on_given given cid None on low high = tt
-on_given given cid (Some job) on low high = let e : job.cid ≡ cid = on job refl in (omega (arith, e), omega (arith, e))
-
-kept_given : (given : ℕ) (before after : Option Job) → ((job : Job) → after ≡ Some job → option_map (λ (j : Job). j.cid) before ≡ Some job.cid) → IsGiven given (channel_of before)
-    → IsGiven given (channel_of after)
-kept_given given before None keeps h = tt
-kept_given given before (Some job) keeps h = subst (IsGiven given) (channel_is before ∙ keeps job refl) h
-
 -- Work is on the channel that it was on, or on the request's.
 pub work_stays_given : (given : ℕ) (core : CoreState) (at : ℕ) (e : Event) → IsGiven given (working core) → EventIsGiven given e
     → IsGiven given (working (core_after core at e))
 unfolding turn
 work_stays_given given core at (Request cid bytes) w h =
-    on_given given cid _ (request_on core.setup core.state at cid bytes) h.0 h.1
+    requested_case (λ x. IsGiven given (channel_of x.work)) core.setup core.state.rows core.state.pending at cid (read_of bytes) tt (λ _ _. h) (λ _ _ _ _. h) (λ _ _ _. h)
 work_stays_given given core at Cancel w h = tt
 work_stays_given given core at Drop w h = tt
 work_stays_given given core at reply w h =
-    kept_given given core.state.work _ (reply_keeps core.setup core.state at reply) w
+    reply_case (λ v _ x. IsGiven given (channel_of v) → IsGiven given (channel_of x.work)) core.setup core.state at (λ _ _ _ _. w) (λ _ _ _ _ _ _. tt) (λ _ _ _ _ _. tt) (λ _ _ _ _ _ _. tt) (λ _ _. tt)
+    (λ _ _ _ g. g) (λ _ _ _ _ g. g) (λ _ _ g. g) (λ _ _ _ _ _ _. tt) core.state.work reply w
 
 idle_job : (w : Option Job) → channel_of w ≡ None → w ≡ None
 idle_job None h = refl

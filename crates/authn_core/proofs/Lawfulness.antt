@@ -3,7 +3,7 @@ use Rattle.std.proofs.Common.{◌≡◌, ℕ, ◌<◌, ◌⊎◌, inl, inr, nat_
 use Rattle.std.proofs.lemmas.Bool.Decides.{nat_tests}
 use Rattle.std.specs.List.{find}
 use Rattle.cred_table.specs.declared.row.Row.{Row}
-use Rattle.cred_table.specs.Rows.{Lawful, has_id, is_user, replaces}
+use Rattle.cred_table.specs.Rows.{Lawful, is_user, replaces}
 use Rattle.cred_table.proofs.Raised.{Lawful-raised}
 use Rattle.cred_table.proofs.Stored.{Lawful-stored}
 use Rattle.ctap_message.specs.Requests.{read_of}

@@ -1,12 +1,12 @@
 -- Each turn changes the rows as its mark says.
-use Rattle.std.proofs.Common.{◌≡◌, ℕ, ◌+◌, List, [], ◌∷◌, ◌++◌, append-nil, length, flat_map, Bool, true, false, cond, ◌||◌, not, Option, Some, None, is_some, Result, refl, sym, ◌∙◌, ap, subst, filter, add-zero}
+use Rattle.std.proofs.Common.{◌≡◌, ℕ, ◌+◌, List, [], ◌∷◌, ◌++◌, append-nil, length, flat_map, Bool, true, false, cond, ◌||◌, not, Option, Some, None, refl, sym, ◌∙◌, ap, subst, filter, add-zero}
 use Rattle.cred_table.specs.declared.row.Row.{Row}
 use Rattle.cred_table.specs.Rows.{has_id, replaces, stored, raised, raised_row}
 use Rattle.ctap_message.specs.Requests.{read_of}
 use Rattle.authn_core.specs.State.{Setup, Task, SignsAssert, Job, State, Event, Request, Cancel, Drop}
 use Rattle.authn_core.specs.MakeCredential.{new_row}
 use Rattle.authn_core.specs.Turn.{CoreState, core_after, turn, requested}
-use Rattle.authn_core.specs.Marks.{Mark, mark, marked, left, Comes, Step, core_at, marks, Orderly, folded, rows_of, raised_by, made_by, is_reset}
+use Rattle.authn_core.specs.Marks.{Mark, mark, marked, left, Comes, Step, core_at, marks, Orderly, folded, rows_of, raised_by}
 use Rattle.authn_core.proofs.Filtered.{filtered}
 use Rattle.authn_core.proofs.Readiness.{same_bytes, Plain, requested_case, reply_case}
 

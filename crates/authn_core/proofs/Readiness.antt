@@ -1,16 +1,15 @@
 -- What a turn comes to, case by case, and that turns lead from ready states to ready states.
-use Rattle.std.specs.Prelude.{drop, slice_get}
 use Rattle.std.proofs.Common.{◌≡◌, ℕ, ◌+◌, ◌-◌, ◌^◌, ◌==◌, ◌&&◌, nat_le, nat_lt, ◌<◌, ◌≤◌, List, [], ◌∷◌, ◌++◌, length, reverse, Bool, true, false, cond, Option, Some, None, option_to_list, option_map, is_some, Result, Ok, Err, refl, sym, ◌∙◌, ap, subst, arith, filter, ◌⊎◌, inl, inr}
 use Rattle.std.proofs.lemmas.Bool.{and_parts}
 use Rattle.std.proofs.lemmas.Bool.Decides.{nat_tests}
-use Rattle.std.proofs.lemmas.List.{reverse-append, map-append, length-map, length-reverse, length-drop}
+use Rattle.std.proofs.lemmas.List.{reverse-append, map-append, length-map, length-reverse}
 use Rattle.std.specs.Option.{option_or}
 use Rattle.std.specs.List.{AllByRecursion, find}
 use Rattle.std.specs.Str.{bytes_eq}
 use Rattle.std.proofs.lemmas.Slice.Eq.{bytes_eq-Decides}
 use Rattle.cred_table.specs.declared.row.Row.{Row}
 use Rattle.cred_table.specs.Rows.{has_id, is_named, is_listed, stored, raised, listed, ids, counter_of}
-use Rattle.cred_table.specs.Waiting.{Waiting, pending_of, pending_count, stamped, first_of, rest_of}
+use Rattle.cred_table.specs.Waiting.{Waiting, pending_of, pending_count, stamped}
 use Rattle.cred_table.proofs.Stored.{length-filter}
 use Rattle.fido_authdata.specs.AuthData.{created_bytes}
 use Rattle.ctap_message.specs.Asked.{Asked, MakeCredential, GetAssertion, GetInfo, Reset, GetNextAssertion, Selection}
@@ -18,7 +17,7 @@ use Rattle.ctap_message.specs.Members.{has_entries}
 use Rattle.ctap_message.specs.Descriptors.{ids_of}
 use Rattle.ctap_message.specs.Requests.{read_of}
 use Rattle.authn_core.specs.declared.replies.NewKey.{NewKey}
-use Rattle.authn_core.specs.declared.replies.Presence.TheVariants.{Granted, Denied, TimedOut}
+use Rattle.authn_core.specs.declared.replies.Presence.TheVariants.{Granted}
 use Rattle.sha2.specs.Sha256.{sha256}
 use Rattle.authn_core.specs.State.{Setup, Making, Asserting, Task, Resets, Selects, AsksMake, WantsKey, SignsMake, AsksAssert, SignsAssert, Job, State, Event, Request, PresenceIs, KeyIs, SignatureIs, Cancel, Drop, Turned, signs}
 use Rattle.authn_core.specs.Asking.{RESET_LIMIT}
@@ -299,11 +298,9 @@ reply_case P u s t kept ended emptied renewed reset to_key to_sign asserts makes
 
     go : (cid : ℕ) (k : Task) (e : Event) → P (job cid k) e (replied u s t cid k e).state
     go cid Resets (PresenceIs Granted) = reset cid
-    go cid Resets (PresenceIs Denied) = ended cid _ _ (one cid _ _ refl refl) (record { granted = λ _ _ h. h })
-    go cid Resets (PresenceIs TimedOut) = ended cid _ _ (one cid _ _ refl refl) (record { granted = λ _ _ h. h })
+    go cid Resets (PresenceIs p) = ended cid _ _ (one cid _ _ refl refl) (record { granted = λ _ _ h. h })
     go cid Selects (PresenceIs Granted) = ended cid _ _ (one cid _ _ refl refl) (record { granted = λ _ _ h. h })
-    go cid Selects (PresenceIs Denied) = ended cid _ _ (one cid _ _ refl refl) (record { granted = λ _ _ h. h })
-    go cid Selects (PresenceIs TimedOut) = ended cid _ _ (one cid _ _ refl refl) (record { granted = λ _ _ h. h })
+    go cid Selects (PresenceIs p) = ended cid _ _ (one cid _ _ refl refl) (record { granted = λ _ _ h. h })
     go cid (AsksMake m true) (PresenceIs Granted) = ended cid _ _ (one cid _ _ refl refl) (record { granted = λ _ _ h. h })
     go cid (AsksMake m true) (PresenceIs p) = ended cid _ _ (one cid _ _ refl refl) (record { granted = λ _ _ h. h })
     go cid (AsksMake m false) (PresenceIs Granted) =

@@ -1,5 +1,5 @@
 -- Where a turn begins an assertion's signature, it raises the row by one and signs the raised counter.
-use Rattle.std.proofs.Common.{◌≡◌, ℕ, ◌+◌, nat_lt, List, ◌∷◌, Bool, true, false, cond, Option, Some, None, is_some, Result, refl, sym, subst}
+use Rattle.std.proofs.Common.{◌≡◌, ℕ, ◌+◌, List, Bool, true, false, cond, Option, Some, None, is_some, refl, sym, subst}
 use Rattle.std.specs.List.{find}
 use Rattle.cred_table.specs.declared.row.Row.{Row}
 use Rattle.cred_table.specs.Rows.{has_id, counter_of, raised}

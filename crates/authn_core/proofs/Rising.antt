@@ -8,16 +8,16 @@ use Rattle.std.specs.List.{find, list_any}
 use Rattle.std.specs.Str.{bytes_eq}
 use Rattle.cred_table.specs.declared.row.Row.{Row}
 use Rattle.cred_table.specs.Rows.{Lawful, has_id, counter_of}
-use Rattle.authn_core.specs.State.{Setup, Task, SignsAssert, Job, State, Event, Request, SignatureIs, Cancel, Drop}
-use Rattle.authn_core.specs.Turn.{CoreState, core_after, turn, replied, reply_turn}
+use Rattle.authn_core.specs.State.{Setup, Task, SignsAssert, Job, State, Event, Request, Cancel, Drop}
+use Rattle.authn_core.specs.Turn.{CoreState, core_after, turn}
 use Rattle.authn_core.specs.Ready.{Ready}
-use Rattle.authn_core.specs.Marks.{Step, Comes, Orderly, Mark, Text, core_at, makings, marks, raised_by, signs_by, task_counter, task_raises, text_of, texts, same_text, all_differ}
+use Rattle.authn_core.specs.Marks.{task_signs_by, Step, Comes, Orderly, Mark, Text, core_at, makings, marks, raised_by, signs_by, task_counter, task_raises, text_of, texts, same_text, all_differ}
 use Rattle.authn_core.specs.Views.{needs, sign}
 use Rattle.authn_core.specs.Rising.{by_one_row, above_all, all_rise, IsTextOf, IsNewest}
 use Rattle.authn_core.proofs.Rises.{RisesTo, turn_rises}
 use Rattle.authn_core.proofs.Signed.{counter_raised}
 use Rattle.authn_core.proofs.Readiness.{reply_case}
-use Rattle.authn_core.proofs.Texts.{AllBounded, core_sound, new_differs, texts_bounded}
+use Rattle.authn_core.proofs.Texts.{AllBounded, core_sound, new_differs, text_case, texts_bounded}
 
 -- the new text is above all before it
 new_above : (h : List Mark) (rows : List Row) (id : List ℕ) (ts : List Text) → is_some (find (has_id id) rows) ≡ true → AllBounded h rows ts
@@ -39,15 +39,12 @@ new_above h rows id (t ∷ ts) e b =
 
 one_rises : (h : List Mark) (rows rows' : List Row) (before now : Option Job) (ts : List Text) → RisesTo rows before rows' now → AllBounded h rows ts → all_rise ts ≡ true
     → all_rise (option_to_list (text_of h (raised_by before now) now) ++ ts) ≡ true
-one_rises h rows rows' before None ts r b d = d
-one_rises h rows rows' before (Some w) ts r b d = go (task_raises before w.task) refl
-  where
-    go : (o : Option (List ℕ)) → task_raises before w.task ≡ o → all_rise (option_to_list (text_of h o (Some w)) ++ ts) ≡ true
-    go None f = d
-    go (Some id) f =
-        let i = r id f in
-        let P : ℕ → Type 0 = λ n. all_rise (record { id = id; making = makings id h; counter = n } ∷ ts) ≡ true in
-        subst P (sym i.counter) (and_from _ _ (new_above h rows id ts i.there b) d)
+one_rises h rows rows' before now ts r b d =
+    text_case (λ (o : Option Text). all_rise (option_to_list o ++ ts) ≡ true) h before now (λ _. d) (λ w id is f.
+    let rise : RisesTo rows before rows' (Some w) = subst (RisesTo rows before rows') is r in
+    let i = rise id f in
+    let P : ℕ → Type 0 = λ n. all_rise (record { id = id; making = makings id h; counter = n } ∷ ts) ≡ true in
+    subst P (sym i.counter) (and_from _ _ (new_above h rows id ts i.there b) d))
 
 pub texts_rise : (start : CoreState) (h : List Step) → Ready (start.setup).room start.state → Lawful (start.setup).room (start.state).rows → Orderly start h → all_rise (texts start h) ≡ true
 unfolding core_at texts Orderly
@@ -99,21 +96,11 @@ told_of h rows before s w id r is f =
 
 one_told : (h : List Mark) (rows : List Row) (before : Option Job) (s : State) (ts : List Text) (t : Text) → RisesTo rows before s.rows s.work
     → option_to_list (text_of h (raised_by before s.work) s.work) ++ ts ≡ t ∷ ts → IsTextOf t s
-one_told h rows before s ts t r e = work s.work r e refl
-  where
-    no_more : ts ≡ t ∷ ts → ⊥
-    no_more e = let n : length ts ≡ length (t ∷ ts) = ap length e in omega (arith, n)
-
-    at : (w : Job) (o : Option (List ℕ)) → RisesTo rows before s.rows (Some w) → s.work ≡ Some w → task_raises before w.task ≡ o → option_to_list (text_of h o (Some w)) ++ ts ≡ t ∷ ts → IsTextOf t s
-    at w None r is f e = absurd (no_more e)
-    at w (Some id) r is f e =
-        let same : record { id = id; making = makings id h; counter = task_counter w.task } ≡ t = cc in
-        let P : Text → Type 0 = λ x. IsTextOf x s in
-        subst P same (told_of h rows before s w id r is f)
-
-    work : (v : Option Job) → RisesTo rows before s.rows v → option_to_list (text_of h (raised_by before v) v) ++ ts ≡ t ∷ ts → s.work ≡ v → IsTextOf t s
-    work None r e is = absurd (no_more e)
-    work (Some w) r e is = at w (task_raises before w.task) r is refl e
+one_told h rows before s ts t r =
+    text_case (λ (o : Option Text). option_to_list o ++ ts ≡ t ∷ ts → IsTextOf t s) h before s.work (λ _ e. absurd (let n : length ts ≡ length (t ∷ ts) = ap length e in omega (arith, n))) (λ w id is f e.
+    let same : record { id = id; making = makings id h; counter = task_counter w.task } ≡ t = cc in
+    let P : Text → Type 0 = λ x. IsTextOf x s in
+    subst P same (told_of h rows before s w id (subst (RisesTo rows before s.rows) is r) is f))
 
 pub text_is_told : (start : CoreState) (h : List Step) (x : Step) (t : Text) → Ready (start.setup).room start.state → Lawful (start.setup).room (start.state).rows → Orderly start (x ∷ h)
     → texts start (x ∷ h) ≡ t ∷ texts start h → IsTextOf t (core_at start (x ∷ h)).state
@@ -139,27 +126,23 @@ signing_stays u s t reply id other c b n =
     reply_case (λ v _ x. signs_by id v ≡ true → signs_by other x.work ≡ true → x ≡ s) u s t (λ _ _ _ _ _. refl) (λ _ _ _ _ _ _ n. cc) (λ _ _ _ _ _ n. cc) (λ _ _ _ _ _ _ n. cc) (λ _ _ n. cc)
     (λ _ _ _ b _. cc) (λ _ _ _ _ b _. cc) (λ _ _ b _. cc) (λ _ _ _ _ _ _ n. cc) s.work reply b n
 
-kept_signs : (before : Option Job) (cid : ℕ) (k : Task) (id : List ℕ) → signs_by id (Some (record { cid = cid; task = k })) ≡ true → task_raises before k ≡ None → signs_by id before ≡ true
-kept_signs before cid (SignsAssert a n d) id e f = go (signs_by a.id before) refl f
+kept_signs : (before now : Option Job) (id : List ℕ) → signs_by id now ≡ true → raised_by before now ≡ None → signs_by id before ≡ true
+kept_signs before None id e f = cc
+kept_signs before (Some w) id e f = at w.task e f
   where
-    go : (b : Bool) → signs_by a.id before ≡ b → cond b None (Some a.id) ≡ None → signs_by id before ≡ true
-    go true k f = let P : List ℕ → Type 0 = λ x. signs_by x before ≡ true in subst P ((bytes_eq-Decides a.id id).0 e) k
-    go false k f = cc
-kept_signs before cid other id e f = cc
+    at : (k : Task) → task_signs_by id k ≡ true → task_raises before k ≡ None → signs_by id before ≡ true
+    at (SignsAssert a n d) e f = go (signs_by a.id before) refl f
+      where
+        go : (b : Bool) → signs_by a.id before ≡ b → cond b None (Some a.id) ≡ None → signs_by id before ≡ true
+        go true k f = let P : List ℕ → Type 0 = λ x. signs_by x before ≡ true in subst P ((bytes_eq-Decides a.id id).0 e) k
+        go false k f = cc
+    at other e f = cc
 
 one_newest : (h : List Mark) (rows : List Row) (before : Option Job) (s : State) (ts : List Text) (id : List ℕ) → RisesTo rows before s.rows s.work → signs_by id s.work ≡ true
     → (signs_by id before ≡ true → IsNewest ts s) → IsNewest (option_to_list (text_of h (raised_by before s.work) s.work) ++ ts) s
-one_newest h rows before s ts id r e older = work s.work r e refl
-  where
-    at : (w : Job) (o : Option (List ℕ)) → RisesTo rows before s.rows (Some w) → signs_by id (Some w) ≡ true → s.work ≡ Some w → task_raises before w.task ≡ o
-        → IsNewest (option_to_list (text_of h o (Some w)) ++ ts) s
-    at w None r e is f = older (kept_signs before w.cid w.task id e f)
-    at w (Some i) r e is f =
-        record { text = record { id = i; making = makings i h; counter = task_counter w.task }; past = ts; first = refl; told = told_of h rows before s w i r is f }
-
-    work : (v : Option Job) → RisesTo rows before s.rows v → signs_by id v ≡ true → s.work ≡ v → IsNewest (option_to_list (text_of h (raised_by before v) v) ++ ts) s
-    work None r e is = cc
-    work (Some w) r e is = at w (task_raises before w.task) r e is refl
+one_newest h rows before s ts id r e older =
+    text_case (λ (o : Option Text). IsNewest (option_to_list o ++ ts) s) h before s.work (λ n. older (kept_signs before s.work id e n)) (λ w i is f.
+    record { text = record { id = i; making = makings i h; counter = task_counter w.task }; past = ts; first = refl; told = told_of h rows before s w i (subst (RisesTo rows before s.rows) is r) is f })
 
 pub newest_is_signed : (start : CoreState) (h : List Step) (id : List ℕ) → start.state.work ≡ None → Ready (start.setup).room start.state → Lawful (start.setup).room (start.state).rows → Orderly start h
     → signs_by id (core_at start h).state.work ≡ true → IsNewest (texts start h) (core_at start h).state

@@ -1,13 +1,12 @@
 -- Every turn keeps what is to be signed that of the newest request, and a signature is answered with what was signed.
-use Rattle.std.proofs.Common.{◌≡◌, ℕ, ◌+◌, ◌==◌, ◌&&◌, nat_le, nat_lt, List, [], ◌∷◌, ◌++◌, length, Bool, true, false, cond, not, Option, Some, None, option_map, option_to_list, is_some, Result, Ok, Err, refl, sym, ◌∙◌, ap, subst, inl, inr, filter}
+use Rattle.std.proofs.Common.{◌≡◌, ℕ, ◌+◌, nat_lt, List, [], ◌∷◌, ◌++◌, Bool, true, false, cond, not, Option, Some, None, option_map, is_some, Result, Ok, Err, refl, sym, ◌∙◌, ap, subst, inl, inr}
 use Rattle.std.proofs.lemmas.Bool.{and_parts, or_parts, not-true}
 use Rattle.std.proofs.lemmas.Option.{same_Some}
 use Rattle.std.proofs.lemmas.Slice.Eq.{bytes_eq-Decides}
 use Rattle.std.specs.List.{find, list_any}
-use Rattle.std.specs.Option.{option_or}
 use Rattle.std.specs.Str.{bytes_eq}
 use Rattle.cred_table.specs.declared.row.Row.{Row}
-use Rattle.cred_table.specs.Rows.{Lawful, has_id, is_named, is_listed, same_id, no_two, listed, ids, raised, counter_of, counter_in}
+use Rattle.cred_table.specs.Rows.{Lawful, has_id, same_id, no_two, ids, raised, counter_of, counter_in}
 use Rattle.cred_table.specs.Waiting.{Waiting, pending_of, stamped}
 use Rattle.fido_authdata.specs.AuthData.{assertion_bytes, created_bytes}
 use Rattle.ctap_message.specs.Answers.{created_answer, assertion_answer}
@@ -18,10 +17,10 @@ use Rattle.ctap_message.specs.Requests.{read_of}
 use Rattle.authn_core.specs.declared.replies.Presence.TheVariants.{Granted}
 use Rattle.authn_core.specs.declared.replies.NewKey.{NewKey}
 use Rattle.sha2.specs.Sha256.{sha256}
-use Rattle.authn_core.specs.State.{Setup, Making, Asserting, Task, Resets, Selects, AsksMake, WantsKey, SignsMake, AsksAssert, SignsAssert, Job, State, Event, Request, PresenceIs, KeyIs, SignatureIs, Cancel, Drop, Answer, Answered, Turned, signs}
+use Rattle.authn_core.specs.State.{Setup, Making, Asserting, Task, AsksMake, WantsKey, SignsMake, AsksAssert, SignsAssert, Job, State, Event, Request, PresenceIs, KeyIs, SignatureIs, Cancel, Drop, Answer, Answered, Turned, signs}
 use Rattle.authn_core.specs.Asking.{RESET_LIMIT}
 use Rattle.authn_core.specs.MakeCredential.{new_row}
-use Rattle.authn_core.specs.GetAssertion.{find_named, applicable, MOST, NEXT_LIMIT, told, begins, next_begins, next_signs, row_signs, user_in}
+use Rattle.authn_core.specs.GetAssertion.{applicable, begins, next_begins, user_in}
 use Rattle.authn_core.specs.Turn.{Start, core_answer, first_state, requested, replied, reply_turn, turn}
 use Rattle.authn_core.specs.Views.{Needed, needs, sign}
 use Rattle.authn_core.specs.Marks.{Step, Comes, Orderly, core_at}

@@ -1,6 +1,6 @@
 -- Each text to sign of an assertion is of an earlier making, or its row's counter is above it.
-use Rattle.std.proofs.Common.{◌≡◌, ℕ, ◌+◌, ◌≤◌, ◌<◌, ◌==◌, List, [], ◌∷◌, ◌++◌, length, flat_map, Bool, true, false, cond, ◌&&◌, not, Option, Some, None, option_to_list, is_some, refl, sym, ◌∙◌, ap, subst, arith, filter}
-use Rattle.std.proofs.lemmas.Bool.{and_parts, and_from, or_parts, or_from, not-true}
+use Rattle.std.proofs.Common.{◌≡◌, ℕ, ◌+◌, ◌≤◌, ◌<◌, List, [], ◌∷◌, ◌++◌, length, flat_map, Bool, true, false, cond, not, Option, Some, None, option_to_list, is_some, refl, sym, ◌∙◌, subst, arith, filter}
+use Rattle.std.proofs.lemmas.Bool.{and_parts, or_parts, not-true}
 use Rattle.std.specs.List.{find, list_any}
 use Rattle.std.specs.Str.{bytes_eq}
 use Rattle.cred_table.specs.declared.row.Row.{Row}
@@ -10,12 +10,11 @@ use Rattle.authn_core.specs.Ready.{Ready}
 use Rattle.authn_core.specs.State.{Setup, Job}
 use Rattle.cred_table.specs.Waiting.{pending_count}
 use Rattle.authn_core.proofs.PendingFew.{turn_few}
-use Rattle.authn_core.specs.Marks.{Step, Orderly, core_at, marks, mark, texts, text_of, same_text, all_differ, raised_by, task_raises, Mark, marked, left, stays, counted, makes_id, row_has_id, makings, Text}
+use Rattle.authn_core.specs.Marks.{Step, Orderly, core_at, marks, mark, texts, text_of, task_counter, raised_by, task_raises, Mark, marked, left, stays, counted, makes_id, row_has_id, makings, Text}
 use Rattle.authn_core.proofs.Rises.{RisesTo, turn_rises}
 use Rattle.authn_core.proofs.Readiness.{turn_ready}
 use Rattle.authn_core.proofs.Lawfulness.{turn_lawful}
 use Rattle.authn_core.proofs.Marked.{turn_marked}
-use Rattle.std.proofs.lemmas.Bool.Decides.{nat_tests}
 use Rattle.std.proofs.lemmas.Slice.Eq.{bytes_eq-Decides}
 
 -- every row with the id has a counter of at least n
@@ -119,27 +118,30 @@ makings_grow id m h = go (makes_id id m)
     go true = omega arith
     go false = omega arith
 
--- The step: the texts of a longer history.
+-- A step adds no text, or that of the row that its work raises.
+pub text_case : (P : Option Text → Type 0) (h : List Mark) (before now : Option Job) → (raised_by before now ≡ None → P None)
+    → ((w : Job) (id : List ℕ) → now ≡ Some w → task_raises before w.task ≡ Some id → P (Some (record { id = id; making = makings id h; counter = task_counter w.task })))
+    → P (text_of h (raised_by before now) now)
+text_case P h before None none some = none refl
+text_case P h before (Some w) none some = go (task_raises before w.task) refl
+  where
+    go : (o : Option (List ℕ)) → task_raises before w.task ≡ o → P (text_of h o (Some w))
+    go None e = none e
+    go (Some id) e = some w id refl e
+
 one_text : (h : List Mark) (rows rows' : List Row) (m : Mark) (before now : Option Job) (ts : List Text) → rows' ≡ marked m rows → no_two same_id rows ≡ true → RisesTo rows before rows' now → AllBounded h rows ts
     → AllBounded (m ∷ h) rows' (option_to_list (text_of h (raised_by before now) now) ++ ts)
-one_text h rows rows' m before now ts e l r b = go now r
-  where
-    old : AllBounded (m ∷ h) rows' ts
-    old = let P : List Row → Type 0 = λ x. AllBounded (m ∷ h) x ts in subst P (sym e) (all_more_bounded h rows m ts b)
-
-    go : (now : Option Job) → RisesTo rows before rows' now → AllBounded (m ∷ h) rows' (option_to_list (text_of h (raised_by before now) now) ++ ts)
-    go None r = old
-    go (Some w) r = at (task_raises before w.task) refl
-      where
-        at : (o : Option (List ℕ)) → task_raises before w.task ≡ o → AllBounded (m ∷ h) rows' (option_to_list (text_of h o (Some w)) ++ ts)
-        at None f = old
-        at (Some id) f =
-            let i = r id f in
-            let P : List Row → Type 0 = λ x. all_above id (counter_of id rows + 1) x in
-            let Q : ℕ → Type 0 = λ n. Bounded (m ∷ h) rows' (record { id = id; making = makings id h; counter = n }) in
-            let new : Bounded (m ∷ h) rows' (record { id = id; making = makings id h; counter = counter_of id rows + 1 }) =
-            record { earlier = makings_grow id m h; above = λ k. subst P (sym i.raises) (above_raised id (counter_of id rows) rows (raised_above id rows l)) } in
-            (subst Q (sym i.counter) new, old)
+one_text h rows rows' m before now ts e l r b =
+    let P : List Row → Type 0 = λ x. AllBounded (m ∷ h) x ts in
+    let old : AllBounded (m ∷ h) rows' ts = subst P (sym e) (all_more_bounded h rows m ts b) in
+    text_case (λ (o : Option Text). AllBounded (m ∷ h) rows' (option_to_list o ++ ts)) h before now (λ _. old) (λ w id is f.
+    let rise : RisesTo rows before rows' (Some w) = subst (RisesTo rows before rows') is r in
+    let i = rise id f in
+    let P : List Row → Type 0 = λ x. all_above id (counter_of id rows + 1) x in
+    let Q : ℕ → Type 0 = λ n. Bounded (m ∷ h) rows' (record { id = id; making = makings id h; counter = n }) in
+    let new : Bounded (m ∷ h) rows' (record { id = id; making = makings id h; counter = counter_of id rows + 1 }) =
+    record { earlier = makings_grow id m h; above = λ k. subst P (sym i.raises) (above_raised id (counter_of id rows) rows (raised_above id rows l)) } in
+    (subst Q (sym i.counter) new, old))
 
 -- what holds of the authenticator after every history
 pub record Sound (k : CoreState) : Type 0 where

@@ -1,6 +1,5 @@
 -- What the code's values say, in the words of the turns.
 use Rattle.std.specs.Prelude.{◌≡◌, ℕ, max, min, List, Bool, true, false, Option, Some, None}
-use Rattle.cred_table.specs.declared.row.Row.{Row}
 use Rattle.authn_core.specs.declared.authenticator.Turn.{Turn}
 use Rattle.authn_core.specs.declared.authenticator.Turn.TheVariants as turns
 use Rattle.authn_core.specs.declared.authenticator.Need.{Need}

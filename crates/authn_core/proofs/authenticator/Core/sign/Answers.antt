@@ -1,7 +1,6 @@
-use Rattle.std.proofs.Common.{◌≡◌, ◌++◌, ℕ, List, true, is_some, rules, ap, ◌∙◌, sym, subst}
+use Rattle.std.proofs.Common.{◌≡◌, true, is_some, rules, sym, subst}
 use Rattle.std.specs.List.{find}
 use Rattle.cred_table.specs.Rows.{has_id}
-use Rattle.fido_authdata.specs.AuthData.{assertion_bytes}
 use Rattle.authn_core.specs.Turn.{Held}
 use Rattle.authn_core.proofs.Finding.{is_there}
 use Rattle.authn_core.proofs.Readiness.{signed_ready}
@@ -13,10 +12,7 @@ raise-counter-requires-clause-there g c =
     is_there _ (subst P (sym c.self.view_is) c.requires.there)
 
 pub returns : goal.returns
-returns g c =
-    let a = c.args.a.now in
-    let signed : c.to_sign.result.items ≡ assertion_bytes a.rp a.presence c.raise-counter.result ++ a.hash = c.to_sign.ensures.value ∙ ap (λ (d : List ℕ). d ++ a.hash) c.assertion-data.ensures.value in
-    search rules
+returns g c = let signed = rw c.assertion-data.ensures.value at c.to_sign.ensures.value in search rules
 
 pub invariant_of-self : goal.invariant_of-self
 invariant_of-self g c =
