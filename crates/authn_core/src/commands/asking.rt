@@ -31,19 +31,17 @@ impl<T: Table<C>, const C: usize> Core<T, C> {
         Turn::Waits(KeepaliveStatus::PresenceNeeded)
     }
 
-    /// Takes all rows out where the user consents.
+    /// Takes all rows out where the user consents, and answers what the user did.
     pub(crate) fn reset(&mut self, reply: Presence) -> Turn
         ensures { Takes self.old self.new result (asked_alone (refuses [] None 0x00) self.old.core.state.rows
             self.old.core.state.pending reply) }
     {
-        match reply {
-            Presence::Granted => {
-                let turn = self.refuse_all(Status::OK);
-                self.table.clear();
-                turn
-            }
-            Presence::Denied | Presence::TimedOut => self.select(reply),
+        if let Presence::Granted = reply {
+            self.work = None;
+            self.table.clear();
+            self.pending.clear();
         }
+        self.select(reply)
     }
 
     /// Asks for the user's presence.

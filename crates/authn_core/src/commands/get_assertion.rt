@@ -116,8 +116,7 @@ impl<T: Table<C>, const C: usize> Core<T, C> {
             return self.refuse(refusals::NO_CREDENTIALS);
         };
         if counter_of(&self.table, &first) >= u32::MAX {
-            self.pending.clear();
-            return self.refuse(refusals::LIMIT_EXCEEDED);
+            return self.refuse_all(refusals::LIMIT_EXCEEDED);
         }
         let number = (ids.len() > 1 && !given).then_some(ids.len() as u16);
         let a = Asserting {
@@ -127,13 +126,12 @@ impl<T: Table<C>, const C: usize> Core<T, C> {
             presence,
             number,
         };
-        if presence {
-            let task = Task::AsksAssert(a);
-            self.work = Some(Job { cid, task });
-            Turn::Waits(KeepaliveStatus::PresenceNeeded)
-        } else {
-            self.sign(cid, &a)
+        if !presence {
+            return self.sign(cid, &a);
         }
+        let task = Task::AsksAssert(a);
+        self.work = Some(Job { cid, task });
+        Turn::Waits(KeepaliveStatus::PresenceNeeded)
     }
 
     /// Lets an assertion go on: its row's counter is raised, and it waits for the signature.
