@@ -106,7 +106,6 @@ pub struct Core<T: Table<C>, const C: usize> {
 // Clauses see the authenticator's state, and the steps of the last request.
 impl<T: Table<C>, const C: usize> Model for Core<T, C> {
     ghost use Rattle.std.specs.Prelude.{◌≤◌, option_map};
-    ghost use Rattle.authn_core.specs.State.{State};
     ghost use Rattle.authn_core.specs.Turn.{Held};
     ghost use Rattle.authn_core.specs.Ready.{Ready};
     ghost use Rattle.authn_core.specs.Views.{job_of};

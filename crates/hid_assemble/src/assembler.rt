@@ -1,6 +1,6 @@
 #![tactic(auto, unfolding(crate::specs::Table::ruling_of, crate::specs::Table::continuation_row, crate::specs::Assembly::accepted, crate::specs::Assembly::is_overdue, crate::specs::Assembly::open_after, crate::specs::Assembly::message_after, crate::specs::Verdicts::verdict, crate::specs::Verdicts::ruling_verdict, crate::specs::Kept::assembly))]
 
-ghost use Rattle.std.specs.Prelude.{◌≡◌, ℕ, ◌+◌, ◌*◌, ◌≤◌, ◌<◌, ◌++◌, List, [], length, take, drop, Option, None, Some, option_map, if◌then◌else◌};
+ghost use Rattle.std.specs.Prelude.{◌≡◌, ℕ, ◌+◌, ◌*◌, ◌≤◌, ◌<◌, ◌++◌, [], length, take, drop, Option, None, Some, option_map, if◌then◌else◌};
 ghost use Rattle.hid_packet.specs.Packet.{fields, initialization, continuation};
 ghost use Rattle.hid_assemble.specs.Assembly.{IsLawful, is_overdue, still_open, held_bytes, accepted, drop_on};
 ghost use Rattle.hid_assemble.specs.Table.{is_noise, is_on, ruling_of};
@@ -8,7 +8,7 @@ ghost use Rattle.hid_assemble.specs.Verdicts.{verdict};
 ghost use Rattle.hid_packet.specs.declared.limit.TheConstants.{CONTINUATION_DATA, INITIALIZATION_DATA, LONGEST_MESSAGE};
 
 use crate::code::ErrorCode;
-use crate::table::{Continuation, LAST_CHANNEL, Row, continuation_row, initialization_row};
+use crate::table::{Continuation, Row, continuation_row, initialization_row};
 use crate::verdict::Verdict;
 use hid_packet::{
     BROADCAST, CONTINUATION_DATA, INITIALIZATION_DATA, LONGEST_MESSAGE, Packet, View,

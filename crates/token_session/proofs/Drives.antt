@@ -1,11 +1,14 @@
 -- A drive goes on by one input.
-use Rattle.std.proofs.Common.{◌≡◌, ℕ, ◌+◌, ◌<◌, ◌≤◌, List, [], ◌∷◌, ◌++◌, append_assoc, append-nil, length, take, get_or, refl, sym, ◌∙◌, ap, subst, arith, length-take}
+use Rattle.std.proofs.Common.{Result, Ok, Err, IfOk, MatchResult, ◌≡◌, ℕ, ◌+◌, ◌<◌, ◌≤◌, List, [], ◌∷◌, ◌++◌, append_assoc, append-nil, length, take, get_or, refl, sym, ◌∙◌, ap, subst, arith, length-take}
+use Rattle.std.specs.Result.{result_unwrap_or}
 use Rattle.std.proofs.lemmas.List.{take_more}
 use Rattle.std.proofs.Math.Seq.{take-length}
 use Rattle.authn_core.specs.Turn.{Start}
 use Rattle.token_session.specs.declared.input.Timed.{Timed}
 use Rattle.token_session.specs.Carried.{ArriveWhole, IsWhole}
-use Rattle.token_session.specs.Drive.{driven, driven_sends}
+use Rattle.token_session.specs.Drive.{done_of, driven, driven_sends}
+use Rattle.token_session.specs.declared.driving.DriveFault.{DriveFault}
+use Rattle.token_session.specs.declared.driving.BothFault.{BothFault}
 use Rattle.token_session.specs.Law.{numbered, onto, sent_from, sent_now}
 use Rattle.token_session.specs.declared.input.Meters.{Meters}
 use Rattle.token_session.specs.Noise.{Quiet, quiet_from}
@@ -62,16 +65,23 @@ driven_follows (x ∷ xs) s start n h b =
     ap (λ ps. numbered n ps ++ driven_sends (n + 1) (stepped s x) xs) (step_sends s.machine start h x (machine_after s start h b))
     ∙ ap (λ qs. numbered n (sent_now start h x) ++ qs) (driven_follows xs (stepped s x) start (n + 1) (x ∷ h) (stands_longer s start h x b))
 
+-- a drive whose meters are passed on, and its fault as that of one of two
+abbrev IsPassed : Result Meters DriveFault → Meters → Type 0
+IsPassed r m = let passed : Result Meters BothFault = Ok m in MatchResult r (λ x. passed ≡ Ok x) (λ e. ⊥)
+
 -- Two drives by which quiet histories go on.
-pub drives_alike : (start : Start) (h g xs ys : List Timed) (s t : SessionState) (m k : Meters) (old new : List (ℕ × List ℕ)) → Quiet start h g → Quiet start (onto xs h) (onto ys g)
-    → StandsAfter s start (onto (take (length xs) xs) h) → StandsAfter t start (onto (take (length ys) ys) g) → m ≡ s.meters → k ≡ t.meters
-    → new ≡ old ++ sent_from 0 start g (take (length ys) ys)
+pub drives_alike : (start : Start) (h g xs ys : List Timed) (s t : SessionState) (r q : Result Meters DriveFault) (m k : Meters) (old new : List (ℕ × List ℕ))
+    → IsPassed r m → IsPassed q k → Quiet start h g → Quiet start (onto xs h) (onto ys g)
+    → StandsAfter s start (onto (take (done_of (length xs) r) xs) h) → StandsAfter t start (onto (take (done_of (length ys) q) ys) g)
+    → IfOk r (λ m. m ≡ s.meters) → IfOk q (λ k. k ≡ t.meters) → new ≡ old ++ sent_from 0 start g (take (done_of (length ys) q) ys)
     → (s ≡ t) × (m ≡ k) × (new ≡ old ++ quiet_from 0 start h xs ys)
-drives_alike start h g xs ys s t m k old new q longer stands stands' counts counts' sent =
+drives_alike start h g xs ys s t (Err e) q m k old new is is' quiet longer stands stands' counts counts' sent = absurd is
+drives_alike start h g xs ys s t (Ok x) (Err e) m k old new is is' quiet longer stands stands' counts counts' sent = absurd is'
+drives_alike start h g xs ys s t (Ok x) (Ok y) m k old new is is' quiet longer stands stands' counts counts' sent =
     let first : StandsAfter s start (onto xs h) = subst (λ (l : List Timed). StandsAfter s start (onto l h)) (take-length xs) stands in
     let second : StandsAfter t start (onto ys g) = subst (λ (l : List Timed). StandsAfter t start (onto l g)) (take-length ys) stands' in
     let same : s ≡ t = first ∙ quiet_alike start (onto xs h) (onto ys g) longer ∙ sym second in (
       same,
-      counts ∙ ap (λ (v : SessionState). v.meters) same ∙ sym counts',
-      sent ∙ ap (λ (l : List Timed). old ++ sent_from 0 start g l) (take-length ys) ∙ ap (λ ps. old ++ ps) (quiet_runs 0 start h g xs ys q longer),
+      ap (λ r. result_unwrap_or r m) is ∙ counts ∙ ap (λ (v : SessionState). v.meters) same ∙ sym counts' ∙ sym (ap (λ r. result_unwrap_or r k) is'),
+      sent ∙ ap (λ (l : List Timed). old ++ sent_from 0 start g l) (take-length ys) ∙ ap (λ ps. old ++ ps) (quiet_runs 0 start h g xs ys quiet longer),
     )

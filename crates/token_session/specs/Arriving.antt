@@ -8,12 +8,12 @@ use Rattle.authn_core.specs.Turn.{Start, working}
 use Rattle.token_session.specs.declared.input.Timed.{Timed}
 use Rattle.token_session.specs.Inputs.{Judged, given, own, packet}
 use Rattle.token_session.specs.Messages.{open_at, packets_of}
-use Rattle.token_session.specs.History.{core, judge, judged}
+use Rattle.token_session.specs.History.{core, judged_after, judged}
 
 -- the inputs of a list after a history, in order, as they are judged
 abbrev pub arriving : Start → List Timed → List Timed → List Judged
 arriving start h [] = []
-arriving start h (x ∷ xs) = judge start x (judged start h) ∷ arriving start (x ∷ h) xs
+arriving start h (x ∷ xs) = judged_after start h x ∷ arriving start (x ∷ h) xs
 
 -- each came less than 500 ms after the one before, the first less than 500 ms after `since`
 abbrev pub ComeSoon : ℕ → List Judged → Type 0
@@ -28,8 +28,8 @@ pub record Arrives (start : Start) (h : List Timed) (x : Timed) (between : List 
   pub low : 1 ≤ cid
   pub high : cid ≤ given (judged start h)
   pub served : (cmd ≡ PING) ⊎ ((cmd ≡ CBOR) × (1 ≤ length bytes))
-  pub free : open_at (judged start h) (judge start x (judged start h)).at ≡ None
+  pub free : open_at (judged start h) (judged_after start h x).at ≡ None
   pub idle : working (core start (judged start h)) ≡ None
   pub carried : CarriesMessage
       (packet x.input ∷ packets_of (own cid (arriving start (x ∷ h) between)) ++ packet last.input ∷ []) cid cmd bytes
-  pub soon : ComeSoon (judge start x (judged start h)).at (own cid (arriving start (x ∷ h) between) ++ last ∷ [])
+  pub soon : ComeSoon (judged_after start h x).at (own cid (arriving start (x ∷ h) between) ++ last ∷ [])

@@ -39,10 +39,6 @@ abbrev pub done_of : {A : Type 0} → ℕ → Result A DriveFault → ℕ
 done_of n (Ok x) = n
 done_of n (Err (Full done)) = done
 
--- the same of a fault alone
-abbrev pub done_in : DriveFault → ℕ
-done_in (Full done) = done
-
 abbrev pub first_done : {A : Type 0} → ℕ → Result A BothFault → ℕ
 first_done n (Ok x) = n
 first_done n (Err (BothFull first second)) = first

@@ -57,6 +57,10 @@ unfoldable pub judged : Start → List Timed → List Judged
 judged start [] = []
 judged start (x ∷ past) = judge start x (judged start past) ∷ judged start past
 
+-- the next input after these
+abbrev pub judged_after : Start → List Timed → Timed → Judged
+judged_after start past x = judge start x (judged start past)
+
 -- ERROR 0x05 on its channel
 abbrev pub cut_packets : Option Begun → List (List ℕ)
 cut_packets None = []

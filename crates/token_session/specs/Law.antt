@@ -9,7 +9,7 @@ use Rattle.token_session.specs.declared.input.Timed.{Timed}
 use Rattle.token_session.specs.Machine.{State, machine, turn}
 use Rattle.token_session.specs.Inputs.{Judged, end, given}
 use Rattle.token_session.specs.Messages.{begun_by, is_open, Begun, open_at, as_open}
-use Rattle.token_session.specs.History.{event_to, judge, judged, sent_at, core, last_keepalive}
+use Rattle.token_session.specs.History.{event_to, judged_after, judged, sent_at, core, last_keepalive}
 
 -- the state that a history names
 unfoldable pub named : Start → List Judged → State
@@ -27,7 +27,7 @@ IsAfter s start h = s ≡ named start (judged start h)
 
 -- the packets that x sends after h
 unfoldable pub sent_now : Start → List Timed → Timed → List (List ℕ)
-sent_now start h x = sent_at start (judge start x (judged start h)) (judged start h)
+sent_now start h x = sent_at start (judged_after start h x) (judged start h)
 
 -- the event that an input is after a history
 abbrev pub event_at : Start → Judged → List Judged → Option Event

@@ -12,7 +12,7 @@ use Rattle.token_session.specs.declared.input.Timed.{Timed}
 use Rattle.token_session.specs.Machine.{State, time_passed}
 use Rattle.token_session.specs.Inputs.{Judged, given}
 use Rattle.token_session.specs.Messages.{open_at, as_open}
-use Rattle.token_session.specs.History.{core, judge, judged, last_keepalive, sent_at, time_packets}
+use Rattle.token_session.specs.History.{core, judged_after, judged, last_keepalive, sent_at, time_packets}
 use Rattle.token_session.specs.Law.{numbered}
 
 -- By the channels given out, the open message and the authenticator: a packet is noise by its row of the reply table, a
@@ -42,7 +42,7 @@ tick_at at = record { at = at; input = Tick }
 -- In the place of x, which came after h, is x, or a tick at its moment where x is noise.
 abbrev pub IsQuiet : Start → List Timed → (x y : Timed) → Type 0
 IsQuiet start h x y = (y ≡ x) ⊎ ((y ≡ tick_at x.at) ×
-    (is_noise_after start (judge start x (judged start h)) (judged start h) ≡ true))
+    (is_noise_after start (judged_after start h x) (judged start h) ≡ true))
 
 -- The second history is the first, with ticks in place of noise: in all such places, in some or in none.
 abbrev pub Quiet : Start → (h g : List Timed) → Type 0
@@ -62,7 +62,7 @@ abbrev pub quiet_packets : Start → List Judged → Judged → Input → List (
 quiet_packets start past e j = if is_replaced e.input j then time_packets start past (last_keepalive start past) e.at else sent_at start e past
 
 unfoldable pub quiet_now : Start → List Timed → (x y : Timed) → List (List ℕ)
-quiet_now start h x y = quiet_packets start (judged start h) (judge start x (judged start h)) y.input
+quiet_now start h x y = quiet_packets start (judged start h) (judged_after start h x) y.input
 
 -- what a history sends, without the packets of service where the second has a tick for an input
 unfoldable pub quiet_sent : Start → (h g : List Timed) → List (List ℕ)

@@ -4,7 +4,7 @@ ghost use Rattle.arrayvec.specs.ArrayVec.{array_vec_len};
 ghost use Rattle.authn_core.specs.Turn.{Start};
 ghost use Rattle.token_session.specs.declared.input.Timed.{Timed as OneInput};
 ghost use Rattle.token_session.specs.Carried.{ArriveWhole, IsWhole};
-ghost use Rattle.token_session.specs.Drive.{as_pair, packet_of, both_number, drive_number, done_in, done_of, first_done, second_done, HadRoom, IsDriven};
+ghost use Rattle.token_session.specs.Drive.{as_pair, packet_of, both_number, drive_number, done_of, first_done, second_done, HadRoom, IsDriven};
 ghost use Rattle.token_session.specs.Headline.{IsAnswered, start_of};
 ghost use Rattle.token_session.specs.Law.{numbered, onto, sent_from};
 ghost use Rattle.token_session.specs.History.{judged};
@@ -37,14 +37,6 @@ impl DriveFault {
         match self {
             DriveFault::Full { .. } => 1,
         }
-    }
-
-    /// Returns how many inputs were stepped.
-    fn done(self) -> usize
-        ensures { result ≡ done_in self }
-    {
-        let DriveFault::Full { done } = self;
-        done
     }
 }
 
@@ -166,8 +158,8 @@ pub fn drive_new<const C: usize, const N: usize>(
 }
 
 /// Drives one session, and then another. Where the second list of inputs has ticks in place of noise of the first, the
-/// sessions end alike, and the second list of packets has just those of the first, less what was sent in service of the
-/// noise.
+/// sessions end alike, and the second list of packets has just those of the first, without what was sent in service of
+/// the noise.
 pub fn drive_both<const C: usize, const N: usize>(
     first: &mut Session<C>,
     second: &mut Session<C>,
@@ -196,18 +188,13 @@ pub fn drive_both<const C: usize, const N: usize>(
         × (map as_pair quiet_sent.new.items ≡ map as_pair quiet_sent.old.items
         ++ quiet_from 0 start h inputs.now quiet.now)) }
 {
-    let meters = match drive(first, inputs, sent) {
-        Ok(meters) => meters,
-        Err(fault) => return Err(BothFault::Full {
-            first: fault.done(),
-            second: 0,
-        }),
-    };
-    match drive(second, quiet, quiet_sent) {
-        Ok(quiet_meters) => Ok((meters, quiet_meters)),
-        Err(fault) => Err(BothFault::Full {
-            first: inputs.len(),
-            second: fault.done(),
-        }),
-    }
+    let one = drive(first, inputs, sent).map_err(|DriveFault::Full { done }| BothFault::Full {
+        first: done,
+        second: 0,
+    })?;
+    let two = drive(second, quiet, quiet_sent).map_err(|DriveFault::Full { done }| BothFault::Full {
+        first: inputs.len(),
+        second: done,
+    })?;
+    Ok((one, two))
 }

@@ -21,7 +21,7 @@ ghost use Rattle.token_session.specs.Arriving.{Arrives};
 ghost use Rattle.token_session.specs.Carried.{ArriveWhole, carriers_at};
 ghost use Rattle.token_session.specs.Inputs.{end, given};
 ghost use Rattle.token_session.specs.Messages.{finished_at, open_at};
-ghost use Rattle.token_session.specs.History.{judge, judged, held, core, sent, service_packets, last_keepalive};
+ghost use Rattle.token_session.specs.History.{judged_after, judged, held, core, sent, service_packets, last_keepalive};
 ghost use Rattle.token_session.specs.Machine.{State, machine, turn, time_passed};
 ghost use Rattle.token_session.specs.Events.{event_packets};
 ghost use Rattle.token_session.specs.Law.{all_open, IsAfter, sent_now, onto, sent_from, run_state, run_sent, turns_send, keeps_alive};
@@ -56,7 +56,7 @@ pub fn runs_follow_history()
 /// The moment from which the next KEEPALIVE counts is that of the last input that sent one.
 pub fn keepalives_count_from_the_last()
     ensures { (start : Start) (h : List OneInput) (x : OneInput) → last_keepalive start (judged start (x ∷ h))
-        ≡ (if keeps_alive (sent_now start h x) then (judge start x (judged start h)).at
+        ≡ (if keeps_alive (sent_now start h x) then (judged_after start h x).at
         else last_keepalive start (judged start h)) }
 {}
 
@@ -75,9 +75,8 @@ pub fn messages_of_one_packet_finish()
         → x.input ≡ PacketCame p → CarriesMessage (p.0 ∷ []) cid cmd bytes
         → (cmd ≡ PING) ⊎ ((cmd ≡ CBOR) × (1 ≤ length bytes))
         → 1 ≤ cid → cid ≤ given (judged start h)
-        → open_at (judged start h) (judge start x (judged start h)).at ≡ None
-        → working (core start (judged start h)) ≡ None
-        → finished_at (judge start x (judged start h)) (judged start h)
+        → open_at (judged start h) (judged_after start h x).at ≡ None → working (core start (judged start h)) ≡ None
+        → finished_at (judged_after start h x) (judged start h)
         ≡ Some (record { cid = cid; cmd = cmd; bytes = bytes }) }
 {}
 
@@ -87,8 +86,8 @@ pub fn messages_of_one_packet_finish()
 pub fn messages_of_several_packets_finish()
     ensures { (start : Start) (h between : List OneInput) (x y : OneInput) (p q : AnyPacket) (cid cmd : ℕ)
         (bytes : List ℕ) → x.input ≡ PacketCame p → y.input ≡ PacketCame q
-        → Arrives start h x between (judge start y (judged start (onto between (x ∷ h)))) cid cmd bytes
-        → finished_at (judge start y (judged start (onto between (x ∷ h)))) (judged start (onto between (x ∷ h)))
+        → Arrives start h x between (judged_after start (onto between (x ∷ h)) y) cid cmd bytes
+        → finished_at (judged_after start (onto between (x ∷ h)) y) (judged start (onto between (x ∷ h)))
         ≡ Some (record { cid = cid; cmd = cmd; bytes = bytes }) }
 {}
 
@@ -97,13 +96,12 @@ pub fn messages_of_several_packets_finish()
 /// start, whatever came before.
 pub fn requests_are_answered()
     ensures request { (start : Start) (h : List OneInput) (x : OneInput) (m : Message)
-        → finished_at (judge start x (judged start h)) (judged start h) ≡ Some m → m.cmd ≡ CBOR
-        → service_packets start (judge start x (judged start h)) (judged start h)
-        ≡ event_packets (core start (judged start h)) (judge start x (judged start h)).at
-        (Some (Request m.cid m.bytes)) }
+        → finished_at (judged_after start h x) (judged start h) ≡ Some m → m.cmd ≡ CBOR
+        → service_packets start (judged_after start h x) (judged start h)
+        ≡ event_packets (core start (judged start h)) (judged_after start h x).at (Some (Request m.cid m.bytes)) }
     ensures info { (start : Start) (h : List OneInput) (x : OneInput) (m : Message)
-        → finished_at (judge start x (judged start h)) (judged start h) ≡ Some m → m.cmd ≡ CBOR → m.bytes ≡ 0x04 ∷ []
-        → service_packets start (judge start x (judged start h)) (judged start h)
+        → finished_at (judged_after start h x) (judged start h) ≡ Some m → m.cmd ≡ CBOR → m.bytes ≡ 0x04 ∷ []
+        → service_packets start (judged_after start h x) (judged start h)
         ≡ written m.cid CBOR (info_answer start.aaguid) }
 {}
 
@@ -112,8 +110,8 @@ pub fn requests_are_answered()
 pub fn meters_are_bounded()
     ensures held { (start : Start) (h : List OneInput) → (meters_of start (judged start h)).held ≤ 7550 }
     ensures steps { (start : Start) (h : List OneInput)
-        → (meters_of start (judged start h)).steps ≤ 4 * (meters_of start (judged start h)).bytes + 2 *
-        (meters_of start (judged start h)).requests }
+        → (meters_of start (judged start h)).steps
+        ≤ 4 * (meters_of start (judged start h)).bytes + 2 * (meters_of start (judged start h)).requests }
 {
     steps_are_bounded();
 }
@@ -127,8 +125,8 @@ pub fn one_input_sends_few_packets()
 /// one: its bytes are just those that they carried.
 pub fn finished_messages_were_carried()
     ensures { (start : Start) (h : List OneInput) (x : OneInput) (m : Message) → ArriveWhole (x ∷ h)
-        → finished_at (judge start x (judged start h)) (judged start h) ≡ Some m
-        → CarriesMessage (carriers_at (judge start x (judged start h)) (judged start h)) m.cid m.cmd m.bytes }
+        → finished_at (judged_after start h x) (judged start h) ≡ Some m
+        → CarriesMessage (carriers_at (judged_after start h x) (judged start h)) m.cid m.cmd m.bytes }
 {}
 
 /// Noise is a tick to a session: it holds the same after either, its meters too, and what a tick sends are the packets
@@ -138,7 +136,7 @@ pub fn noise_is_a_tick()
         → stepped s x ≡ stepped s (tick_at x.at) }
     ensures packets { (s : State) (at : ℕ) → (turn s (tick_at at)).packets ≡ (time_passed s (max s.now at)).packets }
     ensures named { (s : State) (start : Start) (h : List OneInput) (x : OneInput) → IsAfter s start h
-        → is_noise_at s x ≡ is_noise_after start (judge start x (judged start h)) (judged start h) }
+        → is_noise_at s x ≡ is_noise_after start (judged_after start h x) (judged start h) }
 {}
 
 /// Of two histories of one start, the second is the first with ticks in place of noise. Then all that a session holds
@@ -189,7 +187,7 @@ pub fn what_is_signed_is_answered()
     ensures answered { (start : Start) (h : List OneInput) (x : OneInput) (id signed sig : List ℕ)
         → Lawful start.room start.rows → x.input ≡ SignatureCame (Some sig)
         → needs (core start (judged start h)).state.work ≡ sign id signed
-        → IsAnsweredBy start (judged start h) (judge start x (judged start h)) id signed sig }
+        → IsAnsweredBy start (judged start h) (judged_after start h x) id signed sig }
 {
     signing_law();
 }

@@ -7,7 +7,7 @@ ghost use Rattle.cred_table.specs.Snapshots.{Loads, Refuses};
 ghost use Rattle.cred_table.specs.Waiting.{pending_count};
 ghost use Rattle.authn_core.specs.Turn.{Start};
 ghost use Rattle.token_session.specs.declared.input.Timed.{Timed as OneInput};
-ghost use Rattle.token_session.specs.History.{judge, judged, held};
+ghost use Rattle.token_session.specs.History.{judged_after, judged, held};
 ghost use Rattle.token_session.specs.Law.{sent_now};
 ghost use Rattle.token_session.specs.Effects.{request_in};
 ghost use Rattle.token_session.specs.Meters.{AreBounded, SessionState, StandsAfter, counted, stepped, sent_by, session_of};
@@ -153,9 +153,8 @@ impl<const C: usize> Session<C> {
     pub fn noise(&self, at: u64, input: &Input) -> bool
         ensures state { result ≡ is_noise_at self.now.machine (record { at = at; input = input.now }) }
         // It is noise after each history that the session is after.
-        ensures history { (start : Start) (h : List OneInput) → StandsAfter self.now start h
-            → result ≡ is_noise_after start (judge start (record { at = at; input = input.now }) (judged start h))
-            (judged start h) }
+        ensures history { (start : Start) (h : List OneInput) → StandsAfter self.now start h → result
+            ≡ is_noise_after start (judged_after start h (record { at = at; input = input.now })) (judged start h) }
     {
         let now = self.latest.max(at);
         is_noise(&self.assembler, &self.core, now, input)
