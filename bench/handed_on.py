@@ -1,0 +1,133 @@
+#!/usr/bin/env python3
+"""Lists the values that functions of the libraries only hand on, unchanged.
+
+    bench/handed_on.py FUNCTIONS    a file that names the functions, as bench/functions.sh writes it
+
+Each line is a chain: every function in it does nothing with its parameter except hand it to the next, the last to one
+that uses it. The chain's length comes first. The sources are read as text, and calls are known by their names.
+"""
+
+from __future__ import annotations
+
+import re
+import sys
+from dataclasses import dataclass
+from pathlib import Path
+
+CRATES = Path(__file__).resolve().parent.parent / "crates"
+OPENING, CLOSING = "([{<", ")]}>"
+
+
+@dataclass(frozen=True)
+class Function:
+    """A function of the sources: its parameters' names in order, with `self` first in a method."""
+
+    crate: str
+    name: str
+    parameters: tuple[str, ...]
+    body: str
+
+
+@dataclass(frozen=True)
+class Value:
+    """A parameter of a function."""
+
+    crate: str
+    function: str
+    parameter: str
+
+    def __str__(self) -> str:
+        return f"{self.crate}::{self.function}({self.parameter})"
+
+
+def closing(text: str, start: int) -> int:
+    """Returns the place of the bracket that closes the one at `start`; its kind alone counts."""
+    opened, closed = text[start], CLOSING[OPENING.index(text[start])]
+    depth = 0
+    for place in range(start, len(text)):
+        depth += (text[place] == opened) - (text[place] == closed)
+        if depth == 0:
+            return place
+    raise ValueError(f"no {closed} closes {text[start:start + 40]!r}")
+
+
+def parts(text: str) -> list[str]:
+    """Returns what commas outside of brackets separate."""
+    found, depth, begun = [], 0, 0
+    for place, letter in enumerate(text.replace("->", "--").replace("=>", "==") + ","):
+        depth += (letter in OPENING) - (letter in CLOSING)
+        if letter == "," and depth == 0:
+            found.append(text[begun:place].strip())
+            begun = place + 1
+    return [part for part in found if part]
+
+
+def functions_of(crate: str, text: str) -> list[Function]:
+    """Returns the functions of a file that have a body."""
+    found = []
+    text = re.sub(r"//[^\n]*", "", text)
+    for head in re.finditer(r"\bfn (\w+)", text):
+        begin = text.index("(", head.end())
+        end = closing(text, begin)
+        # Clauses come between the head and the body, each on lines of its own, and the body's brace begins a line.
+        brace = re.compile(r"^\s*\{", re.MULTILINE).search(text, end)
+        following = re.compile(r"\bfn \w+").search(text, end)
+        if not brace or (following and following.start() < brace.start()):
+            continue
+        names = [re.match(r"(?:mut )?(\w+)\s*:", part) for part in parts(text[begin + 1 : end])]
+        parameters = tuple(name.group(1) if name else "self" for name in names)
+        opened = brace.end() - 1
+        found.append(Function(crate, head.group(1), parameters, text[opened + 1 : closing(text, opened)]))
+    return found
+
+
+def handed(function: Function, called: dict[str, list[Function]]) -> dict[str, list[Value]]:
+    """Returns the parameters that a function only hands on, each with those that take it."""
+    takers: dict[str, list[Value]] = {}
+    count: dict[str, int] = {}
+    for call in re.finditer(r"(\.?)\b(\w+)(?:::<[^>]*>)?\(", function.body):
+        arguments = parts(function.body[call.end() : closing(function.body, call.end() - 1)])
+        for place, argument in enumerate(arguments):
+            name = re.sub(r"^(&mut |&|\*)", "", argument)
+            if name not in function.parameters or call.group(2) not in called:
+                continue
+            count[name] = count.get(name, 0) + 1
+            for taker in called[call.group(2)]:
+                parameters = taker.parameters[1:] if call.group(1) else taker.parameters
+                if place < len(parameters):
+                    takers.setdefault(name, []).append(Value(taker.crate, taker.name, parameters[place]))
+    uses = {name: len(re.findall(rf"(?<![\w.]){name}\b", function.body)) for name in takers}
+    return {name: values for name, values in takers.items() if count[name] == uses[name]}
+
+
+def chain(value: Value, hands: dict[Value, list[Value]], seen: frozenset[Value]) -> list[Value]:
+    """Returns the longest chain that begins with a value."""
+    following = [chain(taker, hands, seen | {taker}) for taker in hands[value] if taker in hands and taker not in seen]
+    return [value, *max(following, key=len, default=[])]
+
+
+def main() -> int:
+    if len(sys.argv) != 2:
+        print(__doc__, file=sys.stderr)
+        return 2
+    named = [line.strip() for line in Path(sys.argv[1]).read_text(encoding="utf-8").splitlines() if "::" in line]
+    listed = {(path.split("::")[0], path.split("::")[-1]) for path in named}
+    called: dict[str, list[Function]] = {}
+    for file in sorted(CRATES.glob("*/src/**/*.rt")):
+        crate = file.relative_to(CRATES).parts[0]
+        for function in functions_of(crate, file.read_text(encoding="utf-8")):
+            if (crate, function.name) in listed:
+                called.setdefault(function.name, []).append(function)
+    hands: dict[Value, list[Value]] = {}
+    for function in [one for several in called.values() for one in several]:
+        for name, takers in handed(function, called).items():
+            hands[Value(function.crate, function.name, name)] = takers
+    inner = {taker for takers in hands.values() for taker in takers}
+    chains = [chain(value, hands, frozenset({value})) for value in hands if value not in inner]
+    for values in sorted(chains, key=lambda values: (-len(values), str(values[0]))):
+        print(len(values), " -> ".join(map(str, values)))
+    return 0
+
+
+if __name__ == "__main__":
+    sys.exit(main())
