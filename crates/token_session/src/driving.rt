@@ -182,8 +182,7 @@ pub fn drive_both<const C: usize, const N: usize>(
         × (N < array_vec_len quiet_sent.new + OUTBOX_CAPACITY))) }
     // After histories of one start of which the second has ticks in place of noise, before and after.
     ensures alike { (start : Start) (h g : List OneInput) → StandsAfter first.old start h
-        → StandsAfter second.old start g
-        → Quiet start h g → Quiet start (onto inputs.now h) (onto quiet.now g)
+        → StandsAfter second.old start g → Quiet start h g → Quiet start (onto inputs.now h) (onto quiet.now g)
         → IfOk result (λ meters. (first.new ≡ second.new) × (meters.0 ≡ meters.1)
         × (map as_pair quiet_sent.new.items ≡ map as_pair quiet_sent.old.items
         ++ quiet_from 0 start h inputs.now quiet.now)) }

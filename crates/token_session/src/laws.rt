@@ -73,8 +73,7 @@ pub fn one_message_is_open()
 pub fn messages_of_one_packet_finish()
     ensures { (start : Start) (h : List OneInput) (x : OneInput) (p : AnyPacket) (cid cmd : ℕ) (bytes : List ℕ)
         → x.input ≡ PacketCame p → CarriesMessage (p.0 ∷ []) cid cmd bytes
-        → (cmd ≡ PING) ⊎ ((cmd ≡ CBOR) × (1 ≤ length bytes))
-        → 1 ≤ cid → cid ≤ given (judged start h)
+        → (cmd ≡ PING) ⊎ ((cmd ≡ CBOR) × (1 ≤ length bytes)) → 1 ≤ cid → cid ≤ given (judged start h)
         → open_at (judged start h) (judged_after start h x).at ≡ None → working (core start (judged start h)) ≡ None
         → finished_at (judged_after start h x) (judged start h)
         ≡ Some (record { cid = cid; cmd = cmd; bytes = bytes }) }
@@ -109,8 +108,7 @@ pub fn requests_are_answered()
 /// most four steps for each byte after a command byte, and two for each request.
 pub fn meters_are_bounded()
     ensures held { (start : Start) (h : List OneInput) → (meters_of start (judged start h)).held ≤ 7550 }
-    ensures steps { (start : Start) (h : List OneInput)
-        → (meters_of start (judged start h)).steps
+    ensures steps { (start : Start) (h : List OneInput) → (meters_of start (judged start h)).steps
         ≤ 4 * (meters_of start (judged start h)).bytes + 2 * (meters_of start (judged start h)).requests }
 {
     steps_are_bounded();
@@ -149,8 +147,7 @@ pub fn quiet_histories_are_alike()
     ensures packets { (start : Start) (h g : List OneInput) → Quiet start h g
         → sent start (judged start g) ≡ quiet_sent start h g }
     ensures runs { (n : ℕ) (start : Start) (h g xs ys : List OneInput) → Quiet start h g
-        → Quiet start (onto xs h) (onto ys g)
-        → sent_from n start g ys ≡ quiet_from n start h xs ys }
+        → Quiet start (onto xs h) (onto ys g) → sent_from n start g ys ≡ quiet_from n start h xs ys }
 {}
 
 /// The credentials after any history are the start's and those that it made, in order, without what a granted reset or

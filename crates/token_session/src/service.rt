@@ -26,12 +26,7 @@ pub const KEEPALIVE_PERIOD: u64 = 100;
 const DEVICE: [u8; 5] = [2, 1, 0, 0, 0x0c];
 
 /// Hands the transport an input, while this work waits. Returns its verdict on a packet; it lets every other input be.
-pub(crate) fn admit(
-    assembler: &mut Assembler,
-    now: u64,
-    input: &Input,
-    work: Option<Work>,
-) -> Verdict
+pub fn admit(assembler: &mut Assembler, now: u64, input: &Input, work: Option<Work>) -> Verdict
     ensures verdict { result ≡ input_verdict assembler.old (channel_of (option_map work_of work)) input.now }
     ensures state { assembler.new ≡ assembly_after assembler.old now (channel_of (option_map work_of work)) input.now }
 {
@@ -43,7 +38,7 @@ pub(crate) fn admit(
 
 /// Sends what a verdict sends, except for the packets of its event. `message` is what the packet finished.
 #[tactic(auto, using(hid_packet::proofs::Carrying::few_written), unfolding(crate::specs::Replies::greeting))]
-pub(crate) fn put_verdict(outbox: &mut Outbox, verdict: Verdict, message: &[u8])
+pub fn put_verdict(outbox: &mut Outbox, verdict: Verdict, message: &[u8])
     requires room { length outbox.old ≤ 1 }
     requires short { length message.now ≤ LONGEST_MESSAGE }
     ensures { outbox.new ≡ outbox.old ++ verdict_packets verdict message.now }
@@ -66,11 +61,7 @@ pub(crate) fn put_verdict(outbox: &mut Outbox, verdict: Verdict, message: &[u8])
 
 /// Returns the event that an input is, if it is one: that of the verdict on a packet, which finished `message`, or a
 /// reply of the caller.
-pub(crate) fn event_in<'a>(
-    input: &'a Input,
-    verdict: Verdict,
-    message: &'a [u8],
-) -> Option<Event<'a>>
+pub fn event_in<'a>(input: &'a Input, verdict: Verdict, message: &'a [u8]) -> Option<Event<'a>>
     ensures { option_map event_of result ≡ input_event input.now verdict message.now }
 {
     match input {
@@ -94,7 +85,7 @@ pub(crate) fn event_in<'a>(
 /// Sends what the turn of an event returned to the channel that asked: a request's own, or that of the `work` that
 /// waited before the turn. Returns whether that was a KEEPALIVE.
 #[tactic(auto, unfolding(crate::specs::Replies::answer_packets, crate::specs::Machine::answer_keeps_alive))]
-pub(crate) fn send(outbox: &mut Outbox, event: &Event<'_>, work: Option<Work>, turn: &Turn) -> bool
+pub fn send(outbox: &mut Outbox, event: &Event<'_>, work: Option<Work>, turn: &Turn) -> bool
     requires { length outbox.old + length (answer_packets (asker (option_map work_of work) (event_of event.now))
         (status_of (option_map work_of work)) (answer_of turn.now)) ≤ OUTBOX_CAPACITY }
     ensures keepalive { result ≡ answer_keeps_alive (asker (option_map work_of work) (event_of event.now))
@@ -124,7 +115,7 @@ pub(crate) fn send(outbox: &mut Outbox, event: &Event<'_>, work: Option<Work>, t
 }
 
 /// Returns whether an input is noise when time has passed to `now`.
-pub(crate) fn is_noise<const C: usize>(
+pub fn is_noise<const C: usize>(
     assembler: &Assembler,
     core: &Core<Store<C>, C>,
     now: u64,

@@ -1,7 +1,7 @@
 ghost use Rattle.std.specs.Prelude.{◌≡◌, ◌≤◌, [], ◌∷◌, List, Ok, length, MatchResult};
 ghost use Rattle.hid_assemble.specs.Assembly.{held_bytes};
 ghost use Rattle.authn_core.specs.Needs.{IsNeed};
-ghost use Rattle.authn_core.specs.Views.{needs, needed};
+ghost use Rattle.authn_core.specs.Views.{first_held, needs, needed};
 ghost use Rattle.cred_table.specs.declared.row.Row.{Row as AnyRow};
 ghost use Rattle.cred_table.specs.Snapshots.{Loads, Refuses};
 ghost use Rattle.cred_table.specs.Waiting.{pending_count};
@@ -73,6 +73,16 @@ fn first_meters(rows: u16) -> Meters
     }
 }
 
+/// Returns an authenticator without credentials, made where it stays.
+#[inline(never)]
+fn empty_core<const C: usize>(aaguid: [u8; 16], start: u64) -> Core<Store<C>, C>
+    requires some { 1 ≤ C }
+    requires few { C ≤ 256 }
+    ensures { result ≡ first_held (record { aaguid = aaguid; moment = start; room = C; rows = [] }) }
+{
+    Core::new(Config { aaguid }, Store::new(), start)
+}
+
 impl<const C: usize> Session<C> {
     /// A session that begins at the moment `start`, in milliseconds, with these credentials. No channel is given out,
     /// and no work waits.
@@ -103,7 +113,13 @@ impl<const C: usize> Session<C> {
         requires few { C ≤ 256 }
         ensures { result ≡ session_of (record { aaguid = aaguid; moment = start; room = C; rows = [] }) [] }
     {
-        Session::new(Config { aaguid }, Store::new(), start)
+        Session {
+            latest: start,
+            assembler: Assembler::new(),
+            core: empty_core(aaguid, start),
+            keepalive_at: 0,
+            meters: first_meters(0),
+        }
     }
 
     /// Begins anew at the moment `start`, in milliseconds, with the credentials of a snapshot in place of its own. No
