@@ -189,7 +189,8 @@ def stray(lines: list[str], verdicts: dict[str, str], room: Room, tried: list[Fu
         if place and place[3] and not place[1].startswith("src/") and not is_own(place[1], int(place[2]), room, tried):
             return line[:200]
     for name, verdict in verdicts.items():
-        is_edited = any(is_of(name, it.name) for it in tried)
+        # Functions that call one another have their proofs together, so an edit of one shows at all of them.
+        is_edited = any(is_of(name, it.name) or (it.cycle and f".+{it.cycle}." in verdict) for it in tried)
         if not is_edited and not PROVED.match(verdict) and not any(f"`{it.name}`" in verdict for it in tried):
             return f"fn {name}: {verdict[:160]}"
     return None
