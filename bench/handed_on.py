@@ -10,6 +10,7 @@ that uses it. The chain's length comes first. The sources are read as text, and 
 from __future__ import annotations
 
 import re
+import signal
 import sys
 from dataclasses import dataclass
 from pathlib import Path
@@ -107,6 +108,8 @@ def chain(value: Value, hands: dict[Value, list[Value]], seen: frozenset[Value])
 
 
 def main() -> int:
+    # A reader that closes the pipe ends it in silence.
+    signal.signal(signal.SIGPIPE, signal.SIG_DFL)
     if len(sys.argv) != 2:
         print(__doc__, file=sys.stderr)
         return 2
