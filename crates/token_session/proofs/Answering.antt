@@ -1,5 +1,5 @@
 -- A finished CBOR message is a request, and its answer is all that is sent for it.
-use Rattle.std.proofs.Common.{◌≡◌, ℕ, ◌≤◌, ◌==◌, ◌⊎◌, inl, inr, ◌&&◌, ◌||◌, true, nat_le, List, [], ◌∷◌, ◌++◌, length, max, Option, Some, None, option_map, Ok, refl, sym, ◌∙◌, ap, subst, arith}
+use Rattle.std.proofs.Common.{◌≡◌, ℕ, ◌≤◌, ◌==◌, ◌⊎◌, inl, inr, ◌&&◌, ◌||◌, true, nat_le, List, [], ◌∷◌, ◌++◌, length, max, Option, take, Some, None, option_map, Ok, refl, sym, ◌∙◌, ap, subst, arith}
 use Rattle.std.proofs.lemmas.Bool.Decides.{nat_tests}
 use Rattle.ctap_message.specs.Answers.{info_answer}
 use Rattle.ctap_message.specs.Asked.{GetInfo}
@@ -11,11 +11,11 @@ use Rattle.hid_assemble.specs.Table.{Begins, Continues, Open, Ruling, is_given, 
 use Rattle.hid_assemble.specs.Assembly.{Message, bytes_of, message_after}
 use Rattle.hid_assemble.specs.declared.table.Row.TheVariants.{Short}
 use Rattle.hid_assemble.specs.declared.table.Continuation.TheVariants.{Whole}
-use Rattle.hid_packet.specs.Carries.{Carries, IsLeast}
+use Rattle.hid_packet.specs.Carries.{Carries, joined}
 use Rattle.hid_packet.specs.Commands.{CBOR, PING}
 use Rattle.hid_packet.specs.declared.packet.Packet.{Packet as Packet64}
 use Rattle.hid_packet.specs.Message.{written}
-use Rattle.hid_packet.specs.Packet.{Fields, fields}
+use Rattle.hid_packet.specs.Packet.{Fields, fields, message_length}
 use Rattle.token_session.specs.Inputs.{Judged, end, given}
 use Rattle.token_session.specs.Messages.{finished_at, finished, open_at, as_open}
 use Rattle.token_session.specs.History.{admits, core, event, judge, judged, packet_event, service_packets, table_packets}
@@ -30,23 +30,16 @@ use Rattle.token_session.specs.declared.input.Input.TheVariants.{Packet}
 use Rattle.token_session.specs.declared.input.Timed.{Timed}
 use Rattle.token_session.proofs.Follows.{Good, good_judged, judged_at, safe_at}
 use Rattle.token_session.proofs.Tables.{table_sends}
-use Rattle.token_session.proofs.Serve.{Serves, new_open}
-use Rattle.token_session.proofs.Continuing.{serves}
+use Rattle.token_session.proofs.Serve.{serves}
 
--- the verdict on a packet that finishes a message
-ends : (g : ℕ) (w : Option ℕ) (o : Option Open) (f : Fields) (m : Message) (r : Ruling) → message_after o f r ≡ Some m → ruling_verdict g w f (Some m) r ≡ Finished m.cid m.cmd
-unfolding message_after ruling_verdict
-ends g w o f m (Begins Short) h = refl
-ends g w o f m (Continues Whole) h = refl
-ends g w o f m other h = cc
-
--- such a verdict sends nothing of its own, and is the message's event
+-- A finished message's row sends nothing of its own, and a request is its event.
 record Asks (m : Message) (v : Verdict) : Type 0 where
   quiet : verdict_packets v m.bytes ≡ []
   asks : verdict_event v m.bytes ≡ Some (Request m.cid m.bytes)
 
-asked : (m : Message) (v : Verdict) → m.cmd ≡ CBOR → v ≡ Finished m.cid m.cmd → Asks m v
-asked m v h e = rw (e, h) (record { quiet = refl; asks = refl })
+asked : (g : ℕ) (w : Option ℕ) (o : Option Open) (f : Fields) (m : Message) (r : Ruling) → message_after o f r ≡ Some m → m.cmd ≡ CBOR → Asks m (ruling_verdict g w f (Some m) r)
+unfolding message_after ruling_verdict
+asked g w o f m r h is = record { quiet = grind (arith, nat_tests); asks = grind (arith, nat_tests) }
 
 request_at : (start : Start) (t : ℕ) (h : List Judged) (i : Input) (m : Message) → Good start h → end start h ≤ t
     → finished (open_at h t) (judged_at start t h i).admitted i ≡ Some m → m.cmd ≡ CBOR
@@ -56,15 +49,12 @@ request_at start t h (Packet x) m good le fin is =
     let g = given h in
     let o = open_at h t in
     let w = working (core start h) in
-    let f = fields x.0 in
-    let row = ruling_of g (option_map as_open o) w f in
-    let s : Serves g o w t x.0 f (new_open g o w t x.0 (Packet x)) (finished o (admits g o w x.0) (Packet x)) row = serves g o w t x (safe_at start t h good le) in
-    let after : message_after (option_map as_open o) f row ≡ Some m = sym s.message ∙ fin in
-    let a = asked m _ is (ends g w (option_map as_open o) f m row after) in
-    let sends : table_packets g o w (Packet x) ++ ping_packets (Some m) ≡ [] =
-    subst (λ v. table_packets g o w (Packet x) ++ ping_packets v ≡ verdict_packets (ruling_verdict g w f v row) (bytes_of v)) after (table_sends g o w x) ∙ a.quiet in
-    let asks : packet_event w (Some m) x.0 ≡ Some (Request m.cid m.bytes) =
-    subst (λ v. packet_event w v x.0 ≡ verdict_event (ruling_verdict g w f v row) (bytes_of v)) after s.event ∙ a.asks in
+    let row = ruling_of g (option_map as_open o) w (fields x.0) in
+    let s = serves g o w t x (safe_at start t h good le) in
+    let after : message_after (option_map as_open o) (fields x.0) row ≡ Some m = sym s.message ∙ fin in
+    let a = asked g w (option_map as_open o) (fields x.0) m row after is in
+    let sends : table_packets g o w (Packet x) ++ ping_packets (Some m) ≡ [] = rw after at (table_sends g o w x) ∙ a.quiet in
+    let asks : packet_event w (Some m) x.0 ≡ Some (Request m.cid m.bytes) = rw after at s.event ∙ a.asks in
     rw (fin, sends, asks) refl
 request_at start t h other m good le fin is = cc
 
@@ -100,34 +90,21 @@ info_is_answered start h x m fin is bytes =
     ∙ ap (answer_packets (asker (waiting k) (Request m.cid m.bytes)) (status_of (waiting k))) (info_answered k t m.cid m.bytes asks)
     ∙ ap (λ aaguid. written m.cid CBOR (info_answer aaguid)) (core_aaguid start past)
 
--- A packet that carries a whole message is admitted and finishes it, where nothing is open and no work waits.
-fits_one : (len : ℕ) → IsLeast 0 len → len ≤ 57
-fits_one len (inl a) = a.0
-fits_one len (inr b) = omega (arith, b.0)
+-- A packet that begins such a message is admitted where nothing is open and no work waits.
+pub admitted_first : (g c k : ℕ) (p : List ℕ) (others : List (List ℕ)) (b : List ℕ) → Carries p others c k b → (k ≡ PING) ⊎ ((k ≡ CBOR) × (1 ≤ length b)) → 1 ≤ c → c ≤ g
+    → admits g None None p ≡ true
+unfolding admits
+admitted_first g c k p others b carries served low high = grind (arith, nat_tests)
 
-pub on_given : (g c : ℕ) → 1 ≤ c → c ≤ g → is_given g c ≡ true
-on_given g c low high = grind (arith, nat_tests)
-
-pub is_served : (k n : ℕ) → (k ≡ PING) ⊎ ((k ≡ CBOR) × (1 ≤ n)) → ((k == PING) || ((k == CBOR) && nat_le 1 n)) ≡ true
-is_served k n (inl ping) = rw ping refl
-is_served k n (inr cbor) = let some : nat_le 1 n ≡ true = let least = cbor.1 in grind (arith, nat_tests) in rw (cbor.0, some) refl
-
-pub short_finishes : (start : Start) (t : ℕ) (h : List Judged) (x : Packet64) (c k : ℕ) (b : List ℕ) → Carries x.0 [] c k b
-    → (k ≡ PING) ⊎ ((k ≡ CBOR) × (1 ≤ length b)) → 1 ≤ c → c ≤ given h → open_at h t ≡ None → working (core start h) ≡ None
-    → finished (open_at h t) (judged_at start t h (Packet x)).admitted (Packet x) ≡ Some (record { cid = c; cmd = k; bytes = b })
-unfolding finished admits
-short_finishes start t h x c k b carries served low high none idle =
-    let few = fits_one (length b) carries.least in
-    let on_one : nat_le (length b) 57 ≡ true = grind (arith, nat_tests) in
-    rw (none, idle, carries.begins, carries.on, carries.asks, carries.counts, on_given (given h) c low high, is_served k (length b) served, on_one)
-    (λ i. Some (record { cid = c; cmd = k; bytes = (sym carries.joins) i }))
-
+-- one that carries a whole message finishes it
 pub one_packet_finishes : (start : Start) (h : List Timed) (x : Timed) (p : Packet64) (c k : ℕ) (b : List ℕ) → x.input ≡ Packet p → Carries p.0 [] c k b
     → (k ≡ PING) ⊎ ((k ≡ CBOR) × (1 ≤ length b)) → 1 ≤ c → c ≤ given (judged start h)
     → open_at (judged start h) (judge start x (judged start h)).at ≡ None → working (core start (judged start h)) ≡ None
     → finished_at (judge start x (judged start h)) (judged start h) ≡ Some (record { cid = c; cmd = k; bytes = b })
-unfolding judge
+unfolding judge finished
 one_packet_finishes start h x p c k b came carries served low high none idle =
-    let past = judged start h in
-    let t = max (end start past) x.at in
-    rw came (short_finishes start t past p c k b carries served low high none idle)
+    let least = carries.least in
+    let n = carries.counts in
+    let few : nat_le (message_length p.0) 57 ≡ true = grind (arith, nat_tests) in
+    rw (came, none, idle, admitted_first (given (judged start h)) c k p.0 [] b carries served low high, few)
+    (λ i. Some (record { cid = carries.on i; cmd = carries.asks i; bytes = (ap (λ m. take m (joined p.0 [])) n ∙ sym carries.joins) i }))

@@ -1,72 +1,51 @@
 -- At most one message is open, and how much is held of it.
-use Rattle.std.proofs.Common.{◌≡◌, ℕ, ◌+◌, ◌-◌, ◌*◌, ◌≤◌, ◌<◌, min, sum_by, true, cond, ◌&&◌, List, [], ◌∷◌, length, Option, Some, None, option_to_list, refl, ap, arith, nat_lt}
-use Rattle.std.proofs.lemmas.Bool.{and_parts}
-use Rattle.std.specs.Prelude.{unwrap_or, option_map}
+use Rattle.std.proofs.Common.{◌≡◌, ℕ, ◌+◌, ◌-◌, ◌*◌, ◌≤◌, ◌<◌, min, sum_by, true, List, [], ◌∷◌, length, Option, Some, None, option_to_list, refl, arith}
 use Rattle.std.proofs.lemmas.Bool.Decides.{nat_tests}
 use Rattle.std.proofs.lemmas.List.Sums.{sum_by-cons}
 use Rattle.authn_core.specs.Turn.{Start}
-use Rattle.token_session.proofs.Opens.{bool_case, From, Lawful, from_earlier, none_stays, open_is_admitted, cond_none}
-use Rattle.token_session.proofs.Serve.{cond_case, long_says}
+use Rattle.ctap_message.specs.Requests.{LARGEST}
 use Rattle.hid_packet.specs.Packet.{channel, message_length}
 use Rattle.token_session.specs.Inputs.{Judged, end, own, packet}
 use Rattle.token_session.specs.Messages.{Begun, goes_on, is_long, is_next, is_open, open_among, open_at}
 use Rattle.token_session.specs.History.{held}
 use Rattle.token_session.specs.Law.{all_open}
-use Rattle.ctap_message.specs.Requests.{LARGEST}
 use Rattle.token_session.specs.Meters.{peak_held}
+use Rattle.token_session.proofs.Opens.{From, Lawful, from_earlier, none_stays, open_is_admitted}
 
 none_all : (h L : List Judged) (t : ℕ) → open_among L h t ≡ None → all_open L h t ≡ []
 unfolding open_among all_open
 none_all [] L t n = refl
-none_all (e ∷ before) L t n =
-    let two = cond_none (is_open e L t) _ _ n in
-    let shut = two.0 in
-    rw shut (none_all before (e ∷ L) t two.1)
+none_all (e ∷ before) L t n = grind (arith, none_all before (e ∷ L) t)
 
 pub one_open : (h L : List Judged) (start : Start) (t : ℕ) → Lawful start h → From (end start h) L → end start h ≤ t → all_open L h t ≡ option_to_list (open_among L h t)
 unfolding open_among all_open open_at
 one_open [] L start t l f le = refl
 one_open (e ∷ before) L start t l f le =
-    let here : Begun = record { packet = packet e.input; at = e.at; own = own (channel (packet e.input)) L } in
-    bool_case (λ b. cond b (here ∷ all_open (e ∷ L) before t) (all_open (e ∷ L) before t) ≡ option_to_list (cond b (Some here) (open_among (e ∷ L) before t))) (is_open e L t)
-    (λ h. ap (λ os. here ∷ os) (none_all before (e ∷ L) t (none_stays before [] (e ∷ L) e.at t (omega arith, f) le (l.1 (open_is_admitted e L t h)))))
-    (λ _. one_open before (e ∷ L) start t l.2 (l.0, from_earlier L (end start before) e.at l.0 f) (omega (arith, l.0)))
-
-next_below : (len m : ℕ) (e : Judged) → is_next len m e ≡ true → 57 + 59 * (m + 1) < len
-unfolding is_next
-next_below len m e h = let a = (and_parts _ (nat_lt (57 + 59 * (m + 1)) len) h).1 in grind (arith, nat_tests)
+    let none : e.admitted ≡ true → all_open (e ∷ L) before t ≡ [] = λ a. none_all before (e ∷ L) t (none_stays before [] (e ∷ L) e.at t (omega arith, f) le (l.1 a)) in
+    grind (arith, open_is_admitted e L t, none, one_open before (e ∷ L) start t l.2 (l.0, from_earlier L (end start before) e.at l.0 f) (omega (arith, l.0)))
 
 pub goes_on_below : (os : List Judged) (len m since t : ℕ) → 57 + 59 * m < len → goes_on len m since os t ≡ true → 57 + 59 * (m + length os) < len
-unfolding goes_on
+unfolding goes_on is_next
 goes_on_below [] len m since t lt h = omega arith
-goes_on_below (o ∷ os) len m since t lt h =
-    let a = and_parts (is_next len m o && nat_lt o.at (since + 500)) (goes_on len (m + 1) o.at os t) h in
-    let b = next_below len m o (and_parts (is_next len m o) (nat_lt o.at (since + 500)) a.0).0 in
-    let c = goes_on_below os len (m + 1) o.at t b a.1 in
-    omega arith
+goes_on_below (o ∷ os) len m since t lt h = grind (arith, nat_tests, goes_on_below os len (m + 1) o.at t)
 
 -- an open message has at most 127 continuations
-abbrev pub FewOwn : Option Begun → Type 0
+abbrev FewOwn : Option Begun → Type 0
 FewOwn None = Unit {0}
 FewOwn (Some b) = 57 + 59 * length b.own ≤ 7550
 
 few_here : (e : Judged) (L : List Judged) (t : ℕ) → is_open e L t ≡ true → 57 + 59 * length (own (channel (packet e.input)) L) ≤ 7550
-unfolding is_open
-few_here e L t h =
-    let a = and_parts (e.admitted && is_long (packet e.input)) _ h in
-    let l = long_says (packet e.input) (and_parts e.admitted (is_long (packet e.input)) a.0).1 in
-    let b = goes_on_below (own (channel (packet e.input)) L) (message_length (packet e.input)) 0 e.at t (omega (arith, l.least)) a.1 in
-    omega (arith, l.most)
+unfolding is_open is_long
+few_here e L t h = grind (arith, nat_tests, goes_on_below (own (channel (packet e.input)) L) (message_length (packet e.input)) 0 e.at t)
 
 few_own : (h L : List Judged) (t : ℕ) → FewOwn (open_among L h t)
 unfolding open_among
 few_own [] L t = tt
-few_own (e ∷ before) L t = cond_case FewOwn (is_open e L t) _ _ (λ y. few_here e L t y) (λ _. few_own before (e ∷ L) t)
+few_own (e ∷ before) L t = grind (arith, few_here e L t, few_own before (e ∷ L) t)
 
 pub held_few : (start : Start) (h : List Judged) → held start h ≤ 7550
 unfolding held open_at
-held_few start h =
-    (elim (open_among [] h (end start h)) as (λ o. (FewOwn o → unwrap_or (option_map (λ (b : Begun). 57 + 59 * length b.own) o) 0 ≤ 7550)) [ None ↦ λ _. omega arith | Some b ↦ λ f. f ]) (few_own h [] (end start h))
+held_few start h = grind (arith, few_own h [] (end start h))
 
 -- the most that was held
 pub peak_few : (start : Start) (h : List Judged) → peak_held start h ≤ 7550

@@ -1,20 +1,18 @@
 -- A finished message is carried by its initialization packet and its channel's own packets.
-use Rattle.std.proofs.Common.{◌≡◌, ℕ, ◌+◌, ◌*◌, ◌≤◌, ◌==◌, Bool, true, false, ◌&&◌, not, inl, inr, List, [], ◌∷◌, ◌++◌, length, take, drop, flat_map, refl, sym, ◌∙◌, ap, subst, arith, Option, Some, None, max, nat_le, nat_lt, length-append, length-drop, length-take}
-use Rattle.std.proofs.lemmas.Bool.{and_parts}
+use Rattle.std.proofs.Common.{◌≡◌, ℕ, ◌+◌, ◌*◌, ◌≤◌, ◌==◌, Bool, true, false, cond, ◌&&◌, not, inl, inr, List, [], ◌∷◌, ◌++◌, length, take, drop, flat_map, refl, sym, ◌∙◌, ap, subst, arith, Option, Some, None, max, nat_le, nat_lt, length-append, length-drop, length-take}
+use Rattle.std.proofs.lemmas.Bool.{cond_both}
 use Rattle.std.proofs.lemmas.Bool.Decides.{nat_tests}
 use Rattle.std.proofs.lemmas.List.{length-map}
 use Rattle.authn_core.specs.Turn.{Start}
 use Rattle.token_session.proofs.Bounds.{goes_on_below}
 use Rattle.std.proofs.lemmas.Option.{same_Some}
 use Rattle.token_session.specs.Carried.{Are64, IsWhole, AreWhole, ArriveWhole, carriers, long_carriers, carriers_at}
-use Rattle.token_session.proofs.Opens.{is_own_packet}
-use Rattle.token_session.proofs.Serve.{cond_case, cond_two, is_eq, not_is, all_four, long_says, is_le, says_admitted}
 use Rattle.hid_assemble.specs.Assembly.{Message}
 use Rattle.hid_packet.specs.Carries.{Carries, CarriesMessage, Continue, joined}
 use Rattle.hid_packet.specs.Commands.{CANCEL}
 use Rattle.hid_packet.specs.Packet.{channel, command, continuation_data, initialization_data, is_command, is_initialization, message_length, sequence}
 use Rattle.token_session.specs.Inputs.{Judged, end, is_own, is_packet, own, packet}
-use Rattle.token_session.specs.Messages.{finished_at, Begun, finished, finished_long, goes_on, is_last, is_long, is_next, is_open, open_among, open_at, packets_of}
+use Rattle.token_session.specs.Messages.{finished_at, Begun, begun_by, message, finished, finished_long, goes_on, is_last, is_long, is_next, is_open, open_among, open_at, packets_of}
 use Rattle.token_session.specs.History.{admits, judge, judged}
 use Rattle.token_session.specs.declared.input.Input.{Input}
 use Rattle.token_session.specs.declared.input.Input.TheVariants.{Packet}
@@ -28,26 +26,7 @@ On c (e ∷ es) = (is_own c e ≡ true) × On c es
 pub own_on : (c : ℕ) (es : List Judged) → On c (own c es)
 unfolding own
 own_on c [] = tt
-own_on c (e ∷ es) = cond_case (On c) (is_own c e) _ _ (λ h. (h, own_on c es)) (λ _. own_on c es)
-
--- what an own continuation's packet is
-record Next (c m : ℕ) (e : Judged) : Type 0 where
-  more : is_initialization (packet e.input) ≡ false
-  on : channel (packet e.input) ≡ c
-  number : sequence (packet e.input) ≡ m
-
-next_of : (c m : ℕ) (b : Bool) (i : Input) → is_packet (is_own_packet c) i ≡ true → (is_packet (λ p. not (is_initialization p) && (sequence p == m)) i && b) ≡ true
-    → (is_initialization (packet i) ≡ false) × (channel (packet i) ≡ c) × (sequence (packet i) ≡ m)
-next_of c m b (Packet x) o n =
-    let own = and_parts (c == channel x.0) (not (is_command CANCEL x.0)) o in
-    let two = and_parts (not (is_initialization x.0) && (sequence x.0 == m)) b n in
-    let both = and_parts (not (is_initialization x.0)) (sequence x.0 == m) two.0 in
-    (not_is (is_initialization x.0) true both.0, sym (is_eq c (channel x.0) own.0), is_eq (sequence x.0) m both.1)
-next_of c m b other o n = cc
-
-next_is : (c len m : ℕ) (e : Judged) → is_own c e ≡ true → is_next len m e ≡ true → Next c m e
-unfolding is_own is_next
-next_is c len m e o n = let t = next_of c m (nat_lt (57 + 59 * (m + 1)) len) e.input o n in record { more = t.0; on = t.1; number = t.2 }
+own_on c (e ∷ es) = grind (arith, own_on c es)
 
 length_parts : (ps : List (List ℕ)) → Are64 ps → length (flat_map continuation_data ps) ≡ 59 * length ps
 unfolding continuation_data
@@ -62,12 +41,9 @@ continue_more c m n [] p e k a b s = let same : n ≡ m = omega arith in (a, b, 
 continue_more c m n (q ∷ ps) p e k a b s = (k.0, k.1, k.2, continue_more c (m + 1) n ps p (omega arith) k.3 a b s)
 
 all_continue : (os : List Judged) (c len m since t : ℕ) → On c os → goes_on len m since os t ≡ true → Continue c m (packets_of os)
-unfolding goes_on
+unfolding goes_on is_own is_next
 all_continue [] c len m since t o h = tt
-all_continue (e ∷ es) c len m since t o h =
-    let a = and_parts (is_next len m e && nat_lt e.at (since + 500)) (goes_on len (m + 1) e.at es t) h in
-    let n = next_is c len m e o.0 (and_parts (is_next len m e) (nat_lt e.at (since + 500)) a.0).0 in
-    (n.more, n.on, n.number, all_continue es c len (m + 1) e.at t o.1 a.1)
+all_continue (e ∷ es) c len m since t o h = grind (arith, nat_tests, all_continue es c len (m + 1) e.at t o.1)
 
 are64_more : (ps : List (List ℕ)) (p : List ℕ) → Are64 ps → length p ≡ 64 → Are64 (ps ++ p ∷ [])
 are64_more [] p a h = (h, tt)
@@ -86,13 +62,12 @@ pub last_carries : (b : Begun) (t : ℕ) (p : List ℕ) → is_initialization b.
     → Carries b.packet (packets_of b.own ++ p ∷ []) (channel b.packet) (command b.packet) (take (message_length b.packet) (joined b.packet (packets_of b.own ++ p ∷ [])))
 unfolding is_last
 last_carries b t p st l64 a64 p64 own low high goes last =
-    let f = all_four (not (is_initialization p)) (channel b.packet == channel p) (sequence p == length b.own) (not (nat_lt (57 + 59 * (length b.own + 1)) (message_length b.packet))) last in
     let ps = packets_of b.own ++ p ∷ [] in
     let all = joined b.packet ps in
     let m : length (packets_of b.own) ≡ length b.own = simp length-map in
     let count : length ps ≡ length b.own + 1 = simp (length-append, length-map) in
     let len : length all ≡ 57 + 59 * length ps = length_joined b.packet ps l64 (are64_more (packets_of b.own) p a64 p64) in
-    let above : message_length b.packet ≤ 57 + 59 * (length b.own + 1) = at_most _ _ (not_is (nat_lt (57 + 59 * (length b.own + 1)) (message_length b.packet)) true f.3) in
+    let above : message_length b.packet ≤ 57 + 59 * (length b.own + 1) = grind (arith, nat_tests) in
     let below = goes_on_below b.own (message_length b.packet) 0 b.at t (omega (arith, low)) goes in
     let exact : length (take (message_length b.packet) all) ≡ message_length b.packet = omega (arith, length-take (message_length b.packet) all) in
     record {
@@ -102,23 +77,16 @@ last_carries b t p st l64 a64 p64 own low high goes last =
       asks = refl;
       counts = sym exact;
       continues = continue_more (channel b.packet) 0 (length b.own) (packets_of b.own) p (omega arith) (all_continue b.own (channel b.packet) (message_length b.packet) 0 b.at t own goes)
-          (not_is (is_initialization p) true f.0) (sym (is_eq (channel b.packet) (channel p) f.1)) (is_eq (sequence p) (length b.own) f.2);
+          (grind arith) (grind (arith, nat_tests)) (grind (arith, nat_tests));
       least = inr (omega arith, omega arith);
       joins = ap (λ n. take n all) (sym exact);
     }
-  where
-    at_most : (x n : ℕ) → nat_lt x n ≡ false → n ≤ x
-    at_most x n h = grind (arith, nat_tests)
 
 -- Every packet of these inputs has 64 bytes.
 pub packets_whole : (c : ℕ) (es : List Judged) → AreWhole es → Are64 (packets_of (own c es))
 unfolding own is_own
 packets_whole c [] h = tt
-packets_whole c (e ∷ es) h = cond_case (λ (v : List Judged). Are64 (packets_of v)) (is_packet (is_own_packet c) e.input) _ _ (λ t. (whole e.input h.0 t, packets_whole c es h.1)) (λ _. packets_whole c es h.1)
-  where
-    whole : (i : Input) → IsWhole i → is_packet (is_own_packet c) i ≡ true → length (packet i) ≡ 64
-    whole (Packet p) w t = w
-    whole other w t = cc
+packets_whole c (e ∷ es) h = grind (arith, packets_whole c es h.1)
 
 -- Every admitted input is an initialization packet.
 abbrev pub AdmitsStarts : List Judged → Type 0
@@ -136,33 +104,40 @@ pub record Known (b : Begun) (t : ℕ) : Type 0 where
   pub goes : goes_on (message_length b.packet) 0 b.at b.own t ≡ true
 
 known_here : (e : Judged) (L : List Judged) (t : ℕ) → AreWhole L → (e.admitted ≡ true → (is_initialization (packet e.input) ≡ true) × (length (packet e.input) ≡ 64)) → is_open e L t ≡ true
-    → Known (record { packet = packet e.input; at = e.at; own = own (channel (packet e.input)) L }) t
-unfolding is_open own
+    → Known (begun_by e L) t
+unfolding is_open is_long
 known_here e L t whole starts h =
     let c = channel (packet e.input) in
-    let a = and_parts (e.admitted && is_long (packet e.input)) _ h in
-    let two = and_parts e.admitted (is_long (packet e.input)) a.0 in
-    let l = long_says (packet e.input) two.1 in
-    let s = starts two.0 in
-    record { start = s.0; whole = s.1; parts = packets_whole c L whole; own_packets = own_on c L; long = l.least; short = l.most; goes = a.1 }
+    record {
+      start = grind arith;
+      whole = grind arith;
+      parts = packets_whole c L whole;
+      own_packets = own_on c L;
+      long = grind (arith, nat_tests);
+      short = grind (arith, nat_tests);
+      goes = grind arith;
+    }
 
 known : (h L : List Judged) (t : ℕ) (b : Begun) → AreWhole h → AreWhole L → AdmitsStarts h → open_among L h t ≡ Some b → Known b t
 unfolding open_among
 known [] L t b w v s is = cc
 known (e ∷ before) L t b w v s is =
-    cond_case (λ o. (o ≡ Some b → Known b t)) (is_open e L t) _ _ (λ h q. subst (λ v. Known v t) (same_Some _ b q) (known_here e L t v s.0 h)) (λ _ q. known before (e ∷ L) t b w.1 (w.0, v) s.1 q) is
+    cond_both (is_open e L t) _ _ (λ o. (o ≡ Some b → Known b t)) (λ h q. subst (λ v. Known v t) (same_Some _ b q) (known_here e L t v s.0 h)) (λ _ q. known before (e ∷ L) t b w.1 (w.0, v) s.1 q) is
 
 -- a finished long message
+long_is : (b : Begun) (p : List ℕ) (m : Message) → finished_long (Some b) p ≡ Some m → (is_last b p ≡ true) × (message b.packet (packets_of b.own ++ p ∷ []) ≡ m)
+unfolding finished_long
+long_is b p m h = grind arith
+
 long_carried : (o : Option Begun) (t : ℕ) (p : List ℕ) (m : Message) → ((b : Begun) → o ≡ Some b → Known b t) → length p ≡ 64 → finished_long o p ≡ Some m
     → CarriesMessage (long_carriers o p) m.cid m.cmd m.bytes
 unfolding finished_long long_carriers
 long_carried None t p m k whole h = cc
 long_carried (Some b) t p m k whole h =
-    cond_two (λ o ps. (o ≡ Some m → CarriesMessage ps m.cid m.cmd m.bytes)) (is_last b p) _ _ _ _
-    (λ last q. let f = k b refl in
-    subst (λ x. Carries b.packet (packets_of b.own ++ p ∷ []) x.cid x.cmd x.bytes) (same_Some _ m q)
-    (last_carries b t p f.start f.whole f.parts whole f.own_packets f.long f.short f.goes last))
-    (λ _ q. cc) h
+    let l = long_is b p m h in
+    let f = k b refl in
+    rw l.0 (subst (λ x. Carries b.packet (packets_of b.own ++ p ∷ []) x.cid x.cmd x.bytes) l.1
+    (last_carries b t p f.start f.whole f.parts whole f.own_packets f.long f.short f.goes l.0))
 
 short_carries : (p : List ℕ) → is_initialization p ≡ true → length p ≡ 64 → message_length p ≤ 57 → Carries p [] (channel p) (command p) (take (message_length p) (joined p []))
 short_carries p start whole few =
@@ -180,14 +155,17 @@ short_carries p start whole few =
     }
 
 -- what an input finishes
-pub carried : (o : Option Begun) (t : ℕ) (admitted : Bool) (i : Input) (m : Message) → ((b : Begun) → o ≡ Some b → Known b t) → IsWhole i
+carried : (o : Option Begun) (t : ℕ) (admitted : Bool) (i : Input) (m : Message) → ((b : Begun) → o ≡ Some b → Known b t) → IsWhole i
     → (admitted ≡ true → is_initialization (packet i) ≡ true) → finished o admitted i ≡ Some m → CarriesMessage (carriers o admitted i) m.cid m.cmd m.bytes
 unfolding finished carriers
 carried o t admitted (Packet p) m k whole starts h =
-    cond_two (λ f ps. (f ≡ Some m → CarriesMessage ps m.cid m.cmd m.bytes)) (admitted && nat_le (message_length p.0) 57) _ _ _ _
-    (λ short q. let two = and_parts admitted (nat_le (message_length p.0) 57) short in
-    subst (λ x. Carries p.0 [] x.cid x.cmd x.bytes) (same_Some _ m q) (short_carries p.0 (starts two.0) whole (is_le (message_length p.0) 57 two.1)))
-    (λ _ q. long_carried o t p.0 m k whole q) h
+    go (admitted && nat_le (message_length p.0) 57) refl h
+  where
+    go : (b : Bool) → (admitted && nat_le (message_length p.0) 57) ≡ b → cond b (Some (message p.0 [])) (finished_long o p.0) ≡ Some m → CarriesMessage (cond b (p.0 ∷ []) (long_carriers o p.0)) m.cid m.cmd m.bytes
+    go true e q =
+        let few : message_length p.0 ≤ 57 = grind (arith, nat_tests) in
+        subst (λ x. Carries p.0 [] x.cid x.cmd x.bytes) (same_Some _ m q) (short_carries p.0 (starts (grind arith)) whole few)
+    go false e q = long_carried o t p.0 m k whole q
 carried o t admitted other m k whole starts h = cc
 
 -- a judged history's inputs
@@ -197,8 +175,8 @@ whole_judged start [] w = tt
 whole_judged start (x ∷ h) w = (w.0, whole_judged start h w.1)
 
 admitted_starts : (g : ℕ) (o : Option Begun) (w : Option ℕ) (i : Input) → IsWhole i → is_packet (admits g o w) i ≡ true → (is_initialization (packet i) ≡ true) × (length (packet i) ≡ 64)
-admitted_starts g o w (Packet p) whole h = ((says_admitted g o w p.0 h).start, whole)
-admitted_starts g o w other whole h = cc
+unfolding admits
+admitted_starts g o w i whole h = grind arith
 
 starts_judged : (start : Start) (h : List Timed) → ArriveWhole h → AdmitsStarts (judged start h)
 unfolding judged judge

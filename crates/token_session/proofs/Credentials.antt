@@ -16,7 +16,7 @@ use Rattle.token_session.specs.History.{core, event, judge, judged}
 use Rattle.token_session.specs.Events.{event_core}
 use Rattle.token_session.specs.Law.{event_at}
 use Rattle.token_session.specs.Credentials.{step_of, steps}
-use Rattle.token_session.proofs.Safety.{EventGiven, event_given, finished_given}
+use Rattle.token_session.proofs.Safety.{EventGiven, event_given}
 use Rattle.token_session.proofs.Follows.{Good, good_judged, judged_at, safe_at}
 
 one_step : (start : CoreState) (at : ℕ) (e : Option Event) (past : List Step) → core_at start (step_of at e ++ past) ≡ event_core (core_at start past) at e
@@ -31,17 +31,8 @@ core_is start (e ∷ past) =
     ap (λ k. event_core k e.at (event_at start e past)) (core_is start past)
     ∙ sym (one_step (first_state start) e.at (event_at start e past) (steps start past))
 
-event_idle : (start : Start) (t : ℕ) (h : List Judged) (i : Input) → Good start h → end start h ≤ t
-    → EventGiven (given h) (working (core start h)) (event_at start (judged_at start t h i) h)
-unfolding event
-event_idle start t h (Packet x) good le =
-    let s = safe_at start t h good le in
-    event_given (given h) (working (core start h)) _ x.0 (finished_given (given h) (open_at h t) (working (core start h)) x s.opens)
-event_idle start t h other good le = tt
-
 no_job : (w : Option Job) → option_map (λ (v : Work). v.cid) (option_map as_work w) ≡ None → w ≡ None
-no_job None h = refl
-no_job (Some job) h = cc
+no_job w h = grind arith
 
 one_orderly : (g : ℕ) (k : CoreState) (at : ℕ) (e : Option Event) (past : List Step) → EventGiven g (working (core_at k past)) e → Orderly k past → Orderly k (step_of at e ++ past)
 unfolding Orderly
@@ -58,7 +49,7 @@ orderly start (x ∷ h) =
     let le : end start past ≤ t = omega arith in
     let e = event_at start (judged_at start t past x.input) past in
     one_orderly (given past) (first_state start) t e (steps start past)
-    (subst (λ k. EventGiven (given past) (working k) e) (core_is start past) (event_idle start t past x.input (good_judged start h) le)) (orderly start h)
+    (subst (λ k. EventGiven (given past) (working k) e) (core_is start past) (event_given (given past) (open_at past t) (working (core start past)) x.input (safe_at start t past (good_judged start h) le).opens)) (orderly start h)
 
 first_ready : (start : Start) → Ready start.room (first_state start).state
 first_ready start = record { pending = tt; work = tt }

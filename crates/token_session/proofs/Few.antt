@@ -1,8 +1,8 @@
 -- One input sends at most 130 packets.
 use Rattle.std.proofs.Common.{◌∙◌, ◌≡◌, ℕ, ◌≤◌, ◌==◌, Bool, true, false, cond, not, ◌&&◌, suc, List, [], ◌∷◌, ◌++◌, append-nil, length, max, Option, Some, None, refl, ap, arith, length-append}
+use Rattle.std.proofs.lemmas.Bool.Decides.{nat_tests}
 use Rattle.std.proofs.lemmas.List.{drop_all}
 use Rattle.hid_packet.proofs.Carrying.{few_written}
-use Rattle.token_session.proofs.Serve.{cond_case, is_eq}
 use Rattle.authn_core.proofs.Facts.{drop_answers_nothing}
 use Rattle.authn_core.specs.State.{Answer, Answered, Cancel, Drop, Event, Nothing, Request, Waits, Ignored}
 use Rattle.authn_core.specs.Turn.{CoreState, Work, waiting, working}
@@ -30,62 +30,24 @@ one_packet : (c k : ℕ) (b : List ℕ) → length b ≤ 57 → length (written 
 unfolding written
 one_packet c k b h = let e = drop_all 57 b h in rw e (no_more c)
 
+pub drop_sends_nothing : (k : CoreState) (t : ℕ) → event_packets k t (Some Drop) ≡ []
+unfolding answer_packets
+drop_sends_nothing k t = rw (drop_answers_nothing k t) (grind arith)
+
 answer_few : (c s : Option ℕ) (a : Answer) → length (answer_packets c s a) ≤ 129
 unfolding answer_packets
-answer_few None s a = omega arith
-answer_few (Some c) s (Answered b) = few_written c CBOR b
-answer_few (Some c) s (Waits n) = cond_case (λ (v : List (List ℕ)). length v ≤ 129) (is_on s n) _ _ (λ _. omega arith) (λ _. few_written c KEEPALIVE (n ∷ []))
-answer_few (Some c) s Ignored = omega arith
-answer_few (Some c) s Nothing = omega arith
+answer_few c s a = grind (arith, few_written)
 
 event_few : (k : CoreState) (t : ℕ) (e : Option Event) → length (event_packets k t e) ≤ 129
-event_few k t None = omega arith
-event_few k t (Some e) = answer_few _ _ _
-
-nothing_sent : (c s : Option ℕ) → answer_packets c s Nothing ≡ []
-unfolding answer_packets
-nothing_sent None s = refl
-nothing_sent (Some c) s = refl
-
-pub drop_sends_nothing : (k : CoreState) (t : ℕ) → event_packets k t (Some Drop) ≡ []
-drop_sends_nothing k t = ap (answer_packets (asker (waiting k) Drop) (status_of (waiting k))) (drop_answers_nothing k t) ∙ nothing_sent (asker (waiting k) Drop) (status_of (waiting k))
-
-message_few : (k : CoreState) (t cid cmd : ℕ) (bytes : List ℕ) → length (cond (cmd == PING) (written cid PING bytes) [] ++ event_packets k t (cond (cmd == CBOR) (Some (Request cid bytes)) None)) ≤ 129
-message_few k t cid cmd bytes = go (cmd == PING) (cmd == CBOR) (λ p c. let a : cmd ≡ 1 = is_eq cmd 1 p in let b : cmd ≡ 16 = is_eq cmd 16 c in omega arith)
-  where
-    go : (p c : Bool) → (p ≡ true → c ≡ true → ⊥) → length (cond p (written cid PING bytes) [] ++ event_packets k t (cond c (Some (Request cid bytes)) None)) ≤ 129
-    go true true h = absurd (h refl refl)
-    go true false h = let w = few_written cid PING bytes in rw (append-nil (written cid PING bytes)) w
-    go false c h = event_few k t (cond c (Some (Request cid bytes)) None)
-
-alone : (xs : List (List ℕ)) → length xs ≤ 129 → length (xs ++ []) ≤ 129
-alone xs h = rw (append-nil xs) h
-
-greeting_few : (on c : ℕ) (nonce : List ℕ) → length (greeting on c nonce) ≤ 129
-unfolding greeting
-greeting_few on c nonce = few_written on INIT _
+event_few k t e = grind (arith, answer_few)
 
 verdict_few : (k : CoreState) (t : ℕ) (v : Verdict) (bytes : List ℕ) → length (verdict_packets v bytes ++ event_packets k t (verdict_event v bytes)) ≤ 129
-verdict_few k t Unanswered bytes = omega arith
-verdict_few k t Kept bytes = omega arith
-verdict_few k t (Finished cid cmd) bytes = message_few k t cid cmd bytes
-verdict_few k t (Refuse cid code) bytes = alone _ (few_written cid ERROR _)
-verdict_few k t (Greet on cid nonce) bytes = alone _ (greeting_few on cid nonce)
-verdict_few k t (GreetAndDrop on cid nonce) bytes = rw (drop_sends_nothing k t) (alone _ (greeting_few on cid nonce))
-verdict_few k t CancelWork bytes = event_few k t (Some Cancel)
-
-overdue_few : (o : Option Open) → length (overdue_packets o) ≤ 1
-overdue_few None = omega arith
-overdue_few (Some m) = one_packet m.cid ERROR (5 ∷ []) (omega arith)
-
-keepalive_few : (w : Option Work) → length (keepalive_packets w) ≤ 1
-keepalive_few None = omega arith
-keepalive_few (Some w) = one_packet w.cid KEEPALIVE (w.status ∷ []) (omega arith)
+unfolding greeting
+verdict_few k t v bytes = grind (arith, few_written, event_few, drop_sends_nothing, append-nil, nat_tests)
 
 pub time_few : (s : State) (t : ℕ) → length (time_passed s t).packets ≤ 1
 unfolding time_passed
-time_few s t = cond_case (λ (v : List (List ℕ)). length v ≤ 1) (is_overdue s.current t) _ _ (λ _. overdue_few s.current)
-    (λ _. cond_case (λ (v : List (List ℕ)). length v ≤ 1) (not (is_overdue s.current t) && keepalive_due (waiting s.core) s.keepalive_at t) _ _ (λ _. keepalive_few (waiting s.core)) (λ _. omega arith))
+time_few s t = grind (arith, one_packet)
 
 below : (a b : List (List ℕ)) → length a ≤ 1 → length b ≤ 129 → length (a ++ b) ≤ 130
 below a b h k = omega (arith, length-append a b)

@@ -1,7 +1,5 @@
 pub mod Opens
-pub mod Time
 pub mod Serve
-pub mod Continuing
 pub mod Safety
 pub mod Tables
 pub mod Follows

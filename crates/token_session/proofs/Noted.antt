@@ -42,99 +42,32 @@ none_among (suc most) cid number (b ∷ bytes) h =
     let rest = none_among most cid (number + 1) (drop 59 (b ∷ bytes)) (omega arith) in
     rw (first, rest) refl
 
-or_none : (b : Bool) → (b || false) ≡ b
-or_none b = grind arith
-
-or_swap : (a b : Bool) → (a || b) ≡ (b || a)
-or_swap a b = grind arith
-
 -- A message is a KEEPALIVE exactly where its command is.
 of_written : (cid cmd : ℕ) (bytes : List ℕ) → keeps_alive (written cid cmd bytes) ≡ (cmd == KEEPALIVE)
 unfolding written
 of_written cid cmd bytes =
-    let is = begins cid cmd (length bytes) (take 57 bytes) in
-    let named = asks cid cmd (length bytes) (take 57 bytes) in
-    let rest = none_among 128 cid 0 (drop 57 bytes) (omega arith) in
-    rw (is, named, rest) (or_none (cmd == KEEPALIVE))
-
-row_silent : (g : ℕ) (p : List ℕ) (r : Row) → keeps_alive (row_packets g p r) ≡ false
-unfolding row_packets greeting
-row_silent g p NoSuchChannel = of_written (channel p) ERROR _
-row_silent g p InitLength = of_written (channel p) ERROR _
-row_silent g p InitFull = of_written (channel p) ERROR _
-row_silent g p InitNew = of_written BROADCAST INIT _
-row_silent g p InitAgain = of_written (channel p) INIT _
-row_silent g p BusyElsewhere = of_written (channel p) ERROR _
-row_silent g p BusyHere = of_written (channel p) ERROR _
-row_silent g p BrokenOff = of_written (channel p) ERROR _
-row_silent g p NoSuchCommand = of_written (channel p) ERROR _
-row_silent g p BadLength = of_written (channel p) ERROR _
-row_silent g p other = refl
-
-both_silent : (b : Bool) (x y : List (List ℕ)) → keeps_alive x ≡ false → keeps_alive y ≡ false → keeps_alive (cond b x y) ≡ false
-both_silent true x y h k = h
-both_silent false x y h k = k
-
-error_silent : (o : Option Begun) (p : List ℕ) → keeps_alive (continuation_error o p) ≡ false
-error_silent None p = refl
-error_silent (Some b) p = both_silent ((channel b.packet == channel p) && not (sequence p == length b.own)) _ _ (of_written (channel p) ERROR _) refl
+    rw (begins cid cmd (length bytes) (take 57 bytes), asks cid cmd (length bytes) (take 57 bytes), none_among 128 cid 0 (drop 57 bytes) (omega arith)) (grind arith)
 
 table_silent : (g : ℕ) (o : Option Begun) (w : Option ℕ) (i : Input) → keeps_alive (table_packets g o w i) ≡ false
-unfolding table_packets
-table_silent g o w (Packet p) = both_silent (is_initialization p.0) _ _ (row_silent g p.0 _) (error_silent o p.0)
-table_silent g o w other = refl
+unfolding table_packets row_packets greeting
+table_silent g o w i = grind (arith, of_written)
 
 ping_silent : (m : Option Message) → keeps_alive (ping_packets m) ≡ false
-ping_silent None = refl
-ping_silent (Some m) = both_silent (m.cmd == PING) _ _ (of_written m.cid PING m.bytes) refl
-
-answer_noted : (to before : Option ℕ) (a : Answer) → keeps_alive (answer_packets to before a) ≡ answer_keeps_alive to before a
-unfolding answer_packets answer_keeps_alive
-answer_noted None before a = refl
-answer_noted (Some cid) before (Answered bytes) = of_written cid CBOR bytes
-answer_noted (Some cid) before (Waits status) =
-    elim (is_on before status) as (λ b. keeps_alive (cond b [] (written cid KEEPALIVE (status ∷ []))) ≡ not b) [ true ↦ refl | false ↦ of_written cid KEEPALIVE (status ∷ []) ]
-answer_noted (Some cid) before Ignored = refl
-answer_noted (Some cid) before Nothing = refl
+ping_silent m = grind (arith, nat_tests, of_written)
 
 event_noted : (k : CoreState) (t : ℕ) (e : Option Event) → keeps_alive (event_packets k t e) ≡ event_keeps_alive k t e
-event_noted k t None = refl
-event_noted k t (Some e) = answer_noted _ _ _
-
-cut_silent : (o : Option Begun) → keeps_alive (cut_packets o) ≡ false
-cut_silent None = refl
-cut_silent (Some b) = of_written (channel b.packet) ERROR (5 ∷ [])
+unfolding answer_packets answer_keeps_alive
+event_noted k t e = grind (arith, of_written)
 
 time_noted : (c : Bool) (o : Option Begun) (w : Option Work) (l t : ℕ)
     → keeps_alive (cond c (cut_packets o) (cond (keepalive_due w l t) (keepalive_packets w) [])) ≡ (not c && keepalive_due w l t)
 unfolding keepalive_due
-time_noted true o w l t = cut_silent o
-time_noted false o None l t = refl
-time_noted false o (Some w) l t =
-    elim (nat_le (l + 100) t) as (λ b. keeps_alive (cond b (written w.cid KEEPALIVE (w.status ∷ [])) []) ≡ b) [ true ↦ of_written w.cid KEEPALIVE (w.status ∷ []) | false ↦ refl ]
+time_noted c o w l t = grind (arith, of_written)
 
-sent_noted : (start : Start) (e : Judged) (past : List Judged)
-    → keeps_alive (sent_at start e past)
-    ≡ ((not (is_cut (open_at past (end start past)) (open_at past e.at)) && keepalive_due (waiting (core start past)) (last_keepalive start past) e.at)
-    || event_keeps_alive (core start past) e.at (event_to (core start past) e past))
-unfolding sent_at service_packets time_packets
-sent_noted start e past =
-    let k = core start past in
-    let m = finished_at e past in
-    let table = table_packets (given past) (open_at past e.at) (working k) e.input in
-    let ev = event_packets k e.at (event_to k e past) in
-    list_any-append (is_command KEEPALIVE) _ _
-    ∙ ap₂ ◌||◌ (time_noted (is_cut (open_at past (end start past)) (open_at past e.at)) (open_at past (end start past)) (waiting k) (last_keepalive start past) e.at)
-    (list_any-append (is_command KEEPALIVE) (table ++ ping_packets m) ev
-    ∙ ap₂ ◌||◌ (list_any-append (is_command KEEPALIVE) table (ping_packets m) ∙ ap₂ ◌||◌ (table_silent (given past) (open_at past e.at) (working k) e.input) (ping_silent m)) (event_noted k e.at (event_to k e past)))
-
+-- when the last KEEPALIVE was sent, after one more input
 pub last_noted : (start : Start) (e : Judged) (past : List Judged)
     → last_keepalive start (e ∷ past)
-    ≡ cond (event_keeps_alive (core start past) e.at (event_to (core start past) e past)
-    || (not (is_cut (open_at past (end start past)) (open_at past e.at)) && keepalive_due (waiting (core start past)) (last_keepalive start past) e.at))
-    e.at (last_keepalive start past)
-unfolding last_keepalive sent_at
-last_noted start e past =
-    let k = core start past in
-    let due = not (is_cut (open_at past (end start past)) (open_at past e.at)) && keepalive_due (waiting k) (last_keepalive start past) e.at in
-    ap (λ b. cond b e.at (last_keepalive start past)) (sent_noted start e past ∙ or_swap due (event_keeps_alive k e.at (event_to k e past)))
+    ≡ cond (event_keeps_alive (core start past) e.at (event_to (core start past) e past)) e.at
+    (cond (not (is_cut (open_at past (end start past)) (open_at past e.at)) && keepalive_due (waiting (core start past)) (last_keepalive start past) e.at) e.at (last_keepalive start past))
+unfolding last_keepalive service_packets time_packets
+last_noted start e past = simp (list_any-append, table_silent, ping_silent, event_noted, time_noted) (grind arith)
