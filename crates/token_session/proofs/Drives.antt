@@ -21,35 +21,25 @@ driven_append : (xs : List Timed) (s : SessionState) (x : Timed) → driven s (x
 driven_append [] s x = refl
 driven_append (y ∷ xs) s x = driven_append xs (stepped s y) x
 
-sends_append : (xs : List Timed) (s : SessionState) (x : Timed) (n m : ℕ) → m ≡ n + length xs → driven_sends n s (xs ++ x ∷ []) ≡ driven_sends n s xs ++ numbered m (sent_by (driven s xs) x)
-sends_append [] s x n m e = let same : n ≡ m = omega arith in append-nil (numbered n (sent_by s x)) ∙ ap (λ k. numbered k (sent_by s x)) same
-sends_append (y ∷ xs) s x n m e =
-    let same : m ≡ (n + 1) + length xs = omega arith in
-    ap (λ q. numbered n (sent_by s y) ++ q) (sends_append xs (stepped s y) x (n + 1) m same)
-    ∙ sym (append_assoc (numbered n (sent_by s y)) (driven_sends (n + 1) (stepped s y) xs) (numbered m (sent_by (driven (stepped s y) xs) x)))
+sends_append : (xs : List Timed) (s : SessionState) (x : Timed) (n m : ℕ) → n + length xs ≡ m → driven_sends n s (xs ++ x ∷ []) ≡ driven_sends n s xs ++ numbered m (sent_by (driven s xs) x)
+sends_append [] s x n m e = let same : m ≡ n = omega arith in rw same (append-nil (numbered n (sent_by s x)))
+sends_append (y ∷ xs) s x n m e = rw (append_assoc, sends_append xs (stepped s y) x (n + 1) m (omega arith)) refl
 
 pub driven_more : (xs : List Timed) (i : ℕ) (s v w : SessionState) (x d : Timed) → i < length xs → x ≡ get_or xs i d → w ≡ stepped v x → v ≡ driven s (take i xs) → w ≡ driven s (take (i + 1) xs)
-driven_more xs i s v w x d h is e f =
-    e ∙ ap (stepped v) is ∙ ap (λ u. stepped u (get_or xs i d)) f ∙ sym (ap (driven s) (take_more xs i d h) ∙ driven_append (take i xs) s (get_or xs i d))
+driven_more xs i s v w x d h is e f = rw (e, is, f, take_more xs i d h, driven_append (take i xs) s (get_or xs i d)) refl
 
 pub sends_more : (xs : List Timed) (i : ℕ) (s v : SessionState) (ps : List (List ℕ)) (old now next : List (ℕ × List ℕ)) (x d : Timed) → i < length xs → x ≡ get_or xs i d
     → next ≡ now ++ numbered i ps → ps ≡ sent_by v x → v ≡ driven s (take i xs) → now ≡ old ++ driven_sends 0 s (take i xs)
     → next ≡ old ++ driven_sends 0 s (take (i + 1) xs)
 sends_more xs i s v ps old now next x d h is a b f e =
-    let len : i ≡ 0 + length (take i xs) = omega (arith, length-take i xs) in
-    let more : driven_sends 0 s (take (i + 1) xs) ≡ driven_sends 0 s (take i xs) ++ numbered i (sent_by (driven s (take i xs)) (get_or xs i d)) =
-    ap (driven_sends 0 s) (take_more xs i d h) ∙ sends_append (take i xs) s (get_or xs i d) 0 i len in
-    a ∙ ap (λ q. q ++ numbered i ps) e ∙ append_assoc old (driven_sends 0 s (take i xs)) (numbered i ps)
-    ∙ ap (λ q. old ++ (driven_sends 0 s (take i xs) ++ numbered i q)) (b ∙ ap (sent_by v) is ∙ ap (λ u. sent_by u (get_or xs i d)) f)
-    ∙ ap (λ q. old ++ q) (sym more)
+    rw (a, e, b, is, f, take_more xs i d h, sends_append (take i xs) s (get_or xs i d) 0 i (omega (arith, length-take i xs))) (append_assoc old _ _)
 
 whole_append : (xs : List Timed) (x : Timed) → ArriveWhole xs → IsWhole x.input → ArriveWhole (xs ++ x ∷ [])
 whole_append [] x w is = (is, tt)
 whole_append (y ∷ xs) x w is = (w.0, whole_append xs x w.1 is)
 
 pub whole_more : (xs : List Timed) (i : ℕ) (x d : Timed) → i < length xs → x ≡ get_or xs i d → ArriveWhole (take i xs) → IsWhole x.input → ArriveWhole (take (i + 1) xs)
-whole_more xs i x d h is w one =
-    subst ArriveWhole (sym (take_more xs i d h)) (whole_append (take i xs) (get_or xs i d) w (subst (λ (y : Timed). IsWhole y.input) is one))
+whole_more xs i x d h is w one = rw (take_more xs i d h, ← is) (whole_append (take i xs) x w one)
 
 pub room_here : (now all : List (ℕ × List ℕ)) (places : ℕ) → now ≡ all → length now + 130 ≤ places → length all + 130 ≤ places
 room_here now all places e h = let n = ap (length {A = ℕ × List ℕ}) e in omega (arith, n)
@@ -62,8 +52,7 @@ driven_stands (x ∷ xs) s start h b = driven_stands xs (stepped s x) start (x �
 pub driven_follows : (xs : List Timed) (s : SessionState) (start : Start) (n : ℕ) (h : List Timed) → StandsAfter s start h → driven_sends n s xs ≡ sent_from n start h xs
 driven_follows [] s start n h b = refl
 driven_follows (x ∷ xs) s start n h b =
-    ap (λ ps. numbered n ps ++ driven_sends (n + 1) (stepped s x) xs) (step_sends s.machine start h x (machine_after s start h b))
-    ∙ ap (λ qs. numbered n (sent_now start h x) ++ qs) (driven_follows xs (stepped s x) start (n + 1) (x ∷ h) (stands_longer s start h x b))
+    rw (step_sends s.machine start h x (machine_after s start h b), driven_follows xs (stepped s x) start (n + 1) (x ∷ h) (stands_longer s start h x b)) refl
 
 -- a drive whose meters are passed on, and its fault as that of one of two
 abbrev IsPassed : Result Meters DriveFault → Meters → Type 0
@@ -78,10 +67,5 @@ pub drives_alike : (start : Start) (h g xs ys : List Timed) (s t : SessionState)
 drives_alike start h g xs ys s t (Err e) q m k old new is is' quiet longer stands stands' counts counts' sent = absurd is
 drives_alike start h g xs ys s t (Ok x) (Err e) m k old new is is' quiet longer stands stands' counts counts' sent = absurd is'
 drives_alike start h g xs ys s t (Ok x) (Ok y) m k old new is is' quiet longer stands stands' counts counts' sent =
-    let first : StandsAfter s start (onto xs h) = subst (λ (l : List Timed). StandsAfter s start (onto l h)) (take-length xs) stands in
-    let second : StandsAfter t start (onto ys g) = subst (λ (l : List Timed). StandsAfter t start (onto l g)) (take-length ys) stands' in
-    let same : s ≡ t = first ∙ quiet_alike start (onto xs h) (onto ys g) longer ∙ sym second in (
-      same,
-      ap (λ r. result_unwrap_or r m) is ∙ counts ∙ ap (λ (v : SessionState). v.meters) same ∙ sym counts' ∙ sym (ap (λ r. result_unwrap_or r k) is'),
-      sent ∙ ap (λ (l : List Timed). old ++ sent_from 0 start g l) (take-length ys) ∙ ap (λ ps. old ++ ps) (quiet_runs 0 start h g xs ys quiet longer),
-    )
+    let same : s ≡ t = (rw (take-length xs) at stands) ∙ quiet_alike start (onto xs h) (onto ys g) longer ∙ sym (rw (take-length ys) at stands') in
+    (same, let meters = ap (λ (v : SessionState). v.meters) same in grind arith, sent ∙ rw (take-length ys, quiet_runs 0 start h g xs ys quiet longer) refl)

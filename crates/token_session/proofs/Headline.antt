@@ -25,23 +25,17 @@ pub turns_send_sent : (start : Start) (h : List Timed) → turns_send start h �
 unfolding turns_send sent judged sent_now
 turns_send_sent start [] = refl
 turns_send_sent start (x ∷ h) =
-    ap (λ ps. turns_send start h ++ ps) (step_sends (machine start h) start h x (machine_follows start h))
-    ∙ ap (λ ps. ps ++ sent_now start h x) (turns_send_sent start h)
+    rw (step_sends (machine start h) start h x (machine_follows start h), turns_send_sent start h) refl
 
 pub all_carried : (start : Start) (h : List Timed) → ArriveWhole h → AllCarried (judged start h)
 unfolding judged
 all_carried start [] w = tt
 all_carried start (x ∷ h) w = (λ m fin. finished_is_carried start h x m w fin, all_carried start h w.1)
 
-one_few : (each : (m : List ℕ) → steps_of m ≤ 4 * (length m - 1) + 2) (o : Option (List ℕ)) (ms : List (List ℕ)) → AllByRecursion (λ m. steps_of m ≤ 4 * (length m - 1) + 2) ms
-    → AllByRecursion (λ m. steps_of m ≤ 4 * (length m - 1) + 2) (cons_option o ms)
-one_few each None ms h = h
-one_few each (Some m) ms h = (each m, h)
-
 pub all_few : (each : (m : List ℕ) → steps_of m ≤ 4 * (length m - 1) + 2) (start : Start) (h : List Judged) → AllByRecursion (λ m. steps_of m ≤ 4 * (length m - 1) + 2) (requests start h)
 unfolding requests
 all_few each start [] = tt
-all_few each start (e ∷ past) = one_few each (request_in (event_at start e past)) (requests start past) (all_few each start past)
+all_few each start (e ∷ past) = grind (arith, each, all_few each start past)
 
 -- ---- the packets of a list of inputs, without their numbers
 
@@ -54,18 +48,14 @@ sent_along : (xs : List Timed) (n : ℕ) (start : Start) (h : List Timed) →
 unfolding sent judged sent_now
 sent_along [] n start h = append-nil _
 sent_along (x ∷ xs) n start h =
-    ap (λ qs. sent start (judged start h) ++ qs) (map-append (λ (p : ℕ × List ℕ). p.1) (numbered n (sent_now start h x)) (sent_from (n + 1) start (x ∷ h) xs)
-    ∙ ap (λ qs. qs ++ map (λ (p : ℕ × List ℕ). p.1) (sent_from (n + 1) start (x ∷ h) xs)) (packets_numbered n (sent_now start h x)))
-    ∙ sym (append_assoc (sent start (judged start h)) (sent_now start h x) (map (λ (p : ℕ × List ℕ). p.1) (sent_from (n + 1) start (x ∷ h) xs)))
-    ∙ sent_along xs (n + 1) start (x ∷ h)
+    simp (map-append, packets_numbered, ← append_assoc) (sent_along xs (n + 1) start (x ∷ h))
 
 onto_reverse : (xs h : List Timed) → onto xs h ≡ reverse xs ++ h
 onto_reverse [] h = refl
-onto_reverse (x ∷ xs) h =
-    onto_reverse xs (x ∷ h) ∙ sym (append_assoc (reverse xs) (x ∷ []) h) ∙ ap (λ (ys : List Timed). ys ++ h) (sym (reverse-append (x ∷ []) xs))
+onto_reverse (x ∷ xs) h = rw (onto_reverse xs (x ∷ h), reverse-append (x ∷ []) xs) (sym (append_assoc (reverse xs) (x ∷ []) h))
 
 -- the packets of a start's inputs are those of the history, which has the newest first
-pub sent_reverse : (xs : List Timed) (start : Start) → map (λ (p : ℕ × List ℕ). p.1) (sent_from 0 start [] xs) ≡ sent start (judged start (reverse xs))
+sent_reverse : (xs : List Timed) (start : Start) → map (λ (p : ℕ × List ℕ). p.1) (sent_from 0 start [] xs) ≡ sent start (judged start (reverse xs))
 unfolding sent judged
 sent_reverse xs start = sent_along xs 0 start [] ∙ ap (λ h. sent start (judged start h)) (onto_reverse xs [] ∙ append-nil (reverse xs))
 
@@ -73,42 +63,28 @@ whole_onto : (xs h : List Timed) → ArriveWhole xs → ArriveWhole h → Arrive
 whole_onto [] h ws w = w
 whole_onto (x ∷ xs) h ws w = whole_onto xs (x ∷ h) ws.1 (ws.0, w)
 
-pub whole_reverse : (xs : List Timed) → ArriveWhole xs → ArriveWhole (reverse xs)
+whole_reverse : (xs : List Timed) → ArriveWhole xs → ArriveWhole (reverse xs)
 whole_reverse xs w = subst ArriveWhole (onto_reverse xs [] ∙ append-nil (reverse xs)) (whole_onto xs [] w tt)
 
 packets_pairs : (sent : List Sent) → map packet_of sent ≡ map (λ (p : ℕ × List ℕ). p.1) (map as_pair sent)
 packets_pairs [] = refl
 packets_pairs (s ∷ sent) = ap (λ ps. packet_of s ∷ ps) (packets_pairs sent)
 
-pub only_new : (old : List Sent) (new more : List (ℕ × List ℕ)) → new ≡ map as_pair old ++ more → old ≡ [] → new ≡ more
-only_new old new more is none = is ∙ ap (λ (sent : List Sent). map as_pair sent ++ more) none
-
 -- A list of sent packets that are those of a start's inputs answers the history of these inputs.
-pub run_answered : (start : Start) (xs : List Timed) (out : List Sent) → ArriveWhole xs → map as_pair out ≡ sent_from 0 start [] xs
+run_answered : (start : Start) (xs : List Timed) (out : List Sent) → ArriveWhole xs → map as_pair out ≡ sent_from 0 start [] xs
     → (ArriveWhole (reverse xs) → IsAnswered start (reverse xs) (turns_send start (reverse xs)))
     → IsAnswered start (reverse xs) (map packet_of out)
 run_answered start xs out w is answers =
-    subst (IsAnswered start (reverse xs)) (
-    turns_send_sent start (reverse xs)
-    ∙ sym (packets_pairs out ∙ ap (map (λ (p : ℕ × List ℕ). p.1)) is ∙ sent_reverse xs start)
-    ) (answers (whole_reverse xs w))
+    rw (packets_pairs out, is, sent_reverse xs start, ← (turns_send_sent start (reverse xs))) (answers (whole_reverse xs w))
 
 -- A drive of a new session that stepped all inputs returns the meters that their history names.
-pub meters_named : (start : Start) (xs : List Timed) (result : Result Meters DriveFault) (s : SessionState)
+meters_named : (start : Start) (xs : List Timed) (result : Result Meters DriveFault) (s : SessionState)
     → StandsAfter s start (onto (take (done_of (length xs) result) xs) []) → IfOk result (λ meters. meters ≡ s.meters)
     → IfOk result (λ meters. meters ≡ meters_of start (judged start (reverse xs)))
 unfolding session_of
 meters_named start xs (Ok meters) s after is =
-    is ∙ ap (λ (v : SessionState). v.meters) after
-    ∙ ap (λ (h : List Timed). meters_of start (judged start h))
-    (ap (λ (ys : List Timed). onto ys []) (take_all _ xs (omega arith)) ∙ onto_reverse xs [] ∙ append-nil (reverse xs))
+    rw (is, after, take_all (length xs) xs (omega arith), onto_reverse xs [], append-nil (reverse xs)) refl
 meters_named start xs (Err fault) s after is = tt
-
-pub room_named : (places : ℕ) (old : List Sent) (s t : SessionState) (xs : List Timed) (done : ℕ) → old ≡ [] → s ≡ t
-    → HadRoom places (map as_pair old) s xs done → HadRoom places [] t xs done
-room_named places old s t xs done none is had =
-    subst (λ (v : SessionState). HadRoom places [] v xs done) is
-    (subst (λ (o : List Sent). HadRoom places (map as_pair o) s xs done) none had)
 
 -- A run of a new session, by what a drive says of it.
 pub record IsNamed (start : Start) (places : ℕ) (xs : List Timed) (result : Result Meters DriveFault) (new : List Sent) : Type 0 where
@@ -128,10 +104,10 @@ pub run_named : (start : Start) (places : ℕ) (xs : List Timed) (result : Resul
     → IsNamed start places xs result new
 unfolding judged
 run_named start places xs result s t old new none begun whole after sends meters room answers =
-    let numbers = only_new old (map as_pair new) (sent_from 0 start [] (take (done_of (length xs) result) xs)) (sends start [] begun) none in
+    let numbers = rw none at (sends start [] begun) in
     record {
       answered = run_answered start (take (done_of (length xs) result) xs) new whole numbers (answers (reverse (take (done_of (length xs) result) xs)));
       numbers = numbers;
       meters = meters_named start xs result t (after start [] begun) meters;
-      room = room_named places old s (session_of start []) xs (done_of (length xs) result) none begun room;
+      room = rw (none, begun) at room;
     }

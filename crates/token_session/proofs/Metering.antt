@@ -21,10 +21,7 @@ use Rattle.token_session.proofs.Runs.{turn_after}
 -- the bytes held are those that the history names
 pub held_named : (start : Start) (h : List Judged) → held_bytes (named start h).current ≡ held start h
 unfolding named held
-held_named start h = elim (open_at h (end start h)) as (λ o. held_bytes (option_map as_open o) ≡ unwrap_or (option_map (λ (b : Begun). 57 + 59 * length b.own) o) 0) [ None ↦ refl | Some b ↦ refl ]
-
-capped : (n k m : ℕ) → m ≡ k + n → min m LARGEST ≡ min (min n LARGEST + k) LARGEST
-capped n k m e = omega arith
+held_named start h = grind arith
 
 -- the meters of these requests
 abbrev totals : (held rows pending : ℕ) → List (List ℕ) → Meters
@@ -40,33 +37,30 @@ totals held rows pending rs = record {
 counted_more : (request : Option (List ℕ)) (held rows pending : ℕ) (rs : List (List ℕ)) → counted (totals held rows pending rs) request ≡ totals held rows pending (cons_option request rs)
 unfolding counted
 counted_more None held rows pending rs = refl
-counted_more (Some m) held rows pending rs =
-    let counts = sym (capped (length rs) 1 (length (m ∷ rs)) (omega arith)) in
-    let sums = sym (capped (sum_by (λ bytes. length bytes - 1) rs) (length m - 1) _ (sum_by-cons (λ (b : List ℕ). length b - 1) m rs)) in
-    let steps = sym (capped (sum_by steps_of rs) (steps_of m) _ (sum_by-cons steps_of m rs)) in
-    λ i. record { held = held; rows = rows; pending = pending; requests = counts i; bytes = sums i; steps = steps i }
+counted_more (Some m) held rows pending rs = rw (sum_by-cons (λ (b : List ℕ). length b - 1) m rs, sum_by-cons steps_of m rs) (λ i. record {
+  held = held;
+  rows = rows;
+  pending = pending;
+  requests = capped 1 (length rs) (length (m ∷ rs)) (omega arith) i;
+  bytes = capped (length m - 1) (sum_by (λ (b : List ℕ). length b - 1) rs) _ refl i;
+  steps = capped (steps_of m) (sum_by steps_of rs) _ refl i;
+})
+  where
+    capped : (k n l : ℕ) → l ≡ k + n → min (min n LARGEST + k) LARGEST ≡ min l LARGEST
+    capped k n l e = omega arith
 
 pub meters_more : (start : Start) (e : Judged) (h : List Judged) → metered (meters_of start h) (held start (e ∷ h)) (length (core start (e ∷ h)).state.rows) (pending_count (core start (e ∷ h)).state.pending) (request_in (event_at start e h))
     ≡ meters_of start (e ∷ h)
 unfolding meters_of metered requests peak_held peak_rows peak_pending
-meters_more start e h =
-    ap (λ (m : Meters). record m { held = max m.held (held start (e ∷ h)); rows = max m.rows (length (core start (e ∷ h)).state.rows); pending = max m.pending (pending_count (core start (e ∷ h)).state.pending) })
-    (counted_more (request_in (event_at start e h)) (peak_held start h) (peak_rows start h) (peak_pending start h) (requests start h))
+meters_more start e h = rw (counted_more (request_in (event_at start e h)) (peak_held start h) (peak_rows start h) (peak_pending start h) (requests start h)) refl
 
 -- A session that stands after a history stands after the longer one.
 pub stands_longer : (s : SessionState) (start : Start) (h : List Timed) (x : Timed) → StandsAfter s start h → StandsAfter (stepped s x) start (x ∷ h)
 unfolding stepped session_of named judged
 stands_longer s start h x b =
-    let turned = turn_after s.machine start h x (ap (λ (v : SessionState). v.machine) b) in
-    let e = judge start x (judged start h) in
-    λ i. record {
-      machine = (ap (λ (t : Turn). t.state) turned) i;
-      meters = (ap (λ (m : Meters). metered_by m (turn s.machine x)) (ap (λ (v : SessionState). v.meters) b)
-          ∙ ap (metered_by (meters_of start (judged start h))) turned
-          ∙ ap (λ n. metered (meters_of start (judged start h)) n (length (core start (e ∷ judged start h)).state.rows) (pending_count (core start (e ∷ judged start h)).state.pending) (request_in (event_at start e (judged start h))))
-          (held_named start (e ∷ judged start h))
-          ∙ meters_more start e (judged start h)) i;
-    }
+    let past = judged start h in
+    let e = judge start x past in
+    rw (b, turn_after (named start past) start h x refl, held_named start (e ∷ past), meters_more start e past) refl
 
 -- A turn of the machine, counted, is a step of the session.
 pub stepped_is : (m n : State) (k l : Meters) (s : SessionState) (x : Timed) (held rows pending : ℕ) → record { machine = m; meters = k } ≡ s
@@ -74,28 +68,17 @@ pub stepped_is : (m n : State) (k l : Meters) (s : SessionState) (x : Timed) (he
     → held ≡ max l.held (held_bytes n.current) → rows ≡ max l.rows (length n.core.state.rows) → pending ≡ max l.pending (pending_count n.core.state.pending)
     → record { machine = n; meters = record l { held = held; rows = rows; pending = pending } } ≡ stepped s x
 unfolding stepped metered
-stepped_is m n k l s x held rows pending is state finished held_is rows_are pending_is =
-    let most : Meters → State → Meters = λ m v. record m { held = max m.held (held_bytes v.current); rows = max m.rows (length v.core.state.rows); pending = max m.pending (pending_count v.core.state.pending) } in
-    let same = (λ i. record l { held = held_is i; rows = rows_are i; pending = pending_is i }) ∙ (λ i. most (finished i) (state i)) in
-    rw (← is) (λ i. record { machine = state i; meters = same i })
+stepped_is m n k l s x held rows pending is state finished held_is rows_are pending_is = rw (← is, held_is, rows_are, pending_is, finished, state) refl
 
 -- the session at its start
-pub starts : (start : Start) (m : State) (rows : ℕ) → m ≡ start_state start → rows ≡ length m.core.state.rows
-    → record { machine = m; meters = record { held = 0; rows = rows; pending = 0; requests = 0; bytes = 0; steps = 0 } } ≡ session_of start []
-unfolding start_state session_of named meters_of requests peak_held peak_rows peak_pending held given open_at open_among core last_keepalive
-starts start m rows is counted =
-    (λ i. record { machine = m; meters = record { held = 0; rows = counted i; pending = 0; requests = 0; bytes = 0; steps = 0 } })
-    ∙ ap (λ (v : State). record { machine = v; meters = record { held = 0; rows = length v.core.state.rows; pending = 0; requests = 0; bytes = 0; steps = 0 } }) is
-
--- the same with meters that are those of a start
 pub begins : (start : Start) (m : State) (k : Meters) (rows : ℕ) → m ≡ start_state start
     → k ≡ record { held = 0; rows = rows; pending = 0; requests = 0; bytes = 0; steps = 0 } → rows ≡ length m.core.state.rows
     → record { machine = m; meters = k } ≡ session_of start []
-begins start m k rows is first counted =
-    ap (λ (v : Meters). record { machine = m; meters = v }) first ∙ starts start m rows is counted
+unfolding start_state session_of named meters_of requests peak_held peak_rows peak_pending held given open_at open_among core last_keepalive
+begins start m k rows is first counted = rw (first, counted, is) refl
 
 pub bounded_first : (k : Meters) (rows : ℕ) → k ≡ record { held = 0; rows = rows; pending = 0; requests = 0; bytes = 0; steps = 0 } → AreBounded k
-bounded_first k rows first = subst AreBounded (sym first) (omega arith)
+bounded_first k rows first = rw first (omega arith)
 
 pub machine_after : (s : SessionState) (start : Start) (h : List Timed) → StandsAfter s start h → IsAfter s.machine start h
 unfolding session_of
@@ -108,5 +91,4 @@ session_held start h = held_named start h
 -- The meters stay bounded, where each message takes at most four steps for each byte after the first and two more.
 pub counted_bounded : (each : (m : List ℕ) → steps_of m ≤ 4 * (length m - 1) + 2) (m : Meters) (request : Option (List ℕ)) → AreBounded m → AreBounded (counted m request)
 unfolding counted
-counted_bounded each m None h = h
-counted_bounded each m (Some bytes) h = let few = each bytes in omega arith
+counted_bounded each m request h = grind (arith, each)

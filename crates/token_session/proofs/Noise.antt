@@ -41,47 +41,20 @@ ruled s f early r =
 
 row_leaves : (s : State) (f : Fields) (early : List (List ℕ)) (r : Ruling) → is_noise r ≡ true → Leaves (ruled s f early r) (served s early Tick)
 unfolding open_after message_after ruling_verdict
-row_leaves s f early (Begins CancelsNothing) h = record { state = refl; request = refl }
-row_leaves s f early (Begins NoSuchChannel) h = record { state = refl; request = refl }
-row_leaves s f early (Begins BusyElsewhere) h = record { state = refl; request = refl }
-row_leaves s f early (Begins BusyHere) h = record { state = refl; request = refl }
-row_leaves s f early (Continues Stray) h = record { state = refl; request = refl }
-row_leaves s f early _ h = cc
-
-not_sent : (to before : Option ℕ) → answer_keeps_alive to before Ignored ≡ false
-unfolding answer_keeps_alive
-not_sent None before = refl
-not_sent (Some cid) before = refl
-
-keepalive_stays : (s : State) (e : Event) → turn_of (s.core).setup (s.core).state s.now e ≡ record { state = (s.core).state; answer = Ignored }
-    → cond (answer_keeps_alive (asker (waiting s.core) e) (status_of (waiting s.core)) (core_answer s.core s.now e)) s.now s.keepalive_at ≡ s.keepalive_at
-keepalive_stays s e ignored =
-    let to = asker (waiting s.core) e in
-    let before = status_of (waiting s.core) in
-    ap (λ (v : Turned). cond (answer_keeps_alive to before v.answer) s.now s.keepalive_at) ignored ∙ ap (λ b. cond b s.now s.keepalive_at) (not_sent to before)
+row_leaves s f early r h = record { state = grind arith; request = grind arith }
 
 -- An event that leaves the authenticator as it is, and that it doesn't answer, leaves what a tick leaves.
 event_leaves : (s : State) (early : List (List ℕ)) (e : Event) → turn_of (s.core).setup (s.core).state s.now e ≡ record { state = (s.core).state; answer = Ignored } → request_in (Some e) ≡ None
     → Leaves (happens s.now s.given s.current s.core s.keepalive_at early [] (Some e)) (served s early Tick)
-event_leaves s early e ignored unread = record {
-  state = λ i. record {
-    now = s.now;
-    given = s.given;
-    current = s.current;
-    core = record { setup = (s.core).setup; state = (ignored i).state };
-    keepalive_at = keepalive_stays s e ignored i;
-  };
-  request = unread;
-}
+unfolding answer_keeps_alive
+event_leaves s early e ignored unread = rw ignored (record { state = grind arith; request = unread })
 
 served_leaves : (s : State) (early : List (List ℕ)) (i : Input) → is_noise_to s i ≡ true → Leaves (served s early i) (served s early Tick)
 unfolding accepted verdict
 served_leaves s early (Packet p) h = row_leaves s (fields p.0) early (ruling_of s.given s.current (working s.core) (fields p.0)) h
-served_leaves s early (Presence reply) h =
-    event_leaves s early (PresenceIs reply) (presence_ignored (s.core).setup (s.core).state s.now reply (not-true _ h)) refl
-served_leaves s early (Key key) h = event_leaves s early (KeyIs key) (key_ignored (s.core).setup (s.core).state s.now key (not-true _ h)) refl
-served_leaves s early (Signature sig) h =
-    event_leaves s early (SignatureIs sig) (signature_ignored (s.core).setup (s.core).state s.now sig (not-true _ h)) refl
+served_leaves s early (Presence reply) h = event_leaves s early (PresenceIs reply) (presence_ignored (s.core).setup (s.core).state s.now reply (grind arith)) refl
+served_leaves s early (Key key) h = event_leaves s early (KeyIs key) (key_ignored (s.core).setup (s.core).state s.now key (grind arith)) refl
+served_leaves s early (Signature sig) h = event_leaves s early (SignatureIs sig) (signature_ignored (s.core).setup (s.core).state s.now sig (grind arith)) refl
 served_leaves s early Tick h = cc
 
 pub noise_leaves : (s : State) (x : Timed) → is_noise_at s x ≡ true → Leaves (turn s x) (turn s (tick_at x.at))
@@ -133,28 +106,18 @@ stepped_alike start h x y (inr tick) =
 -- Sessions after quiet histories hold the same.
 pub quiet_alike : (start : Start) (h g : List Timed) → Quiet start h g → session_of start (judged start h) ≡ session_of start (judged start g)
 quiet_alike start [] [] q = refl
-quiet_alike start [] (y ∷ g) q = absurd q
-quiet_alike start (x ∷ h) [] q = absurd q
 quiet_alike start (x ∷ h) (y ∷ g) q =
     let s = session_of start (judged start h) in
     sym (stands_longer s start h x refl) ∙ stepped_alike start h x y q.1 ∙ stands_longer s start g y (quiet_alike start h g q.0)
-
-never_replaced : (i : Input) → is_replaced i i ≡ false
-never_replaced Tick = refl
-never_replaced other = refl
-
-noise_is_replaced : (g : ℕ) (o : Option Open) (k : CoreState) (i : Input) → is_noise_among g o k i ≡ true → is_replaced i Tick ≡ true
-noise_is_replaced g o k Tick h = cc
-noise_is_replaced g o k other h = refl
+quiet_alike start h g q = absurd q
 
 -- The packets that one input sends after both, the second with the same input or with a tick.
 now_same : (start : Start) (h g : List Timed) (x : Timed) → IsAfter (named start (judged start h)) start g → sent_now start g x ≡ quiet_now start h x x
 unfolding sent_now quiet_now judge
 now_same start h g x b =
     let s = named start (judged start h) in
-    let e = judge start x (judged start h) in
-    sym (step_sends s start g x b) ∙ step_sends s start h x refl
-    ∙ ap (λ r. cond r (time_packets start (judged start h) (last_keepalive start (judged start h)) e.at) (sent_at start e (judged start h))) (sym (never_replaced x.input))
+    let never : is_replaced x.input x.input ≡ false = grind arith in
+    rw never (sym (step_sends s start g x b) ∙ step_sends s start h x refl)
 
 now_tick : (start : Start) (h g : List Timed) (x : Timed) → IsAfter (named start (judged start h)) start g → is_noise_after start (judge start x (judged start h)) (judged start h) ≡ true
     → sent_now start g (tick_at x.at) ≡ quiet_now start h x (tick_at x.at)
@@ -162,12 +125,9 @@ unfolding quiet_now judge named is_noise_after
 now_tick start h g x b noise =
     let past = judged start h in
     let s = named start past in
-    let e = judge start x past in
-    let t = max (end start past) x.at in
-    let le : end start past ≤ t = omega arith in
-    sym (step_sends s start g (tick_at x.at) b) ∙ tick_sends s x.at
-    ∙ ap (λ (v : Turn). v.packets) (time_named start t past (good_judged start h) le)
-    ∙ ap (λ r. cond r (time_packets start past (last_keepalive start past) t) (sent_at start e past)) (sym (noise_is_replaced (given past) (option_map as_open (open_at past t)) (core start past) x.input noise))
+    let le : end start past ≤ max (end start past) x.at = omega arith in
+    let replaced : is_replaced x.input Tick ≡ true = grind arith in
+    rw replaced (sym (step_sends s start g (tick_at x.at) b) ∙ tick_sends s x.at ∙ ap (λ (v : Turn). v.packets) (time_named start (max (end start past) x.at) past (good_judged start h) le))
 
 quiet_sends_now : (start : Start) (h g : List Timed) (x y : Timed) → Quiet start h g → IsQuiet start h x y → sent_now start g y ≡ quiet_now start h x y
 unfolding session_of
@@ -182,18 +142,15 @@ quiet_sends_now start h g x y q (inr tick) =
 pub quiet_sends : (start : Start) (h g : List Timed) → Quiet start h g → sent start (judged start g) ≡ quiet_sent start h g
 unfolding sent judged sent_now quiet_sent
 quiet_sends start [] [] q = refl
-quiet_sends start [] (y ∷ g) q = absurd q
-quiet_sends start (x ∷ h) [] q = absurd q
 quiet_sends start (x ∷ h) (y ∷ g) q =
-    ap (λ ps. ps ++ sent_now start g y) (quiet_sends start h g q.0)
-    ∙ ap (λ ps. quiet_sent start h g ++ ps) (quiet_sends_now start h g x y q.0 q.1)
+    rw (quiet_sends start h g q.0, quiet_sends_now start h g x y q.0 q.1) refl
+quiet_sends start h g q = absurd q
 
 -- Lists of inputs that make quiet histories of quiet histories.
 same_length : (start : Start) (h g : List Timed) → Quiet start h g → length h ≡ length g
 same_length start [] [] q = refl
-same_length start [] (y ∷ g) q = absurd q
-same_length start (x ∷ h) [] q = absurd q
 same_length start (x ∷ h) (y ∷ g) q = ap (λ n. suc n) (same_length start h g q.0)
+same_length start h g q = absurd q
 
 onto_length : (xs h : List Timed) → length (onto xs h) ≡ length xs + length h
 onto_length [] h = omega arith
@@ -201,19 +158,16 @@ onto_length (x ∷ xs) h = onto_length xs (x ∷ h) ∙ omega arith
 
 shorter : (xs ys : List Timed) (start : Start) (h g : List Timed) → length xs ≡ length ys → Quiet start (onto xs h) (onto ys g) → Quiet start h g
 shorter [] [] start h g n q = q
-shorter [] (y ∷ ys) start h g n q = absurd (omega (arith, n))
-shorter (x ∷ xs) [] start h g n q = absurd (omega (arith, n))
 shorter (x ∷ xs) (y ∷ ys) start h g n q = (shorter xs ys start (x ∷ h) (y ∷ g) (omega (arith, n)) q).0
+shorter xs ys start h g n q = absurd (omega (arith, n))
 
 runs_alike : (xs ys : List Timed) (n : ℕ) (start : Start) (h g : List Timed) → length xs ≡ length ys → Quiet start (onto xs h) (onto ys g) → sent_from n start g ys ≡ quiet_from n start h xs ys
 runs_alike [] [] n start h g l q = refl
-runs_alike [] (y ∷ ys) n start h g l q = absurd (omega (arith, l))
-runs_alike (x ∷ xs) [] n start h g l q = absurd (omega (arith, l))
 runs_alike (x ∷ xs) (y ∷ ys) n start h g l q =
     let k : length xs ≡ length ys = omega (arith, l) in
     let one = shorter xs ys start (x ∷ h) (y ∷ g) k q in
-    ap (λ ps. numbered n ps ++ sent_from (n + 1) start (y ∷ g) ys) (quiet_sends_now start h g x y one.0 one.1)
-    ∙ ap (λ qs. numbered n (quiet_now start h x y) ++ qs) (runs_alike xs ys (n + 1) start (x ∷ h) (y ∷ g) k q)
+    rw (quiet_sends_now start h g x y one.0 one.1, runs_alike xs ys (n + 1) start (x ∷ h) (y ∷ g) k q) refl
+runs_alike xs ys n start h g l q = absurd (omega (arith, l))
 
 pub quiet_runs : (n : ℕ) (start : Start) (h g xs ys : List Timed) → Quiet start h g → Quiet start (onto xs h) (onto ys g) → sent_from n start g ys ≡ quiet_from n start h xs ys
 quiet_runs n start h g xs ys q longer =

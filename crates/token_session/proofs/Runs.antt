@@ -24,6 +24,4 @@ run_after (x ∷ xs) s start h b = run_after xs (turn s x).state start (x ∷ h)
 
 pub run_sends : (xs : List Timed) (s : State) (start : Start) (n : ℕ) (h : List Timed) → IsAfter s start h → run_sent n s xs ≡ sent_from n start h xs
 run_sends [] s start n h b = refl
-run_sends (x ∷ xs) s start n h b =
-    ap (λ ps. numbered n ps ++ run_sent (n + 1) (turn s x).state xs) (step_sends s start h x b)
-    ∙ ap (λ qs. numbered n (sent_now start h x) ++ qs) (run_sends xs (turn s x).state start (n + 1) (x ∷ h) (step_after s start h x b))
+run_sends (x ∷ xs) s start n h b = rw (step_sends s start h x b, run_sends xs (turn s x).state start (n + 1) (x ∷ h) (step_after s start h x b)) refl

@@ -1,5 +1,5 @@
 -- What a row sends, by its packet as a history has it, is what the verdict on the packet sends.
-use Rattle.std.proofs.Common.{◌≡◌, ℕ, Bool, true, false, cond, not, ◌&&◌, ◌==◌, nat_lt, List, [], ◌++◌, append-nil, ◌+◌, length, take, Option, Some, None, option_map, refl}
+use Rattle.std.proofs.Common.{◌≡◌, ℕ, Bool, true, false, cond, not, ◌&&◌, ◌==◌, nat_lt, List, [], ◌++◌, append-nil, ◌+◌, length, take, Option, Some, None, option_map, arith}
 use Rattle.hid_assemble.specs.Assembly.{bytes_of, message_after}
 use Rattle.hid_assemble.specs.Table.{Begins, Continues, Open, Ruling, initialization_row, continuation_row, is_on, ruling_of}
 use Rattle.hid_assemble.specs.Verdicts.{ruling_verdict}
@@ -20,31 +20,14 @@ use Rattle.token_session.specs.declared.input.Input.TheVariants.{Packet}
 abbrev SendsAs : ℕ → Option Open → Option ℕ → Fields → List (List ℕ) → Ruling → Type 0
 SendsAs g c w f ps r = ps ++ ping_packets (message_after c f r) ≡ verdict_packets (ruling_verdict g w f (message_after c f r) r) (bytes_of (message_after c f r))
 
-again_sends : (b : Bool) (on cid : ℕ) (nonce : List ℕ) → greeting on cid nonce ++ [] ≡ verdict_packets (cond b (GreetAndDrop on cid nonce) (Greet on cid nonce)) []
-again_sends true on cid nonce = append-nil _
-again_sends false on cid nonce = append-nil _
-
 row_sends : (g : ℕ) (c : Option Open) (w : Option ℕ) (p : List ℕ) (cmd len : ℕ) (r : Row) → SendsAs g c w (initialization (channel p) cmd len (initialization_data p)) (row_packets g p r) (Begins r)
 unfolding row_packets message_after ruling_verdict
-row_sends g c w p cmd len InitAgain = again_sends (is_on w (channel p)) (channel p) (channel p) (take 8 (initialization_data p))
-row_sends g c w p cmd len Short = refl
-row_sends g c w p cmd len Long = refl
-row_sends g c w p cmd len CancelsWork = refl
-row_sends g c w p cmd len CancelsNothing = refl
-row_sends g c w p cmd len other = append-nil _
+row_sends g c w p cmd len r = grind (arith, append-nil)
 
 continuation_sends : (g : ℕ) (w : Option ℕ) (o : Option Begun) (p part : List ℕ)
     → SendsAs g (option_map as_open o) w (continuation (channel p) (sequence p) part) (continuation_error o p) (Continues (continuation_row (option_map as_open o) (channel p) (sequence p)))
 unfolding continuation_row message_after ruling_verdict
-continuation_sends g w None p part = refl
-continuation_sends g w (Some b) p part = go (channel b.packet == channel p) (sequence p == length b.own) (nat_lt (data_room (length b.own + 1)) (message_length b.packet))
-  where
-    go : (here due more : Bool) → SendsAs g (Some (as_open b)) w (continuation (channel p) (sequence p) part) (cond (here && not due) (error (channel p) 4) [])
-        (Continues (cond (not here) Stray (cond (not due) WrongNumber (cond more Kept Whole))))
-    go false due more = refl
-    go true false more = append-nil _
-    go true true false = refl
-    go true true true = refl
+continuation_sends g w o p part = grind (arith, append-nil)
 
 pub table_sends : (g : ℕ) (o : Option Begun) (w : Option ℕ) (x : Packet64)
     → SendsAs g (option_map as_open o) w (fields x.0) (table_packets g o w (Packet x)) (ruling_of g (option_map as_open o) w (fields x.0))

@@ -1,18 +1,13 @@
-use Rattle.token_session.proofs.Credentials.{rows_are, rows_lawful, texts_differ}
-use Rattle.token_session.proofs.Signing.{texts_rise, newest_is_signed}
+use Rattle.std.proofs.Common.{refl}
+use Rattle.token_session.specs.History.{judged}
+use Rattle.token_session.proofs.Credentials.{core_is, first_ready, orderly}
 use Rattle.token_session.proofs.laws.credentials_follow_history.Goals as goal
 
-pub returns-clause-rows : goal.returns-clause-rows
-returns-clause-rows c = rows_are c.rows_follow_history.ensures.rows
-
-pub returns-clause-lawful : goal.returns-clause-lawful
-returns-clause-lawful c = rows_lawful c.rows_follow_history.ensures.lawful
-
-pub returns-clause-texts : goal.returns-clause-texts
-returns-clause-texts c = texts_differ c.texts_to_sign_differ.ensures.differ
-
-pub returns-clause-rise : goal.returns-clause-rise
-returns-clause-rise c = texts_rise c.texts_to_sign_differ.ensures.rise
-
-pub returns-clause-newest : goal.returns-clause-newest
-returns-clause-newest c = newest_is_signed c.texts_to_sign_differ.ensures.newest
+pub returns : goal.returns
+returns c = record {
+  rows = λ start h. rw (core_is start (judged start h)) (c.rows_follow_history.ensures.rows _ _ (orderly start h));
+  lawful = λ start h l. rw (core_is start (judged start h)) (c.rows_follow_history.ensures.lawful _ _ (first_ready start) l);
+  texts = λ start h l. c.texts_to_sign_differ.ensures.differ _ _ (first_ready start) l (orderly start h);
+  rise = λ start h l. c.texts_to_sign_differ.ensures.rise _ _ (first_ready start) l (orderly start h);
+  newest = λ start h id l e. let k = core_is start (judged start h) in rw k (c.texts_to_sign_differ.ensures.newest _ _ id refl (first_ready start) l (orderly start h) (rw k at e));
+}

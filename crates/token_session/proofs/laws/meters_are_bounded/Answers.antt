@@ -4,10 +4,9 @@ use Rattle.token_session.specs.Meters.{meters_of, requests}
 use Rattle.token_session.proofs.Bounds.{peak_few, few_steps, few_capped}
 use Rattle.token_session.proofs.laws.meters_are_bounded.Goals as goal
 
-pub returns-clause-held : goal.returns-clause-held
+pub returns : goal.returns
 unfolding meters_of
-returns-clause-held c = λ start h. peak_few start (judged start h)
-
-pub returns-clause-steps : goal.returns-clause-steps
-unfolding meters_of
-returns-clause-steps c = λ start h. few_capped _ _ _ (few_steps steps_of c.steps_are_bounded.ensures (requests start (judged start h)))
+returns c = record {
+  held = λ start h. peak_few start (judged start h);
+  steps = λ start h. few_capped _ _ _ (few_steps steps_of c.steps_are_bounded.ensures (requests start (judged start h)));
+}

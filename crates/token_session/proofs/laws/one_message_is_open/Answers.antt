@@ -5,9 +5,9 @@ use Rattle.token_session.proofs.Bounds.{one_open, held_few}
 use Rattle.token_session.proofs.Follows.{good_judged}
 use Rattle.token_session.proofs.laws.one_message_is_open.Goals as goal
 
-pub returns-clause-one : goal.returns-clause-one
+pub returns : goal.returns
 unfolding open_at
-returns-clause-one c = λ start t h le. one_open (judged start h) [] start t (good_judged start h).lawful tt le
-
-pub returns-clause-held : goal.returns-clause-held
-returns-clause-held c = λ start h. held_few start (judged start h)
+returns c = record {
+  one = λ start t h le. one_open (judged start h) [] start t (good_judged start h).lawful tt le;
+  held = λ start h. held_few start (judged start h);
+}
