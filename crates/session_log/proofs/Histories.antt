@@ -7,7 +7,7 @@ use Rattle.token_session.specs.History.{judged}
 use Rattle.token_session.specs.Meters.{SessionState, StandsAfter, session_of}
 use Rattle.token_session.proofs.Metering.{stands_longer, machine_after}
 use Rattle.token_session.proofs.Noise.{noise_is_named}
-use Rattle.token_session.proofs.Runs.{step_sends}
+use Rattle.token_session.proofs.Follows.{step_sends}
 use Rattle.session_log.specs.declared.fault.LogFault.{LogFault}
 use Rattle.session_log.specs.declared.line.Line.{Line}
 use Rattle.session_log.specs.declared.line.Line.TheVariants.{Input, Sent, Comment, Count}

@@ -1,5 +1,5 @@
 -- A finished CBOR message is a request, and its answer is all that is sent for it.
-use Rattle.std.proofs.Common.{◌≡◌, ℕ, ◌≤◌, ◌==◌, ◌⊎◌, inl, inr, ◌&&◌, ◌||◌, true, nat_le, List, [], ◌∷◌, ◌++◌, length, max, Option, take, Some, None, option_map, Ok, refl, sym, ◌∙◌, ap, subst, arith}
+use Rattle.std.proofs.Common.{◌≡◌, ℕ, ◌≤◌, ◌⊎◌, true, nat_le, List, [], ◌∷◌, ◌++◌, length, max, Option, take, Some, None, option_map, Ok, refl, sym, ◌∙◌, ap, arith}
 use Rattle.std.proofs.lemmas.Bool.Decides.{nat_tests}
 use Rattle.ctap_message.specs.Answers.{info_answer}
 use Rattle.ctap_message.specs.Asked.{GetInfo}
@@ -7,10 +7,8 @@ use Rattle.ctap_message.specs.Requests.{read_of}
 use Rattle.authn_core.specs.State.{Request}
 use Rattle.authn_core.specs.Turn.{Start, working, waiting}
 use Rattle.authn_core.proofs.Facts.{info_answered}
-use Rattle.hid_assemble.specs.Table.{Begins, Continues, Open, Ruling, is_given, ruling_of}
-use Rattle.hid_assemble.specs.Assembly.{Message, bytes_of, message_after}
-use Rattle.hid_assemble.specs.declared.table.Row.TheVariants.{Short}
-use Rattle.hid_assemble.specs.declared.table.Continuation.TheVariants.{Whole}
+use Rattle.hid_assemble.specs.Table.{Open, Ruling, ruling_of}
+use Rattle.hid_assemble.specs.Assembly.{Message, message_after}
 use Rattle.hid_packet.specs.Carries.{Carries, joined}
 use Rattle.hid_packet.specs.Commands.{CBOR, PING}
 use Rattle.hid_packet.specs.declared.packet.Packet.{Packet as Packet64}
@@ -22,14 +20,12 @@ use Rattle.token_session.specs.History.{admits, core, event, judge, judged, pack
 use Rattle.token_session.specs.Effects.{verdict_event, verdict_packets}
 use Rattle.hid_assemble.specs.Verdicts.{ruling_verdict}
 use Rattle.hid_assemble.specs.declared.verdict.Verdict.{Verdict}
-use Rattle.hid_assemble.specs.declared.verdict.Verdict.TheVariants.{Finished}
 use Rattle.token_session.specs.Events.{event_core, event_packets}
 use Rattle.token_session.specs.Replies.{answer_packets, asker, ping_packets, status_of}
 use Rattle.token_session.specs.declared.input.Input.{Input}
 use Rattle.token_session.specs.declared.input.Input.TheVariants.{Packet}
 use Rattle.token_session.specs.declared.input.Timed.{Timed}
 use Rattle.token_session.proofs.Follows.{Good, good_judged, judged_at, safe_at}
-use Rattle.token_session.proofs.Tables.{table_sends}
 use Rattle.token_session.proofs.Serve.{serves}
 
 -- A finished message's row sends nothing of its own, and a request is its event.
@@ -53,7 +49,7 @@ request_at start t h (Packet x) m good le fin is =
     let s = serves g o w t x (safe_at start t h good le) in
     let after : message_after (option_map as_open o) (fields x.0) row ≡ Some m = sym s.message ∙ fin in
     let a = asked g w (option_map as_open o) (fields x.0) m row after is in
-    let sends : table_packets g o w (Packet x) ++ ping_packets (Some m) ≡ [] = rw after at (table_sends g o w x) ∙ a.quiet in
+    let sends : table_packets g o w (Packet x) ++ ping_packets (Some m) ≡ [] = rw after at s.packets ∙ a.quiet in
     let asks : packet_event w (Some m) x.0 ≡ Some (Request m.cid m.bytes) = rw after at s.event ∙ a.asks in
     rw (fin, sends, asks) refl
 request_at start t h other m good le fin is = cc

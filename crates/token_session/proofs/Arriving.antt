@@ -1,21 +1,18 @@
 -- A message of several packets finishes, whatever other hosts send between.
-use Rattle.std.proofs.Common.{◌≡◌, ℕ, ◌+◌, ◌*◌, ◌≤◌, ◌<◌, ◌==◌, ◌⊎◌, inl, inr, Bool, true, false, cond, ◌&&◌, not, nat_le, nat_lt, List, [], ◌∷◌, ◌++◌, length, append-nil, append_assoc, length-append, take, Option, Some, None, refl, sym, ◌∙◌, ap, subst, arith}
+use Rattle.std.proofs.Common.{◌≡◌, ℕ, ◌+◌, ◌*◌, ◌≤◌, ◌<◌, true, false, List, [], ◌∷◌, ◌++◌, length, append-nil, append_assoc, length-append, take, Some, None, refl, sym, ◌∙◌, ap, subst, arith}
 use Rattle.std.proofs.lemmas.Bool.{false_from_ne_true}
 use Rattle.std.proofs.lemmas.Bool.Decides.{nat_tests}
 use Rattle.std.proofs.lemmas.List.{length-map}
-use Rattle.hid_assemble.specs.Assembly.{Message}
-use Rattle.hid_assemble.specs.Table.{is_given}
 use Rattle.hid_packet.specs.Carries.{Carries, Continue, IsLeast, joined}
-use Rattle.hid_packet.specs.Commands.{CBOR, PING}
 use Rattle.hid_packet.specs.declared.packet.Packet.{Packet as Packet64}
-use Rattle.hid_packet.specs.Packet.{channel, command, is_initialization, message_length, sequence}
-use Rattle.authn_core.specs.Turn.{Start, working}
+use Rattle.hid_packet.specs.Packet.{channel, is_initialization, message_length, sequence}
+use Rattle.authn_core.specs.Turn.{Start}
 use Rattle.token_session.specs.Arriving.{Arrives, ComeSoon, arriving}
 use Rattle.token_session.specs.declared.input.Input.{Input}
 use Rattle.token_session.specs.declared.input.Input.TheVariants.{Packet}
 use Rattle.token_session.specs.declared.input.Timed.{Timed}
-use Rattle.token_session.specs.History.{admits, core, judge, judged}
-use Rattle.token_session.specs.Inputs.{Judged, end, given, is_own, is_packet, own, packet}
+use Rattle.token_session.specs.History.{admits, judge, judged}
+use Rattle.token_session.specs.Inputs.{Judged, end, given, is_own, own, packet}
 use Rattle.token_session.specs.Law.{onto}
 use Rattle.token_session.specs.Messages.{Begun, begun_by, finished, finished_at, finished_long, goes_on, is_last, is_long, is_next, is_open, message, open_among, open_at, packets_of}
 use Rattle.token_session.proofs.Answering.{admitted_first}

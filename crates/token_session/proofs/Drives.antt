@@ -1,6 +1,5 @@
 -- A drive goes on by one input.
-use Rattle.std.proofs.Common.{Result, Ok, Err, IfOk, MatchResult, ◌≡◌, ℕ, ◌+◌, ◌<◌, ◌≤◌, List, [], ◌∷◌, ◌++◌, append_assoc, append-nil, length, take, get_or, refl, sym, ◌∙◌, ap, subst, arith, length-take}
-use Rattle.std.specs.Result.{result_unwrap_or}
+use Rattle.std.proofs.Common.{Result, Ok, Err, IfOk, MatchResult, ◌≡◌, ℕ, ◌+◌, ◌<◌, ◌≤◌, List, [], ◌∷◌, ◌++◌, append_assoc, append-nil, length, take, get_or, refl, sym, ◌∙◌, ap, arith, length-take}
 use Rattle.std.proofs.lemmas.List.{take_more}
 use Rattle.std.proofs.Math.Seq.{take-length}
 use Rattle.authn_core.specs.Turn.{Start}
@@ -9,13 +8,13 @@ use Rattle.token_session.specs.Carried.{ArriveWhole, IsWhole}
 use Rattle.token_session.specs.Drive.{done_of, driven, driven_sends}
 use Rattle.token_session.specs.declared.driving.DriveFault.{DriveFault}
 use Rattle.token_session.specs.declared.driving.BothFault.{BothFault}
-use Rattle.token_session.specs.Law.{numbered, onto, sent_from, sent_now}
+use Rattle.token_session.specs.Law.{numbered, onto, sent_from}
 use Rattle.token_session.specs.declared.input.Meters.{Meters}
 use Rattle.token_session.specs.Noise.{Quiet, quiet_from}
 use Rattle.token_session.specs.Meters.{SessionState, StandsAfter, stepped, sent_by}
 use Rattle.token_session.proofs.Metering.{stands_longer, machine_after}
 use Rattle.token_session.proofs.Noise.{quiet_alike, quiet_runs}
-use Rattle.token_session.proofs.Runs.{step_sends}
+use Rattle.token_session.proofs.Follows.{step_sends}
 
 driven_append : (xs : List Timed) (s : SessionState) (x : Timed) → driven s (xs ++ x ∷ []) ≡ stepped (driven s xs) x
 driven_append [] s x = refl

@@ -1,23 +1,20 @@
 -- One input sends at most 130 packets.
-use Rattle.std.proofs.Common.{◌∙◌, ◌≡◌, ℕ, ◌≤◌, ◌==◌, Bool, true, false, cond, not, ◌&&◌, suc, List, [], ◌∷◌, ◌++◌, append-nil, length, max, Option, Some, None, refl, ap, arith, length-append}
+use Rattle.std.proofs.Common.{◌≡◌, ℕ, ◌≤◌, suc, List, [], ◌++◌, append-nil, length, max, Option, Some, arith, length-append}
 use Rattle.std.proofs.lemmas.Bool.Decides.{nat_tests}
 use Rattle.std.proofs.lemmas.List.{drop_all}
 use Rattle.hid_packet.proofs.Carrying.{few_written}
 use Rattle.authn_core.proofs.Facts.{drop_answers_nothing}
-use Rattle.authn_core.specs.State.{Answer, Answered, Cancel, Drop, Event, Nothing, Request, Waits, Ignored}
-use Rattle.authn_core.specs.Turn.{CoreState, Work, waiting, working}
-use Rattle.hid_assemble.specs.Table.{Open, is_on}
-use Rattle.hid_assemble.specs.Assembly.{Assembly, accepted, is_overdue}
+use Rattle.authn_core.specs.State.{Answer, Drop, Event}
+use Rattle.authn_core.specs.Turn.{CoreState, working}
+use Rattle.hid_assemble.specs.Assembly.{Assembly, accepted}
 use Rattle.hid_assemble.specs.Verdicts.{verdict}
 use Rattle.hid_packet.specs.Packet.{fields}
 use Rattle.hid_assemble.specs.declared.verdict.Verdict.{Verdict}
-use Rattle.hid_assemble.specs.declared.verdict.Verdict.TheVariants.{Ignored as Unanswered, Kept, Finished, Refuse, Greet, GreetAndDrop, CancelWork}
 use Rattle.token_session.specs.Effects.{verdict_event, verdict_packets}
-use Rattle.hid_packet.specs.Commands.{CBOR, ERROR, INIT, KEEPALIVE, PING}
 use Rattle.hid_packet.specs.Message.{continuation_packets, written}
-use Rattle.token_session.specs.Machine.{State, overdue_packets, time_passed, served, turn}
-use Rattle.token_session.specs.Events.{reply_in, event_packets, keepalive_due, keepalive_packets}
-use Rattle.token_session.specs.Replies.{answer_packets, asker, greeting, status_of}
+use Rattle.token_session.specs.Machine.{State, time_passed, served, turn}
+use Rattle.token_session.specs.Events.{reply_in, event_packets}
+use Rattle.token_session.specs.Replies.{answer_packets, greeting}
 use Rattle.token_session.specs.declared.input.Input.{Input}
 use Rattle.token_session.specs.declared.input.Input.TheVariants.{Packet}
 use Rattle.token_session.specs.declared.input.Timed.{Timed}

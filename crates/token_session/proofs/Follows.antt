@@ -1,31 +1,27 @@
 -- The machine follows the history.
-use Rattle.std.proofs.Common.{◌≡◌, ℕ, ◌+◌, ◌≤◌, Bool, true, false, cond, ◌&&◌, not, List, [], ◌∷◌, ◌++◌, max, min, Option, Some, None, option_map, refl, sym, ◌∙◌, ap, subst, arith, nat_lt, nat_le}
+use Rattle.std.proofs.Common.{◌≡◌, ℕ, ◌+◌, ◌≤◌, true, cond, ◌&&◌, not, List, [], ◌∷◌, ◌++◌, max, min, Option, None, option_map, refl, sym, ◌∙◌, ap, arith}
 use Rattle.std.proofs.lemmas.Bool.Decides.{nat_tests}
 use Rattle.std.proofs.lemmas.List.Sums.{sum_by-cons}
-use Rattle.authn_core.proofs.Facts.{IsGiven}
 use Rattle.authn_core.specs.State.{Event}
-use Rattle.authn_core.specs.Turn.{Start, CoreState, Work, working, waiting}
-use Rattle.hid_assemble.specs.Table.{Open, LAST_CHANNEL, ruling_of}
+use Rattle.authn_core.specs.Turn.{Start, working, waiting}
+use Rattle.hid_assemble.specs.Table.{Open, LAST_CHANNEL}
 use Rattle.hid_assemble.specs.Assembly.{accepted, is_overdue}
 use Rattle.hid_assemble.specs.Verdicts.{verdict}
-use Rattle.hid_packet.specs.Packet.{fields}
-use Rattle.token_session.specs.Effects.{verdict_packets, verdict_event}
 use Rattle.token_session.specs.Inputs.{Judged, asks_channel, end, given, is_own, is_packet}
 use Rattle.token_session.specs.Messages.{Begun, as_open, finished, last_at, open_at}
-use Rattle.token_session.specs.History.{admits, core, cut_packets, event, judge, judged, last_keepalive, packet_event, sent_at, service_packets, table_packets, time_packets}
-use Rattle.token_session.specs.Law.{event_at, named, is_cut}
+use Rattle.token_session.specs.History.{admits, core, event, judge, judged, last_keepalive, packet_event, sent_at, service_packets, table_packets, time_packets}
+use Rattle.token_session.specs.Law.{event_at, named, is_cut, IsAfter, onto, run_sent, run_state, sent_from, sent_now}
 use Rattle.token_session.specs.Machine.{State, Turn, happens, machine, time_passed, served, start_state, turn}
-use Rattle.token_session.specs.Events.{reply_in, keepalive_due, keepalive_packets}
+use Rattle.token_session.specs.Events.{keepalive_due}
 use Rattle.token_session.specs.Replies.{ping_packets}
 use Rattle.token_session.specs.declared.input.Input.{Input}
 use Rattle.token_session.specs.declared.input.Input.TheVariants.{Packet}
 use Rattle.token_session.specs.declared.input.Timed.{Timed}
-use Rattle.token_session.specs.Messages as messages
 use Rattle.token_session.proofs.Opens.{Lawful, next, open_next_is, still, still_open}
-use Rattle.token_session.proofs.Serve.{Safe, OpenGiven, Serves, new_open, serves}
+use Rattle.token_session.proofs.Serve.{Safe, OpenGiven, serves}
 use Rattle.token_session.proofs.Safety.{input_safe}
-use Rattle.token_session.proofs.Tables.{table_sends}
 use Rattle.token_session.proofs.Noted.{last_noted}
+use Rattle.token_session.specs.Messages as messages
 
 -- What holds after every history.
 pub record Good (start : Start) (h : List Judged) : Type 0 where
@@ -94,7 +90,7 @@ served_named start t h (Packet x) good le =
     let w = working (core start h) in
     let s = serves (given h) (open_at h t) w t x (safe_at start t h good le) in
     named_turn start e h _ _ _ _ (sym (given_more e h ∙ s.channels)) (sym (ap (option_map as_open) (open_next_is h e start good.lawful le) ∙ s.current))
-    (sym (table_sends (given h) (open_at h t) w x) ∙ ap (λ m. table_packets (given h) (open_at h t) w (Packet x) ++ ping_packets m) (sym s.message))
+    (sym s.packets ∙ ap (λ m. table_packets (given h) (open_at h t) w (Packet x) ++ ping_packets m) (sym s.message))
     (sym s.event ∙ ap (λ m. packet_event w m x.0) (sym s.message))
 served_named start t h other good le =
     let e = judged_at start t h other in
@@ -141,3 +137,22 @@ unfolding machine judged start_state named given core open_at messages.open_amon
 machine_follows start [] = refl
 machine_follows start (x ∷ h) =
     ap (λ s. (turn s x).state) (machine_follows start h) ∙ ap (λ (v : Turn). v.state) (follows start (judged start h) x (good_judged start h))
+
+-- what a turn makes of a state that stands after a history
+pub turn_after : (s : State) (start : Start) (h : List Timed) (x : Timed) → IsAfter s start h → turn s x ≡ record { state = named start (judged start (x ∷ h)); packets = sent_now start h x; event = event_at start (judge start x (judged start h)) (judged start h) }
+unfolding judged sent_now
+turn_after s start h x b = ap (λ v. turn v x) b ∙ follows start (judged start h) x (good_judged start h)
+
+pub step_after : (s : State) (start : Start) (h : List Timed) (x : Timed) → IsAfter s start h → IsAfter (turn s x).state start (x ∷ h)
+step_after s start h x b = ap (λ (v : Turn). v.state) (turn_after s start h x b)
+
+pub step_sends : (s : State) (start : Start) (h : List Timed) (x : Timed) → IsAfter s start h → (turn s x).packets ≡ sent_now start h x
+step_sends s start h x b = ap (λ (v : Turn). v.packets) (turn_after s start h x b)
+
+pub run_after : (xs : List Timed) (s : State) (start : Start) (h : List Timed) → IsAfter s start h → IsAfter (run_state s xs) start (onto xs h)
+run_after [] s start h b = b
+run_after (x ∷ xs) s start h b = run_after xs (turn s x).state start (x ∷ h) (step_after s start h x b)
+
+pub run_sends : (xs : List Timed) (s : State) (start : Start) (n : ℕ) (h : List Timed) → IsAfter s start h → run_sent n s xs ≡ sent_from n start h xs
+run_sends [] s start n h b = refl
+run_sends (x ∷ xs) s start n h b = rw (step_sends s start h x b, run_sends xs (turn s x).state start (n + 1) (x ∷ h) (step_after s start h x b)) refl

@@ -1,7 +1,7 @@
 -- The promises of every history, together.
-use Rattle.std.proofs.Common.{◌≡◌, ℕ, ◌+◌, ◌-◌, ◌*◌, ◌≤◌, List, [], ◌∷◌, ◌++◌, length, map, reverse, Option, Some, None, Result, Ok, Err, IfOk, take, refl, sym, ◌∙◌, ap, subst, append-nil, append_assoc, arith, take_all}
+use Rattle.std.proofs.Common.{◌≡◌, ℕ, ◌+◌, ◌-◌, ◌*◌, ◌≤◌, List, [], ◌∷◌, ◌++◌, length, map, reverse, Result, Ok, Err, IfOk, take, refl, sym, ◌∙◌, ap, subst, append-nil, append_assoc, arith, take_all}
 use Rattle.std.proofs.lemmas.List.{map-append, reverse-append}
-use Rattle.std.specs.List.{AllByRecursion, cons_option}
+use Rattle.std.specs.List.{AllByRecursion}
 use Rattle.ctap_message.specs.Requests.{steps_of}
 use Rattle.authn_core.specs.Turn.{Start}
 use Rattle.token_session.specs.declared.input.Sent.{Sent}
@@ -10,16 +10,14 @@ use Rattle.token_session.specs.Carried.{ArriveWhole}
 use Rattle.token_session.specs.Drive.{as_pair, done_of, packet_of, HadRoom}
 use Rattle.token_session.specs.declared.driving.DriveFault.{DriveFault}
 use Rattle.token_session.specs.declared.input.Meters.{Meters}
-use Rattle.token_session.specs.Effects.{request_in}
 use Rattle.token_session.specs.Inputs.{Judged}
 use Rattle.token_session.specs.History.{judged, sent}
-use Rattle.token_session.specs.Law.{event_at, numbered, onto, sent_from, sent_now, turns_send}
+use Rattle.token_session.specs.Law.{numbered, onto, sent_from, sent_now, turns_send}
 use Rattle.token_session.specs.Machine.{machine}
 use Rattle.token_session.specs.Meters.{requests, meters_of, session_of, SessionState, StandsAfter}
 use Rattle.token_session.specs.Headline.{AllCarried, IsAnswered}
 use Rattle.token_session.proofs.Carrying.{finished_is_carried}
-use Rattle.token_session.proofs.Follows.{machine_follows}
-use Rattle.token_session.proofs.Runs.{step_sends}
+use Rattle.token_session.proofs.Follows.{machine_follows, step_sends}
 
 pub turns_send_sent : (start : Start) (h : List Timed) → turns_send start h ≡ sent start (judged start h)
 unfolding turns_send sent judged sent_now

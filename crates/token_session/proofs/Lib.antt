@@ -1,14 +1,11 @@
 pub mod Opens
 pub mod Serve
 pub mod Safety
-pub mod Tables
 pub mod Follows
-pub mod Runs
 pub mod Bounds
 pub mod Few
 pub mod Passing
 pub mod Serving
-pub mod Turning
 pub mod Metering
 mod Rows
 pub mod Sizes
@@ -18,6 +15,5 @@ pub mod Noted
 pub mod Noise
 pub mod Drives
 pub mod Credentials
-pub mod Signing
 pub mod Arriving
 pub mod Headline

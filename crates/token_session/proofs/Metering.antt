@@ -1,6 +1,5 @@
 -- The meters that a history names go on by one input.
-use Rattle.std.proofs.Common.{◌≡◌, ℕ, ◌+◌, ◌-◌, ◌*◌, ◌≤◌, List, [], ◌∷◌, length, max, min, sum_by, Option, Some, None, option_map, refl, sym, ◌∙◌, ap, subst, arith}
-use Rattle.std.specs.Prelude.{unwrap_or}
+use Rattle.std.proofs.Common.{◌≡◌, ℕ, ◌+◌, ◌-◌, ◌*◌, ◌≤◌, List, [], ◌∷◌, length, max, min, sum_by, Option, Some, None, refl, ap, arith}
 use Rattle.std.proofs.lemmas.List.Sums.{sum_by-cons}
 use Rattle.hid_assemble.specs.Assembly.{held_bytes}
 use Rattle.ctap_message.specs.Requests.{steps_of, LARGEST}
@@ -8,15 +7,15 @@ use Rattle.authn_core.specs.Turn.{Start}
 use Rattle.token_session.specs.declared.input.Timed.{Timed}
 use Rattle.token_session.specs.declared.input.Meters.{Meters}
 use Rattle.token_session.specs.Effects.{request_in}
-use Rattle.token_session.specs.Inputs.{Judged, end, given}
-use Rattle.token_session.specs.Messages.{Begun, open_at, open_among, as_open}
+use Rattle.token_session.specs.Inputs.{Judged, given}
+use Rattle.token_session.specs.Messages.{open_at, open_among}
 use Rattle.token_session.specs.History.{judged, judge, held, core, last_keepalive}
-use Rattle.token_session.specs.Machine.{State, Turn, turn, start_state}
+use Rattle.token_session.specs.Machine.{State, turn, start_state}
 use Rattle.token_session.specs.Law.{named, event_at, IsAfter}
 use Rattle.cred_table.specs.Waiting.{pending_count}
 use Rattle.std.specs.List.{cons_option}
-use Rattle.token_session.specs.Meters.{AreBounded, peak_rows, peak_pending, metered_by, requests, peak_held, meters_of, counted, metered, SessionState, StandsAfter, stepped, session_of}
-use Rattle.token_session.proofs.Runs.{turn_after}
+use Rattle.token_session.specs.Meters.{AreBounded, peak_rows, peak_pending, requests, peak_held, meters_of, counted, metered, SessionState, StandsAfter, stepped, session_of}
+use Rattle.token_session.proofs.Follows.{turn_after}
 
 -- the bytes held are those that the history names
 pub held_named : (start : Start) (h : List Judged) → held_bytes (named start h).current ≡ held start h

@@ -1,25 +1,21 @@
 -- What sends a KEEPALIVE: time where it is due, and an event that says so.
-use Rattle.std.proofs.Common.{◌≡◌, ℕ, ◌+◌, ◌<◌, ◌≤◌, ◌==◌, Bool, true, false, cond, not, ◌&&◌, ◌||◌, suc, zero, List, [], ◌∷◌, ◌++◌, length, take, drop, Option, Some, None, refl, ◌∙◌, ap, ap₂, arith, nat_le}
+use Rattle.std.proofs.Common.{◌≡◌, ℕ, ◌+◌, ◌<◌, ◌≤◌, ◌==◌, Bool, true, false, cond, not, ◌&&◌, suc, zero, List, [], ◌∷◌, length, take, drop, Option, refl, arith}
 use Rattle.std.proofs.lemmas.Bool.Decides.{nat_tests}
 use Rattle.std.proofs.lemmas.List.Folds.{list_any-append}
-use Rattle.authn_core.specs.State.{Event, Answer, Answered, Waits, Ignored, Nothing}
-use Rattle.authn_core.specs.Turn.{Start, Work, CoreState, working, waiting}
-use Rattle.hid_assemble.specs.Table.{is_on}
-use Rattle.hid_assemble.specs.declared.table.Row.{Row}
+use Rattle.authn_core.specs.State.{Event}
+use Rattle.authn_core.specs.Turn.{Start, Work, CoreState, waiting}
 use Rattle.hid_assemble.specs.Assembly.{Message}
-use Rattle.hid_assemble.specs.declared.table.Row.TheVariants.{BadLength, BrokenOff, BusyElsewhere, BusyHere, InitAgain, InitFull, InitLength, InitNew, NoSuchChannel, NoSuchCommand}
-use Rattle.hid_packet.specs.Commands.{CBOR, ERROR, INIT, KEEPALIVE, PING, BROADCAST}
+use Rattle.hid_packet.specs.Commands.{KEEPALIVE}
 use Rattle.hid_packet.specs.Message.{padded, initialization_packet, continuation_packet, continuation_packets, written}
-use Rattle.hid_packet.specs.Packet.{channel, command, is_command, is_initialization, sequence}
+use Rattle.hid_packet.specs.Packet.{command, is_initialization}
 use Rattle.token_session.specs.Events.{event_packets, keepalive_due, keepalive_packets}
-use Rattle.token_session.specs.Inputs.{Judged, end, given}
-use Rattle.token_session.specs.Messages.{Begun, finished_at, open_at}
+use Rattle.token_session.specs.Inputs.{Judged, end}
+use Rattle.token_session.specs.Messages.{Begun, open_at}
 use Rattle.token_session.specs.Law.{is_cut, keeps_alive}
-use Rattle.token_session.specs.History.{continuation_error, core, cut_packets, event_to, last_keepalive, sent_at, service_packets, table_packets, time_packets}
+use Rattle.token_session.specs.History.{core, cut_packets, event_to, last_keepalive, service_packets, table_packets, time_packets}
 use Rattle.token_session.specs.Machine.{answer_keeps_alive, event_keeps_alive}
 use Rattle.token_session.specs.Replies.{answer_packets, greeting, ping_packets, row_packets}
 use Rattle.token_session.specs.declared.input.Input.{Input}
-use Rattle.token_session.specs.declared.input.Input.TheVariants.{Packet}
 
 begins : (cid cmd len : ℕ) (part : List ℕ) → is_initialization (initialization_packet cid cmd len part) ≡ true
 unfolding is_initialization initialization_packet padded

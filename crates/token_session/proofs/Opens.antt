@@ -1,13 +1,11 @@
 -- How the open message of a history goes on by one input, and as time passes.
-use Rattle.std.proofs.Common.{◌≡◌, ℕ, ◌+◌, ◌≤◌, Bool, true, false, cond, ◌&&◌, List, [], ◌∷◌, ◌++◌, length, filter, append-nil, Option, Some, None, refl, sym, ◌∙◌, ap, arith, nat_lt, if◌then◌else◌}
-use Rattle.std.specs.Prelude.{not, ◌==◌}
+use Rattle.std.proofs.Common.{◌≡◌, ℕ, ◌+◌, ◌≤◌, true, cond, ◌&&◌, List, [], ◌∷◌, ◌++◌, length, append-nil, Option, Some, None, refl, arith, nat_lt, if◌then◌else◌}
 use Rattle.std.proofs.lemmas.Bool.Decides.{nat_tests}
 use Rattle.std.proofs.lemmas.List.Elements.{filter-append}
-use Rattle.hid_packet.specs.Commands.{CANCEL}
-use Rattle.hid_packet.specs.Packet.{channel, is_command, message_length}
+use Rattle.hid_packet.specs.Packet.{channel, message_length}
 use Rattle.authn_core.specs.Turn.{Start}
 use Rattle.token_session.specs.Inputs.{Judged, end, is_own, own, packet}
-use Rattle.token_session.specs.Messages.{Begun, begun_by, goes_on, is_long, is_next, is_open, last_at, open_among, open_at}
+use Rattle.token_session.specs.Messages.{Begun, goes_on, is_long, is_next, is_open, last_at, open_among, open_at}
 
 -- each of these inputs came at t or later
 abbrev pub From : ℕ → List Judged → Type 0

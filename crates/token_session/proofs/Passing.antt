@@ -1,5 +1,5 @@
 -- Time passes: a message is given up, or the authenticator may send a KEEPALIVE.
-use Rattle.std.proofs.Common.{◌≡◌, ℕ, ◌+◌, ◌-◌, ◌≤◌, ◌<◌, true, false, cond, [], Option, Some, None, option_map, refl, ap, List, nat_le, arith}
+use Rattle.std.proofs.Common.{◌≡◌, ℕ, ◌+◌, ◌-◌, ◌≤◌, ◌<◌, true, false, cond, [], Option, Some, None, option_map, refl, List, nat_le, arith}
 use Rattle.std.proofs.lemmas.Bool.Decides.{nat_tests}
 use Rattle.hid_assemble.specs.Table.{Open}
 use Rattle.hid_assemble.specs.Assembly.{Assembly, is_overdue, still_open}

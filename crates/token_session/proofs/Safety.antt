@@ -1,14 +1,11 @@
 -- After every input at most one message is open or waits, on a channel that was given.
-use Rattle.std.proofs.Common.{◌≡◌, ℕ, ◌≤◌, Bool, true, cond, ◌&&◌, List, Option, Some, None, refl, ◌∙◌, subst, arith, nat_le}
-use Rattle.std.proofs.lemmas.Bool.{cond_both}
+use Rattle.std.proofs.Common.{◌≡◌, ℕ, ◌≤◌, List, Option, Some, None, subst, arith}
 use Rattle.std.proofs.lemmas.Bool.Decides.{nat_tests}
 use Rattle.authn_core.proofs.Facts.{IsGiven, work_stays_given}
 use Rattle.authn_core.specs.State.{Event, Request}
 use Rattle.authn_core.specs.Turn.{CoreState, working}
 use Rattle.hid_assemble.specs.Assembly.{Message}
-use Rattle.hid_assemble.specs.Table.{is_on}
-use Rattle.hid_packet.specs.Commands.{CANCEL, INIT}
-use Rattle.hid_packet.specs.Packet.{channel, is_command, is_initialization, message_length}
+use Rattle.hid_packet.specs.Packet.{channel}
 use Rattle.token_session.specs.Inputs.{is_own, is_packet}
 use Rattle.token_session.specs.Messages.{Begun, finished, finished_long, is_last, is_long, is_next}
 use Rattle.token_session.specs.History.{admits, event, packet_event}

@@ -1,6 +1,6 @@
 -- What the reply table makes of a packet is what the history says: the channels, the open message, the finished one and
 -- the event. Each part is a proposition on the tests of the table, whatever their values.
-use Rattle.std.proofs.Common.{◌≡◌, ℕ, ◌+◌, ◌*◌, ◌≤◌, Bool, true, false, cond, ◌&&◌, ◌||◌, not, ◌==◌, List, [], ◌∷◌, ◌++◌, length, append-nil, append_assoc, flat_map, Option, Some, None, option_map, refl, sym, ◌∙◌, ap, subst, arith, nat_lt, nat_le, min}
+use Rattle.std.proofs.Common.{◌≡◌, ℕ, ◌+◌, ◌*◌, ◌≤◌, Bool, true, false, cond, ◌&&◌, ◌||◌, not, ◌==◌, List, [], ◌∷◌, ◌++◌, length, append-nil, append_assoc, flat_map, Option, Some, None, option_map, refl, sym, subst, arith, nat_lt, nat_le, min}
 use Rattle.std.proofs.lemmas.Bool.{cond_both}
 use Rattle.std.proofs.lemmas.Bool.Decides.{nat_tests}
 use Rattle.std.proofs.lemmas.Grind.{flat_map-append}
@@ -10,17 +10,15 @@ use Rattle.authn_core.specs.State.{Cancel, Drop}
 use Rattle.hid_assemble.specs.Table.{Begins, Continues, LAST_CHANNEL, Ruling, Open, continuation_row, first_row, initialization_row, is_elsewhere, is_given, is_on, ruling_of}
 use Rattle.hid_assemble.specs.declared.table.Row.{Row}
 use Rattle.hid_assemble.specs.declared.table.Row.TheVariants.{BadLength, BrokenOff, BusyElsewhere, BusyHere, CancelsNothing, CancelsWork, InitAgain, InitFull, InitLength, InitNew, Long, NoSuchChannel, NoSuchCommand, Short}
-use Rattle.hid_assemble.specs.declared.table.Continuation.{Continuation}
-use Rattle.hid_assemble.specs.declared.table.Continuation.TheVariants.{Kept, Stray, Whole, WrongNumber}
-use Rattle.hid_assemble.specs.Assembly.{Message, begun, bytes_of, completed, given_after, grown, message_after, open_after}
+use Rattle.hid_assemble.specs.Assembly.{Message, begun, bytes_of, given_after, grown, message_after, open_after}
 use Rattle.hid_assemble.specs.Verdicts.{ruling_verdict}
 use Rattle.hid_packet.specs.Packet.{Fields, channel, channel_of, command, continuation, continuation_data, fields, initialization, initialization_data, is_initialization, message_length, sequence}
 use Rattle.hid_packet.specs.declared.packet.Packet.{Packet as Packet64}
 use Rattle.token_session.specs.Inputs.{Judged, asks_channel, is_own, is_packet, packet}
-use Rattle.token_session.specs.Messages.{Begun, as_open, finished, finished_long, is_last, is_long, is_next, last_at, message, packets_of}
-use Rattle.token_session.specs.History.{admits, packet_event}
-use Rattle.token_session.specs.Effects.{verdict_event}
-use Rattle.token_session.specs.Replies.{request_event}
+use Rattle.token_session.specs.Messages.{Begun, as_open, finished, finished_long, is_last, is_long, is_next, last_at, packets_of}
+use Rattle.token_session.specs.History.{admits, packet_event, continuation_error, table_packets}
+use Rattle.token_session.specs.Effects.{verdict_event, verdict_packets}
+use Rattle.token_session.specs.Replies.{request_event, ping_packets, row_packets}
 use Rattle.token_session.specs.declared.input.Input.{Input}
 use Rattle.token_session.specs.declared.input.Input.TheVariants.{Packet}
 use Rattle.token_session.proofs.Opens.{next, then_next}
@@ -31,6 +29,10 @@ new_open g o w t i =
     let e : Judged = record { at = t; input = i; admitted = is_packet (admits g o w) i } in
     cond (e.admitted && is_long (packet i)) (Some (record { packet = packet i; at = t; own = [] })) (then_next e o)
 
+-- these packets and those of a finished PING are what is sent under the ruling
+abbrev SendsAs : ℕ → Option Open → Option ℕ → Fields → List (List ℕ) → Ruling → Type 0
+SendsAs g c w f ps r = ps ++ ping_packets (message_after c f r) ≡ verdict_packets (ruling_verdict g w f (message_after c f r) r) (bytes_of (message_after c f r))
+
 -- The ruling does to each part what the history says.
 pub record Serves (g : ℕ) (o : Option Begun) (w : Option ℕ) (t : ℕ) (x : Packet64) (f : Fields) (r : Ruling) : Type 0 where
   pub channels : cond (asks_channel x.0) (min (g + 1) LAST_CHANNEL) g ≡ given_after g r
@@ -38,6 +40,13 @@ pub record Serves (g : ℕ) (o : Option Begun) (w : Option ℕ) (t : ℕ) (x : P
   pub message : finished o (admits g o w x.0) (Packet x) ≡ message_after (option_map as_open o) f r
   pub event : packet_event w (message_after (option_map as_open o) f r) x.0
       ≡ verdict_event (ruling_verdict g w f (message_after (option_map as_open o) f r) r) (bytes_of (message_after (option_map as_open o) f r))
+  pub packets : SendsAs g (option_map as_open o) w f (table_packets g o w (Packet x)) r
+
+-- ---- what is sent
+
+row_sends : (g : ℕ) (c : Option Open) (w : Option ℕ) (p : List ℕ) (cmd len : ℕ) (r : Row) → SendsAs g c w (initialization (channel p) cmd len (initialization_data p)) (row_packets g p r) (Begins r)
+unfolding row_packets message_after ruling_verdict
+row_sends g c w p cmd len r = grind (arith, append-nil)
 
 -- ---- a start, by the tests of the table's rows
 
@@ -152,7 +161,7 @@ small n h = grind (arith, nat_tests)
 
 start_none : (g : ℕ) (w : Option ℕ) (t : ℕ) (x : Packet64) → g ≤ LAST_CHANNEL → IsGiven g w → is_initialization x.0 ≡ true
     → Serves g None w t x (starts x.0) (Begins (initialization_row g None w (channel x.0) (command x.0) (message_length x.0)))
-unfolding asks_channel finished finished_long packet_event initialization_row message_after
+unfolding asks_channel finished finished_long packet_event initialization_row message_after table_packets
 start_none g w t x few wg st =
     let s = tests g None w x.0 in
     let a = agree g None w x.0 few tt wg in
@@ -161,6 +170,7 @@ start_none g w t x few wg st =
       current = rw (admits_none g w x.0 st, long_is x.0) (open_none s t (starts x.0) _ a refl (rw (append-nil (initialization_data x.0)) refl));
       message = rw (admits_none g w x.0 st) (message_none s (starts x.0) _ a refl (small (message_length x.0)) (rw (append-nil (initialization_data x.0)) refl));
       event = rw st (event_row s w g None (starts x.0) _ a refl refl);
+      packets = rw st (row_sends g None w x.0 (command x.0) (message_length x.0) (row s));
     }
 
 -- ---- where a message is open
@@ -180,7 +190,7 @@ start_next b t x st = rw st (grind arith)
 
 start_some : (g : ℕ) (b : Begun) (t : ℕ) (x : Packet64) → g ≤ LAST_CHANNEL → IsGiven g (Some (channel b.packet)) → is_initialization x.0 ≡ true
     → Serves g (Some b) None t x (starts x.0) (Begins (initialization_row g (Some (channel b.packet)) None (channel x.0) (command x.0) (message_length x.0)))
-unfolding asks_channel finished finished_long is_last packet_event initialization_row
+unfolding asks_channel finished finished_long is_last packet_event initialization_row table_packets
 start_some g b t x few og st =
     let s = tests g (Some (channel b.packet)) None x.0 in
     let a = agree g (Some (channel b.packet)) None x.0 few og tt in
@@ -190,6 +200,7 @@ start_some g b t x few og st =
       current = rw (never_admitted g b None x.0, start_next b t x st) (open_some s t (starts x.0) b a apart refl refl);
       message = rw (never_admitted g b None x.0, st) (message_some s (starts x.0) (as_open b) apart);
       event = rw st (event_row s None g (Some (as_open b)) (starts x.0) _ a refl refl);
+      packets = rw st (row_sends g (Some (as_open b)) None x.0 (command x.0) (message_length x.0) (row s));
     }
 
 -- ---- continuation packets
@@ -198,14 +209,8 @@ last_at_more : (es : List Judged) (t : ℕ) (e : Judged) → last_at t (es ++ e 
 last_at_more [] t e = refl
 last_at_more (x ∷ es) t e = last_at_more es x.at e
 
-joined_more : (start : List ℕ) (ps : List (List ℕ)) (p : List ℕ) → initialization_data start ++ flat_map continuation_data (ps ++ p ∷ []) ≡ (initialization_data start ++ flat_map continuation_data ps) ++ continuation_data p
-joined_more start ps p =
-    rw (flat_map-append continuation_data ps (p ∷ []), append-nil (continuation_data p))
-    (sym (append_assoc (initialization_data start) (flat_map continuation_data ps) (continuation_data p)))
-
 grown_as : (b : Begun) (t : ℕ) (x : Packet64) → as_open (record { packet = b.packet; at = b.at; own = b.own ++ now_came t x ∷ [] }) ≡ grown t (goes x.0) (as_open b)
-grown_as b t x =
-    rw (map-append (λ (v : Judged). packet v.input) b.own (now_came t x ∷ []), joined_more b.packet (packets_of b.own) x.0, length-append b.own (now_came t x ∷ []), last_at_more b.own b.at (now_came t x)) refl
+grown_as b t x = simp (map-append, flat_map-append, append-nil, append_assoc, length-append, last_at_more)
 
 more_next : (b : Begun) (t : ℕ) (x : Packet64) → is_initialization x.0 ≡ false
     → next (now_came t x) b ≡ cond (channel b.packet == channel x.0)
@@ -215,14 +220,15 @@ more_next b t x st = rw st (grind arith)
 
 more_row : (g : ℕ) (o : Option Begun) (w : Option ℕ) (t : ℕ) (x : Packet64) → is_initialization x.0 ≡ false
     → Serves g o w t x (goes x.0) (Continues (continuation_row (option_map as_open o) (channel x.0) (sequence x.0)))
-unfolding asks_channel admits finished finished_long is_last packet_event continuation_row open_after message_after ruling_verdict
-more_row g None w t x st = record { channels = rw st refl; current = rw st refl; message = rw st refl; event = rw st refl }
+unfolding asks_channel admits finished finished_long is_last packet_event continuation_row open_after message_after ruling_verdict table_packets
+more_row g None w t x st = record { channels = rw st refl; current = rw st refl; message = rw st refl; event = rw st refl; packets = rw st refl }
 more_row g (Some b) w t x st =
     record {
       channels = rw st refl;
       current = rw (st, more_next b t x st) (grind (arith, grown_as b t x));
-      message = rw (st, joined_more b.packet (packets_of b.own) x.0) (grind arith);
+      message = rw st (simp (flat_map-append, append-nil) (grind (arith, append_assoc)));
       event = rw st (grind arith);
+      packets = rw st (grind (arith, append-nil));
     }
 
 -- ---- any packet

@@ -1,5 +1,4 @@
-use Rattle.token_session.proofs.Follows.{machine_follows}
-use Rattle.token_session.proofs.Runs.{step_sends}
+use Rattle.token_session.proofs.Follows.{machine_follows, step_sends}
 use Rattle.token_session.proofs.laws.machine_follows_history.Goals as goal
 
 pub returns : goal.returns

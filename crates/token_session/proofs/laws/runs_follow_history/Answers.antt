@@ -1,4 +1,4 @@
-use Rattle.token_session.proofs.Runs.{run_after, run_sends}
+use Rattle.token_session.proofs.Follows.{run_after, run_sends}
 use Rattle.token_session.proofs.laws.runs_follow_history.Goals as goal
 
 pub returns : goal.returns

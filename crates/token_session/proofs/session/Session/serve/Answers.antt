@@ -5,8 +5,7 @@ use Rattle.authn_core.specs.Views.{event_of}
 use Rattle.token_session.specs.Effects.{channel_of, request_in}
 use Rattle.token_session.specs.Meters.{AreBounded, SessionState, counted}
 use Rattle.token_session.proofs.Metering.{counted_bounded}
-use Rattle.token_session.proofs.Serving.{is_served, input_few}
-use Rattle.token_session.proofs.Turning.{taken, taken_keeps, taken_packets}
+use Rattle.token_session.proofs.Serving.{is_served, input_few, taken, taken_keeps, taken_packets}
 use Rattle.token_session.proofs.session.Session.serve.Goals as goal
 
 pub put_verdict-requires : goal.put_verdict-requires

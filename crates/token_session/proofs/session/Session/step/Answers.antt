@@ -1,6 +1,6 @@
 use Rattle.std.proofs.Common.{◌≡◌, ℕ, ◌≤◌, List, length, max, refl, subst, sym, ap, ◌∙◌, arith}
 use Rattle.token_session.proofs.Few.{time_few, turn_few}
-use Rattle.token_session.proofs.Runs.{step_sends}
+use Rattle.token_session.proofs.Follows.{step_sends}
 use Rattle.token_session.proofs.Serving.{step_turn}
 use Rattle.token_session.proofs.Metering.{stepped_is, stands_longer, machine_after}
 use Rattle.token_session.specs.declared.input.Timed.{Timed}
