@@ -92,7 +92,8 @@ stays_open e start (z ∷ zs) g D t stays le goes =
 
 -- ---- the packets of a message
 
-all_go_on : (os : List Judged) (c len m since t : ℕ) (q : Judged) → On c os → Continue c m (packets_of os ++ packet q.input ∷ []) → 57 + 59 * (m + length os) < len → ComeSoon since (os ++ q ∷ []) → t ≡ q.at
+all_go_on : (os : List Judged) (c len m since t : ℕ) (q : Judged) → On c os → Continue c m (packets_of os ++ packet q.input ∷ [])
+    → 57 + 59 * (m + length os) < len → ComeSoon since (os ++ q ∷ []) → t ≡ q.at
     → goes_on len m since os t ≡ true
 unfolding goes_on is_next is_own
 all_go_on [] c len m since t q on cont room soon is = let s = soon.0 in grind (arith, nat_tests)

@@ -35,7 +35,8 @@ length_parts (p ∷ ps) a =
     let rest = length_parts ps a.1 in
     omega (arith, length-append (take 59 (drop 5 p)) (flat_map continuation_data ps))
 
-continue_more : (c m n : ℕ) (ps : List (List ℕ)) (p : List ℕ) → n ≡ m + length ps → Continue c m ps → is_initialization p ≡ false → channel p ≡ c → sequence p ≡ n → Continue c m (ps ++ p ∷ [])
+continue_more : (c m n : ℕ) (ps : List (List ℕ)) (p : List ℕ) → n ≡ m + length ps → Continue c m ps → is_initialization p ≡ false → channel p ≡ c
+    → sequence p ≡ n → Continue c m (ps ++ p ∷ [])
 continue_more c m n [] p e k a b s = let same : n ≡ m = omega arith in (a, b, s ∙ same, tt)
 continue_more c m n (q ∷ ps) p e k a b s = (k.0, k.1, k.2, continue_more c (m + 1) n ps p (omega arith) k.3 a b s)
 
@@ -87,11 +88,6 @@ unfolding own is_own
 packets_whole c [] h = tt
 packets_whole c (e ∷ es) h = grind (arith, packets_whole c es h.1)
 
--- Every admitted input is an initialization packet.
-abbrev pub AdmitsStarts : List Judged → Type 0
-AdmitsStarts [] = Unit {0}
-AdmitsStarts (e ∷ es) = (e.admitted ≡ true → (is_initialization (packet e.input) ≡ true) × (length (packet e.input) ≡ 64)) × AdmitsStarts es
-
 -- what is known of an open message
 pub record Known (b : Begun) (t : ℕ) : Type 0 where
   pub start : is_initialization b.packet ≡ true
@@ -102,11 +98,11 @@ pub record Known (b : Begun) (t : ℕ) : Type 0 where
   pub short : message_length b.packet ≤ 7609
   pub goes : goes_on (message_length b.packet) 0 b.at b.own t ≡ true
 
-known_here : (e : Judged) (L : List Judged) (t : ℕ) → AreWhole L → (e.admitted ≡ true → (is_initialization (packet e.input) ≡ true) × (length (packet e.input) ≡ 64)) → is_open e L t ≡ true
-    → Known (begun_by e L) t
-unfolding is_open is_long
-known_here e L t whole starts h =
-    let c = channel (packet e.input) in
+known_here : (start : Start) (h : List Judged) (x : Timed) (L : List Judged) (t : ℕ) → IsWhole x.input → AreWhole L
+    → is_open (judge start x h) L t ≡ true → Known (begun_by (judge start x h) L) t
+unfolding is_open is_long judge admits
+known_here start h x L t w whole o =
+    let c = channel (packet x.input) in
     record {
       start = grind arith;
       whole = grind arith;
@@ -117,11 +113,13 @@ known_here e L t whole starts h =
       goes = grind arith;
     }
 
-known : (h L : List Judged) (t : ℕ) (b : Begun) → AreWhole h → AreWhole L → AdmitsStarts h → open_among L h t ≡ Some b → Known b t
-unfolding open_among
-known [] L t b w v s is = cc
-known (e ∷ before) L t b w v s is =
-    cond_both (is_open e L t) _ _ (λ o. (o ≡ Some b → Known b t)) (λ h q. subst (λ v. Known v t) (same_Some _ b q) (known_here e L t v s.0 h)) (λ _ q. known before (e ∷ L) t b w.1 (w.0, v) s.1 q) is
+known : (start : Start) (h : List Timed) (L : List Judged) (t : ℕ) (b : Begun) → ArriveWhole h → AreWhole L → open_among L (judged start h) t ≡ Some b → Known b t
+unfolding open_among judged judge
+known start [] L t b w v is = cc
+known start (x ∷ h) L t b w v is =
+    let e = judge start x (judged start h) in
+    cond_both (is_open e L t) _ _ (λ o. (o ≡ Some b → Known b t))
+    (λ o q. subst (λ v. Known v t) (same_Some _ b q) (known_here start (judged start h) x L t w.0 v o)) (λ _ q. known start h (e ∷ L) t b w.1 (w.0, v) q) is
 
 -- a finished long message
 long_is : (b : Begun) (p : List ℕ) (m : Message) → finished_long (Some b) p ≡ Some m → (is_last b p ≡ true) × (message b.packet (packets_of b.own ++ p ∷ []) ≡ m)
@@ -160,27 +158,17 @@ unfolding finished carriers
 carried o t admitted (Packet p) m k whole starts h =
     go (admitted && nat_le (message_length p.0) 57) refl h
   where
-    go : (b : Bool) → (admitted && nat_le (message_length p.0) 57) ≡ b → cond b (Some (message p.0 [])) (finished_long o p.0) ≡ Some m → CarriesMessage (cond b (p.0 ∷ []) (long_carriers o p.0)) m.cid m.cmd m.bytes
+    go : (b : Bool) → (admitted && nat_le (message_length p.0) 57) ≡ b → cond b (Some (message p.0 [])) (finished_long o p.0) ≡ Some m
+        → CarriesMessage (cond b (p.0 ∷ []) (long_carriers o p.0)) m.cid m.cmd m.bytes
     go true e q =
         let few : message_length p.0 ≤ 57 = grind (arith, nat_tests) in
         subst (λ x. Carries p.0 [] x.cid x.cmd x.bytes) (same_Some _ m q) (short_carries p.0 (starts (grind arith)) whole few)
     go false e q = long_carried o t p.0 m k whole q
 carried o t admitted other m k whole starts h = cc
 
--- a judged history's inputs
-whole_judged : (start : Start) (h : List Timed) → ArriveWhole h → AreWhole (judged start h)
-unfolding judged judge
-whole_judged start [] w = tt
-whole_judged start (x ∷ h) w = (w.0, whole_judged start h w.1)
-
-admitted_starts : (g : ℕ) (o : Option Begun) (w : Option ℕ) (i : Input) → IsWhole i → is_packet (admits g o w) i ≡ true → (is_initialization (packet i) ≡ true) × (length (packet i) ≡ 64)
+admitted_starts : (g : ℕ) (o : Option Begun) (w : Option ℕ) (i : Input) → is_packet (admits g o w) i ≡ true → is_initialization (packet i) ≡ true
 unfolding admits
-admitted_starts g o w i whole h = grind arith
-
-starts_judged : (start : Start) (h : List Timed) → ArriveWhole h → AdmitsStarts (judged start h)
-unfolding judged judge
-starts_judged start [] w = tt
-starts_judged start (x ∷ h) w = ((λ a. admitted_starts _ _ _ x.input w.0 a), starts_judged start h w.1)
+admitted_starts g o w i h = grind arith
 
 pub finished_is_carried : (start : Start) (h : List Timed) (x : Timed) (m : Message) → ArriveWhole (x ∷ h)
     → finished_at (judge start x (judged start h)) (judged start h) ≡ Some m
@@ -189,6 +177,4 @@ unfolding judge open_at
 finished_is_carried start h x m w f =
     let past = judged start h in
     let t = max (end start past) x.at in
-    carried (open_at past t) t _ x.input m
-    (λ b is. known past [] t b (whole_judged start h w.1) tt (starts_judged start h w.1) is)
-    w.0 (λ a. (admitted_starts _ _ _ x.input w.0 a).0) f
+    carried (open_at past t) t _ x.input m (λ b is. known start h [] t b w.1 tt is) w.0 (admitted_starts _ _ _ x.input) f

@@ -55,12 +55,14 @@ pub first_ready : (start : Start) → Ready start.room (first_state start).state
 first_ready start = record { pending = tt; work = tt }
 
 -- what is answered has bytes, and is sent where the request came from
-answered_bytes : (aaguid : List ℕ) (work : Option Job) (id signed sig : List ℕ) (answer : Answer) (asked : Option Asked) → IsSigned aaguid work id signed sig answer asked → (bytes : List ℕ) × (answer ≡ Answered bytes)
+answered_bytes : (aaguid : List ℕ) (work : Option Job) (id signed sig : List ℕ) (answer : Answer) (asked : Option Asked)
+    → IsSigned aaguid work id signed sig answer asked → (bytes : List ℕ) × (answer ≡ Answered bytes)
 answered_bytes aaguid work id signed sig answer (Some (GetAssertion hash rp_id allow up)) s = (_, s.3)
 answered_bytes aaguid work id signed sig answer (Some (MakeCredential hash rp_id user_id user_name discoverable exclude)) s = (_, s.3)
 answered_bytes aaguid work id signed sig answer other s = absurd s
 
-sends : (k : CoreState) (t : ℕ) (sig bytes : List ℕ) (cid : ℕ) → working k ≡ Some cid → core_answer k t (SignatureIs (Some sig)) ≡ Answered bytes → event_packets k t (Some (SignatureIs (Some sig))) ≡ written cid CBOR bytes
+sends : (k : CoreState) (t : ℕ) (sig bytes : List ℕ) (cid : ℕ) → working k ≡ Some cid → core_answer k t (SignatureIs (Some sig)) ≡ Answered bytes
+    → event_packets k t (Some (SignatureIs (Some sig))) ≡ written cid CBOR bytes
 unfolding answer_packets
 sends k t sig bytes cid w a = rw (w, a) refl
 

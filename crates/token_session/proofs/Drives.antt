@@ -24,7 +24,8 @@ sends_append : (xs : List Timed) (s : SessionState) (x : Timed) (n m : ℕ) → 
 sends_append [] s x n m e = let same : m ≡ n = omega arith in rw same (append-nil (numbered n (sent_by s x)))
 sends_append (y ∷ xs) s x n m e = rw (append_assoc, sends_append xs (stepped s y) x (n + 1) m (omega arith)) refl
 
-pub driven_more : (xs : List Timed) (i : ℕ) (s v w : SessionState) (x d : Timed) → i < length xs → x ≡ get_or xs i d → w ≡ stepped v x → v ≡ driven s (take i xs) → w ≡ driven s (take (i + 1) xs)
+pub driven_more : (xs : List Timed) (i : ℕ) (s v w : SessionState) (x d : Timed) → i < length xs → x ≡ get_or xs i d → w ≡ stepped v x
+    → v ≡ driven s (take i xs) → w ≡ driven s (take (i + 1) xs)
 driven_more xs i s v w x d h is e f = rw (e, is, f, take_more xs i d h, driven_append (take i xs) s (get_or xs i d)) refl
 
 pub sends_more : (xs : List Timed) (i : ℕ) (s v : SessionState) (ps : List (List ℕ)) (old now next : List (ℕ × List ℕ)) (x d : Timed) → i < length xs → x ≡ get_or xs i d

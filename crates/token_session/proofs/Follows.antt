@@ -139,7 +139,8 @@ machine_follows start (x ∷ h) =
     ap (λ s. (turn s x).state) (machine_follows start h) ∙ ap (λ (v : Turn). v.state) (follows start (judged start h) x (good_judged start h))
 
 -- what a turn makes of a state that stands after a history
-pub turn_after : (s : State) (start : Start) (h : List Timed) (x : Timed) → IsAfter s start h → turn s x ≡ record { state = named start (judged start (x ∷ h)); packets = sent_now start h x; event = event_at start (judge start x (judged start h)) (judged start h) }
+pub turn_after : (s : State) (start : Start) (h : List Timed) (x : Timed) → IsAfter s start h
+    → turn s x ≡ record { state = named start (judged start (x ∷ h)); packets = sent_now start h x; event = event_at start (judge start x (judged start h)) (judged start h) }
 unfolding judged sent_now
 turn_after s start h x b = ap (λ v. turn v x) b ∙ follows start (judged start h) x (good_judged start h)
 

@@ -69,43 +69,17 @@ packets_pairs [] = refl
 packets_pairs (s ∷ sent) = ap (λ ps. packet_of s ∷ ps) (packets_pairs sent)
 
 -- A list of sent packets that are those of a start's inputs answers the history of these inputs.
-run_answered : (start : Start) (xs : List Timed) (out : List Sent) → ArriveWhole xs → map as_pair out ≡ sent_from 0 start [] xs
+pub run_answered : (start : Start) (xs : List Timed) (out : List Sent) → ArriveWhole xs → map as_pair out ≡ sent_from 0 start [] xs
     → (ArriveWhole (reverse xs) → IsAnswered start (reverse xs) (turns_send start (reverse xs)))
     → IsAnswered start (reverse xs) (map packet_of out)
 run_answered start xs out w is answers =
     rw (packets_pairs out, is, sent_reverse xs start, ← (turns_send_sent start (reverse xs))) (answers (whole_reverse xs w))
 
 -- A drive of a new session that stepped all inputs returns the meters that their history names.
-meters_named : (start : Start) (xs : List Timed) (result : Result Meters DriveFault) (s : SessionState)
+pub meters_named : (start : Start) (xs : List Timed) (result : Result Meters DriveFault) (s : SessionState)
     → StandsAfter s start (onto (take (done_of (length xs) result) xs) []) → IfOk result (λ meters. meters ≡ s.meters)
     → IfOk result (λ meters. meters ≡ meters_of start (judged start (reverse xs)))
 unfolding session_of
 meters_named start xs (Ok meters) s after is =
     rw (is, after, take_all (length xs) xs (omega arith), onto_reverse xs [], append-nil (reverse xs)) refl
 meters_named start xs (Err fault) s after is = tt
-
--- A run of a new session, by what a drive says of it.
-pub record IsNamed (start : Start) (places : ℕ) (xs : List Timed) (result : Result Meters DriveFault) (new : List Sent) : Type 0 where
-  pub answered : IsAnswered start (reverse (take (done_of (length xs) result) xs)) (map packet_of new)
-  pub numbers : map as_pair new ≡ sent_from 0 start [] (take (done_of (length xs) result) xs)
-  pub meters : IfOk result (λ meters. meters ≡ meters_of start (judged start (reverse xs)))
-  pub room : HadRoom places [] (session_of start []) xs (done_of (length xs) result)
-
-pub run_named : (start : Start) (places : ℕ) (xs : List Timed) (result : Result Meters DriveFault) (s t : SessionState) (old new : List Sent)
-    → old ≡ [] → s ≡ session_of start []
-    → ArriveWhole (take (done_of (length xs) result) xs)
-    → ((from : Start) (h : List Timed) → StandsAfter s from h → StandsAfter t from (onto (take (done_of (length xs) result) xs) h))
-    → ((from : Start) (h : List Timed) → StandsAfter s from h → map as_pair new ≡ map as_pair old ++ sent_from 0 from h (take (done_of (length xs) result) xs))
-    → IfOk result (λ meters. meters ≡ t.meters)
-    → HadRoom places (map as_pair old) s xs (done_of (length xs) result)
-    → ((h : List Timed) → ArriveWhole h → IsAnswered start h (turns_send start h))
-    → IsNamed start places xs result new
-unfolding judged
-run_named start places xs result s t old new none begun whole after sends meters room answers =
-    let numbers = rw none at (sends start [] begun) in
-    record {
-      answered = run_answered start (take (done_of (length xs) result) xs) new whole numbers (answers (reverse (take (done_of (length xs) result) xs)));
-      numbers = numbers;
-      meters = meters_named start xs result t (after start [] begun) meters;
-      room = rw (none, begun) at room;
-    }

@@ -48,7 +48,8 @@ counted_more (Some m) held rows pending rs = rw (sum_by-cons (λ (b : List ℕ).
     capped : (k n l : ℕ) → l ≡ k + n → min (min n LARGEST + k) LARGEST ≡ min l LARGEST
     capped k n l e = omega arith
 
-pub meters_more : (start : Start) (e : Judged) (h : List Judged) → metered (meters_of start h) (held start (e ∷ h)) (length (core start (e ∷ h)).state.rows) (pending_count (core start (e ∷ h)).state.pending) (request_in (event_at start e h))
+pub meters_more : (start : Start) (e : Judged) (h : List Judged)
+    → metered (meters_of start h) (held start (e ∷ h)) (length (core start (e ∷ h)).state.rows) (pending_count (core start (e ∷ h)).state.pending) (request_in (event_at start e h))
     ≡ meters_of start (e ∷ h)
 unfolding meters_of metered requests peak_held peak_rows peak_pending
 meters_more start e h = rw (counted_more (request_in (event_at start e h)) (peak_held start h) (peak_rows start h) (peak_pending start h) (requests start h)) refl

@@ -38,7 +38,8 @@ unfolding open_after message_after ruling_verdict
 row_leaves s f early r h = record { state = grind arith; request = grind arith }
 
 -- An event that leaves the authenticator as it is, and that it doesn't answer, leaves what a tick leaves.
-event_leaves : (s : State) (early : List (List ℕ)) (e : Event) → turn_of (s.core).setup (s.core).state s.now e ≡ record { state = (s.core).state; answer = Ignored } → request_in (Some e) ≡ None
+event_leaves : (s : State) (early : List (List ℕ)) (e : Event)
+    → turn_of (s.core).setup (s.core).state s.now e ≡ record { state = (s.core).state; answer = Ignored } → request_in (Some e) ≡ None
     → Leaves (happens s.now s.given s.current s.core s.keepalive_at early [] (Some e)) (served s early Tick)
 unfolding answer_keeps_alive
 event_leaves s early e ignored unread = rw ignored (record { state = grind arith; request = unread })
@@ -60,8 +61,7 @@ pub noise_now : (s : State) (latest keepalive_at at now : ℕ) (a : Assembly) (k
     → record { now = latest; given = a.given; current = a.current; core = k; keepalive_at = keepalive_at } ≡ s → now ≡ max latest at
     → answer ≡ is_noise_among a.given (still_open a.current now) k i → answer ≡ is_noise_at s (record { at = at; input = i })
 unfolding is_noise_at time_passed
-noise_now s latest keepalive_at at now a k i answer is moment told =
-    told ∙ ap (λ n. is_noise_among a.given (still_open a.current n) k i) moment ∙ ap (λ v. is_noise_at v (record { at = at; input = i })) is
+noise_now s latest keepalive_at at now a k i answer is moment told = rw (← is, told, moment) refl
 
 -- To a session, noise is a tick.
 pub noise_steps : (s : SessionState) (x : Timed) → is_noise_at s.machine x ≡ true → stepped s x ≡ stepped s (tick_at x.at)
@@ -79,23 +79,17 @@ unfolding turn
 tick_sends s at = append-nil _
 
 -- What is noise to the state that a history names is noise after that history.
-noise_named : (start : Start) (h : List Judged) (x : Timed) → Good start h → is_noise_at (named start h) x ≡ is_noise_after start (judge start x h) h
-unfolding is_noise_at is_noise_after judge named
-noise_named start h x good =
-    let t = max (end start h) x.at in
-    let le : end start h ≤ t = omega arith in
-    ap (λ (v : Turn). is_noise_to v.state x.input) (time_named start t h good le)
-
 pub noise_is_named : (s : State) (start : Start) (h : List Timed) (x : Timed) → IsAfter s start h → is_noise_at s x ≡ is_noise_after start (judge start x (judged start h)) (judged start h)
-noise_is_named s start h x b = ap (λ v. is_noise_at v x) b ∙ noise_named start (judged start h) x (good_judged start h)
+unfolding is_noise_at is_noise_after judge named
+noise_is_named s start h x b =
+    rw b (ap (λ (v : Turn). is_noise_to v.state x.input) (time_named start (max (end start (judged start h)) x.at) (judged start h) (good_judged start h) (omega arith)))
 
 -- Histories: first what one input makes of a session that stands after both.
 stepped_alike : (start : Start) (h : List Timed) (x y : Timed) → IsQuiet start h x y → stepped (session_of start (judged start h)) x ≡ stepped (session_of start (judged start h)) y
 unfolding session_of
-stepped_alike start h x y (inl same) = ap (λ v. stepped (session_of start (judged start h)) v) (sym same)
+stepped_alike start h x y (inl same) = rw same refl
 stepped_alike start h x y (inr tick) =
-    noise_steps (session_of start (judged start h)) x (noise_is_named (named start (judged start h)) start h x refl ∙ tick.1)
-    ∙ ap (λ v. stepped (session_of start (judged start h)) v) (sym tick.0)
+    rw tick.0 (noise_steps (session_of start (judged start h)) x (noise_is_named (named start (judged start h)) start h x refl ∙ tick.1))
 
 -- Sessions after quiet histories hold the same.
 pub quiet_alike : (start : Start) (h g : List Timed) → Quiet start h g → session_of start (judged start h) ≡ session_of start (judged start g)
@@ -118,19 +112,14 @@ now_tick : (start : Start) (h g : List Timed) (x : Timed) → IsAfter (named sta
 unfolding quiet_now judge named is_noise_after
 now_tick start h g x b noise =
     let past = judged start h in
-    let s = named start past in
-    let le : end start past ≤ max (end start past) x.at = omega arith in
     let replaced : is_replaced x.input Tick ≡ true = grind arith in
-    rw replaced (sym (step_sends s start g (tick_at x.at) b) ∙ tick_sends s x.at ∙ ap (λ (v : Turn). v.packets) (time_named start (max (end start past) x.at) past (good_judged start h) le))
+    rw replaced (sym (step_sends (named start past) start g (tick_at x.at) b) ∙ tick_sends (named start past) x.at
+    ∙ ap (λ (v : Turn). v.packets) (time_named start (max (end start past) x.at) past (good_judged start h) (omega arith)))
 
 quiet_sends_now : (start : Start) (h g : List Timed) (x y : Timed) → Quiet start h g → IsQuiet start h x y → sent_now start g y ≡ quiet_now start h x y
 unfolding session_of
-quiet_sends_now start h g x y q (inl same) =
-    let b : IsAfter (named start (judged start h)) start g = ap (λ (v : SessionState). v.machine) (quiet_alike start h g q) in
-    subst (λ (v : Timed). sent_now start g v ≡ quiet_now start h x v) (sym same) (now_same start h g x b)
-quiet_sends_now start h g x y q (inr tick) =
-    let b : IsAfter (named start (judged start h)) start g = ap (λ (v : SessionState). v.machine) (quiet_alike start h g q) in
-    subst (λ (v : Timed). sent_now start g v ≡ quiet_now start h x v) (sym tick.0) (now_tick start h g x b tick.1)
+quiet_sends_now start h g x y q (inl same) = rw same (now_same start h g x (ap (λ (v : SessionState). v.machine) (quiet_alike start h g q)))
+quiet_sends_now start h g x y q (inr tick) = rw tick.0 (now_tick start h g x (ap (λ (v : SessionState). v.machine) (quiet_alike start h g q)) tick.1)
 
 -- The quiet history sends what the other sends, less the packets of service at the replaced inputs.
 pub quiet_sends : (start : Start) (h g : List Timed) → Quiet start h g → sent start (judged start g) ≡ quiet_sent start h g
@@ -155,7 +144,8 @@ shorter [] [] start h g n q = q
 shorter (x ∷ xs) (y ∷ ys) start h g n q = (shorter xs ys start (x ∷ h) (y ∷ g) (omega (arith, n)) q).0
 shorter xs ys start h g n q = absurd (omega (arith, n))
 
-runs_alike : (xs ys : List Timed) (n : ℕ) (start : Start) (h g : List Timed) → length xs ≡ length ys → Quiet start (onto xs h) (onto ys g) → sent_from n start g ys ≡ quiet_from n start h xs ys
+runs_alike : (xs ys : List Timed) (n : ℕ) (start : Start) (h g : List Timed) → length xs ≡ length ys → Quiet start (onto xs h) (onto ys g)
+    → sent_from n start g ys ≡ quiet_from n start h xs ys
 runs_alike [] [] n start h g l q = refl
 runs_alike (x ∷ xs) (y ∷ ys) n start h g l q =
     let k : length xs ≡ length ys = omega (arith, l) in

@@ -41,7 +41,8 @@ module _ (n b t : ℕ) (a d : Assembly) (k : CoreState) (m : Meters) (v : Sessio
   late_passed x r s = rw (← is, kept, s) (record { state = grind arith; meters = refl; packets = grind arith })
 
   -- where no message is overdue
-  pub due_passed : None ≡ dropped a.current t → keepalive_due (waiting k) b t ≡ true → sent ≡ keepalive_packets (waiting k) → IsPassed v t (record { machine = whole t d k t; meters = m }) sent
+  pub due_passed : None ≡ dropped a.current t → keepalive_due (waiting k) b t ≡ true → sent ≡ keepalive_packets (waiting k)
+      → IsPassed v t (record { machine = whole t d k t; meters = m }) sent
   unfolding time_passed is_overdue
   due_passed r due s = rw (← is, kept, s) (record { state = grind arith; meters = refl; packets = grind arith })
 

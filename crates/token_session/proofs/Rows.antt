@@ -182,15 +182,15 @@ unfolding sent_by
 get_info_refused = refl
 
 -- Work waits for the user's presence on channel 1 since the moment 0.
-waiting : State
+abbrev waiting : State
 waiting = record { now = 0; given = 2; current = None; core = record { setup = record { aaguid = replicate 16 0; began = 0; room = 64 }; state = record { rows = []; pending = None; work = Some (record { cid = 1; task = Selects }) } }; keepalive_at = 0 }
 
-runs : List Timed → List (ℕ × List ℕ)
-unfolding channel is_initialization command message_length initialization_data sequence continuation_data padded initialization_packet continuation_packet continuation_packets written read_of core_turn.turn initialization_row continuation_row ruling_of greeting row_packets table_packets answer_packets answer_keeps_alive is_overdue keepalive_due open_after message_after accepted ruling_verdict verdict time_passed turn start_state machine judged sent held asks_channel given is_own own is_next goes_on is_long is_open open_among open_at is_last finished_long finished packet_event event core admits judge last_keepalive time_packets service_packets sent_at waiting
-runs xs = run_sent 0 waiting xs
+runs : State → List Timed → List (ℕ × List ℕ)
+unfolding channel is_initialization command message_length initialization_data sequence continuation_data padded initialization_packet continuation_packet continuation_packets written read_of core_turn.turn initialization_row continuation_row ruling_of greeting row_packets table_packets answer_packets answer_keeps_alive is_overdue keepalive_due open_after message_after accepted ruling_verdict verdict time_passed turn start_state machine judged sent held asks_channel given is_own own is_next goes_on is_long is_open open_among open_at is_last finished_long finished packet_event event core admits judge last_keepalive time_packets service_packets sent_at
+runs s xs = run_sent 0 s xs
 
 -- busy, a new channel, KEEPALIVE at 100 and 200 but not at 150, an idle CANCEL and a real one
-waits : runs (came 20 (two (129 ∷ 0 ∷ 1 ∷ 7 ∷ [])) ∷ came 25 (one (129 ∷ 0 ∷ 1 ∷ 7 ∷ [])) ∷ came 26 init_line ∷ tick 100 ∷ tick 150 ∷ tick 200
+waits : runs waiting (came 20 (two (129 ∷ 0 ∷ 1 ∷ 7 ∷ [])) ∷ came 25 (one (129 ∷ 0 ∷ 1 ∷ 7 ∷ [])) ∷ came 26 init_line ∷ tick 100 ∷ tick 150 ∷ tick 200
     ∷ came 210 (two (145 ∷ 0 ∷ 0 ∷ [])) ∷ came 220 (one (145 ∷ 0 ∷ 0 ∷ [])) ∷ came 230 (one (145 ∷ 0 ∷ 0 ∷ [])) ∷ tick 500 ∷ [])
     ≡ (0, pad (two (191 ∷ 0 ∷ 1 ∷ 6 ∷ []))) ∷ (1, error_1 6) ∷ (2, greeted 3) ∷ (3, pad (one (187 ∷ 0 ∷ 1 ∷ 2 ∷ []))) ∷ (5, pad (one (187 ∷ 0 ∷ 1 ∷ 2 ∷ [])))
     ∷ (7, pad (one (144 ∷ 0 ∷ 1 ∷ 45 ∷ []))) ∷ []
@@ -198,13 +198,13 @@ unfolding runs error_1
 waits = refl
 
 -- INIT on its channel drops the work, which is answered by nothing from then on
-drops : runs (came 30 (one (134 ∷ 0 ∷ 8 ∷ replicate 8 9)) ∷ tick 500 ∷ came 510 (one (145 ∷ 0 ∷ 0 ∷ [])) ∷ [])
+drops : runs waiting (came 30 (one (134 ∷ 0 ∷ 8 ∷ replicate 8 9)) ∷ tick 500 ∷ came 510 (one (145 ∷ 0 ∷ 0 ∷ [])) ∷ [])
     ≡ (0, pad (one (134 ∷ 0 ∷ 17 ∷ replicate 8 9 ++ 0 ∷ 0 ∷ 0 ∷ 1 ∷ 2 ∷ 1 ∷ 0 ∷ 0 ∷ 12 ∷ []))) ∷ []
 unfolding runs
 drops = refl
 
 -- time first, service then
-cancel_in_time : runs (came 100 (one (145 ∷ 0 ∷ 0 ∷ [])) ∷ []) ≡ (0, pad (one (187 ∷ 0 ∷ 1 ∷ 2 ∷ []))) ∷ (0, pad (one (144 ∷ 0 ∷ 1 ∷ 45 ∷ []))) ∷ []
+cancel_in_time : runs waiting (came 100 (one (145 ∷ 0 ∷ 0 ∷ [])) ∷ []) ≡ (0, pad (one (187 ∷ 0 ∷ 1 ∷ 2 ∷ []))) ∷ (0, pad (one (144 ∷ 0 ∷ 1 ∷ 45 ∷ []))) ∷ []
 unfolding runs
 cancel_in_time = refl
 
@@ -218,22 +218,18 @@ unfolding keepalives
 begins_and_changes = refl
 
 -- A KEEPALIVE is due at 100 ms and not at 99.
-due : runs (tick 99 ∷ tick 100 ∷ tick 199 ∷ tick 200 ∷ []) ≡ (1, pad (one (187 ∷ 0 ∷ 1 ∷ 2 ∷ []))) ∷ (3, pad (one (187 ∷ 0 ∷ 1 ∷ 2 ∷ []))) ∷ []
+due : runs waiting (tick 99 ∷ tick 100 ∷ tick 199 ∷ tick 200 ∷ []) ≡ (1, pad (one (187 ∷ 0 ∷ 1 ∷ 2 ∷ []))) ∷ (3, pad (one (187 ∷ 0 ∷ 1 ∷ 2 ∷ []))) ∷ []
 unfolding runs
 due = refl
 
 -- all channels were given out
-full : State
+abbrev full : State
 full = record { now = 0; given = 4294967294; current = None; core = record { setup = record { aaguid = replicate 16 0; began = 0; room = 64 }; state = record { rows = []; pending = None; work = None } }; keepalive_at = 0 }
 
-runs_full : List Timed → List (ℕ × List ℕ)
-unfolding channel is_initialization command message_length initialization_data sequence continuation_data padded initialization_packet continuation_packet continuation_packets written read_of core_turn.turn initialization_row continuation_row ruling_of greeting row_packets table_packets answer_packets answer_keeps_alive is_overdue keepalive_due open_after message_after accepted ruling_verdict verdict time_passed turn start_state machine judged sent held asks_channel given is_own own is_next goes_on is_long is_open open_among open_at is_last finished_long finished packet_event event core admits judge last_keepalive time_packets service_packets sent_at full
-runs_full xs = run_sent 0 full xs
-
 -- INIT asks for one more, and then for one in vain with a length of 7; CANCEL there isn't answered, a command that isn't served is refused for its channel
-none_left : runs_full (came 0 init_line ∷ came 0 (255 ∷ 255 ∷ 255 ∷ 255 ∷ 134 ∷ 0 ∷ 7 ∷ []) ∷ came 0 (255 ∷ 255 ∷ 255 ∷ 255 ∷ 145 ∷ []) ∷ came 0 (255 ∷ 255 ∷ 255 ∷ 255 ∷ 131 ∷ []) ∷ [])
+none_left : runs full (came 0 init_line ∷ came 0 (255 ∷ 255 ∷ 255 ∷ 255 ∷ 134 ∷ 0 ∷ 7 ∷ []) ∷ came 0 (255 ∷ 255 ∷ 255 ∷ 255 ∷ 145 ∷ []) ∷ came 0 (255 ∷ 255 ∷ 255 ∷ 255 ∷ 131 ∷ []) ∷ [])
     ≡ (0, pad (255 ∷ 255 ∷ 255 ∷ 255 ∷ 191 ∷ 0 ∷ 1 ∷ 127 ∷ [])) ∷ (1, pad (255 ∷ 255 ∷ 255 ∷ 255 ∷ 191 ∷ 0 ∷ 1 ∷ 3 ∷ [])) ∷ (3, pad (255 ∷ 255 ∷ 255 ∷ 255 ∷ 191 ∷ 0 ∷ 1 ∷ 11 ∷ [])) ∷ []
-unfolding runs_full
+unfolding runs
 none_left = refl
 
 -- An assertion is pending for channel 1, by a credential with the counter 4.

@@ -42,11 +42,13 @@ begun_alone : (g : ℕ) (w : Option ℕ) (t : ℕ) (x : Packet64) (b : Begun) �
 unfolding finished finished_long admits is_long
 begun_alone g w t x b e = grind (arith, nat_tests)
 
-still_alone : (g : ℕ) (a : Begun) (w : Option ℕ) (t : ℕ) (x : Packet64) (b : Begun) → OpenGiven g (Some a) w → new_open g (Some a) w t (Packet x) ≡ Some b → IsAlone g w (finished (Some a) (admits g (Some a) w x.0) (Packet x)) b
+still_alone : (g : ℕ) (a : Begun) (w : Option ℕ) (t : ℕ) (x : Packet64) (b : Begun) → OpenGiven g (Some a) w
+    → new_open g (Some a) w t (Packet x) ≡ Some b → IsAlone g w (finished (Some a) (admits g (Some a) w x.0) (Packet x)) b
 unfolding finished finished_long is_last next is_own is_next
 still_alone g a w t x b h e = let f = rw (never_admitted g a w x.0) at e in rw (never_admitted g a w x.0) (grind arith)
 
-packet_alone : (g : ℕ) (o : Option Begun) (w : Option ℕ) (t : ℕ) (x : Packet64) (b : Begun) → OpenGiven g o w → new_open g o w t (Packet x) ≡ Some b → IsAlone g w (finished o (admits g o w x.0) (Packet x)) b
+packet_alone : (g : ℕ) (o : Option Begun) (w : Option ℕ) (t : ℕ) (x : Packet64) (b : Begun) → OpenGiven g o w → new_open g o w t (Packet x) ≡ Some b
+    → IsAlone g w (finished o (admits g o w x.0) (Packet x)) b
 packet_alone g None w t x b h e = begun_alone g w t x b e
 packet_alone g (Some a) w t x b h e = still_alone g a w t x b h e
 

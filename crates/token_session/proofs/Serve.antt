@@ -44,7 +44,8 @@ pub record Serves (g : ℕ) (o : Option Begun) (w : Option ℕ) (t : ℕ) (x : P
 
 -- ---- what is sent
 
-row_sends : (g : ℕ) (c : Option Open) (w : Option ℕ) (p : List ℕ) (cmd len : ℕ) (r : Row) → SendsAs g c w (initialization (channel p) cmd len (initialization_data p)) (row_packets g p r) (Begins r)
+row_sends : (g : ℕ) (c : Option Open) (w : Option ℕ) (p : List ℕ) (cmd len : ℕ) (r : Row)
+    → SendsAs g c w (initialization (channel p) cmd len (initialization_data p)) (row_packets g p r) (Begins r)
 unfolding row_packets message_after ruling_verdict
 row_sends g c w p cmd len r = grind (arith, append-nil)
 

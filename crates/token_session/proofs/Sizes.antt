@@ -1,31 +1,10 @@
--- A part of a struct takes fewer bytes than a bound that the struct is below. `search` with one of these finds the size
--- of the struct by itself, where omega would work through every place of padding. The numbers are the sizes of fields as
--- the prover lays them out: where a field is added, the goal that a check prints has the new ones.
+-- A session takes fewer bytes than 2^63. `search` finds its size by this, where omega would work through every place of
+-- padding. The numbers are the sizes of fields as the prover lays them out: where a field is added, the goal that a
+-- check prints has the new ones.
 use Prim.Native.Nat.{ℕ, ◌+◌, ◌*◌, ◌<◌, ◌≤◌, ◌^◌}
 use native.Mathlib.Nat.{lt_of_le_of_lt, mul-le-mul_right}
 use native.Mathlib.Omega.{arith}
-use prog.Memory.{up, pad}
-
-before : (m n b : ℕ) → m + n < b → m < b
-before m n b h = omega arith
-
-after : (m n b : ℕ) → m + n < b → n < b
-after m n b h = omega arith
-
-padded : (k e b : ℕ) → up k e < b → e < b
-padded k e b h = before e (pad k e) b h
-
-pub core_in_session : (x b : ℕ) → up 8 (up 8 (up 8 (7664 + x) + 8) + 32) < b → x < b
-core_in_session x b h =
-    let moment = padded 8 (up 8 (7664 + x) + 8) b (before (up 8 (up 8 (7664 + x) + 8)) 32 b (padded 8 (up 8 (up 8 (7664 + x) + 8) + 32) b h)) in
-    after 7664 x b (padded 8 (7664 + x) b (before (up 8 (7664 + x)) 8 b moment))
-
--- the table is in the authenticator
-pub table_in_session : (x y b : ℕ) → up 8 (up 8 (up 8 (7664 + up 8 (up 8 (up 8 (40 + x) + y) + 544)) + 8) + 32) < b → x < b
-table_in_session x y b h =
-    let core = core_in_session _ b h in
-    let sum = padded 8 (up 8 (40 + x) + y) b (before (up 8 (up 8 (40 + x) + y)) 544 b (padded 8 (up 8 (up 8 (40 + x) + y) + 544) b core)) in
-    after 40 x b (padded 8 (40 + x) b (before (up 8 (40 + x)) y b sum))
+use prog.Memory.{up}
 
 -- what is padded is at most the alignment longer
 up_1 : (e m : ℕ) → e ≤ m → up 1 e ≤ m + 1

@@ -1,15 +1,23 @@
-use Rattle.std.proofs.Common.{List}
-use Rattle.token_session.specs.declared.input.Timed.{Timed}
-use Rattle.token_session.proofs.Headline.{run_named}
+use Rattle.std.proofs.Common.{[], length, take}
+use Rattle.token_session.specs.Drive.{done_of}
+use Rattle.token_session.specs.History.{judged}
+use Rattle.token_session.proofs.Headline.{meters_named, run_answered}
 use Rattle.token_session.proofs.Sizes.{session_small}
 use Rattle.token_session.proofs.driving.drive_new.Goals as goal
 
 pub returns : goal.returns
+unfolding judged
 returns g c =
-    let r = run_named _ g.row.N c.args.inputs.now c.drive.result c.new-session.result c.drive.new.session c.clear.new.self.items c.drive.new.sent.items
-    c.clear.ensures c.new-session.ensures c.drive.ensures.whole c.drive.ensures.after c.drive.ensures.sent c.drive.ensures.meters c.drive.ensures.run.room
-    (λ (h : List Timed). c.every_history_is_answered.ensures _ h c.args.rows.lawful) in
-    record { answered = r.answered; numbers = r.numbers; meters = r.meters; full = c.drive.ensures.full; room = r.room }
+    let begun = c.new-session.ensures in
+    let numbers = rw c.clear.ensures at (c.drive.ensures.sent _ [] begun) in
+    record {
+      answered = run_answered _ (take (done_of (length c.args.inputs.now) c.drive.result) c.args.inputs.now) c.drive.new.sent.items c.drive.ensures.whole numbers
+          (c.every_history_is_answered.ensures _ _ c.args.rows.lawful);
+      numbers = numbers;
+      meters = meters_named _ c.args.inputs.now c.drive.result c.drive.new.session (c.drive.ensures.after _ [] begun) c.drive.ensures.meters;
+      full = c.drive.ensures.full;
+      room = rw (c.clear.ensures, begun) at c.drive.ensures.run.room;
+    }
 
 pub new-session-requires : goal.new-session-requires
 new-session-requires g c = (search, search session_small)

@@ -11,7 +11,7 @@ use Rattle.token_session.proofs.session.Session.step.Goals as goal
 
 pub serve-requires : goal.serve-requires
 serve-requires g c =
-    (search, subst (λ (ps : List (List ℕ)). length ps ≤ 1) (sym c.pass_time.ensures.packets) (time_few (c.args.self.now).machine c.max-now.result))
+    (search, rw c.pass_time.ensures.packets (time_few (c.args.self.now).machine c.max-now.result))
 
 pub returns-clause-state : goal.returns-clause-state
 returns-clause-state g c =
@@ -32,7 +32,7 @@ returns-clause-packets g c =
 
 pub returns-clause-few : goal.returns-clause-few
 returns-clause-few g c =
-    subst (λ (ps : List (List ℕ)). length ps ≤ 130) (sym (returns-clause-packets g c)) (turn_few (c.args.self.now).machine (record { at = c.args.at; input = c.args.input }))
+    rw (returns-clause-packets g c) (turn_few (c.args.self.now).machine (record { at = c.args.at; input = c.args.input }))
 
 pub returns-clause-after : goal.returns-clause-after
 returns-clause-after g c = λ start h b. returns-clause-state g c ∙ stands_longer c.args.self.now start h (record { at = c.args.at; input = c.args.input }) b
