@@ -46,7 +46,8 @@ StaysOpen e start g D = (M : List Judged) (t : ℕ) → goes_on (message_length 
     → open_among M (judged start g) t ≡ Some (begun_by e (D ++ M))
 
 -- an admitted long packet
-begins_open : (start : Start) (h : List Timed) (x : Timed) → (judge start x (judged start h)).admitted ≡ true → is_long (packet (judge start x (judged start h)).input) ≡ true
+begins_open : (start : Start) (h : List Timed) (x : Timed) → (judge start x (judged start h)).admitted ≡ true
+    → is_long (packet (judge start x (judged start h)).input) ≡ true
     → StaysOpen (judge start x (judged start h)) start (x ∷ h) []
 unfolding judged open_among is_open
 begins_open start h x admitted long M t goes =
@@ -58,7 +59,8 @@ unfolding open_among is_open
 skipped y M H t e = rw e refl
 
 -- one more input that isn't admitted
-one_longer : (e : Judged) (start : Start) (g : List Timed) (D : List Judged) (z : Timed) → (judge start z (judged start g)).admitted ≡ false → StaysOpen e start g D
+one_longer : (e : Judged) (start : Start) (g : List Timed) (D : List Judged) (z : Timed) → (judge start z (judged start g)).admitted ≡ false
+    → StaysOpen e start g D
     → StaysOpen e start (z ∷ g) (D ++ judge start z (judged start g) ∷ [])
 unfolding judged
 one_longer e start g D z away stays M t goes =
@@ -67,11 +69,13 @@ one_longer e start g D z away stays M t goes =
     rw same (skipped y M (judged start g) t away ∙ stays (y ∷ M) t (rw same at goes))
 
 -- where a message is open, nothing is admitted
-alone : (start : Start) (g : List Timed) (z : Timed) → (open_at (judged start g) (judge start z (judged start g)).at ≡ None → ⊥) → (judge start z (judged start g)).admitted ≡ false
+alone : (start : Start) (g : List Timed) (z : Timed) → (open_at (judged start g) (judge start z (judged start g)).at ≡ None → ⊥)
+    → (judge start z (judged start g)).admitted ≡ false
 unfolding judged
 alone start g z is_open_there = false_from_ne_true _ (λ a. is_open_there ((good_judged start (z ∷ g)).lawful.1 a))
 
-stays_open : (e : Judged) (start : Start) (zs g : List Timed) (D : List Judged) (t : ℕ) → StaysOpen e start g D → end start (judged start (onto zs g)) ≤ t
+stays_open : (e : Judged) (start : Start) (zs g : List Timed) (D : List Judged) (t : ℕ) → StaysOpen e start g D
+    → end start (judged start (onto zs g)) ≤ t
     → goes_on (message_length (packet e.input)) 0 e.at (own (channel (packet e.input)) (D ++ arriving start g zs)) t ≡ true
     → open_at (judged start (onto zs g)) t ≡ Some (begun_by e (D ++ arriving start g zs))
 unfolding judged open_at
@@ -103,7 +107,8 @@ all_go_on (e ∷ es) c len m since t q on cont room soon is =
     grind (arith, nat_tests, ih)
 
 -- the last of those that continue
-last_of : (c m : ℕ) (ps : List (List ℕ)) (p : List ℕ) → Continue c m (ps ++ p ∷ []) → (is_initialization p ≡ false) × (channel p ≡ c) × (sequence p ≡ m + length ps)
+last_of : (c m : ℕ) (ps : List (List ℕ)) (p : List ℕ) → Continue c m (ps ++ p ∷ [])
+    → (is_initialization p ≡ false) × (channel p ≡ c) × (sequence p ≡ m + length ps)
 last_of c m [] p h = grind arith
 last_of c m (q ∷ ps) p h = grind (arith, last_of c (m + 1) ps p h.3)
 
@@ -119,7 +124,8 @@ record Ends (b : Begun) (q : List ℕ) (cmd : ℕ) (bytes : List ℕ) : Type 0 w
   long : is_long b.packet ≡ true
   carried : message b.packet (packets_of b.own ++ q ∷ []) ≡ record { cid = channel b.packet; cmd = cmd; bytes = bytes }
 
-ends : (b : Begun) (q : List ℕ) (cmd : ℕ) (bytes : List ℕ) → Carries b.packet (packets_of b.own ++ q ∷ []) (channel b.packet) cmd bytes → Ends b q cmd bytes
+ends : (b : Begun) (q : List ℕ) (cmd : ℕ) (bytes : List ℕ) → Carries b.packet (packets_of b.own ++ q ∷ []) (channel b.packet) cmd bytes
+    → Ends b q cmd bytes
 unfolding is_last is_long
 ends b q cmd bytes c =
     let m : length (packets_of b.own) ≡ length b.own = simp length-map in
@@ -155,7 +161,8 @@ on_its_channel start h xs s t p q cmd bytes a =
     let opens = stays_open e start xs (x ∷ h) [] v.at (begins_open start h x admitted z.long) (judged_at_end start (onto xs (x ∷ h)) y) goes in
     rw (opens, z.away, z.last) (ap Some z.carried)
 
-pub several_packets_finish : (start : Start) (h xs : List Timed) (x y : Timed) (p q : Packet64) (cid cmd : ℕ) (bytes : List ℕ) → x.input ≡ Packet p → y.input ≡ Packet q
+pub several_packets_finish : (start : Start) (h xs : List Timed) (x y : Timed) (p q : Packet64) (cid cmd : ℕ) (bytes : List ℕ)
+    → x.input ≡ Packet p → y.input ≡ Packet q
     → Arrives start h x xs (judge start y (judged start (onto xs (x ∷ h)))) cid cmd bytes
     → finished_at (judge start y (judged start (onto xs (x ∷ h)))) (judged start (onto xs (x ∷ h))) ≡ Some (record { cid = cid; cmd = cmd; bytes = bytes })
 several_packets_finish start h xs x y p q cid cmd bytes xp yq =

@@ -17,7 +17,8 @@ unfolding open_among all_open
 none_all [] L t n = refl
 none_all (e ∷ before) L t n = grind (arith, none_all before (e ∷ L) t)
 
-pub one_open : (h L : List Judged) (start : Start) (t : ℕ) → Lawful start h → From (end start h) L → end start h ≤ t → all_open L h t ≡ option_to_list (open_among L h t)
+pub one_open : (h L : List Judged) (start : Start) (t : ℕ) → Lawful start h → From (end start h) L → end start h ≤ t
+    → all_open L h t ≡ option_to_list (open_among L h t)
 unfolding open_among all_open open_at
 one_open [] L start t l f le = refl
 one_open (e ∷ before) L start t l f le =

@@ -57,8 +57,10 @@ length_joined start ps h a =
     omega (arith, length-append (take 57 (drop 7 start)) (flat_map continuation_data ps))
 
 -- The start and its own packets, up to the last, carry the bytes that are handed on.
-pub last_carries : (b : Begun) (t : ℕ) (p : List ℕ) → is_initialization b.packet ≡ true → length b.packet ≡ 64 → Are64 (packets_of b.own) → length p ≡ 64
-    → On (channel b.packet) b.own → 58 ≤ message_length b.packet → message_length b.packet ≤ 7609 → goes_on (message_length b.packet) 0 b.at b.own t ≡ true → is_last b p ≡ true
+pub last_carries : (b : Begun) (t : ℕ) (p : List ℕ) → is_initialization b.packet ≡ true → length b.packet ≡ 64 → Are64 (packets_of b.own)
+    → length p ≡ 64
+    → On (channel b.packet) b.own → 58 ≤ message_length b.packet → message_length b.packet ≤ 7609
+    → goes_on (message_length b.packet) 0 b.at b.own t ≡ true → is_last b p ≡ true
     → Carries b.packet (packets_of b.own ++ p ∷ []) (channel b.packet) (command b.packet) (take (message_length b.packet) (joined b.packet (packets_of b.own ++ p ∷ [])))
 unfolding is_last
 last_carries b t p st l64 a64 p64 own low high goes last =
@@ -113,7 +115,8 @@ known_here start h x L t w whole o =
       goes = grind arith;
     }
 
-known : (start : Start) (h : List Timed) (L : List Judged) (t : ℕ) (b : Begun) → ArriveWhole h → AreWhole L → open_among L (judged start h) t ≡ Some b → Known b t
+known : (start : Start) (h : List Timed) (L : List Judged) (t : ℕ) (b : Begun) → ArriveWhole h → AreWhole L
+    → open_among L (judged start h) t ≡ Some b → Known b t
 unfolding open_among judged judge
 known start [] L t b w v is = cc
 known start (x ∷ h) L t b w v is =
@@ -122,11 +125,13 @@ known start (x ∷ h) L t b w v is =
     (λ o q. subst (λ v. Known v t) (same_Some _ b q) (known_here start (judged start h) x L t w.0 v o)) (λ _ q. known start h (e ∷ L) t b w.1 (w.0, v) q) is
 
 -- a finished long message
-long_is : (b : Begun) (p : List ℕ) (m : Message) → finished_long (Some b) p ≡ Some m → (is_last b p ≡ true) × (message b.packet (packets_of b.own ++ p ∷ []) ≡ m)
+long_is : (b : Begun) (p : List ℕ) (m : Message) → finished_long (Some b) p ≡ Some m
+    → (is_last b p ≡ true) × (message b.packet (packets_of b.own ++ p ∷ []) ≡ m)
 unfolding finished_long
 long_is b p m h = grind arith
 
-long_carried : (o : Option Begun) (t : ℕ) (p : List ℕ) (m : Message) → ((b : Begun) → o ≡ Some b → Known b t) → length p ≡ 64 → finished_long o p ≡ Some m
+long_carried : (o : Option Begun) (t : ℕ) (p : List ℕ) (m : Message) → ((b : Begun) → o ≡ Some b → Known b t) → length p ≡ 64
+    → finished_long o p ≡ Some m
     → CarriesMessage (long_carriers o p) m.cid m.cmd m.bytes
 unfolding finished_long long_carriers
 long_carried None t p m k whole h = cc
@@ -136,7 +141,8 @@ long_carried (Some b) t p m k whole h =
     rw l.0 (subst (λ x. Carries b.packet (packets_of b.own ++ p ∷ []) x.cid x.cmd x.bytes) l.1
     (last_carries b t p f.start f.whole f.parts whole f.own_packets f.long f.short f.goes l.0))
 
-short_carries : (p : List ℕ) → is_initialization p ≡ true → length p ≡ 64 → message_length p ≤ 57 → Carries p [] (channel p) (command p) (take (message_length p) (joined p []))
+short_carries : (p : List ℕ) → is_initialization p ≡ true → length p ≡ 64 → message_length p ≤ 57
+    → Carries p [] (channel p) (command p) (take (message_length p) (joined p []))
 short_carries p start whole few =
     let size = length_joined p [] whole tt in
     let exact : length (take (message_length p) (joined p [])) ≡ message_length p = omega (arith, length-take (message_length p) (joined p [])) in
@@ -153,7 +159,8 @@ short_carries p start whole few =
 
 -- what an input finishes
 carried : (o : Option Begun) (t : ℕ) (admitted : Bool) (i : Input) (m : Message) → ((b : Begun) → o ≡ Some b → Known b t) → IsWhole i
-    → (admitted ≡ true → is_initialization (packet i) ≡ true) → finished o admitted i ≡ Some m → CarriesMessage (carriers o admitted i) m.cid m.cmd m.bytes
+    → (admitted ≡ true → is_initialization (packet i) ≡ true) → finished o admitted i ≡ Some m
+    → CarriesMessage (carriers o admitted i) m.cid m.cmd m.bytes
 unfolding finished carriers
 carried o t admitted (Packet p) m k whole starts h =
     go (admitted && nat_le (message_length p.0) 57) refl h

@@ -35,7 +35,8 @@ core_is start (e ∷ past) = ap (λ k. event_core k e.at (event_at start e past)
 no_job : (w : Option Job) → option_map (λ (v : Work). v.cid) (option_map as_work w) ≡ None → w ≡ None
 no_job w h = grind arith
 
-one_orderly : (g : ℕ) (k : CoreState) (at : ℕ) (e : Option Event) (past : List Step) → EventGiven g (working (core_at k past)) e → Orderly k past → Orderly k (step_of at e ++ past)
+one_orderly : (g : ℕ) (k : CoreState) (at : ℕ) (e : Option Event) (past : List Step) → EventGiven g (working (core_at k past)) e
+    → Orderly k past → Orderly k (step_of at e ++ past)
 unfolding Orderly
 one_orderly g k at None past a o = o
 one_orderly g k at (Some (Request cid bytes)) past a o = (no_job (core_at k past).state.work a.2, o)
@@ -66,11 +67,13 @@ sends : (k : CoreState) (t : ℕ) (sig bytes : List ℕ) (cid : ℕ) → working
 unfolding answer_packets
 sends k t sig bytes cid w a = rw (w, a) refl
 
-asked_on : (work : Option Job) (id signed : List ℕ) → needs work ≡ sign id signed → (cid : ℕ) × (option_map (λ (w : Work). w.cid) (option_map as_work work) ≡ Some cid)
+asked_on : (work : Option Job) (id signed : List ℕ) → needs work ≡ sign id signed
+    → (cid : ℕ) × (option_map (λ (w : Work). w.cid) (option_map as_work work) ≡ Some cid)
 asked_on None id signed e = cc
 asked_on (Some job) id signed e = (job.cid, refl)
 
-pub signature_at : (start : Start) (e : Judged) (h : List Judged) (id signed sig : List ℕ) → e.input ≡ Signature (Some sig) → needs (core start h).state.work ≡ sign id signed
+pub signature_at : (start : Start) (e : Judged) (h : List Judged) (id signed sig : List ℕ) → e.input ≡ Signature (Some sig)
+    → needs (core start h).state.work ≡ sign id signed
     → IsSigned start.aaguid (core start h).state.work id signed sig (core_answer (core start h) e.at (SignatureIs (Some sig))) (came start h).asked → IsAnsweredBy start h e id signed sig
 unfolding service_packets table_packets finished event answer_packets
 signature_at start e h id signed sig is need answer =

@@ -20,7 +20,8 @@ driven_append : (xs : List Timed) (s : SessionState) (x : Timed) → driven s (x
 driven_append [] s x = refl
 driven_append (y ∷ xs) s x = driven_append xs (stepped s y) x
 
-sends_append : (xs : List Timed) (s : SessionState) (x : Timed) (n m : ℕ) → n + length xs ≡ m → driven_sends n s (xs ++ x ∷ []) ≡ driven_sends n s xs ++ numbered m (sent_by (driven s xs) x)
+sends_append : (xs : List Timed) (s : SessionState) (x : Timed) (n m : ℕ) → n + length xs ≡ m
+    → driven_sends n s (xs ++ x ∷ []) ≡ driven_sends n s xs ++ numbered m (sent_by (driven s xs) x)
 sends_append [] s x n m e = let same : m ≡ n = omega arith in rw same (append-nil (numbered n (sent_by s x)))
 sends_append (y ∷ xs) s x n m e = rw (append_assoc, sends_append xs (stepped s y) x (n + 1) m (omega arith)) refl
 
@@ -28,7 +29,8 @@ pub driven_more : (xs : List Timed) (i : ℕ) (s v w : SessionState) (x d : Time
     → v ≡ driven s (take i xs) → w ≡ driven s (take (i + 1) xs)
 driven_more xs i s v w x d h is e f = rw (e, is, f, take_more xs i d h, driven_append (take i xs) s (get_or xs i d)) refl
 
-pub sends_more : (xs : List Timed) (i : ℕ) (s v : SessionState) (ps : List (List ℕ)) (old now next : List (ℕ × List ℕ)) (x d : Timed) → i < length xs → x ≡ get_or xs i d
+pub sends_more : (xs : List Timed) (i : ℕ) (s v : SessionState) (ps : List (List ℕ)) (old now next : List (ℕ × List ℕ)) (x d : Timed)
+    → i < length xs → x ≡ get_or xs i d
     → next ≡ now ++ numbered i ps → ps ≡ sent_by v x → v ≡ driven s (take i xs) → now ≡ old ++ driven_sends 0 s (take i xs)
     → next ≡ old ++ driven_sends 0 s (take (i + 1) xs)
 sends_more xs i s v ps old now next x d h is a b f e =
@@ -38,18 +40,21 @@ whole_append : (xs : List Timed) (x : Timed) → ArriveWhole xs → IsWhole x.in
 whole_append [] x w is = (is, tt)
 whole_append (y ∷ xs) x w is = (w.0, whole_append xs x w.1 is)
 
-pub whole_more : (xs : List Timed) (i : ℕ) (x d : Timed) → i < length xs → x ≡ get_or xs i d → ArriveWhole (take i xs) → IsWhole x.input → ArriveWhole (take (i + 1) xs)
+pub whole_more : (xs : List Timed) (i : ℕ) (x d : Timed) → i < length xs → x ≡ get_or xs i d → ArriveWhole (take i xs) → IsWhole x.input
+    → ArriveWhole (take (i + 1) xs)
 whole_more xs i x d h is w one = rw (take_more xs i d h, ← is) (whole_append (take i xs) x w one)
 
 pub room_here : (now all : List (ℕ × List ℕ)) (places : ℕ) → now ≡ all → length now + 130 ≤ places → length all + 130 ≤ places
 room_here now all places e h = let n = ap (length {A = ℕ × List ℕ}) e in omega (arith, n)
 
 -- A session that stands after a history is driven along it.
-pub driven_stands : (xs : List Timed) (s : SessionState) (start : Start) (h : List Timed) → StandsAfter s start h → StandsAfter (driven s xs) start (onto xs h)
+pub driven_stands : (xs : List Timed) (s : SessionState) (start : Start) (h : List Timed) → StandsAfter s start h
+    → StandsAfter (driven s xs) start (onto xs h)
 driven_stands [] s start h b = b
 driven_stands (x ∷ xs) s start h b = driven_stands xs (stepped s x) start (x ∷ h) (stands_longer s start h x b)
 
-pub driven_follows : (xs : List Timed) (s : SessionState) (start : Start) (n : ℕ) (h : List Timed) → StandsAfter s start h → driven_sends n s xs ≡ sent_from n start h xs
+pub driven_follows : (xs : List Timed) (s : SessionState) (start : Start) (n : ℕ) (h : List Timed) → StandsAfter s start h
+    → driven_sends n s xs ≡ sent_from n start h xs
 driven_follows [] s start n h b = refl
 driven_follows (x ∷ xs) s start n h b =
     rw (step_sends s.machine start h x (machine_after s start h b), driven_follows xs (stepped s x) start (n + 1) (x ∷ h) (stands_longer s start h x b)) refl

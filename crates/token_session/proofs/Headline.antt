@@ -30,7 +30,8 @@ unfolding judged
 all_carried start [] w = tt
 all_carried start (x ∷ h) w = (λ m fin. finished_is_carried start h x m w fin, all_carried start h w.1)
 
-pub all_few : (each : (m : List ℕ) → steps_of m ≤ 4 * (length m - 1) + 2) (start : Start) (h : List Judged) → AllByRecursion (λ m. steps_of m ≤ 4 * (length m - 1) + 2) (requests start h)
+pub all_few : (each : (m : List ℕ) → steps_of m ≤ 4 * (length m - 1) + 2) (start : Start) (h : List Judged)
+    → AllByRecursion (λ m. steps_of m ≤ 4 * (length m - 1) + 2) (requests start h)
 unfolding requests
 all_few each start [] = tt
 all_few each start (e ∷ past) = grind (arith, each, all_few each start past)

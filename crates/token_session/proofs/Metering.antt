@@ -33,7 +33,8 @@ totals held rows pending rs = record {
   steps = min (sum_by steps_of rs) LARGEST;
 }
 
-counted_more : (request : Option (List ℕ)) (held rows pending : ℕ) (rs : List (List ℕ)) → counted (totals held rows pending rs) request ≡ totals held rows pending (cons_option request rs)
+counted_more : (request : Option (List ℕ)) (held rows pending : ℕ) (rs : List (List ℕ))
+    → counted (totals held rows pending rs) request ≡ totals held rows pending (cons_option request rs)
 unfolding counted
 counted_more None held rows pending rs = refl
 counted_more (Some m) held rows pending rs = rw (sum_by-cons (λ (b : List ℕ). length b - 1) m rs, sum_by-cons steps_of m rs) (λ i. record {
@@ -65,7 +66,8 @@ stands_longer s start h x b =
 -- A turn of the machine, counted, is a step of the session.
 pub stepped_is : (m n : State) (k l : Meters) (s : SessionState) (x : Timed) (held rows pending : ℕ) → record { machine = m; meters = k } ≡ s
     → n ≡ (turn m x).state → l ≡ counted k (request_in (turn m x).event)
-    → held ≡ max l.held (held_bytes n.current) → rows ≡ max l.rows (length n.core.state.rows) → pending ≡ max l.pending (pending_count n.core.state.pending)
+    → held ≡ max l.held (held_bytes n.current) → rows ≡ max l.rows (length n.core.state.rows)
+    → pending ≡ max l.pending (pending_count n.core.state.pending)
     → record { machine = n; meters = record l { held = held; rows = rows; pending = pending } } ≡ stepped s x
 unfolding stepped metered
 stepped_is m n k l s x held rows pending is state finished held_is rows_are pending_is = rw (← is, held_is, rows_are, pending_is, finished, state) refl
@@ -89,6 +91,7 @@ unfolding session_of
 session_held start h = held_named start h
 
 -- The meters stay bounded, where each message takes at most four steps for each byte after the first and two more.
-pub counted_bounded : (each : (m : List ℕ) → steps_of m ≤ 4 * (length m - 1) + 2) (m : Meters) (request : Option (List ℕ)) → AreBounded m → AreBounded (counted m request)
+pub counted_bounded : (each : (m : List ℕ) → steps_of m ≤ 4 * (length m - 1) + 2) (m : Meters) (request : Option (List ℕ)) → AreBounded m
+    → AreBounded (counted m request)
 unfolding counted
 counted_bounded each m request h = grind (arith, each)

@@ -79,13 +79,15 @@ unfolding turn
 tick_sends s at = append-nil _
 
 -- What is noise to the state that a history names is noise after that history.
-pub noise_is_named : (s : State) (start : Start) (h : List Timed) (x : Timed) → IsAfter s start h → is_noise_at s x ≡ is_noise_after start (judge start x (judged start h)) (judged start h)
+pub noise_is_named : (s : State) (start : Start) (h : List Timed) (x : Timed) → IsAfter s start h
+    → is_noise_at s x ≡ is_noise_after start (judge start x (judged start h)) (judged start h)
 unfolding is_noise_at is_noise_after judge named
 noise_is_named s start h x b =
     rw b (ap (λ (v : Turn). is_noise_to v.state x.input) (time_named start (max (end start (judged start h)) x.at) (judged start h) (good_judged start h) (omega arith)))
 
 -- Histories: first what one input makes of a session that stands after both.
-stepped_alike : (start : Start) (h : List Timed) (x y : Timed) → IsQuiet start h x y → stepped (session_of start (judged start h)) x ≡ stepped (session_of start (judged start h)) y
+stepped_alike : (start : Start) (h : List Timed) (x y : Timed) → IsQuiet start h x y
+    → stepped (session_of start (judged start h)) x ≡ stepped (session_of start (judged start h)) y
 unfolding session_of
 stepped_alike start h x y (inl same) = rw same refl
 stepped_alike start h x y (inr tick) =
@@ -100,14 +102,16 @@ quiet_alike start (x ∷ h) (y ∷ g) q =
 quiet_alike start h g q = absurd q
 
 -- The packets that one input sends after both, the second with the same input or with a tick.
-now_same : (start : Start) (h g : List Timed) (x : Timed) → IsAfter (named start (judged start h)) start g → sent_now start g x ≡ quiet_now start h x x
+now_same : (start : Start) (h g : List Timed) (x : Timed) → IsAfter (named start (judged start h)) start g
+    → sent_now start g x ≡ quiet_now start h x x
 unfolding sent_now quiet_now judge
 now_same start h g x b =
     let s = named start (judged start h) in
     let never : is_replaced x.input x.input ≡ false = grind arith in
     rw never (sym (step_sends s start g x b) ∙ step_sends s start h x refl)
 
-now_tick : (start : Start) (h g : List Timed) (x : Timed) → IsAfter (named start (judged start h)) start g → is_noise_after start (judge start x (judged start h)) (judged start h) ≡ true
+now_tick : (start : Start) (h g : List Timed) (x : Timed) → IsAfter (named start (judged start h)) start g
+    → is_noise_after start (judge start x (judged start h)) (judged start h) ≡ true
     → sent_now start g (tick_at x.at) ≡ quiet_now start h x (tick_at x.at)
 unfolding quiet_now judge named is_noise_after
 now_tick start h g x b noise =
@@ -116,7 +120,8 @@ now_tick start h g x b noise =
     rw replaced (sym (step_sends (named start past) start g (tick_at x.at) b) ∙ tick_sends (named start past) x.at
     ∙ ap (λ (v : Turn). v.packets) (time_named start (max (end start past) x.at) past (good_judged start h) (omega arith)))
 
-quiet_sends_now : (start : Start) (h g : List Timed) (x y : Timed) → Quiet start h g → IsQuiet start h x y → sent_now start g y ≡ quiet_now start h x y
+quiet_sends_now : (start : Start) (h g : List Timed) (x y : Timed) → Quiet start h g → IsQuiet start h x y
+    → sent_now start g y ≡ quiet_now start h x y
 unfolding session_of
 quiet_sends_now start h g x y q (inl same) = rw same (now_same start h g x (ap (λ (v : SessionState). v.machine) (quiet_alike start h g q)))
 quiet_sends_now start h g x y q (inr tick) = rw tick.0 (now_tick start h g x (ap (λ (v : SessionState). v.machine) (quiet_alike start h g q)) tick.1)
@@ -153,7 +158,8 @@ runs_alike (x ∷ xs) (y ∷ ys) n start h g l q =
     rw (quiet_sends_now start h g x y one.0 one.1, runs_alike xs ys (n + 1) start (x ∷ h) (y ∷ g) k q) refl
 runs_alike xs ys n start h g l q = absurd (omega (arith, l))
 
-pub quiet_runs : (n : ℕ) (start : Start) (h g xs ys : List Timed) → Quiet start h g → Quiet start (onto xs h) (onto ys g) → sent_from n start g ys ≡ quiet_from n start h xs ys
+pub quiet_runs : (n : ℕ) (start : Start) (h g xs ys : List Timed) → Quiet start h g → Quiet start (onto xs h) (onto ys g)
+    → sent_from n start g ys ≡ quiet_from n start h xs ys
 quiet_runs n start h g xs ys q longer =
     let a = same_length start h g q in
     let b = onto_length xs h in

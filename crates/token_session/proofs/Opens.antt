@@ -31,7 +31,8 @@ own-append c L M = filter-append (is_own c) L M
 
 -- ---- an earlier moment, with fewer inputs
 
-pub goes_on_prefix : (os ps : List Judged) (len m since t u : ℕ) → From t ps → t ≤ u → goes_on len m since (os ++ ps) u ≡ true → goes_on len m since os t ≡ true
+pub goes_on_prefix : (os ps : List Judged) (len m since t u : ℕ) → From t ps → t ≤ u → goes_on len m since (os ++ ps) u ≡ true
+    → goes_on len m since os t ≡ true
 unfolding goes_on
 goes_on_prefix [] [] len m since t u f le h = grind (arith, nat_tests)
 goes_on_prefix [] (p ∷ ps) len m since t u f le h = let late = f.0 in grind (arith, nat_tests)
@@ -73,7 +74,8 @@ abbrev pub then_next : Judged → Option Begun → Option Begun
 then_next x None = None
 then_next x (Some b) = next x b
 
-goes_on_more : (os : List Judged) (x : Judged) (len m since n : ℕ) → n ≡ m + length os → goes_on len m since (os ++ x ∷ []) x.at ≡ (goes_on len m since os x.at && is_next len n x)
+goes_on_more : (os : List Judged) (x : Judged) (len m since n : ℕ) → n ≡ m + length os
+    → goes_on len m since (os ++ x ∷ []) x.at ≡ (goes_on len m since os x.at && is_next len n x)
 unfolding goes_on
 goes_on_more [] x len m since n e = let same : m ≡ n = omega arith in rw same (grind (arith, nat_tests))
 goes_on_more (o ∷ os) x len m since n e = grind (arith, goes_on_more os x len (m + 1) o.at n (omega arith))
@@ -109,12 +111,14 @@ open_next_is h x start l le = let soon : nat_lt x.at (x.at + 500) ≡ true = gri
 
 -- ---- time
 
-goes_on_still : (os : List Judged) (len m since t u : ℕ) → t ≤ u → goes_on len m since os u ≡ (goes_on len m since os t && nat_lt u (last_at since os + 500))
+goes_on_still : (os : List Judged) (len m since t u : ℕ) → t ≤ u
+    → goes_on len m since os u ≡ (goes_on len m since os t && nat_lt u (last_at since os + 500))
 unfolding goes_on
 goes_on_still [] len m since t u le = grind (arith, nat_tests)
 goes_on_still (o ∷ os) len m since t u le = grind (arith, goes_on_still os len (m + 1) o.at t u le)
 
-open_still : (e : Judged) (L : List Judged) (t u : ℕ) → t ≤ u → is_open e L u ≡ (is_open e L t && nat_lt u (last_at e.at (own (channel (packet e.input)) L) + 500))
+open_still : (e : Judged) (L : List Judged) (t u : ℕ) → t ≤ u
+    → is_open e L u ≡ (is_open e L t && nat_lt u (last_at e.at (own (channel (packet e.input)) L) + 500))
 unfolding is_open
 open_still e L t u le = grind (arith, goes_on_still (own (channel (packet e.input)) L) (message_length (packet e.input)) 0 e.at t u le)
 
@@ -122,7 +126,8 @@ abbrev pub still : ℕ → Option Begun → Option Begun
 still u None = None
 still u (Some b) = cond (nat_lt u (last_at b.at b.own + 500)) (Some b) None
 
-later_open : (h L : List Judged) (start : Start) (t u : ℕ) → Lawful start h → From (end start h) L → end start h ≤ t → t ≤ u → open_among L h u ≡ still u (open_among L h t)
+later_open : (h L : List Judged) (start : Start) (t u : ℕ) → Lawful start h → From (end start h) L → end start h ≤ t → t ≤ u
+    → open_among L h u ≡ still u (open_among L h t)
 unfolding open_among open_at
 later_open [] L start t u l f le lu = refl
 later_open (e ∷ before) L start t u l f le lu =

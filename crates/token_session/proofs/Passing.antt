@@ -46,6 +46,7 @@ module _ (n b t : ℕ) (a d : Assembly) (k : CoreState) (m : Meters) (v : Sessio
   unfolding time_passed is_overdue
   due_passed r due s = rw (← is, kept, s) (record { state = grind arith; meters = refl; packets = grind arith })
 
-  pub quiet_passed : None ≡ dropped a.current t → keepalive_due (waiting k) b t ≡ false → sent ≡ [] → IsPassed v t (record { machine = whole t d k b; meters = m }) sent
+  pub quiet_passed : None ≡ dropped a.current t → keepalive_due (waiting k) b t ≡ false → sent ≡ []
+      → IsPassed v t (record { machine = whole t d k b; meters = m }) sent
   unfolding time_passed is_overdue
   quiet_passed r due s = rw (← is, kept, s) (record { state = grind arith; meters = refl; packets = grind arith })

@@ -30,7 +30,8 @@ packet_given : (g : ℕ) (w : Option ℕ) (m : Option Message) (p : List ℕ) �
 unfolding packet_event
 packet_given g w m p h = grind arith
 
-finished_given : (g : ℕ) (o : Option Begun) (w : Option ℕ) (x : Packet64) → OpenGiven g o w → MessageGiven g w (finished o (admits g o w x.0) (Packet x))
+finished_given : (g : ℕ) (o : Option Begun) (w : Option ℕ) (x : Packet64) → OpenGiven g o w
+    → MessageGiven g w (finished o (admits g o w x.0) (Packet x))
 unfolding finished finished_long admits
 finished_given g o w x h = grind (arith, nat_tests)
 
@@ -38,7 +39,8 @@ finished_given g o w x h = grind (arith, nat_tests)
 abbrev IsAlone : ℕ → Option ℕ → Option Message → Begun → Type 0
 IsAlone g w m b = (1 ≤ channel b.packet) × (channel b.packet ≤ g) × (w ≡ None) × (m ≡ None)
 
-begun_alone : (g : ℕ) (w : Option ℕ) (t : ℕ) (x : Packet64) (b : Begun) → new_open g None w t (Packet x) ≡ Some b → IsAlone g w (finished None (admits g None w x.0) (Packet x)) b
+begun_alone : (g : ℕ) (w : Option ℕ) (t : ℕ) (x : Packet64) (b : Begun) → new_open g None w t (Packet x) ≡ Some b
+    → IsAlone g w (finished None (admits g None w x.0) (Packet x)) b
 unfolding finished finished_long admits is_long
 begun_alone g w t x b e = grind (arith, nat_tests)
 
@@ -56,7 +58,8 @@ packet_alone g (Some a) w t x b h e = still_alone g a w t x b h e
 none_given : (w : Option ℕ) → IsGiven 0 w → w ≡ None
 none_given w h = grind arith
 
-event_works : (g : ℕ) (k : CoreState) (t : ℕ) (e : Option Event) → IsGiven g (working k) → EventGiven g (working k) e → IsGiven g (working (event_core k t e))
+event_works : (g : ℕ) (k : CoreState) (t : ℕ) (e : Option Event) → IsGiven g (working k) → EventGiven g (working k) e
+    → IsGiven g (working (event_core k t e))
 event_works g k t None w h = w
 event_works g k t (Some (Request cid bytes)) w h = work_stays_given g k t (Request cid bytes) w (h.0, h.1)
 event_works g k t (Some e) w h = work_stays_given g k t e w tt
@@ -74,7 +77,8 @@ unfolding event
 event_given g o w (Packet x) h = packet_given g w _ x.0 (finished_given g o w x h)
 event_given g o w other h = tt
 
-input_alone : (g : ℕ) (o : Option Begun) (k : CoreState) (t : ℕ) (i : Input) (b : Begun) → OpenGiven g o (working k) → new_open g o (working k) t i ≡ Some b
+input_alone : (g : ℕ) (o : Option Begun) (k : CoreState) (t : ℕ) (i : Input) (b : Begun) → OpenGiven g o (working k)
+    → new_open g o (working k) t i ≡ Some b
     → OpenGiven g (Some b) (working (event_core k t (event (working k) (finished_by g o (working k) i) i)))
 unfolding event next is_own
 input_alone g o k t (Packet x) b h e =
@@ -86,7 +90,8 @@ input_alone g (Some c) k t other b h e =
 input_alone g None k t other b h e = cc
 
 -- After an input at most one message is open or waits.
-pub input_safe : (g : ℕ) (o : Option Begun) (k : CoreState) (t : ℕ) (i : Input) (n : Option Begun) → Safe g o (working k) → new_open g o (working k) t i ≡ n
+pub input_safe : (g : ℕ) (o : Option Begun) (k : CoreState) (t : ℕ) (i : Input) (n : Option Begun) → Safe g o (working k)
+    → new_open g o (working k) t i ≡ n
     → Safe g n (working (event_core k t (event (working k) (finished_by g o (working k) i) i)))
 input_safe g o k t i None s e = record { few = s.few; works = event_works g k t _ s.works (event_given g o (working k) i s.opens); opens = tt }
 input_safe g o k t i (Some b) s e =

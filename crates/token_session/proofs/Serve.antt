@@ -122,12 +122,14 @@ open_none : (s : Tests) (t : ℕ) (f : Fields) (b : Begun) → Agree s → s.her
 unfolding open_after
 open_none s t f b a alone is = grind arith
 
-message_none : (s : Tests) (f : Fields) (m : Message) → Agree s → s.here ≡ false → (s.short ≡ true → s.over ≡ false) → Some m ≡ message_after None f (Begins Short)
+message_none : (s : Tests) (f : Fields) (m : Message) → Agree s → s.here ≡ false → (s.short ≡ true → s.over ≡ false)
+    → Some m ≡ message_after None f (Begins Short)
     → cond (admitted s && s.short) (Some m) None ≡ message_after None f (Begins (row s))
 unfolding message_after
 message_none s f m a alone small is = grind arith
 
-event_row : (s : Tests) (w : Option ℕ) (g : ℕ) (o : Option Open) (f : Fields) (m : Option Message) → Agree s → is_on w (channel_of f) ≡ s.on → m ≡ message_after o f (Begins (row s))
+event_row : (s : Tests) (w : Option ℕ) (g : ℕ) (o : Option Open) (f : Fields) (m : Option Message) → Agree s → is_on w (channel_of f) ≡ s.on
+    → m ≡ message_after o f (Begins (row s))
     → cond (s.cancel && s.on) (Some Cancel) (cond ((s.init && s.eight) && s.on) (Some Drop) (request_event m))
     ≡ verdict_event (ruling_verdict g w f m (Begins (row s))) (bytes_of m)
 unfolding message_after ruling_verdict
@@ -210,7 +212,8 @@ last_at_more : (es : List Judged) (t : ℕ) (e : Judged) → last_at t (es ++ e 
 last_at_more [] t e = refl
 last_at_more (x ∷ es) t e = last_at_more es x.at e
 
-grown_as : (b : Begun) (t : ℕ) (x : Packet64) → as_open (record { packet = b.packet; at = b.at; own = b.own ++ now_came t x ∷ [] }) ≡ grown t (goes x.0) (as_open b)
+grown_as : (b : Begun) (t : ℕ) (x : Packet64)
+    → as_open (record { packet = b.packet; at = b.at; own = b.own ++ now_came t x ∷ [] }) ≡ grown t (goes x.0) (as_open b)
 grown_as b t x = simp (map-append, flat_map-append, append-nil, append_assoc, length-append, last_at_more)
 
 more_next : (b : Begun) (t : ℕ) (x : Packet64) → is_initialization x.0 ≡ false
@@ -253,7 +256,8 @@ start_row g (Some b) w t x s st =
     subst (λ v. Serves g (Some b) v t x (starts x.0) (ruling_of g (Some (as_open b)) v (starts x.0))) (sym (s.opens).2)
     (start_some g b t x s.few ((s.opens).0, (s.opens).1) st)
 
-pub serves : (g : ℕ) (o : Option Begun) (w : Option ℕ) (t : ℕ) (x : Packet64) → Safe g o w → Serves g o w t x (fields x.0) (ruling_of g (option_map as_open o) w (fields x.0))
+pub serves : (g : ℕ) (o : Option Begun) (w : Option ℕ) (t : ℕ) (x : Packet64) → Safe g o w
+    → Serves g o w t x (fields x.0) (ruling_of g (option_map as_open o) w (fields x.0))
 unfolding ruling_of
 serves g o w t x s =
     cond_both (is_initialization x.0) (starts x.0) (goes x.0) (λ f. Serves g o w t x f (ruling_of g (option_map as_open o) w f))

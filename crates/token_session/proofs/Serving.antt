@@ -49,7 +49,8 @@ module _ (n b : ℕ) (a d : Assembly) (k : CoreState) (v : State) (early : List 
       let all = simp length-append at (subst (λ (t : Turn). length t.packets ≤ 130) (sym (input_turn i ed eV eE)) (served_few v early i few)) in
       simp length-append (omega arith)
 
-pub step_turn : (v mid : State) (t : ℕ) (x : Timed) (early : List (List ℕ)) → t ≡ max v.now x.at → mid ≡ (time_passed v t).state → early ≡ (time_passed v t).packets
+pub step_turn : (v mid : State) (t : ℕ) (x : Timed) (early : List (List ℕ)) → t ≡ max v.now x.at → mid ≡ (time_passed v t).state
+    → early ≡ (time_passed v t).packets
     → served mid early x.input ≡ turn v x
 unfolding turn
 step_turn v mid t x early a b e = rw (b, e, a) refl
