@@ -5,7 +5,7 @@ use Rattle.cred_table.specs.Rows.{ids}
 use Rattle.cred_table.specs.Waiting.{Waiting}
 use Rattle.ctap_message.specs.Requests.{read_of}
 use Rattle.authn_core.specs.declared.replies.Presence.TheVariants.{Granted, Denied, TimedOut}
-use Rattle.authn_core.specs.State.{Setup, Making, Asserting, Resets, Selects, AsksMake, WantsKey, AsksAssert, SignsAssert, State, Request, PresenceIs, KeyIs, SignatureIs, Cancel, Answer, Answered, Waits, Ignored}
+use Rattle.authn_core.specs.State.{Setup, Making, Asserting, Task, Resets, Selects, AsksMake, WantsKey, AsksAssert, SignsAssert, State, Request, PresenceIs, KeyIs, SignatureIs, Cancel, Answer, Answered, Waits, Ignored}
 use Rattle.authn_core.specs.GetAssertion.{applicable, begins, told}
 use Rattle.authn_core.specs.Turn.{turn}
 
@@ -21,6 +21,10 @@ waiting ids = Some (record { cid = 1; hash = replicate 32 34; presence = true; m
 abbrev idle : State
 idle = record { rows = row 0xaa 0 ∷ row 0xab 4 ∷ []; pending = None; work = None }
 
+-- the work with this task waits
+abbrev at : Task → State
+at task = record { rows = idle.rows; pending = None; work = Some (record { cid = 1; task = task }) }
+
 abbrev asked : State
 asked = record { rows = idle.rows; pending = waiting (replicate 32 0xaa ∷ []); work = None }
 
@@ -33,18 +37,15 @@ selects_empties : (turn setup asked 1100 (Request 1 (0x0b ∷ []))).state.pendin
 unfolding turn read_of
 selects_empties = refl
 
-abbrev selecting : State
-selecting = record { rows = idle.rows; pending = None; work = Some (record { cid = 1; task = Selects }) }
-
-granted : (turn setup selecting 150 (PresenceIs Granted)).answer ≡ Answered (0x00 ∷ [])
+granted : (turn setup (at Selects) 150 (PresenceIs Granted)).answer ≡ Answered (0x00 ∷ [])
 unfolding turn
 granted = refl
 
-denied : (turn setup selecting 150 (PresenceIs Denied)).answer ≡ Answered (0x27 ∷ [])
+denied : (turn setup (at Selects) 150 (PresenceIs Denied)).answer ≡ Answered (0x27 ∷ [])
 unfolding turn
 denied = refl
 
-timed_out : (turn setup selecting 150 (PresenceIs TimedOut)).answer ≡ Answered (0x2f ∷ [])
+timed_out : (turn setup (at Selects) 150 (PresenceIs TimedOut)).answer ≡ Answered (0x2f ∷ [])
 unfolding turn
 timed_out = refl
 
@@ -61,14 +62,11 @@ late_reset : (turn setup idle 10001 (Request 1 (0x07 ∷ []))).answer ≡ Answer
 unfolding turn read_of
 late_reset = refl
 
-abbrev resetting : State
-resetting = record { rows = idle.rows; pending = None; work = Some (record { cid = 1; task = Resets }) }
-
-reset_granted : (turn setup resetting 20000 (PresenceIs Granted)).state.rows ≡ []
+reset_granted : (turn setup (at Resets) 20000 (PresenceIs Granted)).state.rows ≡ []
 unfolding turn
 reset_granted = refl
 
-reset_late : (turn setup resetting 50 (PresenceIs TimedOut)).answer ≡ Answered (0x2f ∷ [])
+reset_late : (turn setup (at Resets) 50 (PresenceIs TimedOut)).answer ≡ Answered (0x2f ∷ [])
 unfolding turn
 reset_late = refl
 
@@ -105,70 +103,58 @@ next_spent = refl
 abbrev making_of : (user : ℕ) → Making
 making_of user = record { hash = replicate 32 17; rp = replicate 32 7; user = user ∷ []; name = []; discoverable = true }
 
-abbrev asks : (user : ℕ) → (excluded : Bool) → State
-asks user excluded = record { rows = idle.rows; pending = None; work = Some (record { cid = 1; task = AsksMake (making_of user) excluded }) }
-
-full : (turn setup (asks 3 false) 50 (PresenceIs Granted)).answer ≡ Answered (0x28 ∷ [])
+full : (turn setup (at (AsksMake (making_of 3) false)) 50 (PresenceIs Granted)).answer ≡ Answered (0x28 ∷ [])
 unfolding turn
 full = refl
 
-replacing : (turn setup (asks 0xaa false) 50 (PresenceIs Granted)).answer ≡ Waits 1
+replacing : (turn setup (at (AsksMake (making_of 0xaa) false)) 50 (PresenceIs Granted)).answer ≡ Waits 1
 unfolding turn
 replacing = refl
 
-excluded_first : (turn setup (asks 3 true) 50 (PresenceIs TimedOut)).answer ≡ Answered (0x19 ∷ [])
+excluded_first : (turn setup (at (AsksMake (making_of 3) true)) 50 (PresenceIs TimedOut)).answer ≡ Answered (0x19 ∷ [])
 unfolding turn
 excluded_first = refl
 
 -- a key whose id is there already, also that of the row that would be replaced
-abbrev wants : State
-wants = record { rows = idle.rows; pending = None; work = Some (record { cid = 1; task = WantsKey (making_of 0xaa) }) }
-
-known_id : (turn setup wants 60 (KeyIs (Some (record { id = replicate 32 0xaa; x = []; y = [] })))).answer ≡ Answered (0x7f ∷ [])
+known_id : (turn setup (at (WantsKey (making_of 0xaa))) 60 (KeyIs (Some (record { id = replicate 32 0xaa; x = []; y = [] })))).answer ≡ Answered (0x7f ∷ [])
 unfolding turn
 known_id = refl
 
 -- a signature where a key is needed
-not_needed : (turn setup wants 60 (SignatureIs None)).answer ≡ Ignored
+not_needed : (turn setup (at (WantsKey (making_of 0xaa))) 60 (SignatureIs None)).answer ≡ Ignored
 unfolding turn
 not_needed = refl
 
-cancelled : (turn setup wants 60 Cancel).answer ≡ Answered (0x2d ∷ [])
+cancelled : (turn setup (at (WantsKey (making_of 0xaa))) 60 Cancel).answer ≡ Answered (0x2d ∷ [])
 unfolding turn
 cancelled = refl
 
 -- a registration and a sign-in that the user denies, or doesn't answer in time
-make_denied : (turn setup (asks 3 false) 50 (PresenceIs Denied)).answer ≡ Answered (0x27 ∷ [])
+make_denied : (turn setup (at (AsksMake (making_of 3) false)) 50 (PresenceIs Denied)).answer ≡ Answered (0x27 ∷ [])
 unfolding turn
 make_denied = refl
 
-make_late : (turn setup (asks 3 false) 50 (PresenceIs TimedOut)).answer ≡ Answered (0x27 ∷ [])
+make_late : (turn setup (at (AsksMake (making_of 3) false)) 50 (PresenceIs TimedOut)).answer ≡ Answered (0x27 ∷ [])
 unfolding turn
 make_late = refl
 
 abbrev asserting : Asserting
 asserting = record { hash = replicate 32 34; rp = replicate 32 7; id = replicate 32 0xaa; presence = true; number = None }
 
-abbrev asks_assert : State
-asks_assert = record { rows = idle.rows; pending = None; work = Some (record { cid = 1; task = AsksAssert asserting }) }
-
-assert_denied : (turn setup asks_assert 50 (PresenceIs Denied)).answer ≡ Answered (0x27 ∷ [])
+assert_denied : (turn setup (at (AsksAssert asserting)) 50 (PresenceIs Denied)).answer ≡ Answered (0x27 ∷ [])
 unfolding turn
 assert_denied = refl
 
-assert_late : (turn setup asks_assert 50 (PresenceIs TimedOut)).answer ≡ Answered (0x27 ∷ [])
+assert_late : (turn setup (at (AsksAssert asserting)) 50 (PresenceIs TimedOut)).answer ≡ Answered (0x27 ∷ [])
 unfolding turn
 assert_late = refl
 
 -- no key for a registration, and no signature for a sign-in
-no_key : (turn setup wants 60 (KeyIs None)).answer ≡ Answered (0x7f ∷ [])
+no_key : (turn setup (at (WantsKey (making_of 0xaa))) 60 (KeyIs None)).answer ≡ Answered (0x7f ∷ [])
 unfolding turn
 no_key = refl
 
-abbrev signs_assert : State
-signs_assert = record { rows = idle.rows; pending = None; work = Some (record { cid = 1; task = SignsAssert asserting 5 [] }) }
-
-no_signature : (turn setup signs_assert 60 (SignatureIs None)).answer ≡ Answered (0x7f ∷ [])
+no_signature : (turn setup (at (SignsAssert asserting 5 [])) 60 (SignatureIs None)).answer ≡ Answered (0x7f ∷ [])
 unfolding turn
 no_signature = refl
 

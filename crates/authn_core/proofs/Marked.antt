@@ -1,109 +1,94 @@
--- Each turn changes the rows as its mark says.
-use Rattle.std.proofs.Common.{◌≡◌, ℕ, ◌+◌, List, [], ◌∷◌, ◌++◌, append-nil, length, flat_map, Bool, true, false, cond, ◌||◌, not, Option, Some, None, refl, sym, ◌∙◌, ap, subst, filter, add-zero}
+-- Each turn changes the rows as its mark says, and marks one after another leave what the filters name.
+use Rattle.std.proofs.Common.{◌≡◌, ℕ, ◌+◌, List, [], ◌∷◌, ◌++◌, append-nil, length, flat_map, Bool, true, false, cond, ◌&&◌, ◌||◌, not, Option, Some, None, option_to_list, refl, sym, ◌∙◌, ap, arith, filter}
+use Rattle.std.proofs.lemmas.Grind.{flat_map-append}
+use Rattle.std.specs.List.{list_any}
 use Rattle.cred_table.specs.declared.row.Row.{Row}
-use Rattle.cred_table.specs.Rows.{has_id, replaces, stored, raised, raised_row}
-use Rattle.ctap_message.specs.Requests.{read_of}
-use Rattle.authn_core.specs.State.{Setup, Task, SignsAssert, Job, State, Event, Request, Cancel, Drop}
-use Rattle.authn_core.specs.MakeCredential.{new_row}
-use Rattle.authn_core.specs.Turn.{CoreState, core_after, turn, requested}
-use Rattle.authn_core.specs.Marks.{Mark, mark, marked, left, Comes, Step, core_at, marks, Orderly, folded, rows_of, raised_by}
-use Rattle.authn_core.proofs.Filtered.{filtered}
-use Rattle.authn_core.proofs.Readiness.{same_bytes, Plain, requested_case, reply_case}
+use Rattle.cred_table.specs.Rows.{stored, raised}
+use Rattle.cred_table.proofs.Basics.{same_bytes}
+use Rattle.authn_core.specs.State.{Setup, Job, State, Event}
+use Rattle.authn_core.specs.Turn.{CoreState, core_after, turn}
+use Rattle.authn_core.specs.Marks.{Mark, mark, marked, made_replaces, is_raised, stays, left, rows_among, rows_of, folded, Comes, Step, core_at, marks, Orderly, raised_by}
 
--- the four things that a mark does
-pub mark_keeps : (rows : List Row) → marked (record { made = None; raises = None; resets = false }) rows ≡ rows
-mark_keeps rows = append-nil _ ∙ go rows
-  where
-    go : (rows : List Row) → flat_map (left ((record { made = None; raises = None; resets = false }) ∷ [])) rows ≡ rows
-    go [] = refl
-    go (r ∷ rows) = ap (λ (n : ℕ). (record r { counter = n }) ∷ flat_map (left ((record { made = None; raises = None; resets = false }) ∷ [])) rows) (add-zero r.counter)
-        ∙ ap (λ (rs : List Row). r ∷ rs) (go rows)
+-- ---- what a mark does
 
-pub mark_resets : (rows : List Row) → marked (record { made = None; raises = None; resets = true }) rows ≡ []
-mark_resets rows = append-nil _ ∙ go rows
-  where
-    go : (rows : List Row) → flat_map (left ((record { made = None; raises = None; resets = true }) ∷ [])) rows ≡ []
-    go [] = refl
-    go (r ∷ rows) = go rows
+mark_keeps : (rows : List Row) → marked (record { made = None; raises = None; resets = false }) rows ≡ rows
+mark_keeps [] = refl
+mark_keeps (r ∷ rows) = grind (arith, mark_keeps rows)
 
-pub mark_raises : (id : List ℕ) (rows : List Row) → marked (record { made = None; raises = Some id; resets = false }) rows ≡ raised id rows
-mark_raises id rows = append-nil _ ∙ go rows
-  where
-    one : (r : Row) → left ((record { made = None; raises = Some id; resets = false }) ∷ []) r ≡ raised_row id r ∷ []
-    one r = at (has_id id r)
-      where
-        at : (b : Bool) → (record r { counter = r.counter + length {A = Mark} (cond b ((record { made = None; raises = Some id; resets = false }) ∷ []) []) }) ∷ [] ≡ cond b (record r { counter = r.counter + 1 }) r ∷ []
-        at true = refl
-        at false = ap (λ (n : ℕ). (record r { counter = n }) ∷ []) (add-zero r.counter)
+mark_resets : (rows : List Row) → marked (record { made = None; raises = None; resets = true }) rows ≡ []
+mark_resets [] = refl
+mark_resets (r ∷ rows) = mark_resets rows
 
-    go : (rows : List Row) → flat_map (left ((record { made = None; raises = Some id; resets = false }) ∷ [])) rows ≡ raised id rows
-    go [] = refl
-    go (r ∷ rows) = let e = one r in let ih = go rows in cc
+mark_raises : (id : List ℕ) (rows : List Row) → marked (record { made = None; raises = Some id; resets = false }) rows ≡ raised id rows
+mark_raises id [] = refl
+mark_raises id (r ∷ rows) = grind (arith, mark_raises id rows)
 
-pub mark_makes : (new : Row) (rows : List Row) → marked (record { made = Some new; raises = None; resets = false }) rows ≡ stored new rows
-mark_makes new rows = ap (λ (rs : List Row). rs ++ new ∷ []) (go rows)
-  where
-    one : (r : Row) → left ((record { made = Some new; raises = None; resets = false }) ∷ []) r ≡ cond (not (replaces new r)) (r ∷ []) []
-    one r = at (replaces new r)
-      where
-        at : (b : Bool) → cond (not (b || false)) ((record r { counter = r.counter + 0 }) ∷ []) [] ≡ cond (not b) (r ∷ []) []
-        at true = refl
-        at false = ap (λ (n : ℕ). (record r { counter = n }) ∷ []) (add-zero r.counter)
-
-    two : (r : Row) (rs : List Row) → cond (not (replaces new r)) (r ∷ []) [] ++ rs ≡ cond (not (replaces new r)) (r ∷ rs) rs
-    two r rs = at (replaces new r)
-      where
-        at : (b : Bool) → cond (not b) (r ∷ []) [] ++ rs ≡ cond (not b) (r ∷ rs) rs
-        at true = refl
-        at false = refl
-
-    go : (rows : List Row) → flat_map (left ((record { made = Some new; raises = None; resets = false }) ∷ [])) rows ≡ filter (λ old. not (replaces new old)) rows
-    go [] = refl
-    go (r ∷ rows) = let e = one r in let ih = go rows in let f = two r (filter (λ old. not (replaces new old)) rows) in cc
-
--- A turn does to the rows what its mark says.
-abbrev pub Follows : List Row → Option Job → Event → State → Type 0
-Follows rows before e s = s.rows ≡ marked (mark before e s.work) rows
+mark_makes : (new : Row) (rows : List Row) → marked (record { made = Some new; raises = None; resets = false }) rows ≡ stored new rows
+mark_makes new [] = refl
+mark_makes new (r ∷ rows) = grind (arith, mark_makes new rows)
 
 -- what is ignored leaves the work
 pub raises_none : (w : Option Job) → raised_by w w ≡ None
-raises_none None = refl
-raises_none (Some w) = at w.task
-  where
-    at : (k : Task) → raised_by (Some (record { cid = w.cid; task = k })) (Some (record { cid = w.cid; task = k })) ≡ None
-    at (SignsAssert a n d) = rw (same_bytes a.id) refl
-    at k = refl
-
-ignored_follows : (s : State) (v : Option Job) (e : Event) → s.work ≡ v → Plain v e → Follows s.rows v e s
-ignored_follows s v e w p =
-    subst (λ (x : Option Job). s.rows ≡ marked (mark v e x) s.rows) (sym w) (rw (p.made, p.resets, raises_none v) (sym (mark_keeps s.rows)))
-
--- what ends the work does nothing to the rows
-plain_follows : (rows : List Row) (v : Option Job) (e : Event) → Plain v e → rows ≡ marked (mark v e None) rows
-plain_follows rows v e p = rw (p.made, p.resets) (sym (mark_keeps rows))
+raises_none w = grind (arith, same_bytes)
 
 -- Every turn does to the rows what its mark says.
 pub turn_marked : (u : Setup) (s : State) (t : ℕ) (e : Event) → Comes s.work e → (turn u s t e).state.rows ≡ marked (mark s.work e (turn u s t e).state.work) s.rows
 unfolding turn
-turn_marked u s t (Request cid bytes) c =
-    subst (λ (v : Option Job). Follows s.rows v (Request cid bytes) (requested u s.rows s.pending t cid (read_of bytes)).state) (sym c)
-    (requested_case (Follows s.rows None (Request cid bytes)) u s.rows s.pending t cid (read_of bytes) (sym (mark_keeps s.rows)) (λ k a. rw (a.raises None) (sym (mark_keeps s.rows)))
-    (λ _ _ _ _. sym (mark_keeps s.rows)) (λ _ a _. sym (mark_raises a.id s.rows)))
-turn_marked u s t Cancel c = plain_follows s.rows s.work Cancel (elim s.work as (λ v. Plain v Cancel) [ None ↦ record { made = refl; resets = refl } | Some w ↦ record { made = refl; resets = refl } ])
-turn_marked u s t Drop c = plain_follows s.rows s.work Drop (elim s.work as (λ v. Plain v Drop) [ None ↦ record { made = refl; resets = refl } | Some w ↦ record { made = refl; resets = refl } ])
-turn_marked u s t reply c =
-    reply_case (λ v e x. s.work ≡ v → Follows s.rows v e x) u s t (λ v e p w. ignored_follows s v e w p) (λ _ _ e p _ _. plain_follows s.rows _ e p) (λ _ _ e p _. plain_follows s.rows _ e p)
-    (λ _ _ e p _ _. plain_follows s.rows _ e p) (λ _ _. sym (mark_resets s.rows)) (λ _ _ _ _. sym (mark_keeps s.rows)) (λ _ _ _ _ _. sym (mark_keeps s.rows))
-    (λ _ a _. sym (mark_raises a.id s.rows)) (λ _ m key _ _ _. sym (mark_makes (new_row m key) s.rows)) s.work reply refl
+turn_marked u s t e c = grind (arith, mark_keeps, mark_resets, mark_raises, mark_makes, raises_none)
+
+-- ---- what marks leave
+
+nothing_left : (b : Bool) (rows : List Row) → cond (b && false) rows [] ≡ []
+nothing_left b rows = grind arith
+
+one_more : (c : Bool) (n : ℕ) (m : Mark) (ms : List Mark) → n + length (cond c (m ∷ ms) ms) ≡ n + length (cond c (m ∷ []) []) + length ms
+one_more c n m ms = grind arith
+
+-- What is asked of a row doesn't depend on its counter.
+replaced_same : (n : ℕ) (r : Row) (ms : List Mark) → list_any (λ m. made_replaces m.made (record r { counter = n })) ms ≡ list_any (λ m. made_replaces m.made r) ms
+replaced_same n r [] = refl
+replaced_same n r (m ∷ ms) = grind (arith, replaced_same n r ms)
+
+raises_same : (n : ℕ) (r : Row) (ms : List Mark) → filter (λ m. is_raised m.raises (record r { counter = n })) ms ≡ filter (λ m. is_raised m.raises r) ms
+raises_same n r [] = refl
+raises_same n r (m ∷ ms) = grind (arith, raises_same n r ms)
+
+left_counted : (n : ℕ) (r : Row) (ms : List Mark) → left ms (record r { counter = n })
+    ≡ cond (stays ms r) ((record r { counter = n + length (filter (λ m. is_raised m.raises r) ms) }) ∷ []) []
+left_counted n r ms = rw (replaced_same n r ms, raises_same n r ms) refl
+
+-- the marks of one step and then later ones
+one_left : (m : Mark) (later : List Mark) (r : Row) → left (m ∷ later) r ≡ flat_map (left later) (left (m ∷ []) r)
+one_left m later r = grind (arith, left_counted)
+
+pub all_left : (m : Mark) (later : List Mark) (rows : List Row) → flat_map (left (m ∷ later)) rows ≡ flat_map (left later) (flat_map (left (m ∷ [])) rows)
+all_left m later [] = refl
+all_left m later (r ∷ rows) =
+    let e = one_left m later r in let ih = all_left m later rows in
+    let f = flat_map-append (left later) (left (m ∷ []) r) (flat_map (left (m ∷ [])) rows) in cc
+
+pub among_folded : (start : List Row) (h later : List Mark) → rows_among start later h ≡ flat_map (left later) (folded start h)
+unfolding rows_among folded
+among_folded start [] later = refl
+among_folded start (m ∷ past) later =
+    let ih = among_folded start past (m ∷ later) in
+    let e = all_left m later (folded start past) in
+    let f = flat_map-append (left later) (flat_map (left (m ∷ [])) (folded start past)) (option_to_list m.made) in cc
+
+-- no later marks leave all
+none_later : (rows : List Row) → flat_map (left []) rows ≡ rows
+none_later [] = refl
+none_later (r ∷ rows) = grind (arith, none_later rows)
+
+-- ---- histories
 
 rows_folded : (start : CoreState) (h : List Step) → Orderly start h → (core_at start h).state.rows ≡ folded start.state.rows (marks start h)
 unfolding core_at marks Orderly folded
 rows_folded start [] o = refl
 rows_folded start (x ∷ past) o =
     let k = core_at start past in
-    turn_marked k.setup k.state x.at x.event o.0
-    ∙ ap (λ (rs : List Row). marked (mark k.state.work x.event (core_after k x.at x.event).state.work) rs) (rows_folded start past o.1)
+    turn_marked k.setup k.state x.at x.event o.0 ∙ ap (marked (mark k.state.work x.event (core_after k x.at x.event).state.work)) (rows_folded start past o.1)
 
 -- the rows after a history are those that the filters name
 pub rows_filtered : (start : CoreState) (h : List Step) → Orderly start h → (core_at start h).state.rows ≡ rows_of start.state.rows (marks start h)
-rows_filtered start h o = rows_folded start h o ∙ filtered start.state.rows (marks start h)
+rows_filtered start h o = rows_folded start h o ∙ sym (among_folded start.state.rows (marks start h) [] ∙ none_later _)

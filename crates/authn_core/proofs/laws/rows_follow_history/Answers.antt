@@ -1,5 +1,5 @@
 use Rattle.authn_core.proofs.Marked.{rows_filtered}
-use Rattle.authn_core.proofs.Texts.{rows_lawful, pending_few}
+use Rattle.authn_core.proofs.Readiness.{rows_lawful, pending_few}
 use Rattle.authn_core.proofs.laws.rows_follow_history.Goals as goal
 
 pub returns-clause-rows : goal.returns-clause-rows

@@ -1,4 +1,4 @@
-use Rattle.authn_core.proofs.Rising.{texts_differ, texts_rise, text_is_told, newest_is_signed}
+use Rattle.authn_core.proofs.Texts.{texts_differ, texts_rise, text_is_told, newest_is_signed}
 use Rattle.authn_core.proofs.laws.texts_to_sign_differ.Goals as goal
 
 pub returns-clause-differ : goal.returns-clause-differ
