@@ -1,5 +1,4 @@
 pub mod Readiness
-pub mod Turning
 pub mod Facts
 mod Examples
 pub mod Marked

@@ -38,12 +38,6 @@ turn_marked u s t e c = grind (arith, mark_keeps, mark_resets, mark_raises, mark
 
 -- ---- what marks leave
 
-nothing_left : (b : Bool) (rows : List Row) → cond (b && false) rows [] ≡ []
-nothing_left b rows = grind arith
-
-one_more : (c : Bool) (n : ℕ) (m : Mark) (ms : List Mark) → n + length (cond c (m ∷ ms) ms) ≡ n + length (cond c (m ∷ []) []) + length ms
-one_more c n m ms = grind arith
-
 -- What is asked of a row doesn't depend on its counter.
 replaced_same : (n : ℕ) (r : Row) (ms : List Mark) → list_any (λ m. made_replaces m.made (record r { counter = n })) ms ≡ list_any (λ m. made_replaces m.made r) ms
 replaced_same n r [] = refl
