@@ -55,19 +55,9 @@ left_counted n r ms = rw (replaced_same n r ms, raises_same n r ms) refl
 one_left : (m : Mark) (later : List Mark) (r : Row) → left (m ∷ later) r ≡ flat_map (left later) (left (m ∷ []) r)
 one_left m later r = grind (arith, left_counted)
 
-pub all_left : (m : Mark) (later : List Mark) (rows : List Row) → flat_map (left (m ∷ later)) rows ≡ flat_map (left later) (flat_map (left (m ∷ [])) rows)
+all_left : (m : Mark) (later : List Mark) (rows : List Row) → flat_map (left (m ∷ later)) rows ≡ flat_map (left later) (flat_map (left (m ∷ [])) rows)
 all_left m later [] = refl
-all_left m later (r ∷ rows) =
-    let e = one_left m later r in let ih = all_left m later rows in
-    let f = flat_map-append (left later) (left (m ∷ []) r) (flat_map (left (m ∷ [])) rows) in cc
-
-pub among_folded : (start : List Row) (h later : List Mark) → rows_among start later h ≡ flat_map (left later) (folded start h)
-unfolding rows_among folded
-among_folded start [] later = refl
-among_folded start (m ∷ past) later =
-    let ih = among_folded start past (m ∷ later) in
-    let e = all_left m later (folded start past) in
-    let f = flat_map-append (left later) (flat_map (left (m ∷ [])) (folded start past)) (option_to_list m.made) in cc
+all_left m later (r ∷ rows) = grind (arith, one_left, flat_map-append, all_left m later rows)
 
 -- no later marks leave all
 none_later : (rows : List Row) → flat_map (left []) rows ≡ rows
@@ -76,13 +66,16 @@ none_later (r ∷ rows) = grind (arith, none_later rows)
 
 -- ---- histories
 
-rows_folded : (start : CoreState) (h : List Step) → Orderly start h → (core_at start h).state.rows ≡ folded start.state.rows (marks start h)
-unfolding core_at marks Orderly folded
-rows_folded start [] o = refl
-rows_folded start (x ∷ past) o =
+-- the rows after a history, with later marks, are those that the filters name
+rows_left : (start : CoreState) (h : List Step) (later : List Mark) → Orderly start h
+    → flat_map (left later) (core_at start h).state.rows ≡ rows_among start.state.rows later (marks start h)
+unfolding core_at marks Orderly rows_among
+rows_left start [] later o = refl
+rows_left start (x ∷ past) later o =
     let k = core_at start past in
-    turn_marked k.setup k.state x.at x.event o.0 ∙ ap (marked (mark k.state.work x.event (core_after k x.at x.event).state.work)) (rows_folded start past o.1)
+    let e = turn_marked k.setup k.state x.at x.event o.0 in
+    let m = mark k.state.work x.event (core_after k x.at x.event).state.work in
+    rw e (grind (arith, flat_map-append, all_left, rows_left start past (m ∷ later) o.1))
 
--- the rows after a history are those that the filters name
 pub rows_filtered : (start : CoreState) (h : List Step) → Orderly start h → (core_at start h).state.rows ≡ rows_of start.state.rows (marks start h)
-rows_filtered start h o = rows_folded start h o ∙ sym (among_folded start.state.rows (marks start h) [] ∙ none_later _)
+rows_filtered start h o = sym (none_later _) ∙ rows_left start h [] o

@@ -99,16 +99,12 @@ turn_lawful u s t e r h =
     rows_case (Lawful u.room) u s t e r.work h (record { distinct = refl; one_each = refl; few = omega arith }) (λ id. Lawful-raised u.room id s.rows h)
     (λ m key f. Lawful-stored u.room (new_row m key) s.rows h (grind arith) (room_for u.room m key s.rows f.0))
 
-begins_keeps : (room : ℕ) (rows : List Row) (t cid : ℕ) (hash rp : List ℕ) (up given : Bool) (l : List (List ℕ)) → AllThere rows l
-    → let x = (begins rows t cid hash rp up given l).state in Ready room x × (length l ≤ room + 1 → pending_count x.pending ≤ room)
-begins_keeps room rows t cid hash rp up given [] h = grind arith
-begins_keeps room rows t cid hash rp up given (id ∷ others) h = grind (arith, nat_tests, there_raised, pending_raised)
-
 requested_keeps : (u : Setup) (rows : List Row) (p : Option Waiting) (t cid : ℕ) (read : Result Asked ℕ) → PendingReady rows p
     → let x = (requested u rows p t cid read).state in Ready u.room x × (length rows ≤ u.room → pending_count p ≤ u.room → pending_count x.pending ≤ u.room)
 requested_keeps u rows p t cid (Ok (GetAssertion hash rp_id allow up)) h =
-    let b = begins_keeps u.room rows t cid hash (sha256 rp_id) up _ _ (applicable_there rows (sha256 rp_id) (has_entries allow) (ids_of allow)) in
-    (b.0, λ l _. b.1 (applicable_few u.room rows (sha256 rp_id) (has_entries allow) (ids_of allow) l))
+    let all = applicable_there rows (sha256 rp_id) (has_entries allow) (ids_of allow) in
+    let few = λ (l : length rows ≤ u.room). applicable_few u.room rows (sha256 rp_id) (has_entries allow) (ids_of allow) l in
+    (grind (arith, nat_tests, there_raised, pending_raised, all), λ l _. grind (arith, few l))
 requested_keeps u rows p t cid read h = (grind (arith, nat_tests, there_raised, pending_raised), λ l f. grind arith)
 
 pub turn_keeps : (u : Setup) (s : State) (t : ℕ) (e : Event) → Ready u.room s

@@ -50,15 +50,15 @@ pending_raised : (asked : Option Asked) (id : List ℕ) (rows : List Row) (p : O
 pending_raised asked id rows None h = tt
 pending_raised asked id rows (Some w) h = (h.0, h.1, all_along _ _ w.ids (λ q e. rp_raised q id rows ∙ e) h.2)
 
-begins_signs : (aaguid : List ℕ) (h : Heard) (rows : List Row) (t cid : ℕ) (hash rp : List ℕ) (up given : Bool) (l : List (List ℕ)) → assertion_asked h.asked ≡ Some (record { rp = rp; presence = up; hash = hash }) → AllOf rp rows l
-    → Signs aaguid h (begins rows t cid hash rp up given l).state
+begins_signs : (aaguid : List ℕ) (h : Heard) (rows : List Row) (t cid : ℕ) (hash rp : List ℕ) (up given : Bool) (l : List (List ℕ))
+    → assertion_asked h.asked ≡ Some (record { rp = rp; presence = up; hash = hash }) → AllOf rp rows l → Signs aaguid h (begins rows t cid hash rp up given l).state
 begins_signs aaguid h rows t cid hash rp up given [] c a = grind arith
 begins_signs aaguid h rows t cid hash rp up given (id ∷ others) c a = grind (arith, rp_raised, counter_raised, pending_raised)
 
 requested_signs : (u : Setup) (h : Heard) (rows : List Row) (p : Option Waiting) (t cid : ℕ) (read : Result Asked ℕ) → no_two same_id rows ≡ true → PendingFor h.asked rows p → IsGranted h.granted p
     → Signs u.aaguid (newer h read) (requested u rows p t cid read).state
 requested_signs u h rows p t cid (Ok (GetAssertion hash rp_id allow up)) d f k =
-    begins_signs u.aaguid (newer h (Ok (GetAssertion hash rp_id allow up))) rows t cid hash _ up _ _ refl (applicable_of rows (sha256 rp_id) (has_entries allow) (ids_of allow) d)
+    begins_signs u.aaguid _ rows t cid hash _ up _ _ refl (applicable_of rows (sha256 rp_id) (has_entries allow) (ids_of allow) d)
 requested_signs u h rows p t cid read d f k = grind (arith, rp_raised, counter_raised, pending_raised)
 
 -- Every turn keeps the invariant, where a request comes only while no work waits.

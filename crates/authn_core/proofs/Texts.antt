@@ -40,15 +40,10 @@ abbrev Adds : (h : List Mark) (before now : State) → Option Text → Type 0
 Adds h before now None = (id : List ℕ) → signs_by id now.work ≡ true → now ≡ before
 Adds h before now (Some t) = IsAdded h before.rows now t
 
-begins_adds : (h : List Mark) (s : State) (t cid : ℕ) (hash rp : List ℕ) (up given : Bool) (l : List (List ℕ)) → AllThere s.rows l
-    → let x = (begins s.rows t cid hash rp up given l).state in Adds h (record s { work = None }) x (text_of h (raised_by None x.work) x.work)
-begins_adds h s t cid hash rp up given [] a = grind arith
-begins_adds h s t cid hash rp up given (id ∷ others) a = grind arith
-
 requested_adds : (h : List Mark) (u : Setup) (s : State) (t cid : ℕ) (read : Result Asked ℕ) → PendingReady s.rows s.pending
     → let x = (requested u s.rows s.pending t cid read).state in Adds h (record s { work = None }) x (text_of h (raised_by None x.work) x.work)
 requested_adds h u s t cid (Ok (GetAssertion hash rp_id allow up)) p =
-    begins_adds h s t cid hash _ up _ _ (applicable_there s.rows (sha256 rp_id) (has_entries allow) (ids_of allow))
+    grind (arith, applicable_there s.rows (sha256 rp_id) (has_entries allow) (ids_of allow))
 requested_adds h u s t cid read p = grind arith
 
 turn_adds : (h : List Mark) (u : Setup) (s : State) (t : ℕ) (e : Event) → Comes s.work e → Ready u.room s
