@@ -1,15 +1,16 @@
 -- Turns keep a state ready and its rows lawful, and no more is pending than there is room for.
-use Rattle.std.proofs.Common.{◌≡◌, ℕ, ◌+◌, ◌≤◌, ◌<◌, ◌⊎◌, List, [], ◌∷◌, ◌++◌, length, Bool, true, false, Option, Some, None, option_map, is_some, Result, Ok, ◌∙◌, refl, arith}
+use Rattle.std.proofs.Common.{◌≡◌, ℕ, ◌+◌, ◌≤◌, ◌<◌, ◌⊎◌, List, [], ◌∷◌, ◌++◌, length, Bool, true, false, cond, Option, Some, None, IfSome, option_map, is_some, Result, Ok, ◌∙◌, refl, arith}
 use Rattle.std.proofs.lemmas.Bool.Decides.{nat_tests}
 use Rattle.std.proofs.lemmas.Grind.{common_steps}
 use Rattle.std.proofs.lemmas.List.{map-append, length-map, length-reverse}
-use Rattle.std.specs.List.{AllByRecursion, find}
+use Rattle.std.proofs.lemmas.Slice.Eq.{bytes_eq-Decides}
+use Rattle.std.specs.List.{AllByRecursion, find, list_any}
 use Rattle.std.specs.Str.{bytes_eq}
 use Rattle.cred_table.specs.declared.row.Row.{Row}
-use Rattle.cred_table.specs.Rows.{Lawful, has_id, is_named, is_user, replaces, raised, stored, listed, ids}
+use Rattle.cred_table.specs.Rows.{Lawful, has_id, is_named, same_id, no_two, raised, stored, listed, ids}
 use Rattle.cred_table.specs.Waiting.{Waiting, pending_count}
 use Rattle.cred_table.proofs.Basics.{same_bytes}
-use Rattle.cred_table.proofs.Stored.{Lawful-stored, length-filter}
+use Rattle.cred_table.proofs.Stored.{Lawful-stored, length-filter, one_replaced}
 use Rattle.cred_table.proofs.Raised.{Lawful-raised}
 use Rattle.ctap_message.specs.Asked.{Asked, GetAssertion, GetNextAssertion}
 use Rattle.ctap_message.specs.Members.{has_entries}
@@ -28,9 +29,9 @@ use Rattle.authn_core.specs.Ready.{AllThere, Ready, PendingReady, WorkReady}
 -- ---- rows
 
 -- a row that is found passes, and has what all rows have
-found : (P : Row → Type 0) (q : Row → Bool) (rows : List Row) (r : Row) → AllByRecursion P rows → find q rows ≡ Some r → P r × (q r ≡ true)
-found P q [] r a h = cc
-found P q (x ∷ rows) r a h = grind (arith, found P q rows r)
+pub found : (P : Row → Type 0) (q : Row → Bool) (rows : List Row) → AllByRecursion P rows → IfSome (find q rows) (λ r. P r × (q r ≡ true))
+found P q [] a = tt
+found P q (x ∷ rows) a = grind (arith, found P q rows)
 
 pub all_along : {X : Type 0} (P Q : X → Type 0) (l : List X) → ((x : X) → P x → Q x) → AllByRecursion P l → AllByRecursion Q l
 all_along P Q [] f h = tt
@@ -58,35 +59,29 @@ all_there (r ∷ rows) = (grind (arith, same_bytes), all_along _ _ rows (λ x e.
 pub applicable_there : (rows : List Row) (rp : List ℕ) (given : Bool) (allow : List (List ℕ)) → AllThere rows (ids (applicable rows rp given allow))
 applicable_there rows rp given allow = applicable_all _ rows rp given allow (all_along _ _ rows (λ r h _. h) (all_there rows))
 
--- At most one row more applies than there is room for; in truth none more.
-applicable_few : (room : ℕ) (rows : List Row) (rp : List ℕ) (given : Bool) (allow : List (List ℕ)) → length rows ≤ room
-    → length (ids (applicable rows rp given allow)) ≤ room + 1
-applicable_few room rows rp given allow h = grind (arith, length-map, length-reverse, length-filter)
+-- in rows that stand apart, no later row has the id
+apart : (id : List ℕ) (x : Row) (rows : List Row) → has_id id x ≡ true → list_any (same_id x) rows ≡ false → find (has_id id) rows ≡ None
+apart id x [] e h = refl
+apart id x (s ∷ rows) e h = grind (arith, bytes_eq-Decides, apart id x rows)
 
--- Raising changes no RP, and keeps what is there.
-pub rp_raised : (q id : List ℕ) (rows : List Row) → rp_of q (raised id rows) ≡ rp_of q rows
-rp_raised q id [] = refl
-rp_raised q id (r ∷ rows) = grind (arith, rp_raised q id rows)
+-- in rows that stand apart, each is found by its id
+pub all_found : (rows : List Row) → no_two same_id rows ≡ true → AllByRecursion (λ r. find (has_id r.id) rows ≡ Some r) rows
+all_found [] d = tt
+all_found (x ∷ rows) d = (grind (arith, same_bytes), all_along _ _ rows (λ r e. grind (arith, apart)) (all_found rows (grind arith)))
 
-pub there_raised : (q id : List ℕ) (rows : List Row) → is_some (find (has_id q) (raised id rows)) ≡ is_some (find (has_id q) rows)
-there_raised q id [] = refl
-there_raised q id (r ∷ rows) = grind (arith, there_raised q id rows)
+-- Raising raises the one counter, and changes nothing else.
+pub find_raised : (q id : List ℕ) (rows : List Row)
+    → find (has_id q) (raised id rows) ≡ option_map (λ r. cond (bytes_eq q id) (record r { counter = r.counter + 1 }) r) (find (has_id q) rows)
+find_raised q id [] = refl
+find_raised q id (r ∷ rows) = grind (arith, bytes_eq-Decides, find_raised q id rows)
 
 -- ---- turns keep a state ready
 
 pub pending_raised : (id : List ℕ) (rows : List Row) (p : Option Waiting) → PendingReady rows p → PendingReady (raised id rows) p
 pending_raised id rows None h = tt
-pending_raised id rows (Some w) h = all_along _ _ w.ids (λ q e. there_raised q id rows ∙ e) h
+pending_raised id rows (Some w) h = all_along _ _ w.ids (λ q e. grind (arith, find_raised)) h
 
 -- ---- turns keep rows lawful
-
-user_replaced : (m : Making) (k : NewKey) (rows : List Row) → m.discoverable ≡ true → find (replaces (new_row m k)) rows ≡ find (is_user m.rp m.user) rows
-user_replaced m k [] e = refl
-user_replaced m k (r ∷ rows) e = grind (arith, user_replaced m k rows)
-
--- there is room for the new row, or it replaces one
-room_for : (room : ℕ) (m : Making) (k : NewKey) (rows : List Row) → fits room m rows ≡ true → (length rows < room) ⊎ (is_some (find (replaces (new_row m k)) rows) ≡ true)
-room_for room m k rows h = grind (arith, nat_tests, user_replaced)
 
 -- What holds of the rows after each change of them holds after a turn.
 rows_case : (P : List Row → Type 0) (u : Setup) (s : State) (t : ℕ) (e : Event) → WorkReady u.room s.rows s.work → P s.rows → P [] → ((id : List ℕ) → P (raised id s.rows))
@@ -97,15 +92,16 @@ rows_case P u s t e w h none raise make = grind arith
 turn_lawful : (u : Setup) (s : State) (t : ℕ) (e : Event) → Ready u.room s → Lawful u.room s.rows → Lawful u.room (turn u s t e).state.rows
 turn_lawful u s t e r h =
     rows_case (Lawful u.room) u s t e r.work h (record { distinct = refl; one_each = refl; few = omega arith }) (λ id. Lawful-raised u.room id s.rows h)
-    (λ m key f. Lawful-stored u.room (new_row m key) s.rows h (grind arith) (room_for u.room m key s.rows f.0))
+    (λ m key f. Lawful-stored u.room (new_row m key) s.rows h (grind arith) (grind (arith, nat_tests, one_replaced)))
 
 requested_keeps : (u : Setup) (rows : List Row) (p : Option Waiting) (t cid : ℕ) (read : Result Asked ℕ) → PendingReady rows p
     → let x = (requested u rows p t cid read).state in Ready u.room x × (length rows ≤ u.room → pending_count p ≤ u.room → pending_count x.pending ≤ u.room)
 requested_keeps u rows p t cid (Ok (GetAssertion hash rp_id allow up)) h =
     let all = applicable_there rows (sha256 rp_id) (has_entries allow) (ids_of allow) in
-    let few = λ (l : length rows ≤ u.room). applicable_few u.room rows (sha256 rp_id) (has_entries allow) (ids_of allow) l in
-    (grind (arith, nat_tests, there_raised, pending_raised, all), λ l _. grind (arith, few l))
-requested_keeps u rows p t cid read h = (grind (arith, nat_tests, there_raised, pending_raised), λ l f. grind arith)
+    let few : length rows ≤ u.room → length (ids (applicable rows (sha256 rp_id) (has_entries allow) (ids_of allow))) ≤ u.room + 1
+        = λ l. grind (arith, length-map, length-reverse, length-filter) in
+    (grind (arith, nat_tests, find_raised, pending_raised, all), λ l _. grind (arith, few l))
+requested_keeps u rows p t cid read h = (grind (arith, nat_tests, find_raised, pending_raised), λ l f. grind arith)
 
 pub turn_keeps : (u : Setup) (s : State) (t : ℕ) (e : Event) → Ready u.room s
     → let x = (turn u s t e).state in Ready u.room x × (Lawful u.room s.rows → Lawful u.room x.rows × (pending_count s.pending ≤ u.room → pending_count x.pending ≤ u.room))
@@ -113,7 +109,7 @@ unfolding turn
 turn_keeps u s t (Request cid bytes) h =
     let r = requested_keeps u s.rows s.pending t cid (read_of bytes) h.pending in
     (r.0, λ l. (turn_lawful u s t (Request cid bytes) h l, λ f. r.1 l.few f))
-turn_keeps u s t reply h = (grind (arith, there_raised, pending_raised), λ l. (turn_lawful u s t reply h l, λ f. grind arith))
+turn_keeps u s t reply h = (grind (arith, find_raised, pending_raised), λ l. (turn_lawful u s t reply h l, λ f. grind arith))
 
 -- ---- histories
 

@@ -21,51 +21,36 @@ use Rattle.authn_core.specs.Turn.{Start, core_answer, first_state, requested, re
 use Rattle.authn_core.specs.Views.{needs, sign}
 use Rattle.authn_core.specs.Marks.{Step, Comes, Orderly, core_at}
 use Rattle.authn_core.specs.Signed.{Heard, newer, hears, heard, IsAmong, rp_of, IsNeeded, IsSigned, assertion_asked, TaskSigns, WorkSigns, AllOf, PendingFor, IsGranted, Signs}
-use Rattle.authn_core.proofs.Readiness.{all_along, applicable_all, core_sound, rp_raised}
+use Rattle.authn_core.proofs.Readiness.{all_along, applicable_all, all_found, core_sound, find_raised}
 
 -- ---- rows
-
--- in rows that stand apart, no later row has the id
-apart : (id : List ℕ) (x : Row) (rows : List Row) → has_id id x ≡ true → list_any (same_id x) rows ≡ false → find (has_id id) rows ≡ None
-apart id x [] e h = refl
-apart id x (s ∷ rows) e h = grind (arith, bytes_eq-Decides, apart id x rows)
-
--- in rows that stand apart, each is found by its id
-all_found : (rows : List Row) → no_two same_id rows ≡ true → AllByRecursion (λ r. find (has_id r.id) rows ≡ Some r) rows
-all_found [] d = tt
-all_found (x ∷ rows) d = (grind (arith, same_bytes), all_along _ _ rows (λ r e. grind (arith, apart)) (all_found rows (grind arith)))
 
 -- the rows that may sign are the RP's
 applicable_of : (rows : List Row) (rp : List ℕ) (given : Bool) (allow : List (List ℕ)) → no_two same_id rows ≡ true → AllOf rp rows (ids (applicable rows rp given allow))
 applicable_of rows rp given allow d = applicable_all _ rows rp given allow (all_along _ _ rows (λ r f e. grind (arith, bytes_eq-Decides)) (all_found rows d))
 
--- Raising raises the counter.
-pub counter_raised : (id : List ℕ) (rows : List Row) → is_some (find (has_id id) rows) ≡ true → counter_of id (raised id rows) ≡ counter_of id rows + 1
-counter_raised id [] h = cc
-counter_raised id (r ∷ rows) h = grind (arith, counter_raised id rows)
-
 -- ---- turns
 
 pending_raised : (asked : Option Asked) (id : List ℕ) (rows : List Row) (p : Option Waiting) → PendingFor asked rows p → PendingFor asked (raised id rows) p
 pending_raised asked id rows None h = tt
-pending_raised asked id rows (Some w) h = (h.0, h.1, all_along _ _ w.ids (λ q e. rp_raised q id rows ∙ e) h.2)
+pending_raised asked id rows (Some w) h = (h.0, h.1, all_along _ _ w.ids (λ q e. grind (arith, find_raised)) h.2)
 
 begins_signs : (aaguid : List ℕ) (h : Heard) (rows : List Row) (t cid : ℕ) (hash rp : List ℕ) (up given : Bool) (l : List (List ℕ))
     → assertion_asked h.asked ≡ Some (record { rp = rp; presence = up; hash = hash }) → AllOf rp rows l → Signs aaguid h (begins rows t cid hash rp up given l).state
 begins_signs aaguid h rows t cid hash rp up given [] c a = grind arith
-begins_signs aaguid h rows t cid hash rp up given (id ∷ others) c a = grind (arith, rp_raised, counter_raised, pending_raised)
+begins_signs aaguid h rows t cid hash rp up given (id ∷ others) c a = grind (arith, find_raised, same_bytes, pending_raised)
 
 requested_signs : (u : Setup) (h : Heard) (rows : List Row) (p : Option Waiting) (t cid : ℕ) (read : Result Asked ℕ) → no_two same_id rows ≡ true → PendingFor h.asked rows p → IsGranted h.granted p
     → Signs u.aaguid (newer h read) (requested u rows p t cid read).state
 requested_signs u h rows p t cid (Ok (GetAssertion hash rp_id allow up)) d f k =
     begins_signs u.aaguid _ rows t cid hash _ up _ _ refl (applicable_of rows (sha256 rp_id) (has_entries allow) (ids_of allow) d)
-requested_signs u h rows p t cid read d f k = grind (arith, rp_raised, counter_raised, pending_raised)
+requested_signs u h rows p t cid read d f k = grind (arith, find_raised, same_bytes, pending_raised)
 
 -- Every turn keeps the invariant, where a request comes only while no work waits.
 pub turn_signs : (u : Setup) (s : State) (t : ℕ) (e : Event) (h : Heard) → Comes s.work e → Lawful u.room s.rows → Signs u.aaguid h s → Signs u.aaguid (hears e h) (turn u s t e).state
 unfolding turn
 turn_signs u s t (Request cid bytes) h c l g = requested_signs u h s.rows s.pending t cid (read_of bytes) l.distinct g.pending (grind arith)
-turn_signs u s t e h c l g = grind (arith, rp_raised, counter_raised, pending_raised)
+turn_signs u s t e h c l g = grind (arith, find_raised, same_bytes, pending_raised)
 
 -- ---- histories
 

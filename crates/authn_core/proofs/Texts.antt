@@ -5,6 +5,7 @@ use Rattle.std.proofs.lemmas.Slice.Eq.{bytes_eq-Decides}
 use Rattle.std.specs.List.{AllByRecursion, find, list_any}
 use Rattle.cred_table.specs.declared.row.Row.{Row}
 use Rattle.cred_table.specs.Rows.{Lawful, has_id, same_id, no_two, raised, counter_of}
+use Rattle.cred_table.proofs.Basics.{same_bytes}
 use Rattle.ctap_message.specs.Asked.{Asked, GetAssertion}
 use Rattle.ctap_message.specs.Members.{has_entries}
 use Rattle.ctap_message.specs.Descriptors.{ids_of}
@@ -17,9 +18,8 @@ use Rattle.authn_core.specs.Ready.{AllThere, Ready, PendingReady}
 use Rattle.authn_core.specs.Marks.{Step, Comes, Orderly, Mark, Text, core_at, marks, marked, makes_id, makings, raised_by, signs_by, text_of, texts, same_text, all_differ}
 use Rattle.authn_core.specs.Views.{needs, sign}
 use Rattle.authn_core.specs.Rising.{above_all, all_rise, IsTextOf, IsNewest}
-use Rattle.authn_core.proofs.Readiness.{all_along, applicable_there, core_sound}
+use Rattle.authn_core.proofs.Readiness.{all_along, all_found, applicable_there, core_sound, find_raised, found}
 use Rattle.authn_core.proofs.Marked.{raises_none, turn_marked}
-use Rattle.authn_core.proofs.Signed.{counter_raised}
 
 -- ---- what a turn adds
 
@@ -63,21 +63,6 @@ above_marked : (id : List ℕ) (n : ℕ) (m : Mark) (rows : List Row) → makes_
 above_marked id n m [] e h = grind arith
 above_marked id n m (r ∷ rows) e h = grind (arith, above_marked id n m rows e h.1)
 
--- in rows that stand apart, no row after one has its id
-none_more : (id : List ℕ) (n : ℕ) (r : Row) (rows : List Row) → has_id id r ≡ true → list_any (same_id r) rows ≡ false → AllAbove id n (raised id rows)
-none_more id n r [] e f = tt
-none_more id n r (s ∷ rows) e f = grind (arith, bytes_eq-Decides, none_more id n r rows e)
-
--- in rows that stand apart, the raised counter is the greatest of the id
-raised_above : (id : List ℕ) (rows : List Row) → no_two same_id rows ≡ true → AllAbove id (counter_of id rows + 1) (raised id rows)
-raised_above id [] d = tt
-raised_above id (r ∷ rows) d = grind (arith, raised_above id rows, none_more id (r.counter + 1) r rows)
-
--- What is above n in rows where the id is, is above in its counter.
-found_above : (id : List ℕ) (n : ℕ) (rows : List Row) → is_some (find (has_id id) rows) ≡ true → AllAbove id n rows → n ≤ counter_of id rows
-found_above id n [] e h = cc
-found_above id n (r ∷ rows) e h = grind (arith, found_above id n rows)
-
 -- A text is of an earlier making, or the rows with its id are above it.
 record Bounded (h : List Mark) (rows : List Row) (t : Text) : Type 0 where
   earlier : t.making ≤ makings t.id h
@@ -89,7 +74,7 @@ bounded_more h rows m t b = grind (arith, above_marked)
 new_above : (h : List Mark) (rows : List Row) (id : List ℕ) (ts : List Text) → is_some (find (has_id id) rows) ≡ true → AllByRecursion (Bounded h rows) ts
     → above_all (record { id = id; making = makings id h; counter = counter_of id rows + 1 }) ts ≡ true
 new_above h rows id [] e b = refl
-new_above h rows id (t ∷ ts) e b = grind (arith, nat_tests, bytes_eq-Decides, found_above, new_above h rows id ts e b.1)
+new_above h rows id (t ∷ ts) e b = grind (arith, nat_tests, bytes_eq-Decides, found (λ r. has_id t.id r ≡ true → t.counter ≤ r.counter) (has_id id) rows, new_above h rows id ts e b.1)
 
 -- ---- what holds of the texts of every history
 
@@ -100,9 +85,9 @@ record Tells (work : Option Job) (h : List Mark) (s : State) (ts : List Text) : 
   newest : work ≡ None → (id : List ℕ) → signs_by id s.work ≡ true → IsNewest ts s
 
 text_is : (h : List Mark) (rows : List Row) (s : State) (t : Text) → IsAdded h rows s t → IsTextOf t s
-text_is h rows s t a = record { signed = signed_of s.work; needed = a.needed; counter = grind (arith, counter_raised) }
+text_is h rows s t a = record { signed = signed_of s.work; needed = a.needed; counter = grind (arith, same_bytes, find_raised) }
 
-tells_more : (work : Option Job) (h : List Mark) (s x : State) (m : Mark) (o : Option Text) (ts : List Text) → x.rows ≡ marked m s.rows → no_two same_id s.rows ≡ true → Adds h s x o → Tells work h s ts
+tells_more : (work : Option Job) (h : List Mark) (s x : State) (m : Mark) (o : Option Text) (ts : List Text) → x.rows ≡ marked m s.rows → no_two same_id x.rows ≡ true → Adds h s x o → Tells work h s ts
     → Tells work (m ∷ h) x (option_to_list o ++ ts)
 tells_more work h s x m None ts e d a b = record {
   bounded = all_along _ _ ts (λ t q. rw e (bounded_more h s.rows m t q)) b.bounded;
@@ -110,7 +95,7 @@ tells_more work h s x m None ts e d a b = record {
   newest = λ n id w. let f = a id w in rw f (b.newest n id (rw f at w));
 }
 tells_more work h s x m (Some t) ts e d a b = record {
-  bounded = (record { earlier = grind arith; above = λ _. rw a.raises (rw a.counter (raised_above t.id s.rows d)) }, all_along _ _ ts (λ t q. rw e (bounded_more h s.rows m t q)) b.bounded);
+  bounded = (record { earlier = grind arith; above = λ _. all_along _ _ x.rows (λ r f k. grind (arith, bytes_eq-Decides, same_bytes, find_raised)) (all_found x.rows d) }, all_along _ _ ts (λ t q. rw e (bounded_more h s.rows m t q)) b.bounded);
   rise = grind (arith, new_above h s.rows t.id ts a.there b.bounded);
   newest = λ _ _ _. record { text = t; past = ts; first = refl; told = text_is h s.rows x t a };
 }
@@ -121,7 +106,7 @@ unfolding core_at marks texts Orderly
 history_tells start [] r l o = record { bounded = tt; rise = refl; newest = λ n id w. grind arith }
 history_tells start (x ∷ past) r l o =
     let k = core_at start past in let s = core_sound start past r l in
-    tells_more start.state.work (marks start past) k.state (core_after k x.at x.event).state _ _ (texts start past) (turn_marked k.setup k.state x.at x.event o.0) s.lawful.distinct
+    tells_more start.state.work (marks start past) k.state (core_after k x.at x.event).state _ _ (texts start past) (turn_marked k.setup k.state x.at x.event o.0) (core_sound start (x ∷ past) r l).lawful.distinct
     (turn_adds (marks start past) k.setup k.state x.at x.event o.0 s.ready) (history_tells start past r l o.1)
 
 -- ---- what the laws say of them
