@@ -1,7 +1,6 @@
 pub mod Readiness
 pub mod Facts
 mod Examples
-pub mod Marked
 pub mod Signed
-pub mod Texts
+pub mod Histories
 mod SignedExamples

@@ -126,10 +126,3 @@ core_sound start [] r l = record { setup = refl; ready = r; lawful = l; few = λ
 core_sound start (x ∷ past) r l =
     let k = core_at start past in let s = core_sound start past r l in let n = turn_keeps k.setup k.state x.at x.event s.ready in
     record { setup = s.setup; ready = n.0; lawful = (n.1 s.lawful).0; few = λ f. (n.1 s.lawful).1 (s.few f) }
-
-pub rows_lawful : (start : CoreState) (h : List Step) → Ready start.setup.room start.state → Lawful start.setup.room start.state.rows → Lawful start.setup.room (core_at start h).state.rows
-rows_lawful start h r l = let s = core_sound start h r l in rw s.setup at s.lawful
-
-pub pending_few : (start : CoreState) (h : List Step) → Ready start.setup.room start.state → Lawful start.setup.room start.state.rows → pending_count start.state.pending ≤ start.setup.room
-    → pending_count (core_at start h).state.pending ≤ start.setup.room
-pending_few start h r l f = let s = core_sound start h r l in rw s.setup at s.few f

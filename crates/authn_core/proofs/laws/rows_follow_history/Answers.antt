@@ -1,6 +1,10 @@
-use Rattle.authn_core.proofs.Marked.{rows_filtered}
-use Rattle.authn_core.proofs.Readiness.{rows_lawful, pending_few}
+use Rattle.authn_core.proofs.Histories.{rows_filtered}
+use Rattle.authn_core.proofs.Readiness.{core_sound}
 use Rattle.authn_core.proofs.laws.rows_follow_history.Goals as goal
 
 pub returns : goal.returns
-returns c = record { rows = rows_filtered; lawful = rows_lawful; pending = pending_few }
+returns c = record {
+  rows = rows_filtered;
+  lawful = λ start h r l. let s = core_sound start h r l in rw s.setup at s.lawful;
+  pending = λ start h r l f. let s = core_sound start h r l in rw s.setup at s.few f;
+}

@@ -1,10 +1,13 @@
--- A text to sign that a turn adds holds a greater counter than all before it by the same row, and is what is to be signed.
-use Rattle.std.proofs.Common.{◌≡◌, ℕ, ◌+◌, ◌≤◌, List, [], ◌∷◌, ◌++◌, length, Bool, true, false, Option, Some, None, option_to_list, is_some, Result, Ok, refl, sym, ◌∙◌, ap, subst, arith}
+-- The rows and the texts to sign after a history. A turn changes the rows as its mark says, and marks one after another
+-- leave what the filters name. A text to sign that a turn adds is what is to be signed, and holds a greater counter than
+-- all before it by the same row.
+use Rattle.std.proofs.Common.{◌≡◌, ℕ, ◌+◌, ◌≤◌, List, [], ◌∷◌, ◌++◌, append-nil, length, flat_map, filter, Bool, true, false, cond, ◌&&◌, ◌||◌, not, Option, Some, None, option_to_list, is_some, Result, Ok, refl, sym, ◌∙◌, ap, subst, arith}
 use Rattle.std.proofs.lemmas.Bool.Decides.{nat_tests}
+use Rattle.std.proofs.lemmas.Grind.{flat_map-append}
 use Rattle.std.proofs.lemmas.Slice.Eq.{bytes_eq-Decides}
 use Rattle.std.specs.List.{AllByRecursion, find, list_any}
 use Rattle.cred_table.specs.declared.row.Row.{Row}
-use Rattle.cred_table.specs.Rows.{Lawful, has_id, same_id, no_two, raised, counter_of}
+use Rattle.cred_table.specs.Rows.{Lawful, has_id, same_id, no_two, raised, stored, counter_of}
 use Rattle.cred_table.proofs.Basics.{same_bytes}
 use Rattle.ctap_message.specs.Asked.{Asked, GetAssertion}
 use Rattle.ctap_message.specs.Members.{has_entries}
@@ -12,31 +15,100 @@ use Rattle.ctap_message.specs.Descriptors.{ids_of}
 use Rattle.ctap_message.specs.Requests.{read_of}
 use Rattle.sha2.specs.Sha256.{sha256}
 use Rattle.authn_core.specs.State.{Setup, SignsAssert, Job, State, Event, Request}
-use Rattle.authn_core.specs.GetAssertion.{begins}
 use Rattle.authn_core.specs.Turn.{CoreState, core_after, requested, turn}
 use Rattle.authn_core.specs.Ready.{AllThere, Ready, PendingReady}
-use Rattle.authn_core.specs.Marks.{Step, Comes, Orderly, Mark, Text, core_at, marks, marked, makes_id, makings, raised_by, signs_by, text_of, texts, same_text, all_differ}
+use Rattle.authn_core.specs.Marks.{Mark, mark, marked, made_replaces, is_raised, stays, left, rows_among, rows_of, Step, Comes, Orderly, Text, core_at, marks, makes_id, makings, raised_by, signs_by, text_of, texts, same_text, all_differ}
 use Rattle.authn_core.specs.Views.{needs, sign}
 use Rattle.authn_core.specs.Rising.{above_all, all_rise, IsTextOf, IsNewest}
 use Rattle.authn_core.proofs.Readiness.{all_along, all_found, applicable_there, core_sound, find_raised, found}
-use Rattle.authn_core.proofs.Marked.{raises_none, turn_marked}
 
--- ---- what a turn adds
+-- ---- what a mark does
 
-abbrev signed_of : Option Job → List ℕ
+mark_keeps : (rows : List Row) → marked (record { made = None; raises = None; resets = false }) rows ≡ rows
+mark_keeps [] = refl
+mark_keeps (r ∷ rows) = grind (arith, mark_keeps rows)
+
+mark_resets : (rows : List Row) → marked (record { made = None; raises = None; resets = true }) rows ≡ []
+mark_resets [] = refl
+mark_resets (r ∷ rows) = mark_resets rows
+
+mark_raises : (id : List ℕ) (rows : List Row) → marked (record { made = None; raises = Some id; resets = false }) rows ≡ raised id rows
+mark_raises id [] = refl
+mark_raises id (r ∷ rows) = grind (arith, mark_raises id rows)
+
+mark_makes : (new : Row) (rows : List Row) → marked (record { made = Some new; raises = None; resets = false }) rows ≡ stored new rows
+mark_makes new [] = refl
+mark_makes new (r ∷ rows) = grind (arith, mark_makes new rows)
+
+-- what is ignored leaves the work
+pub raises_none : (w : Option Job) → raised_by w w ≡ None
+raises_none w = grind (arith, same_bytes)
+
+-- Every turn does to the rows what its mark says.
+pub turn_marked : (u : Setup) (s : State) (t : ℕ) (e : Event) → Comes s.work e → (turn u s t e).state.rows ≡ marked (mark s.work e (turn u s t e).state.work) s.rows
+unfolding turn
+turn_marked u s t e c = grind (arith, mark_keeps, mark_resets, mark_raises, mark_makes, raises_none)
+
+-- ---- what marks leave
+
+-- What is asked of a row doesn't depend on its counter.
+replaced_same : (n : ℕ) (r : Row) (ms : List Mark) → list_any (λ m. made_replaces m.made (record r { counter = n })) ms ≡ list_any (λ m. made_replaces m.made r) ms
+replaced_same n r [] = refl
+replaced_same n r (m ∷ ms) = grind (arith, replaced_same n r ms)
+
+raises_same : (n : ℕ) (r : Row) (ms : List Mark) → filter (λ m. is_raised m.raises (record r { counter = n })) ms ≡ filter (λ m. is_raised m.raises r) ms
+raises_same n r [] = refl
+raises_same n r (m ∷ ms) = grind (arith, raises_same n r ms)
+
+left_counted : (n : ℕ) (r : Row) (ms : List Mark) → left ms (record r { counter = n })
+    ≡ cond (stays ms r) ((record r { counter = n + length (filter (λ m. is_raised m.raises r) ms) }) ∷ []) []
+left_counted n r ms = rw (replaced_same n r ms, raises_same n r ms) refl
+
+-- the marks of one step and then later ones
+one_left : (m : Mark) (later : List Mark) (r : Row) → left (m ∷ later) r ≡ flat_map (left later) (left (m ∷ []) r)
+one_left m later r = grind (arith, left_counted)
+
+all_left : (m : Mark) (later : List Mark) (rows : List Row) → flat_map (left (m ∷ later)) rows ≡ flat_map (left later) (flat_map (left (m ∷ [])) rows)
+all_left m later [] = refl
+all_left m later (r ∷ rows) = grind (arith, one_left, flat_map-append, all_left m later rows)
+
+-- no later marks leave all
+none_later : (rows : List Row) → flat_map (left []) rows ≡ rows
+none_later [] = refl
+none_later (r ∷ rows) = grind (arith, none_later rows)
+
+-- ---- the rows after a history
+
+-- the rows after a history, with later marks, are those that the filters name
+rows_left : (start : CoreState) (h : List Step) (later : List Mark) → Orderly start h
+    → flat_map (left later) (core_at start h).state.rows ≡ rows_among start.state.rows later (marks start h)
+unfolding core_at marks Orderly rows_among
+rows_left start [] later o = refl
+rows_left start (x ∷ past) later o =
+    let k = core_at start past in
+    let e = turn_marked k.setup k.state x.at x.event o.0 in
+    let m = mark k.state.work x.event (core_after k x.at x.event).state.work in
+    rw e (grind (arith, flat_map-append, all_left, rows_left start past (m ∷ later) o.1))
+
+pub rows_filtered : (start : CoreState) (h : List Step) → Orderly start h → (core_at start h).state.rows ≡ rows_of start.state.rows (marks start h)
+rows_filtered start h o = sym (none_later _) ∙ rows_left start h [] o
+
+-- ---- what text a turn adds
+
+abbrev pub signed_of : Option Job → List ℕ
 signed_of None = []
 signed_of (Some w) = elim w.task as (λ k. List ℕ) [ SignsAssert a n d ↦ d | k ↦ [] ]
 
 -- A text that a turn adds is of the row that it raises, with the raised counter.
-record IsAdded (h : List Mark) (rows : List Row) (s : State) (t : Text) : Type 0 where
-  making : t.making ≡ makings t.id h
-  there : is_some (find (has_id t.id) rows) ≡ true
-  counter : t.counter ≡ counter_of t.id rows + 1
-  raises : s.rows ≡ raised t.id rows
-  needed : needs s.work ≡ sign t.id (signed_of s.work)
+pub record IsAdded (h : List Mark) (rows : List Row) (s : State) (t : Text) : Type 0 where
+  pub making : t.making ≡ makings t.id h
+  pub there : is_some (find (has_id t.id) rows) ≡ true
+  pub counter : t.counter ≡ counter_of t.id rows + 1
+  pub raises : s.rows ≡ raised t.id rows
+  pub needed : needs s.work ≡ sign t.id (signed_of s.work)
 
 -- Where it adds none, a state that waits for an assertion's signature is the one before.
-abbrev Adds : (h : List Mark) (before now : State) → Option Text → Type 0
+abbrev pub Adds : (h : List Mark) (before now : State) → Option Text → Type 0
 Adds h before now None = (id : List ℕ) → signs_by id now.work ≡ true → now ≡ before
 Adds h before now (Some t) = IsAdded h before.rows now t
 
@@ -55,7 +127,7 @@ turn_adds h u s t e c r = grind (arith, raises_none)
 -- ---- what the counters are above
 
 -- every row with the id has a counter of at least n
-abbrev AllAbove : List ℕ → ℕ → List Row → Type 0
+abbrev pub AllAbove : List ℕ → ℕ → List Row → Type 0
 AllAbove id n rows = AllByRecursion (λ r. has_id id r ≡ true → n ≤ r.counter) rows
 
 -- a mark that makes no row of the id lowers none of its counters
@@ -64,9 +136,9 @@ above_marked id n m [] e h = grind arith
 above_marked id n m (r ∷ rows) e h = grind (arith, above_marked id n m rows e h.1)
 
 -- A text is of an earlier making, or the rows with its id are above it.
-record Bounded (h : List Mark) (rows : List Row) (t : Text) : Type 0 where
-  earlier : t.making ≤ makings t.id h
-  above : t.making ≡ makings t.id h → AllAbove t.id t.counter rows
+pub record Bounded (h : List Mark) (rows : List Row) (t : Text) : Type 0 where
+  pub earlier : t.making ≤ makings t.id h
+  pub above : t.making ≡ makings t.id h → AllAbove t.id t.counter rows
 
 bounded_more : (h : List Mark) (rows : List Row) (m : Mark) (t : Text) → Bounded h rows t → Bounded (m ∷ h) (marked m rows) t
 bounded_more h rows m t b = grind (arith, above_marked)
@@ -79,10 +151,10 @@ new_above h rows id (t ∷ ts) e b = grind (arith, nat_tests, bytes_eq-Decides, 
 -- ---- what holds of the texts of every history
 
 -- `work` is that of the start.
-record Tells (work : Option Job) (h : List Mark) (s : State) (ts : List Text) : Type 0 where
-  bounded : AllByRecursion (Bounded h s.rows) ts
-  rise : all_rise ts ≡ true
-  newest : work ≡ None → (id : List ℕ) → signs_by id s.work ≡ true → IsNewest ts s
+pub record Tells (work : Option Job) (h : List Mark) (s : State) (ts : List Text) : Type 0 where
+  pub bounded : AllByRecursion (Bounded h s.rows) ts
+  pub rise : all_rise ts ≡ true
+  pub newest : work ≡ None → (id : List ℕ) → signs_by id s.work ≡ true → IsNewest ts s
 
 text_is : (h : List Mark) (rows : List Row) (s : State) (t : Text) → IsAdded h rows s t → IsTextOf t s
 text_is h rows s t a = record { signed = signed_of s.work; needed = a.needed; counter = grind (arith, same_bytes, find_raised) }
@@ -100,7 +172,7 @@ tells_more work h s x m (Some t) ts e d a b = record {
   newest = λ _ _ _. record { text = t; past = ts; first = refl; told = text_is h s.rows x t a };
 }
 
-history_tells : (start : CoreState) (h : List Step) → Ready start.setup.room start.state → Lawful start.setup.room start.state.rows → Orderly start h
+pub history_tells : (start : CoreState) (h : List Step) → Ready start.setup.room start.state → Lawful start.setup.room start.state.rows → Orderly start h
     → Tells start.state.work (marks start h) (core_at start h).state (texts start h)
 unfolding core_at marks texts Orderly
 history_tells start [] r l o = record { bounded = tt; rise = refl; newest = λ n id w. grind arith }
@@ -109,22 +181,14 @@ history_tells start (x ∷ past) r l o =
     tells_more start.state.work (marks start past) k.state (core_after k x.at x.event).state _ _ (texts start past) (turn_marked k.setup k.state x.at x.event o.0) (core_sound start (x ∷ past) r l).lawful.distinct
     (turn_adds (marks start past) k.setup k.state x.at x.event o.0 s.ready) (history_tells start past r l o.1)
 
--- ---- what the laws say of them
-
-pub texts_rise : (start : CoreState) (h : List Step) → Ready start.setup.room start.state → Lawful start.setup.room start.state.rows → Orderly start h → all_rise (texts start h) ≡ true
-texts_rise start h r l o = (history_tells start h r l o).rise
-
 -- texts that rise differ
 none_same : (t : Text) (ts : List Text) → above_all t ts ≡ true → list_any (same_text t) ts ≡ false
 none_same t [] h = refl
 none_same t (x ∷ ts) h = grind (arith, nat_tests, none_same t ts)
 
-rise_differ : (ts : List Text) → all_rise ts ≡ true → all_differ ts ≡ true
+pub rise_differ : (ts : List Text) → all_rise ts ≡ true → all_differ ts ≡ true
 rise_differ [] h = refl
 rise_differ (t ∷ ts) h = grind (arith, none_same, rise_differ ts)
-
-pub texts_differ : (start : CoreState) (h : List Step) → Ready start.setup.room start.state → Lawful start.setup.room start.state.rows → Orderly start h → all_differ (texts start h) ≡ true
-texts_differ start h r l o = rise_differ (texts start h) (texts_rise start h r l o)
 
 told : (h : List Mark) (before now : State) (o : Option Text) (ts : List Text) (t : Text) → Adds h before now o → option_to_list o ++ ts ≡ t ∷ ts → IsTextOf t now
 told h before now None ts t a e = absurd (let n : length ts ≡ length (t ∷ ts) = ap length e in omega arith)
@@ -136,7 +200,3 @@ unfolding core_at texts Orderly
 text_is_told start h x t r l o e =
     let k = core_at start h in
     told (marks start h) k.state _ _ (texts start h) t (turn_adds (marks start h) k.setup k.state x.at x.event o.0 (core_sound start h r l).ready) e
-
-pub newest_is_signed : (start : CoreState) (h : List Step) (id : List ℕ) → start.state.work ≡ None → Ready start.setup.room start.state → Lawful start.setup.room start.state.rows → Orderly start h
-    → signs_by id (core_at start h).state.work ≡ true → IsNewest (texts start h) (core_at start h).state
-newest_is_signed start h id none r l o e = (history_tells start h r l o).newest none id e
