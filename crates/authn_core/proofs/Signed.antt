@@ -23,12 +23,6 @@ use Rattle.authn_core.specs.Marks.{Step, Comes, Orderly, core_at}
 use Rattle.authn_core.specs.Signed.{Heard, newer, hears, heard, IsAmong, rp_of, IsNeeded, IsSigned, assertion_asked, TaskSigns, WorkSigns, AllOf, PendingFor, IsGranted, Signs}
 use Rattle.authn_core.proofs.Readiness.{all_along, applicable_all, all_found, core_sound, find_raised}
 
--- ---- rows
-
--- the rows that may sign are the RP's
-applicable_of : (rows : List Row) (rp : List ℕ) (given : Bool) (allow : List (List ℕ)) → no_two same_id rows ≡ true → AllOf rp rows (ids (applicable rows rp given allow))
-applicable_of rows rp given allow d = applicable_all _ rows rp given allow (all_along _ _ rows (λ r f e. grind (arith, bytes_eq-Decides)) (all_found rows d))
-
 -- ---- turns
 
 pending_raised : (asked : Option Asked) (id : List ℕ) (rows : List Row) (p : Option Waiting) → PendingFor asked rows p → PendingFor asked (raised id rows) p
@@ -36,14 +30,18 @@ pending_raised asked id rows None h = tt
 pending_raised asked id rows (Some w) h = (h.0, h.1, all_along _ _ w.ids (λ q e. grind (arith, find_raised)) h.2)
 
 begins_signs : (aaguid : List ℕ) (h : Heard) (rows : List Row) (t cid : ℕ) (hash rp : List ℕ) (up given : Bool) (l : List (List ℕ))
-    → assertion_asked h.asked ≡ Some (record { rp = rp; presence = up; hash = hash }) → AllOf rp rows l → Signs aaguid h (begins rows t cid hash rp up given l).state
+    → assertion_asked h.asked ≡ Some (record { rp = rp; presence = up; hash = hash }) → AllOf rp rows l
+    → Signs aaguid h (begins rows t cid hash rp up given l).state
 begins_signs aaguid h rows t cid hash rp up given [] c a = grind arith
 begins_signs aaguid h rows t cid hash rp up given (id ∷ others) c a = grind (arith, find_raised, same_bytes, pending_raised)
 
 requested_signs : (u : Setup) (h : Heard) (rows : List Row) (p : Option Waiting) (t cid : ℕ) (read : Result Asked ℕ) → no_two same_id rows ≡ true → PendingFor h.asked rows p → IsGranted h.granted p
     → Signs u.aaguid (newer h read) (requested u rows p t cid read).state
 requested_signs u h rows p t cid (Ok (GetAssertion hash rp_id allow up)) d f k =
-    begins_signs u.aaguid _ rows t cid hash _ up _ _ refl (applicable_of rows (sha256 rp_id) (has_entries allow) (ids_of allow) d)
+    let rp = sha256 rp_id in
+    let all = applicable_all (λ id. rp_of id rows ≡ Some rp) rows rp (has_entries allow) (ids_of allow)
+        (all_along _ _ rows (λ r f e. grind (arith, bytes_eq-Decides)) (all_found rows d)) in
+    begins_signs u.aaguid _ rows t cid hash rp up _ _ refl all
 requested_signs u h rows p t cid read d f k = grind (arith, find_raised, same_bytes, pending_raised)
 
 -- Every turn keeps the invariant, where a request comes only while no work waits.
@@ -54,19 +52,15 @@ turn_signs u s t e h c l g = grind (arith, find_raised, same_bytes, pending_rais
 
 -- ---- histories
 
-signs_at : (start : Start) (h : List Step) → Lawful start.room start.rows → Orderly (first_state start) h → Signs start.aaguid (heard h) (core_at (first_state start) h).state
+pub signs_at : (start : Start) (h : List Step) → Lawful start.room start.rows → Orderly (first_state start) h → Signs start.aaguid (heard h) (core_at (first_state start) h).state
 unfolding core_at heard Orderly
 signs_at start [] l o = record { pending = tt; granted = tt; work = tt }
 signs_at start (x ∷ past) l o =
     let k = core_at (first_state start) past in let s = core_sound (first_state start) past (record { pending = tt; work = tt }) l in
     rw s.setup (turn_signs (first_state start).setup k.state x.at x.event (heard past) o.0 (rw s.setup at s.lawful) (signs_at start past l o.1))
 
-needed_is : (aaguid : List ℕ) (h : Heard) (rows : List Row) (work : Option Job) → WorkSigns aaguid h rows work → IsNeeded aaguid h rows (needs work)
+pub needed_is : (aaguid : List ℕ) (h : Heard) (rows : List Row) (work : Option Job) → WorkSigns aaguid h rows work → IsNeeded aaguid h rows (needs work)
 needed_is aaguid h rows work w = grind arith
-
-pub need_is_signed : (start : Start) (h : List Step) → Lawful start.room start.rows → Orderly (first_state start) h → IsNeeded start.aaguid (heard h) (core_at (first_state start) h).state.rows (needs (core_at (first_state start) h).state.work)
-need_is_signed start h l o =
-    let k = core_at (first_state start) h in needed_is start.aaguid (heard h) k.state.rows k.state.work (signs_at start h l o).work
 
 -- A signature is answered with what was to be signed, by what was asked and what waits.
 task_answers : (u : Setup) (s : State) (t : ℕ) (asked : Option Asked) (granted : Bool) (keys : List NewKey) (cid : ℕ) (k : Task) (id signed sig : List ℕ)
@@ -78,14 +72,7 @@ task_answers u s t (Some (MakeCredential hash rp_id user_id user_name discoverab
     (new_row m key, refl, grind arith, refl, grind arith)
 task_answers u s t asked granted keys cid k id signed sig w e = grind arith
 
-work_answers : (u : Setup) (s : State) (t : ℕ) (h : Heard) (v : Option Job) (id signed sig : List ℕ) → WorkSigns u.aaguid h s.rows v → needs v ≡ sign id signed
+pub work_answers : (u : Setup) (s : State) (t : ℕ) (h : Heard) (v : Option Job) (id signed sig : List ℕ) → WorkSigns u.aaguid h s.rows v → needs v ≡ sign id signed
     → IsSigned u.aaguid v id signed sig (reply_turn u s t v (SignatureIs (Some sig))).answer h.asked
 work_answers u s t h None id signed sig w e = cc
 work_answers u s t h (Some v) id signed sig w e = task_answers u s t h.asked h.granted h.keys v.cid v.task id signed sig w e
-
-pub signature_is_answered : (start : Start) (h : List Step) (t : ℕ) (id signed sig : List ℕ) → Lawful start.room start.rows → Orderly (first_state start) h → needs (core_at (first_state start) h).state.work ≡ sign id signed
-    → IsSigned start.aaguid (core_at (first_state start) h).state.work id signed sig (core_answer (core_at (first_state start) h) t (SignatureIs (Some sig))) (heard h).asked
-unfolding turn
-signature_is_answered start h t id signed sig l o e =
-    let k = core_at (first_state start) h in let s = core_sound (first_state start) h (record { pending = tt; work = tt }) l in
-    rw s.setup (work_answers (first_state start).setup k.state t (heard h) k.state.work id signed sig (signs_at start h l o).work e)

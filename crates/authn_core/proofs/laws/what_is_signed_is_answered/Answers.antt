@@ -1,5 +1,16 @@
-use Rattle.authn_core.proofs.Signed.{turn_signs, need_is_signed, signature_is_answered}
+use Rattle.authn_core.specs.Marks.{core_at}
+use Rattle.authn_core.specs.Signed.{heard}
+use Rattle.authn_core.specs.Turn.{first_state, turn}
+use Rattle.authn_core.proofs.Readiness.{core_sound}
+use Rattle.authn_core.proofs.Signed.{turn_signs, signs_at, needed_is, work_answers}
 use Rattle.authn_core.proofs.laws.what_is_signed_is_answered.Goals as goal
 
 pub returns : goal.returns
-returns c = record { kept = turn_signs; signed = need_is_signed; answered = signature_is_answered }
+returns c = record {
+  kept = turn_signs;
+  signed = λ start h l o. let s = (core_at (first_state start) h).state in needed_is start.aaguid (heard h) s.rows s.work (signs_at start h l o).work;
+  answered = λ start h t id signed sig l o e.
+      let s = (core_at (first_state start) h).state in
+      unfold turn in rw (core_sound (first_state start) h (record { pending = tt; work = tt }) l).setup
+      (work_answers (first_state start).setup s t (heard h) s.work id signed sig (signs_at start h l o).work e);
+}
