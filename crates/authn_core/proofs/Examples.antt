@@ -116,7 +116,8 @@ unfolding turn
 excluded_first = refl
 
 -- a key whose id is there already, also that of the row that would be replaced
-known_id : (turn setup (at (WantsKey (making_of 0xaa))) 60 (KeyIs (Some (record { id = replicate 32 0xaa; x = []; y = [] })))).answer ≡ Answered (0x7f ∷ [])
+known_id : (turn setup (at (WantsKey (making_of 0xaa))) 60 (KeyIs (Some (record { id = replicate 32 0xaa; x = []; y = [] })))).answer
+    ≡ Answered (0x7f ∷ [])
 unfolding turn
 known_id = refl
 

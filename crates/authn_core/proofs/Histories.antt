@@ -1,7 +1,7 @@
 -- The rows and the texts to sign after a history. A turn changes the rows as its mark says, and marks one after another
 -- leave what the filters name. A text to sign that a turn adds is what is to be signed, and holds a greater counter than
 -- all before it by the same row.
-use Rattle.std.proofs.Common.{◌≡◌, ℕ, ◌+◌, ◌≤◌, List, [], ◌∷◌, ◌++◌, append-nil, length, flat_map, filter, Bool, true, false, cond, ◌&&◌, ◌||◌, not, Option, Some, None, option_to_list, is_some, Result, Ok, refl, sym, ◌∙◌, ap, subst, arith}
+use Rattle.std.proofs.Common.{◌≡◌, ℕ, ◌+◌, ◌≤◌, List, [], ◌∷◌, ◌++◌, length, flat_map, filter, true, false, cond, Option, Some, None, option_to_list, is_some, Result, Ok, refl, sym, ◌∙◌, ap, subst, arith}
 use Rattle.std.proofs.lemmas.Bool.Decides.{nat_tests}
 use Rattle.std.proofs.lemmas.Grind.{flat_map-append}
 use Rattle.std.proofs.lemmas.Slice.Eq.{bytes_eq-Decides}
@@ -16,7 +16,7 @@ use Rattle.ctap_message.specs.Requests.{read_of}
 use Rattle.sha2.specs.Sha256.{sha256}
 use Rattle.authn_core.specs.State.{Setup, SignsAssert, Job, State, Event, Request}
 use Rattle.authn_core.specs.Turn.{CoreState, core_after, requested, turn}
-use Rattle.authn_core.specs.Ready.{AllThere, Ready, PendingReady}
+use Rattle.authn_core.specs.Ready.{Ready, PendingReady}
 use Rattle.authn_core.specs.Marks.{Mark, mark, marked, made_replaces, is_raised, stays, left, rows_among, rows_of, Step, Comes, Orderly, Text, core_at, marks, makes_id, makings, raised_by, signs_by, text_of, texts, same_text, all_differ}
 use Rattle.authn_core.specs.Views.{needs, sign}
 use Rattle.authn_core.specs.Rising.{above_all, all_rise, IsTextOf, IsNewest}
@@ -143,10 +143,12 @@ pub record Bounded (h : List Mark) (rows : List Row) (t : Text) : Type 0 where
 bounded_more : (h : List Mark) (rows : List Row) (m : Mark) (t : Text) → Bounded h rows t → Bounded (m ∷ h) (marked m rows) t
 bounded_more h rows m t b = grind (arith, above_marked)
 
-new_above : (h : List Mark) (rows : List Row) (id : List ℕ) (ts : List Text) → is_some (find (has_id id) rows) ≡ true → AllByRecursion (Bounded h rows) ts
-    → above_all (record { id = id; making = makings id h; counter = counter_of id rows + 1 }) ts ≡ true
+new_above : (h : List Mark) (rows : List Row) (id : List ℕ) (ts : List Text) → is_some (find (has_id id) rows) ≡ true
+    → AllByRecursion (Bounded h rows) ts → above_all (record { id = id; making = makings id h; counter = counter_of id rows + 1 }) ts ≡ true
 new_above h rows id [] e b = refl
-new_above h rows id (t ∷ ts) e b = grind (arith, nat_tests, bytes_eq-Decides, found (λ r. has_id t.id r ≡ true → t.counter ≤ r.counter) (has_id id) rows, new_above h rows id ts e b.1)
+new_above h rows id (t ∷ ts) e b =
+    let counters = found (λ r. has_id t.id r ≡ true → t.counter ≤ r.counter) (has_id id) rows in
+    grind (arith, nat_tests, bytes_eq-Decides, counters, new_above h rows id ts e b.1)
 
 -- ---- what holds of the texts of every history
 
@@ -159,27 +161,30 @@ pub record Tells (work : Option Job) (h : List Mark) (s : State) (ts : List Text
 text_is : (h : List Mark) (rows : List Row) (s : State) (t : Text) → IsAdded h rows s t → IsTextOf t s
 text_is h rows s t a = record { signed = signed_of s.work; needed = a.needed; counter = grind (arith, same_bytes, find_raised) }
 
-tells_more : (work : Option Job) (h : List Mark) (s x : State) (m : Mark) (o : Option Text) (ts : List Text) → x.rows ≡ marked m s.rows → no_two same_id x.rows ≡ true → Adds h s x o → Tells work h s ts
-    → Tells work (m ∷ h) x (option_to_list o ++ ts)
+tells_more : (work : Option Job) (h : List Mark) (s x : State) (m : Mark) (o : Option Text) (ts : List Text)
+    → x.rows ≡ marked m s.rows → no_two same_id x.rows ≡ true → Adds h s x o → Tells work h s ts → Tells work (m ∷ h) x (option_to_list o ++ ts)
 tells_more work h s x m None ts e d a b = record {
   bounded = all_along _ _ ts (λ t q. rw e (bounded_more h s.rows m t q)) b.bounded;
   rise = b.rise;
   newest = λ n id w. let f = a id w in rw f (b.newest n id (rw f at w));
 }
 tells_more work h s x m (Some t) ts e d a b = record {
-  bounded = (record { earlier = grind arith; above = λ _. all_along _ _ x.rows (λ r f k. grind (arith, bytes_eq-Decides, same_bytes, find_raised)) (all_found x.rows d) }, all_along _ _ ts (λ t q. rw e (bounded_more h s.rows m t q)) b.bounded);
+  bounded =
+      let above = all_along _ _ x.rows (λ r f k. grind (arith, bytes_eq-Decides, same_bytes, find_raised)) (all_found x.rows d) in
+      (record { earlier = grind arith; above = λ _. above }, all_along _ _ ts (λ t q. rw e (bounded_more h s.rows m t q)) b.bounded);
   rise = grind (arith, new_above h s.rows t.id ts a.there b.bounded);
   newest = λ _ _ _. record { text = t; past = ts; first = refl; told = text_is h s.rows x t a };
 }
 
-pub history_tells : (start : CoreState) (h : List Step) → Ready start.setup.room start.state → Lawful start.setup.room start.state.rows → Orderly start h
-    → Tells start.state.work (marks start h) (core_at start h).state (texts start h)
+pub history_tells : (start : CoreState) (h : List Step) → Ready start.setup.room start.state → Lawful start.setup.room start.state.rows
+    → Orderly start h → Tells start.state.work (marks start h) (core_at start h).state (texts start h)
 unfolding core_at marks texts Orderly
 history_tells start [] r l o = record { bounded = tt; rise = refl; newest = λ n id w. grind arith }
 history_tells start (x ∷ past) r l o =
-    let k = core_at start past in let s = core_sound start past r l in
-    tells_more start.state.work (marks start past) k.state (core_after k x.at x.event).state _ _ (texts start past) (turn_marked k.setup k.state x.at x.event o.0) (core_sound start (x ∷ past) r l).lawful.distinct
-    (turn_adds (marks start past) k.setup k.state x.at x.event o.0 s.ready) (history_tells start past r l o.1)
+    let k = core_at start past in
+    tells_more start.state.work (marks start past) k.state (core_after k x.at x.event).state _ _ (texts start past)
+    (turn_marked k.setup k.state x.at x.event o.0) (core_sound start (x ∷ past) r l).lawful.distinct
+    (turn_adds (marks start past) k.setup k.state x.at x.event o.0 (core_sound start past r l).ready) (history_tells start past r l o.1)
 
 -- texts that rise differ
 none_same : (t : Text) (ts : List Text) → above_all t ts ≡ true → list_any (same_text t) ts ≡ false
@@ -190,12 +195,14 @@ pub rise_differ : (ts : List Text) → all_rise ts ≡ true → all_differ ts �
 rise_differ [] h = refl
 rise_differ (t ∷ ts) h = grind (arith, none_same, rise_differ ts)
 
-told : (h : List Mark) (before now : State) (o : Option Text) (ts : List Text) (t : Text) → Adds h before now o → option_to_list o ++ ts ≡ t ∷ ts → IsTextOf t now
+told : (h : List Mark) (before now : State) (o : Option Text) (ts : List Text) (t : Text) → Adds h before now o
+    → option_to_list o ++ ts ≡ t ∷ ts → IsTextOf t now
 told h before now None ts t a e = absurd (let n : length ts ≡ length (t ∷ ts) = ap length e in omega arith)
-told h before now (Some x) ts t a e = let f : x ≡ t = cc in let P : Text → Type 0 = λ v. IsTextOf v now in subst P f (text_is h before.rows now x a)
+told h before now (Some x) ts t a e = subst (λ v. IsTextOf v now) (cc) (text_is h before.rows now x a)
 
-pub text_is_told : (start : CoreState) (h : List Step) (x : Step) (t : Text) → Ready start.setup.room start.state → Lawful start.setup.room start.state.rows → Orderly start (x ∷ h)
-    → texts start (x ∷ h) ≡ t ∷ texts start h → IsTextOf t (core_at start (x ∷ h)).state
+pub text_is_told : (start : CoreState) (h : List Step) (x : Step) (t : Text) → Ready start.setup.room start.state
+    → Lawful start.setup.room start.state.rows → Orderly start (x ∷ h) → texts start (x ∷ h) ≡ t ∷ texts start h
+    → IsTextOf t (core_at start (x ∷ h)).state
 unfolding core_at texts Orderly
 text_is_told start h x t r l o e =
     let k = core_at start h in

@@ -1,5 +1,5 @@
 -- Turns keep a state ready and its rows lawful, and no more is pending than there is room for.
-use Rattle.std.proofs.Common.{◌≡◌, ℕ, ◌+◌, ◌≤◌, ◌<◌, ◌⊎◌, List, [], ◌∷◌, ◌++◌, length, Bool, true, false, cond, Option, Some, None, IfSome, option_map, is_some, Result, Ok, ◌∙◌, refl, arith}
+use Rattle.std.proofs.Common.{◌≡◌, ℕ, ◌+◌, ◌≤◌, List, [], ◌∷◌, ◌++◌, length, Bool, true, false, cond, Option, Some, None, IfSome, option_map, is_some, Result, Ok, refl, arith}
 use Rattle.std.proofs.lemmas.Bool.Decides.{nat_tests}
 use Rattle.std.proofs.lemmas.Grind.{common_steps}
 use Rattle.std.proofs.lemmas.List.{map-append, length-map, length-reverse}
@@ -12,7 +12,7 @@ use Rattle.cred_table.specs.Waiting.{Waiting, pending_count}
 use Rattle.cred_table.proofs.Basics.{same_bytes}
 use Rattle.cred_table.proofs.Stored.{Lawful-stored, length-filter, one_replaced}
 use Rattle.cred_table.proofs.Raised.{Lawful-raised}
-use Rattle.ctap_message.specs.Asked.{Asked, GetAssertion, GetNextAssertion}
+use Rattle.ctap_message.specs.Asked.{Asked, GetAssertion}
 use Rattle.ctap_message.specs.Members.{has_entries}
 use Rattle.ctap_message.specs.Descriptors.{ids_of}
 use Rattle.ctap_message.specs.Requests.{read_of}
@@ -20,10 +20,9 @@ use Rattle.authn_core.specs.declared.replies.NewKey.{NewKey}
 use Rattle.sha2.specs.Sha256.{sha256}
 use Rattle.authn_core.specs.State.{Setup, Making, State, Event, Request}
 use Rattle.authn_core.specs.MakeCredential.{fits, new_row}
-use Rattle.authn_core.specs.GetAssertion.{applicable, begins, next_begins}
+use Rattle.authn_core.specs.GetAssertion.{applicable}
 use Rattle.authn_core.specs.Turn.{CoreState, requested, turn}
 use Rattle.authn_core.specs.Marks.{Step, core_at}
-use Rattle.authn_core.specs.Signed.{rp_of}
 use Rattle.authn_core.specs.Ready.{AllThere, Ready, PendingReady, WorkReady}
 
 -- ---- rows
@@ -41,16 +40,18 @@ all_joined : (P : List ℕ → Type 0) (a b : List (List ℕ)) → AllByRecursio
 all_joined P [] b p q = q
 all_joined P (id ∷ a) b p q = (p.0, all_joined P a b p.1 q)
 
-listed_all : (P : List ℕ → Type 0) (rp : List ℕ) (rows : List Row) → AllByRecursion (λ r. bytes_eq r.rp rp ≡ true → P r.id) rows → AllByRecursion P (ids (listed rp rows))
+listed_all : (P : List ℕ → Type 0) (rp : List ℕ) (rows : List Row) → AllByRecursion (λ r. bytes_eq r.rp rp ≡ true → P r.id) rows
+    → AllByRecursion P (ids (listed rp rows))
 listed_all P rp [] h = tt
 listed_all P rp (r ∷ rows) h = grind (arith, common_steps, map-append, all_joined P, listed_all P rp rows)
 
 -- What holds of each row of the RP holds of those that may sign.
-pub applicable_all : (P : List ℕ → Type 0) (rows : List Row) (rp : List ℕ) (given : Bool) (allow : List (List ℕ)) → AllByRecursion (λ r. bytes_eq r.rp rp ≡ true → P r.id) rows
-    → AllByRecursion P (ids (applicable rows rp given allow))
+pub applicable_all : (P : List ℕ → Type 0) (rows : List Row) (rp : List ℕ) (given : Bool) (allow : List (List ℕ))
+    → AllByRecursion (λ r. bytes_eq r.rp rp ≡ true → P r.id) rows → AllByRecursion P (ids (applicable rows rp given allow))
 applicable_all P rows rp false l h = listed_all P rp rows h
 applicable_all P rows rp true [] h = tt
-applicable_all P rows rp true (id ∷ l) h = grind (arith, applicable_all P rows rp true l h, found (λ r. bytes_eq r.rp rp ≡ true → P r.id) (is_named rp id) rows)
+applicable_all P rows rp true (id ∷ l) h =
+    grind (arith, applicable_all P rows rp true l h, found (λ r. bytes_eq r.rp rp ≡ true → P r.id) (is_named rp id) rows)
 
 all_there : (rows : List Row) → AllByRecursion (λ r. is_some (find (has_id r.id) rows) ≡ true) rows
 all_there [] = tt
@@ -84,27 +85,30 @@ pending_raised id rows (Some w) h = all_along _ _ w.ids (λ q e. grind (arith, f
 -- ---- turns keep rows lawful
 
 -- What holds of the rows after each change of them holds after a turn.
-rows_case : (P : List Row → Type 0) (u : Setup) (s : State) (t : ℕ) (e : Event) → WorkReady u.room s.rows s.work → P s.rows → P [] → ((id : List ℕ) → P (raised id s.rows))
-    → ((m : Making) (key : NewKey) → (fits u.room m s.rows ≡ true) × (is_some (find (has_id key.id) s.rows) ≡ false) → P (stored (new_row m key) s.rows)) → P (turn u s t e).state.rows
+rows_case : (P : List Row → Type 0) (u : Setup) (s : State) (t : ℕ) (e : Event) → WorkReady u.room s.rows s.work → P s.rows → P []
+    → ((id : List ℕ) → P (raised id s.rows)) → ((m : Making) (key : NewKey) → (fits u.room m s.rows ≡ true)
+    × (is_some (find (has_id key.id) s.rows) ≡ false) → P (stored (new_row m key) s.rows)) → P (turn u s t e).state.rows
 unfolding turn
 rows_case P u s t e w h none raise make = grind arith
 
 turn_lawful : (u : Setup) (s : State) (t : ℕ) (e : Event) → Ready u.room s → Lawful u.room s.rows → Lawful u.room (turn u s t e).state.rows
 turn_lawful u s t e r h =
-    rows_case (Lawful u.room) u s t e r.work h (record { distinct = refl; one_each = refl; few = omega arith }) (λ id. Lawful-raised u.room id s.rows h)
+    rows_case (Lawful u.room) u s t e r.work h (record { distinct = refl; one_each = refl; few = omega arith }) (λ id. Lawful-raised u.room id _ h)
     (λ m key f. Lawful-stored u.room (new_row m key) s.rows h (grind arith) (grind (arith, nat_tests, one_replaced)))
 
 requested_keeps : (u : Setup) (rows : List Row) (p : Option Waiting) (t cid : ℕ) (read : Result Asked ℕ) → PendingReady rows p
-    → let x = (requested u rows p t cid read).state in Ready u.room x × (length rows ≤ u.room → pending_count p ≤ u.room → pending_count x.pending ≤ u.room)
+    → let x = (requested u rows p t cid read).state in
+    Ready u.room x × (length rows ≤ u.room → pending_count p ≤ u.room → pending_count x.pending ≤ u.room)
 requested_keeps u rows p t cid (Ok (GetAssertion hash rp_id allow up)) h =
     let all = applicable_there rows (sha256 rp_id) (has_entries allow) (ids_of allow) in
     let few : length rows ≤ u.room → length (ids (applicable rows (sha256 rp_id) (has_entries allow) (ids_of allow))) ≤ u.room + 1
-        = λ l. grind (arith, length-map, length-reverse, length-filter) in
+    = λ l. grind (arith, length-map, length-reverse, length-filter) in
     (grind (arith, nat_tests, find_raised, pending_raised, all), λ l _. grind (arith, few l))
 requested_keeps u rows p t cid read h = (grind (arith, nat_tests, find_raised, pending_raised), λ l f. grind arith)
 
 pub turn_keeps : (u : Setup) (s : State) (t : ℕ) (e : Event) → Ready u.room s
-    → let x = (turn u s t e).state in Ready u.room x × (Lawful u.room s.rows → Lawful u.room x.rows × (pending_count s.pending ≤ u.room → pending_count x.pending ≤ u.room))
+    → let x = (turn u s t e).state in Ready u.room x
+    × (Lawful u.room s.rows → Lawful u.room x.rows × (pending_count s.pending ≤ u.room → pending_count x.pending ≤ u.room))
 unfolding turn
 turn_keeps u s t (Request cid bytes) h =
     let r = requested_keeps u s.rows s.pending t cid (read_of bytes) h.pending in
@@ -120,9 +124,12 @@ pub record Sound (start k : CoreState) : Type 0 where
   pub lawful : Lawful k.setup.room k.state.rows
   pub few : pending_count start.state.pending ≤ start.setup.room → pending_count k.state.pending ≤ k.setup.room
 
-pub core_sound : (start : CoreState) (h : List Step) → Ready start.setup.room start.state → Lawful start.setup.room start.state.rows → Sound start (core_at start h)
+pub core_sound : (start : CoreState) (h : List Step) → Ready start.setup.room start.state → Lawful start.setup.room start.state.rows
+    → Sound start (core_at start h)
 unfolding core_at
 core_sound start [] r l = record { setup = refl; ready = r; lawful = l; few = λ f. f }
 core_sound start (x ∷ past) r l =
-    let k = core_at start past in let s = core_sound start past r l in let n = turn_keeps k.setup k.state x.at x.event s.ready in
+    let k = core_at start past in
+    let s = core_sound start past r l in
+    let n = turn_keeps k.setup k.state x.at x.event s.ready in
     record { setup = s.setup; ready = n.0; lawful = (n.1 s.lawful).0; few = λ f. (n.1 s.lawful).1 (s.few f) }

@@ -1,14 +1,13 @@
 -- Every turn keeps what is to be signed that of the newest request, and a signature is answered with what was signed.
-use Rattle.std.proofs.Common.{◌≡◌, ℕ, ◌+◌, List, [], ◌∷◌, ◌++◌, Bool, true, false, Option, Some, None, option_map, is_some, Result, Ok, refl, ◌∙◌, ap, inr, arith}
+use Rattle.std.proofs.Common.{◌≡◌, ℕ, List, [], ◌∷◌, Bool, true, Option, Some, None, Result, Ok, refl, arith}
 use Rattle.std.proofs.lemmas.Slice.Eq.{bytes_eq-Decides}
-use Rattle.std.specs.List.{AllByRecursion, find, list_any}
-use Rattle.std.specs.Str.{bytes_eq}
+use Rattle.std.specs.List.{find}
 use Rattle.cred_table.proofs.Basics.{same_bytes}
 use Rattle.cred_table.specs.declared.row.Row.{Row}
-use Rattle.cred_table.specs.Rows.{Lawful, has_id, same_id, no_two, ids, raised, counter_of}
+use Rattle.cred_table.specs.Rows.{Lawful, has_id, same_id, no_two, raised}
 use Rattle.cred_table.specs.Waiting.{Waiting}
 use Rattle.fido_authdata.specs.AuthData.{assertion_bytes}
-use Rattle.ctap_message.specs.Asked.{Asked, MakeCredential, GetAssertion, GetNextAssertion}
+use Rattle.ctap_message.specs.Asked.{Asked, MakeCredential, GetAssertion}
 use Rattle.ctap_message.specs.Members.{has_entries}
 use Rattle.ctap_message.specs.Descriptors.{ids_of}
 use Rattle.ctap_message.specs.Requests.{read_of}
@@ -16,11 +15,11 @@ use Rattle.authn_core.specs.declared.replies.NewKey.{NewKey}
 use Rattle.sha2.specs.Sha256.{sha256}
 use Rattle.authn_core.specs.State.{Setup, Task, SignsMake, SignsAssert, Job, State, Event, Request, SignatureIs}
 use Rattle.authn_core.specs.MakeCredential.{new_row}
-use Rattle.authn_core.specs.GetAssertion.{applicable, begins, user_in}
-use Rattle.authn_core.specs.Turn.{Start, core_answer, first_state, requested, replied, reply_turn, turn}
+use Rattle.authn_core.specs.GetAssertion.{begins, user_in}
+use Rattle.authn_core.specs.Turn.{Start, first_state, requested, replied, reply_turn, turn}
 use Rattle.authn_core.specs.Views.{needs, sign}
 use Rattle.authn_core.specs.Marks.{Step, Comes, Orderly, core_at}
-use Rattle.authn_core.specs.Signed.{Heard, newer, hears, heard, IsAmong, rp_of, IsNeeded, IsSigned, assertion_asked, TaskSigns, WorkSigns, AllOf, PendingFor, IsGranted, Signs}
+use Rattle.authn_core.specs.Signed.{Heard, newer, hears, heard, rp_of, IsNeeded, IsSigned, assertion_asked, TaskSigns, WorkSigns, AllOf, PendingFor, IsGranted, Signs}
 use Rattle.authn_core.proofs.Readiness.{all_along, applicable_all, all_found, core_sound, find_raised}
 
 -- ---- turns
@@ -40,7 +39,7 @@ requested_signs : (u : Setup) (h : Heard) (rows : List Row) (p : Option Waiting)
 requested_signs u h rows p t cid (Ok (GetAssertion hash rp_id allow up)) d f k =
     let rp = sha256 rp_id in
     let all = applicable_all (λ id. rp_of id rows ≡ Some rp) rows rp (has_entries allow) (ids_of allow)
-        (all_along _ _ rows (λ r f e. grind (arith, bytes_eq-Decides)) (all_found rows d)) in
+    (all_along _ _ rows (λ r f e. grind (arith, bytes_eq-Decides)) (all_found rows d)) in
     begins_signs u.aaguid _ rows t cid hash rp up _ _ refl all
 requested_signs u h rows p t cid read d f k = grind (arith, find_raised, same_bytes, pending_raised)
 
@@ -52,19 +51,22 @@ turn_signs u s t e h c l g = grind (arith, find_raised, same_bytes, pending_rais
 
 -- ---- histories
 
-pub signs_at : (start : Start) (h : List Step) → Lawful start.room start.rows → Orderly (first_state start) h → Signs start.aaguid (heard h) (core_at (first_state start) h).state
+pub signs_at : (start : Start) (h : List Step) → Lawful start.room start.rows → Orderly (first_state start) h
+    → Signs start.aaguid (heard h) (core_at (first_state start) h).state
 unfolding core_at heard Orderly
 signs_at start [] l o = record { pending = tt; granted = tt; work = tt }
 signs_at start (x ∷ past) l o =
-    let k = core_at (first_state start) past in let s = core_sound (first_state start) past (record { pending = tt; work = tt }) l in
+    let k = core_at (first_state start) past in
+    let s = core_sound (first_state start) past (record { pending = tt; work = tt }) l in
     rw s.setup (turn_signs (first_state start).setup k.state x.at x.event (heard past) o.0 (rw s.setup at s.lawful) (signs_at start past l o.1))
 
-pub needed_is : (aaguid : List ℕ) (h : Heard) (rows : List Row) (work : Option Job) → WorkSigns aaguid h rows work → IsNeeded aaguid h rows (needs work)
-needed_is aaguid h rows work w = grind arith
+pub needed_is : (aaguid : List ℕ) (h : Heard) (rows : List Row) (v : Option Job) → WorkSigns aaguid h rows v → IsNeeded aaguid h rows (needs v)
+needed_is aaguid h rows v w = grind arith
 
 -- A signature is answered with what was to be signed, by what was asked and what waits.
-task_answers : (u : Setup) (s : State) (t : ℕ) (asked : Option Asked) (granted : Bool) (keys : List NewKey) (cid : ℕ) (k : Task) (id signed sig : List ℕ)
-    → TaskSigns u.aaguid (record { asked = asked; granted = granted; keys = keys }) s.rows k → needs (Some (record { cid = cid; task = k })) ≡ sign id signed
+task_answers : (u : Setup) (s : State) (t : ℕ) (asked : Option Asked) (granted : Bool) (keys : List NewKey) (cid : ℕ) (k : Task)
+    (id signed sig : List ℕ) → TaskSigns u.aaguid (record { asked = asked; granted = granted; keys = keys }) s.rows k
+    → needs (Some (record { cid = cid; task = k })) ≡ sign id signed
     → IsSigned u.aaguid (Some (record { cid = cid; task = k })) id signed sig (replied u s t cid k (SignatureIs (Some sig))).answer asked
 task_answers u s t (Some (GetAssertion hash rp_id allow up)) granted keys cid (SignsAssert a n d) id signed sig w e =
     (assertion_bytes a.rp a.presence n, user_in (find (has_id a.id) s.rows), a.number, grind arith, grind arith)
@@ -72,7 +74,7 @@ task_answers u s t (Some (MakeCredential hash rp_id user_id user_name discoverab
     (new_row m key, refl, grind arith, refl, grind arith)
 task_answers u s t asked granted keys cid k id signed sig w e = grind arith
 
-pub work_answers : (u : Setup) (s : State) (t : ℕ) (h : Heard) (v : Option Job) (id signed sig : List ℕ) → WorkSigns u.aaguid h s.rows v → needs v ≡ sign id signed
-    → IsSigned u.aaguid v id signed sig (reply_turn u s t v (SignatureIs (Some sig))).answer h.asked
+pub work_answers : (u : Setup) (s : State) (t : ℕ) (h : Heard) (v : Option Job) (id signed sig : List ℕ) → WorkSigns u.aaguid h s.rows v
+    → needs v ≡ sign id signed → IsSigned u.aaguid v id signed sig (reply_turn u s t v (SignatureIs (Some sig))).answer h.asked
 work_answers u s t h None id signed sig w e = cc
 work_answers u s t h (Some v) id signed sig w e = task_answers u s t h.asked h.granted h.keys v.cid v.task id signed sig w e
