@@ -9,13 +9,13 @@ use Rattle.authn_core.specs.State.{Setup, Making, Asserting, Task, Resets, Selec
 use Rattle.authn_core.specs.GetAssertion.{applicable, begins, told}
 use Rattle.authn_core.specs.Turn.{turn}
 
-abbrev setup : Setup
+abbrev pub setup : Setup
 setup = record { aaguid = replicate 16 0; began = 0; room = 2 }
 
-abbrev row : (id : ℕ) → (counter : ℕ) → Row
+abbrev pub row : (id : ℕ) → (counter : ℕ) → Row
 row id counter = record { rp = replicate 32 7; id = replicate 32 id; x = []; y = []; user = record { items = id ∷ [] }; discoverable = true; counter = counter; name = [] }
 
-abbrev waiting : List (List ℕ) → Option Waiting
+abbrev pub waiting : List (List ℕ) → Option Waiting
 waiting ids = Some (record { cid = 1; hash = replicate 32 34; presence = true; moment = 1000; ids = ids })
 
 abbrev idle : State

@@ -52,17 +52,15 @@ turn_marked u s t e c = grind (arith, mark_keeps, mark_resets, mark_raises, mark
 -- ---- what marks leave
 
 -- What is asked of a row doesn't depend on its counter.
-replaced_same : (n : ℕ) (r : Row) (ms : List Mark) → list_any (λ m. made_replaces m.made (record r { counter = n })) ms ≡ list_any (λ m. made_replaces m.made r) ms
-replaced_same n r [] = refl
-replaced_same n r (m ∷ ms) = grind (arith, replaced_same n r ms)
+replaced_same : (n : ℕ) (r : Row) (o : Option Row) → made_replaces o (record r { counter = n }) ≡ made_replaces o r
+replaced_same n r o = grind arith
 
-raises_same : (n : ℕ) (r : Row) (ms : List Mark) → filter (λ m. is_raised m.raises (record r { counter = n })) ms ≡ filter (λ m. is_raised m.raises r) ms
-raises_same n r [] = refl
-raises_same n r (m ∷ ms) = grind (arith, raises_same n r ms)
+raised_same : (n : ℕ) (r : Row) (o : Option (List ℕ)) → is_raised o (record r { counter = n }) ≡ is_raised o r
+raised_same n r o = grind arith
 
 left_counted : (n : ℕ) (r : Row) (ms : List Mark) → left ms (record r { counter = n })
     ≡ cond (stays ms r) ((record r { counter = n + length (filter (λ m. is_raised m.raises r) ms) }) ∷ []) []
-left_counted n r ms = rw (replaced_same n r ms, raises_same n r ms) refl
+left_counted n r ms = simp (replaced_same n r, raised_same n r)
 
 -- the marks of one step and then later ones
 one_left : (m : Mark) (later : List Mark) (r : Row) → left (m ∷ later) r ≡ flat_map (left later) (left (m ∷ []) r)
@@ -73,14 +71,14 @@ all_left m later [] = refl
 all_left m later (r ∷ rows) = grind (arith, one_left, flat_map-append, all_left m later rows)
 
 -- no later marks leave all
-none_later : (rows : List Row) → flat_map (left []) rows ≡ rows
+pub none_later : (rows : List Row) → flat_map (left []) rows ≡ rows
 none_later [] = refl
 none_later (r ∷ rows) = grind (arith, none_later rows)
 
 -- ---- the rows after a history
 
 -- the rows after a history, with later marks, are those that the filters name
-rows_left : (start : CoreState) (h : List Step) (later : List Mark) → Orderly start h
+pub rows_left : (start : CoreState) (h : List Step) (later : List Mark) → Orderly start h
     → flat_map (left later) (core_at start h).state.rows ≡ rows_among start.state.rows later (marks start h)
 unfolding core_at marks Orderly rows_among
 rows_left start [] later o = refl
@@ -89,9 +87,6 @@ rows_left start (x ∷ past) later o =
     let e = turn_marked k.setup k.state x.at x.event o.0 in
     let m = mark k.state.work x.event (core_after k x.at x.event).state.work in
     rw e (grind (arith, flat_map-append, all_left, rows_left start past (m ∷ later) o.1))
-
-pub rows_filtered : (start : CoreState) (h : List Step) → Orderly start h → (core_at start h).state.rows ≡ rows_of start.state.rows (marks start h)
-rows_filtered start h o = sym (none_later _) ∙ rows_left start h [] o
 
 -- ---- what text a turn adds
 
@@ -118,7 +113,7 @@ requested_adds h u s t cid (Ok (GetAssertion hash rp_id allow up)) p =
     grind (arith, applicable_there s.rows (sha256 rp_id) (has_entries allow) (ids_of allow))
 requested_adds h u s t cid read p = grind arith
 
-turn_adds : (h : List Mark) (u : Setup) (s : State) (t : ℕ) (e : Event) → Comes s.work e → Ready u.room s
+pub turn_adds : (h : List Mark) (u : Setup) (s : State) (t : ℕ) (e : Event) → Comes s.work e → Ready u.room s
     → let x = (turn u s t e).state in Adds h s x (text_of h (raised_by s.work x.work) x.work)
 unfolding turn
 turn_adds h u s t (Request cid bytes) c r = rw c (requested_adds h u s t cid (read_of bytes) r.pending)
@@ -195,15 +190,7 @@ pub rise_differ : (ts : List Text) → all_rise ts ≡ true → all_differ ts �
 rise_differ [] h = refl
 rise_differ (t ∷ ts) h = grind (arith, none_same, rise_differ ts)
 
-told : (h : List Mark) (before now : State) (o : Option Text) (ts : List Text) (t : Text) → Adds h before now o
+pub told : (h : List Mark) (before now : State) (o : Option Text) (ts : List Text) (t : Text) → Adds h before now o
     → option_to_list o ++ ts ≡ t ∷ ts → IsTextOf t now
 told h before now None ts t a e = absurd (let n : length ts ≡ length (t ∷ ts) = ap length e in omega arith)
 told h before now (Some x) ts t a e = subst (λ v. IsTextOf v now) (cc) (text_is h before.rows now x a)
-
-pub text_is_told : (start : CoreState) (h : List Step) (x : Step) (t : Text) → Ready start.setup.room start.state
-    → Lawful start.setup.room start.state.rows → Orderly start (x ∷ h) → texts start (x ∷ h) ≡ t ∷ texts start h
-    → IsTextOf t (core_at start (x ∷ h)).state
-unfolding core_at texts Orderly
-text_is_told start h x t r l o e =
-    let k = core_at start h in
-    told (marks start h) k.state _ _ (texts start h) t (turn_adds (marks start h) k.setup k.state x.at x.event o.0 (core_sound start h r l).ready) e

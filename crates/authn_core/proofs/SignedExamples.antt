@@ -10,34 +10,23 @@ use Rattle.authn_core.specs.Signed.{heard}
 use Rattle.authn_core.specs.State.{Setup, State, Event, Request, SignatureIs, Cancel, Answered}
 use Rattle.authn_core.specs.Turn.{turn}
 use Rattle.authn_core.specs.Views.{needs, sign}
+use Rattle.authn_core.proofs.Examples.{setup, row, waiting}
 
 -- The newest request is heard through a getNextAssertion, and what can't be read asks nothing.
 abbrev came : Event → Step
 came e = record { at = 0; event = e }
 
-abbrev selects : Step
-selects = came (Request 1 (0x0b ∷ []))
-
-abbrev next : Step
-next = came (Request 1 (0x08 ∷ []))
-
-goes_on : (heard (next ∷ came Cancel ∷ selects ∷ [])).asked ≡ Some Selection
+goes_on : (heard (came (Request 1 (0x08 ∷ [])) ∷ came Cancel ∷ came (Request 1 (0x0b ∷ [])) ∷ [])).asked ≡ Some Selection
 unfolding heard read_of
 goes_on = refl
 
-unread : (heard (next ∷ came (Request 1 (0x0b ∷ 0x00 ∷ [])) ∷ selects ∷ [])).asked ≡ None
+unread : (heard (came (Request 1 (0x08 ∷ [])) ∷ came (Request 1 (0x0b ∷ 0x00 ∷ [])) ∷ came (Request 1 (0x0b ∷ [])) ∷ [])).asked ≡ None
 unfolding heard read_of
 unread = refl
 
 -- the next assertion of a request with presence, by a row with the counter 4
-abbrev setup : Setup
-setup = record { aaguid = replicate 16 0; began = 0; room = 2 }
-
-abbrev row : Row
-row = record { rp = replicate 32 7; id = replicate 32 0xaa; x = []; y = []; user = record { items = 1 ∷ [] }; discoverable = true; counter = 4; name = [] }
-
 abbrev pending : State
-pending = record { rows = row ∷ []; pending = Some (record { cid = 1; hash = replicate 32 34; presence = true; moment = 1000; ids = replicate 32 0xaa ∷ [] }); work = None }
+pending = record { rows = (record (row 0xaa 4) { user = record { items = 1 ∷ [] } }) ∷ []; pending = waiting (replicate 32 0xaa ∷ []); work = None }
 
 -- the hash of the RP id, the flag UP, the counter 5 in four bytes
 abbrev data_signed : List ℕ
