@@ -1,13 +1,13 @@
 -- Turns keep a state ready and its rows lawful, and no more is pending than there is room for.
-use Rattle.std.proofs.Common.{◌≡◌, ℕ, ◌+◌, ◌≤◌, List, [], ◌∷◌, ◌++◌, length, Bool, true, false, cond, Option, Some, None, IfSome, option_map, is_some, Result, Ok, refl, arith}
+use Rattle.std.proofs.Common.{◌≡◌, ℕ, ◌+◌, ◌≤◌, List, [], ◌∷◌, ◌++◌, append-nil, append_assoc, length, filter, reverse, Bool, true, false, cond, Option, Some, None, IfSome, option_map, is_some, Result, Ok, refl, arith}
 use Rattle.std.proofs.lemmas.Bool.Decides.{nat_tests}
 use Rattle.std.proofs.lemmas.Grind.{common_steps}
-use Rattle.std.proofs.lemmas.List.{map-append, length-map, length-reverse}
+use Rattle.std.proofs.lemmas.List.{length-map, length-reverse}
 use Rattle.std.proofs.lemmas.Slice.Eq.{bytes_eq-Decides}
 use Rattle.std.specs.List.{AllByRecursion, find, list_any}
 use Rattle.std.specs.Str.{bytes_eq}
 use Rattle.cred_table.specs.declared.row.Row.{Row}
-use Rattle.cred_table.specs.Rows.{Lawful, has_id, is_named, same_id, no_two, raised, stored, listed, ids}
+use Rattle.cred_table.specs.Rows.{Lawful, has_id, is_named, same_id, no_two, raised, stored, is_listed, ids}
 use Rattle.cred_table.specs.Waiting.{Waiting, pending_count}
 use Rattle.cred_table.proofs.Basics.{same_bytes}
 use Rattle.cred_table.proofs.Stored.{Lawful-stored, length-filter, one_replaced}
@@ -36,19 +36,15 @@ pub all_along : {X : Type 0} (P Q : X → Type 0) (l : List X) → ((x : X) → 
 all_along P Q [] f h = tt
 all_along P Q (x ∷ l) f h = (f x h.0, all_along P Q l f h.1)
 
-all_joined : (P : List ℕ → Type 0) (a b : List (List ℕ)) → AllByRecursion P a → AllByRecursion P b → AllByRecursion P (a ++ b)
-all_joined P [] b p q = q
-all_joined P (id ∷ a) b p q = (p.0, all_joined P a b p.1 q)
-
-listed_all : (P : List ℕ → Type 0) (rp : List ℕ) (rows : List Row) → AllByRecursion (λ r. bytes_eq r.rp rp ≡ true → P r.id) rows
-    → AllByRecursion P (ids (listed rp rows))
-listed_all P rp [] h = tt
-listed_all P rp (r ∷ rows) h = grind (arith, common_steps, map-append, all_joined P, listed_all P rp rows)
+listed_all : (P : List ℕ → Type 0) (rp : List ℕ) (rows past : List Row) → AllByRecursion (λ r. bytes_eq r.rp rp ≡ true → P r.id) rows
+    → AllByRecursion P (ids past) → AllByRecursion P (ids (reverse (filter (is_listed rp) rows) ++ past))
+listed_all P rp [] past h a = a
+listed_all P rp (r ∷ rows) past h a = grind (arith, common_steps, append_assoc, listed_all P rp rows past h.1, listed_all P rp rows (r ∷ past) h.1)
 
 -- What holds of each row of the RP holds of those that may sign.
 pub applicable_all : (P : List ℕ → Type 0) (rows : List Row) (rp : List ℕ) (given : Bool) (allow : List (List ℕ))
     → AllByRecursion (λ r. bytes_eq r.rp rp ≡ true → P r.id) rows → AllByRecursion P (ids (applicable rows rp given allow))
-applicable_all P rows rp false l h = listed_all P rp rows h
+applicable_all P rows rp false l h = rw append-nil at (listed_all P rp rows [] h tt)
 applicable_all P rows rp true [] h = tt
 applicable_all P rows rp true (id ∷ l) h =
     grind (arith, applicable_all P rows rp true l h, found (λ r. bytes_eq r.rp rp ≡ true → P r.id) (is_named rp id) rows)
@@ -76,13 +72,11 @@ pub find_raised : (q id : List ℕ) (rows : List Row)
 find_raised q id [] = refl
 find_raised q id (r ∷ rows) = grind (arith, bytes_eq-Decides, find_raised q id rows)
 
--- ---- turns keep a state ready
+-- ---- turns
 
 pub pending_raised : (id : List ℕ) (rows : List Row) (p : Option Waiting) → PendingReady rows p → PendingReady (raised id rows) p
 pending_raised id rows None h = tt
 pending_raised id rows (Some w) h = all_along _ _ w.ids (λ q e. grind (arith, find_raised)) h
-
--- ---- turns keep rows lawful
 
 -- What holds of the rows after each change of them holds after a turn.
 rows_case : (P : List Row → Type 0) (u : Setup) (s : State) (t : ℕ) (e : Event) → WorkReady u.room s.rows s.work → P s.rows → P []
