@@ -60,9 +60,6 @@ signs_at start (x ∷ past) l o =
     let s = core_sound (first_state start) past (record { pending = tt; work = tt }) l in
     rw s.setup (turn_signs (first_state start).setup k.state x.at x.event (heard past) o.0 (rw s.setup at s.lawful) (signs_at start past l o.1))
 
-pub needed_is : (aaguid : List ℕ) (h : Heard) (rows : List Row) (v : Option Job) → WorkSigns aaguid h rows v → IsNeeded aaguid h rows (needs v)
-needed_is aaguid h rows v w = grind arith
-
 -- A signature is answered with what was to be signed, by what was asked and what waits.
 task_answers : (u : Setup) (s : State) (t : ℕ) (asked : Option Asked) (granted : Bool) (keys : List NewKey) (cid : ℕ) (k : Task)
     (id signed sig : List ℕ) → TaskSigns u.aaguid (record { asked = asked; granted = granted; keys = keys }) s.rows k

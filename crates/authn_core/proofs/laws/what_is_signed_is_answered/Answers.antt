@@ -1,14 +1,15 @@
+use Rattle.std.proofs.Common.{arith}
 use Rattle.authn_core.specs.Marks.{core_at}
 use Rattle.authn_core.specs.Signed.{heard}
 use Rattle.authn_core.specs.Turn.{first_state, turn}
 use Rattle.authn_core.proofs.Readiness.{core_sound}
-use Rattle.authn_core.proofs.Signed.{turn_signs, signs_at, needed_is, work_answers}
+use Rattle.authn_core.proofs.Signed.{turn_signs, signs_at, work_answers}
 use Rattle.authn_core.proofs.laws.what_is_signed_is_answered.Goals as goal
 
 pub returns : goal.returns
 returns c = record {
   kept = turn_signs;
-  signed = λ start h l o. let s = (core_at (first_state start) h).state in needed_is start.aaguid (heard h) s.rows s.work (signs_at start h l o).work;
+  signed = λ start h l o. grind (arith, (signs_at start h l o).work);
   answered = λ start h t id signed sig l o e.
       let s = (core_at (first_state start) h).state in
       unfold turn in rw (core_sound (first_state start) h (record { pending = tt; work = tt }) l).setup
