@@ -12,6 +12,9 @@ use Rattle.hid_assemble.specs.declared.table.Row.{Row}
 use Rattle.hid_assemble.specs.declared.table.Row.TheVariants.{BadLength, BrokenOff, BusyElsewhere, BusyHere, CancelsNothing, CancelsWork, InitAgain, InitFull, InitLength, InitNew, Long, NoSuchChannel, NoSuchCommand, Short}
 use Rattle.hid_assemble.specs.Assembly.{Message, begun, bytes_of, given_after, grown, message_after, open_after}
 use Rattle.hid_assemble.specs.Verdicts.{ruling_verdict}
+use Rattle.hid_packet.specs.Commands.{BROADCAST, CANCEL, CBOR, INIT, PING}
+use Rattle.hid_packet.specs.Limits.{data_room}
+use Rattle.hid_packet.specs.declared.limit.TheConstants.{INITIALIZATION_DATA, LONGEST_MESSAGE}
 use Rattle.hid_packet.specs.Packet.{Fields, channel, channel_of, command, continuation, continuation_data, fields, initialization, initialization_data, is_initialization, message_length, sequence}
 use Rattle.hid_packet.specs.declared.packet.Packet.{Packet as Packet64}
 use Rattle.token_session.specs.Inputs.{Judged, asks_channel, is_own, is_packet, packet}
@@ -51,6 +54,8 @@ row_sends g c w p cmd len r = grind (arith, append-nil)
 
 -- ---- a start, by the tests of the table's rows
 
+-- What the rows test of an initialization packet: its channel (`on` which work waits, `known`, `here` a message is open,
+-- `apart` from that one or from work), its command, and its length.
 pub record Tests : Type 0 where
   pub cancel : Bool
   pub on : Bool
@@ -69,19 +74,19 @@ pub record Tests : Type 0 where
 -- the tests of a packet, by the channels of the open message and of waiting work
 abbrev tests : ℕ → (current work : Option ℕ) → List ℕ → Tests
 tests g current work p = record {
-  cancel = command p == 17;
+  cancel = command p == CANCEL;
   on = is_on work (channel p);
   known = is_given g (channel p);
-  broadcast = channel p == 4294967295;
-  init = command p == 6;
+  broadcast = channel p == BROADCAST;
+  init = command p == INIT;
   eight = message_length p == 8;
   full = g == LAST_CHANNEL;
   apart = is_elsewhere current (channel p) || is_elsewhere work (channel p);
   here = is_on current (channel p);
-  served = (command p == 1) || (command p == 16);
-  over = nat_lt 7609 (message_length p);
-  empty = (command p == 16) && (message_length p == 0);
-  short = nat_le (message_length p) 57;
+  served = (command p == PING) || (command p == CBOR);
+  over = nat_lt LONGEST_MESSAGE (message_length p);
+  empty = (command p == CBOR) && (message_length p == 0);
+  short = nat_le (message_length p) INITIALIZATION_DATA;
 }
 
 -- the row of the table that they name
@@ -92,7 +97,7 @@ row s = first_row
     ∷ (s.init, InitAgain) ∷ (s.apart, BusyElsewhere) ∷ (s.on, BusyHere) ∷ (s.here, BrokenOff) ∷ (not s.served, NoSuchCommand)
     ∷ (s.over || s.empty, BadLength) ∷ (s.short, Short) ∷ []) Long
 
--- what tests say of one another
+-- what these tests say of one another
 pub record Agree (s : Tests) : Type 0 where
   pub init : s.init ≡ true → s.cancel ≡ false
   pub served : s.served ≡ true → (s.cancel ≡ false) × (s.init ≡ false)
@@ -113,6 +118,7 @@ agree g o w p few og wg = record {
 abbrev admitted : Tests → Bool
 admitted s = (s.known && (s.served && not s.empty)) && not (s.apart || s.on)
 
+-- each part, whatever the tests say
 channels_row : (s : Tests) (g : ℕ) → Agree s → s.full ≡ (g == LAST_CHANNEL) → g ≤ LAST_CHANNEL
     → cond ((s.init && s.eight) && s.broadcast) (min (g + 1) LAST_CHANNEL) g ≡ given_after g (Begins (row s))
 channels_row s g a full few = grind (arith, nat_tests)
@@ -155,11 +161,11 @@ admits_none : (g : ℕ) (w : Option ℕ) (p : List ℕ) → is_initialization p 
 unfolding admits
 admits_none g w p st = rw st (grind (arith, nat_tests))
 
-long_is : (p : List ℕ) → is_long p ≡ (not (nat_le (message_length p) 57) && not (nat_lt 7609 (message_length p)))
+long_is : (p : List ℕ) → is_long p ≡ (not (nat_le (message_length p) INITIALIZATION_DATA) && not (nat_lt LONGEST_MESSAGE (message_length p)))
 unfolding is_long
 long_is p = grind (arith, nat_tests)
 
-small : (n : ℕ) → nat_le n 57 ≡ true → nat_lt 7609 n ≡ false
+small : (n : ℕ) → nat_le n INITIALIZATION_DATA ≡ true → nat_lt LONGEST_MESSAGE n ≡ false
 small n h = grind (arith, nat_tests)
 
 start_none : (g : ℕ) (w : Option ℕ) (t : ℕ) (x : Packet64) → g ≤ LAST_CHANNEL → IsGiven g w → is_initialization x.0 ≡ true
@@ -187,7 +193,7 @@ abbrev pub now_came : ℕ → Packet64 → Judged
 now_came t x = record { at = t; input = Packet x; admitted = false }
 
 start_next : (b : Begun) (t : ℕ) (x : Packet64) → is_initialization x.0 ≡ true
-    → next (now_came t x) b ≡ cond ((channel b.packet == channel x.0) && not (command x.0 == 17)) None (Some b)
+    → next (now_came t x) b ≡ cond ((channel b.packet == channel x.0) && not (command x.0 == CANCEL)) None (Some b)
 unfolding next is_own is_next
 start_next b t x st = rw st (grind arith)
 
@@ -218,7 +224,7 @@ grown_as b t x = simp (map-append, flat_map-append, append-nil, append_assoc, le
 
 more_next : (b : Begun) (t : ℕ) (x : Packet64) → is_initialization x.0 ≡ false
     → next (now_came t x) b ≡ cond (channel b.packet == channel x.0)
-    (cond ((sequence x.0 == length b.own) && nat_lt (57 + 59 * (length b.own + 1)) (message_length b.packet)) (Some (record { packet = b.packet; at = b.at; own = b.own ++ now_came t x ∷ [] })) None) (Some b)
+    (cond ((sequence x.0 == length b.own) && nat_lt (data_room (length b.own + 1)) (message_length b.packet)) (Some (record { packet = b.packet; at = b.at; own = b.own ++ now_came t x ∷ [] })) None) (Some b)
 unfolding next is_own is_next
 more_next b t x st = rw st (grind arith)
 
