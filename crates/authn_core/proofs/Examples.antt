@@ -30,134 +30,106 @@ asked = record { rows = idle.rows; pending = waiting (replicate 32 0xaa ∷ []);
 
 -- a selection asks for presence, empties what is pending, and is answered by its status alone
 selects : (turn setup asked 1100 (Request 1 (0x0b ∷ []))).answer ≡ Waits 2
-unfolding turn read_of
-selects = refl
+selects = unfold turn read_of in refl
 
 selects_empties : (turn setup asked 1100 (Request 1 (0x0b ∷ []))).state.pending ≡ None
-unfolding turn read_of
-selects_empties = refl
+selects_empties = unfold turn read_of in refl
 
 granted : (turn setup (at Selects) 150 (PresenceIs Granted)).answer ≡ Answered (0x00 ∷ [])
-unfolding turn
-granted = refl
+granted = unfold turn in refl
 
 denied : (turn setup (at Selects) 150 (PresenceIs Denied)).answer ≡ Answered (0x27 ∷ [])
-unfolding turn
-denied = refl
+denied = unfold turn in refl
 
 timed_out : (turn setup (at Selects) 150 (PresenceIs TimedOut)).answer ≡ Answered (0x2f ∷ [])
-unfolding turn
-timed_out = refl
+timed_out = unfold turn in refl
 
 long_selection : (turn setup idle 160 (Request 1 (0x0b ∷ 0x00 ∷ []))).answer ≡ Answered (0x03 ∷ [])
-unfolding turn read_of
-long_selection = refl
+long_selection = unfold turn read_of in refl
 
 -- a reset within ten seconds of the start, and after them
 resets : (turn setup idle 10000 (Request 1 (0x07 ∷ []))).answer ≡ Waits 2
-unfolding turn read_of
-resets = refl
+resets = unfold turn read_of in refl
 
 late_reset : (turn setup idle 10001 (Request 1 (0x07 ∷ []))).answer ≡ Answered (0x30 ∷ [])
-unfolding turn read_of
-late_reset = refl
+late_reset = unfold turn read_of in refl
 
 reset_granted : (turn setup (at Resets) 20000 (PresenceIs Granted)).state.rows ≡ []
-unfolding turn
-reset_granted = refl
+reset_granted = unfold turn in refl
 
 reset_late : (turn setup (at Resets) 50 (PresenceIs TimedOut)).answer ≡ Answered (0x2f ∷ [])
-unfolding turn
-reset_late = refl
+reset_late = unfold turn in refl
 
 -- a getNextAssertion within thirty seconds on the channel that asked, else not
 next_in_time : (turn setup asked 31000 (Request 1 (0x08 ∷ []))).answer ≡ Waits 1
-unfolding turn read_of
-next_in_time = refl
+next_in_time = unfold turn read_of in refl
 
 next_late : (turn setup asked 31001 (Request 1 (0x08 ∷ []))).answer ≡ Answered (0x30 ∷ [])
-unfolding turn read_of
-next_late = refl
+next_late = unfold turn read_of in refl
 
 next_elsewhere : (turn setup asked 1200 (Request 2 (0x08 ∷ []))).answer ≡ Answered (0x30 ∷ [])
-unfolding turn read_of
-next_elsewhere = refl
+next_elsewhere = unfold turn read_of in refl
 
 next_elsewhere_empties : (turn setup asked 1200 (Request 2 (0x08 ∷ []))).state.pending ≡ None
-unfolding turn read_of
-next_elsewhere_empties = refl
+next_elsewhere_empties = unfold turn read_of in refl
 
 next_raises : (turn setup asked 1200 (Request 1 (0x08 ∷ []))).state.rows ≡ row 0xaa 1 ∷ row 0xab 4 ∷ []
-unfolding turn read_of
-next_raises = refl
+next_raises = unfold turn read_of in refl
 
 -- a counter that can't be raised
 abbrev spent : State
 spent = record { rows = row 0xaa 4294967295 ∷ []; pending = waiting (replicate 32 0xaa ∷ []); work = None }
 
 next_spent : (turn setup spent 1200 (Request 1 (0x08 ∷ []))).answer ≡ Answered (0x15 ∷ [])
-unfolding turn read_of
-next_spent = refl
+next_spent = unfold turn read_of in refl
 
 -- a full table: a new user finds no room, a known one does
 abbrev making_of : (user : ℕ) → Making
 making_of user = record { hash = replicate 32 17; rp = replicate 32 7; user = user ∷ []; name = []; discoverable = true }
 
 full : (turn setup (at (AsksMake (making_of 3) false)) 50 (PresenceIs Granted)).answer ≡ Answered (0x28 ∷ [])
-unfolding turn
-full = refl
+full = unfold turn in refl
 
 replacing : (turn setup (at (AsksMake (making_of 0xaa) false)) 50 (PresenceIs Granted)).answer ≡ Waits 1
-unfolding turn
-replacing = refl
+replacing = unfold turn in refl
 
 excluded_first : (turn setup (at (AsksMake (making_of 3) true)) 50 (PresenceIs TimedOut)).answer ≡ Answered (0x19 ∷ [])
-unfolding turn
-excluded_first = refl
+excluded_first = unfold turn in refl
 
 -- a key whose id is there already, also that of the row that would be replaced
 known_id : (turn setup (at (WantsKey (making_of 0xaa))) 60 (KeyIs (Some (record { id = replicate 32 0xaa; x = []; y = [] })))).answer
     ≡ Answered (0x7f ∷ [])
-unfolding turn
-known_id = refl
+known_id = unfold turn in refl
 
 -- a signature where a key is needed
 not_needed : (turn setup (at (WantsKey (making_of 0xaa))) 60 (SignatureIs None)).answer ≡ Ignored
-unfolding turn
-not_needed = refl
+not_needed = unfold turn in refl
 
 cancelled : (turn setup (at (WantsKey (making_of 0xaa))) 60 Cancel).answer ≡ Answered (0x2d ∷ [])
-unfolding turn
-cancelled = refl
+cancelled = unfold turn in refl
 
 -- a registration and a sign-in that the user denies, or doesn't answer in time
 make_denied : (turn setup (at (AsksMake (making_of 3) false)) 50 (PresenceIs Denied)).answer ≡ Answered (0x27 ∷ [])
-unfolding turn
-make_denied = refl
+make_denied = unfold turn in refl
 
 make_late : (turn setup (at (AsksMake (making_of 3) false)) 50 (PresenceIs TimedOut)).answer ≡ Answered (0x27 ∷ [])
-unfolding turn
-make_late = refl
+make_late = unfold turn in refl
 
 abbrev asserting : Asserting
 asserting = record { hash = replicate 32 34; rp = replicate 32 7; id = replicate 32 0xaa; presence = true; number = None }
 
 assert_denied : (turn setup (at (AsksAssert asserting)) 50 (PresenceIs Denied)).answer ≡ Answered (0x27 ∷ [])
-unfolding turn
-assert_denied = refl
+assert_denied = unfold turn in refl
 
 assert_late : (turn setup (at (AsksAssert asserting)) 50 (PresenceIs TimedOut)).answer ≡ Answered (0x27 ∷ [])
-unfolding turn
-assert_late = refl
+assert_late = unfold turn in refl
 
 -- no key for a registration, and no signature for a sign-in
 no_key : (turn setup (at (WantsKey (making_of 0xaa))) 60 (KeyIs None)).answer ≡ Answered (0x7f ∷ [])
-unfolding turn
-no_key = refl
+no_key = unfold turn in refl
 
 no_signature : (turn setup (at (SignsAssert asserting 5 [])) 60 (SignatureIs None)).answer ≡ Answered (0x7f ∷ [])
-unfolding turn
-no_signature = refl
+no_signature = unfold turn in refl
 
 -- an RP without a credential, and an allow list that names none of the RP's
 abbrev asks_for : (rp : ℕ) → Bool → List (List ℕ) → Answer

@@ -17,12 +17,10 @@ abbrev came : Event → Step
 came e = record { at = 0; event = e }
 
 goes_on : (heard (came (Request 1 (0x08 ∷ [])) ∷ came Cancel ∷ came (Request 1 (0x0b ∷ [])) ∷ [])).asked ≡ Some Selection
-unfolding heard read_of
-goes_on = refl
+goes_on = unfold heard read_of in refl
 
 unread : (heard (came (Request 1 (0x08 ∷ [])) ∷ came (Request 1 (0x0b ∷ 0x00 ∷ [])) ∷ came (Request 1 (0x0b ∷ [])) ∷ [])).asked ≡ None
-unfolding heard read_of
-unread = refl
+unread = unfold heard read_of in refl
 
 -- the next assertion of a request with presence, by a row with the counter 4
 abbrev pending : State
@@ -33,13 +31,11 @@ abbrev data_signed : List ℕ
 data_signed = replicate 32 7 ++ 0x01 ∷ 0x00 ∷ 0x00 ∷ 0x00 ∷ 0x05 ∷ []
 
 signed_is : needs (turn setup pending 1200 (Request 1 (0x08 ∷ []))).state.work ≡ sign (replicate 32 0xaa) (data_signed ++ replicate 32 34)
-unfolding turn read_of
-signed_is = refl
+signed_is = unfold turn read_of in refl
 
 answered_is : (turn setup (turn setup pending 1200 (Request 1 (0x08 ∷ []))).state 1300 (SignatureIs (Some (0x30 ∷ [])))).answer
     ≡ Answered (assertion_answer (replicate 32 0xaa) data_signed (0x30 ∷ []) (Some (1 ∷ [])) None)
-unfolding turn read_of
-answered_is = refl
+answered_is = unfold turn read_of in refl
 
 -- counters that rise, stay or fall; another credential's, and one of an id that was made again
 abbrev text : (id making counter : ℕ) → Text
