@@ -16,7 +16,7 @@ FILE = re.compile(r"^\| ([A-Z]) \| (crates/\S+) \|$", re.MULTILINE)
 ROW = re.compile(r"^\| (?!---)(?!Row )(.+) \| (.+) \|$", re.MULTILINE)
 NAMED = re.compile(r"\b([A-Z]) ([a-z][\w-]*)")
 # An example is a name whose proof is computed: one `refl`, several, or a record of them.
-COMPUTED = re.compile(r"^([a-z][\w-]*) = (?:refl$|\(+refl|record \{$)", re.MULTILINE)
+COMPUTED = re.compile(r"^([a-z][\w-]*) = (?:unfold [\w.-][\w. -]* in )?(?:refl$|\(+refl|record \{$)", re.MULTILINE)
 
 
 def computed(path: str) -> set[str]:

@@ -10,13 +10,16 @@ use Rattle.authn_core.specs.Turn.{CoreState, working, core_after, core_answer, t
 use Rattle.authn_core.specs.Views.{wants_presence, wants_key, wants_signature}
 
 -- A reply that the waiting work doesn't need leaves the state, and is answered by nothing.
-pub presence_ignored : (u : Setup) (s : State) (t : ℕ) (p : Presence) → wants_presence s.work ≡ false → turn u s t (PresenceIs p) ≡ ignores s
+pub presence_ignored : (u : Setup) (s : State) (t : ℕ) (p : Presence) → wants_presence s.work ≡ false
+    → turn u s t (PresenceIs p) ≡ ignores s
 presence_ignored u s t p h = unfold turn in grind arith
 
-pub key_ignored : (u : Setup) (s : State) (t : ℕ) (key : Option NewKey) → wants_key s.work ≡ false → turn u s t (KeyIs key) ≡ ignores s
+pub key_ignored : (u : Setup) (s : State) (t : ℕ) (key : Option NewKey) → wants_key s.work ≡ false
+    → turn u s t (KeyIs key) ≡ ignores s
 key_ignored u s t key h = unfold turn in grind arith
 
-pub signature_ignored : (u : Setup) (s : State) (t : ℕ) (sig : Option (List ℕ)) → wants_signature s.work ≡ false → turn u s t (SignatureIs sig) ≡ ignores s
+pub signature_ignored : (u : Setup) (s : State) (t : ℕ) (sig : Option (List ℕ)) → wants_signature s.work ≡ false
+    → turn u s t (SignatureIs sig) ≡ ignores s
 signature_ignored u s t sig h = unfold turn in grind arith
 
 -- ---- with channels that were given out
@@ -32,19 +35,10 @@ EventIsGiven given (Request cid bytes) = (1 ≤ cid) × (cid ≤ given)
 EventIsGiven given e = Unit {0}
 
 -- Work is on the channel that it was on, or on the request's.
-pub work_stays_given : (given : ℕ) (core : CoreState) (at : ℕ) (e : Event) → IsGiven given (working core) → EventIsGiven given e
+pub work_stays_given : (given : ℕ) (core : CoreState) (at : ℕ) (e : Event) → IsGiven given (working core)
+    → EventIsGiven given e
     → IsGiven given (working (core_after core at e))
 work_stays_given given core at e w h = unfold turn in grind arith
-
--- A reply where no work waits starts none.
-pub presence_starts_none : (core : CoreState) (at : ℕ) (reply : Presence) → working core ≡ None → working (core_after core at (PresenceIs reply)) ≡ None
-presence_starts_none core at reply h = unfold turn in grind arith
-
-pub key_starts_none : (core : CoreState) (at : ℕ) (key : Option NewKey) → working core ≡ None → working (core_after core at (KeyIs key)) ≡ None
-key_starts_none core at key h = unfold turn in grind arith
-
-pub signature_starts_none : (core : CoreState) (at : ℕ) (sig : Option (List ℕ)) → working core ≡ None → working (core_after core at (SignatureIs sig)) ≡ None
-signature_starts_none core at sig h = unfold turn in grind arith
 
 -- A drop of an authenticator answers nothing.
 pub drop_answers_nothing : (core : CoreState) (at : ℕ) → core_answer core at Drop ≡ Nothing

@@ -1,7 +1,7 @@
 -- The rows and the texts to sign after a history. A turn changes the rows as its mark says, and marks one after another
 -- leave what the filters name. A text to sign that a turn adds is what is to be signed, and holds a greater counter than
 -- all before it by the same row.
-use Rattle.std.proofs.Common.{◌≡◌, ℕ, ◌+◌, ◌≤◌, List, [], ◌∷◌, ◌++◌, length, flat_map, filter, true, false, cond, Option, Some, None, option_to_list, is_some, Result, Ok, refl, sym, ◌∙◌, ap, subst, arith}
+use Rattle.std.proofs.Common.{◌≡◌, ℕ, ◌+◌, ◌≤◌, List, [], ◌∷◌, ◌++◌, length, flat_map, filter, true, false, cond, Option, Some, None, option_to_list, is_some, Result, Ok, refl, ap, subst, arith}
 use Rattle.std.proofs.lemmas.Bool.Decides.{nat_tests}
 use Rattle.std.proofs.lemmas.Grind.{flat_map-append}
 use Rattle.std.proofs.lemmas.Slice.Eq.{bytes_eq-Decides}
@@ -17,7 +17,7 @@ use Rattle.sha2.specs.Sha256.{sha256}
 use Rattle.authn_core.specs.State.{Setup, SignsAssert, Job, State, Event, Request}
 use Rattle.authn_core.specs.Turn.{CoreState, core_after, requested, turn}
 use Rattle.authn_core.specs.Ready.{Ready, PendingReady}
-use Rattle.authn_core.specs.Marks.{Mark, mark, marked, made_replaces, is_raised, stays, left, rows_among, rows_of, Step, Comes, Orderly, Text, core_at, marks, makes_id, makings, raised_by, signs_by, text_of, texts, same_text, all_differ}
+use Rattle.authn_core.specs.Marks.{Mark, mark, marked, made_replaces, is_raised, stays, left, rows_among, Step, Comes, Orderly, Text, core_at, marks, makes_id, makings, raised_by, signs_by, text_of, texts, same_text, all_differ}
 use Rattle.authn_core.specs.Views.{needs, sign}
 use Rattle.authn_core.specs.Rising.{above_all, all_rise, IsTextOf, IsNewest}
 use Rattle.authn_core.proofs.Readiness.{all_along, all_found, applicable_there, core_sound, find_raised, found}
@@ -32,11 +32,13 @@ mark_resets : (rows : List Row) → marked (record { made = None; raises = None;
 mark_resets [] = refl
 mark_resets (r ∷ rows) = mark_resets rows
 
-mark_raises : (id : List ℕ) (rows : List Row) → marked (record { made = None; raises = Some id; resets = false }) rows ≡ raised id rows
+mark_raises : (id : List ℕ) (rows : List Row)
+    → marked (record { made = None; raises = Some id; resets = false }) rows ≡ raised id rows
 mark_raises id [] = refl
 mark_raises id (r ∷ rows) = grind (arith, mark_raises id rows)
 
-mark_makes : (new : Row) (rows : List Row) → marked (record { made = Some new; raises = None; resets = false }) rows ≡ stored new rows
+mark_makes : (new : Row) (rows : List Row)
+    → marked (record { made = Some new; raises = None; resets = false }) rows ≡ stored new rows
 mark_makes new [] = refl
 mark_makes new (r ∷ rows) = grind (arith, mark_makes new rows)
 
@@ -45,7 +47,8 @@ pub raises_none : (w : Option Job) → raised_by w w ≡ None
 raises_none w = grind (arith, same_bytes)
 
 -- Every turn does to the rows what its mark says.
-pub turn_marked : (u : Setup) (s : State) (t : ℕ) (e : Event) → Comes s.work e → (turn u s t e).state.rows ≡ marked (mark s.work e (turn u s t e).state.work) s.rows
+pub turn_marked : (u : Setup) (s : State) (t : ℕ) (e : Event) → Comes s.work e
+    → (turn u s t e).state.rows ≡ marked (mark s.work e (turn u s t e).state.work) s.rows
 unfolding turn
 turn_marked u s t e c = grind (arith, mark_keeps, mark_resets, mark_raises, mark_makes, raises_none)
 
@@ -66,7 +69,8 @@ left_counted n r ms = simp (replaced_same n r, raised_same n r)
 one_left : (m : Mark) (later : List Mark) (r : Row) → left (m ∷ later) r ≡ flat_map (left later) (left (m ∷ []) r)
 one_left m later r = grind (arith, left_counted)
 
-all_left : (m : Mark) (later : List Mark) (rows : List Row) → flat_map (left (m ∷ later)) rows ≡ flat_map (left later) (flat_map (left (m ∷ [])) rows)
+all_left : (m : Mark) (later : List Mark) (rows : List Row)
+    → flat_map (left (m ∷ later)) rows ≡ flat_map (left later) (flat_map (left (m ∷ [])) rows)
 all_left m later [] = refl
 all_left m later (r ∷ rows) = grind (arith, one_left, flat_map-append, all_left m later rows)
 
@@ -107,7 +111,8 @@ abbrev pub Adds : (h : List Mark) (before now : State) → Option Text → Type 
 Adds h before now None = (id : List ℕ) → signs_by id now.work ≡ true → now ≡ before
 Adds h before now (Some t) = IsAdded h before.rows now t
 
-requested_adds : (h : List Mark) (u : Setup) (s : State) (t cid : ℕ) (read : Result Asked ℕ) → PendingReady s.rows s.pending
+requested_adds : (h : List Mark) (u : Setup) (s : State) (t cid : ℕ) (read : Result Asked ℕ)
+    → PendingReady s.rows s.pending
     → let x = (requested u s.rows s.pending t cid read).state in Adds h (record s { work = None }) x (text_of h (raised_by None x.work) x.work)
 requested_adds h u s t cid (Ok (GetAssertion hash rp_id allow up)) p =
     grind (arith, applicable_there s.rows (sha256 rp_id) (has_entries allow) (ids_of allow))
@@ -126,7 +131,8 @@ abbrev pub AllAbove : List ℕ → ℕ → List Row → Type 0
 AllAbove id n rows = AllByRecursion (λ r. has_id id r ≡ true → n ≤ r.counter) rows
 
 -- a mark that makes no row of the id lowers none of its counters
-above_marked : (id : List ℕ) (n : ℕ) (m : Mark) (rows : List Row) → makes_id id m ≡ false → AllAbove id n rows → AllAbove id n (marked m rows)
+above_marked : (id : List ℕ) (n : ℕ) (m : Mark) (rows : List Row) → makes_id id m ≡ false → AllAbove id n rows
+    → AllAbove id n (marked m rows)
 above_marked id n m [] e h = grind arith
 above_marked id n m (r ∷ rows) e h = grind (arith, above_marked id n m rows e h.1)
 
@@ -135,7 +141,8 @@ pub record Bounded (h : List Mark) (rows : List Row) (t : Text) : Type 0 where
   pub earlier : t.making ≤ makings t.id h
   pub above : t.making ≡ makings t.id h → AllAbove t.id t.counter rows
 
-bounded_more : (h : List Mark) (rows : List Row) (m : Mark) (t : Text) → Bounded h rows t → Bounded (m ∷ h) (marked m rows) t
+bounded_more : (h : List Mark) (rows : List Row) (m : Mark) (t : Text) → Bounded h rows t
+    → Bounded (m ∷ h) (marked m rows) t
 bounded_more h rows m t b = grind (arith, above_marked)
 
 new_above : (h : List Mark) (rows : List Row) (id : List ℕ) (ts : List Text) → is_some (find (has_id id) rows) ≡ true
@@ -157,7 +164,8 @@ text_is : (h : List Mark) (rows : List Row) (s : State) (t : Text) → IsAdded h
 text_is h rows s t a = record { signed = signed_of s.work; needed = a.needed; counter = grind (arith, same_bytes, find_raised) }
 
 tells_more : (work : Option Job) (h : List Mark) (s x : State) (m : Mark) (o : Option Text) (ts : List Text)
-    → x.rows ≡ marked m s.rows → no_two same_id x.rows ≡ true → Adds h s x o → Tells work h s ts → Tells work (m ∷ h) x (option_to_list o ++ ts)
+    → x.rows ≡ marked m s.rows → no_two same_id x.rows ≡ true → Adds h s x o → Tells work h s ts
+    → Tells work (m ∷ h) x (option_to_list o ++ ts)
 tells_more work h s x m None ts e d a b = record {
   bounded = all_along _ _ ts (λ t q. rw e (bounded_more h s.rows m t q)) b.bounded;
   rise = b.rise;
@@ -171,7 +179,8 @@ tells_more work h s x m (Some t) ts e d a b = record {
   newest = λ _ _ _. record { text = t; past = ts; first = refl; told = text_is h s.rows x t a };
 }
 
-pub history_tells : (start : CoreState) (h : List Step) → Ready start.setup.room start.state → Lawful start.setup.room start.state.rows
+pub history_tells : (start : CoreState) (h : List Step) → Ready start.setup.room start.state
+    → Lawful start.setup.room start.state.rows
     → Orderly start h → Tells start.state.work (marks start h) (core_at start h).state (texts start h)
 unfolding core_at marks texts Orderly
 history_tells start [] r l o = record { bounded = tt; rise = refl; newest = λ n id w. grind arith }

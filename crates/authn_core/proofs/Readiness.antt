@@ -28,22 +28,26 @@ use Rattle.authn_core.specs.Ready.{AllThere, Ready, PendingReady, WorkReady}
 -- ---- rows
 
 -- a row that is found passes, and has what all rows have
-pub found : (P : Row → Type 0) (q : Row → Bool) (rows : List Row) → AllByRecursion P rows → IfSome (find q rows) (λ r. P r × (q r ≡ true))
+pub found : (P : Row → Type 0) (q : Row → Bool) (rows : List Row) → AllByRecursion P rows
+    → IfSome (find q rows) (λ r. P r × (q r ≡ true))
 found P q [] a = tt
 found P q (x ∷ rows) a = grind (arith, found P q rows)
 
-pub all_along : {X : Type 0} (P Q : X → Type 0) (l : List X) → ((x : X) → P x → Q x) → AllByRecursion P l → AllByRecursion Q l
+pub all_along : {X : Type 0} (P Q : X → Type 0) (l : List X) → ((x : X) → P x → Q x) → AllByRecursion P l
+    → AllByRecursion Q l
 all_along P Q [] f h = tt
 all_along P Q (x ∷ l) f h = (f x h.0, all_along P Q l f h.1)
 
-listed_all : (P : List ℕ → Type 0) (rp : List ℕ) (rows past : List Row) → AllByRecursion (λ r. bytes_eq r.rp rp ≡ true → P r.id) rows
+listed_all : (P : List ℕ → Type 0) (rp : List ℕ) (rows past : List Row)
+    → AllByRecursion (λ r. bytes_eq r.rp rp ≡ true → P r.id) rows
     → AllByRecursion P (ids past) → AllByRecursion P (ids (reverse (filter (is_listed rp) rows) ++ past))
 listed_all P rp [] past h a = a
 listed_all P rp (r ∷ rows) past h a = grind (arith, common_steps, append_assoc, listed_all P rp rows past h.1, listed_all P rp rows (r ∷ past) h.1)
 
 -- What holds of each row of the RP holds of those that may sign.
 pub applicable_all : (P : List ℕ → Type 0) (rows : List Row) (rp : List ℕ) (given : Bool) (allow : List (List ℕ))
-    → AllByRecursion (λ r. bytes_eq r.rp rp ≡ true → P r.id) rows → AllByRecursion P (ids (applicable rows rp given allow))
+    → AllByRecursion (λ r. bytes_eq r.rp rp ≡ true → P r.id) rows
+    → AllByRecursion P (ids (applicable rows rp given allow))
 applicable_all P rows rp false l h = rw append-nil at (listed_all P rp rows [] h tt)
 applicable_all P rows rp true [] h = tt
 applicable_all P rows rp true (id ∷ l) h =
@@ -53,16 +57,19 @@ all_there : (rows : List Row) → AllByRecursion (λ r. is_some (find (has_id r.
 all_there [] = tt
 all_there (r ∷ rows) = (grind (arith, same_bytes), all_along _ _ rows (λ x e. grind arith) (all_there rows))
 
-pub applicable_there : (rows : List Row) (rp : List ℕ) (given : Bool) (allow : List (List ℕ)) → AllThere rows (ids (applicable rows rp given allow))
+pub applicable_there : (rows : List Row) (rp : List ℕ) (given : Bool) (allow : List (List ℕ))
+    → AllThere rows (ids (applicable rows rp given allow))
 applicable_there rows rp given allow = applicable_all _ rows rp given allow (all_along _ _ rows (λ r h _. h) (all_there rows))
 
 -- in rows that stand apart, no later row has the id
-apart : (id : List ℕ) (x : Row) (rows : List Row) → has_id id x ≡ true → list_any (same_id x) rows ≡ false → find (has_id id) rows ≡ None
+apart : (id : List ℕ) (x : Row) (rows : List Row) → has_id id x ≡ true → list_any (same_id x) rows ≡ false
+    → find (has_id id) rows ≡ None
 apart id x [] e h = refl
 apart id x (s ∷ rows) e h = grind (arith, bytes_eq-Decides, apart id x rows)
 
 -- in rows that stand apart, each is found by its id
-pub all_found : (rows : List Row) → no_two same_id rows ≡ true → AllByRecursion (λ r. find (has_id r.id) rows ≡ Some r) rows
+pub all_found : (rows : List Row) → no_two same_id rows ≡ true
+    → AllByRecursion (λ r. find (has_id r.id) rows ≡ Some r) rows
 all_found [] d = tt
 all_found (x ∷ rows) d = (grind (arith, same_bytes), all_along _ _ rows (λ r e. grind (arith, apart)) (all_found rows (grind arith)))
 
@@ -74,23 +81,27 @@ find_raised q id (r ∷ rows) = grind (arith, bytes_eq-Decides, find_raised q id
 
 -- ---- turns
 
-pub pending_raised : (id : List ℕ) (rows : List Row) (p : Option Waiting) → PendingReady rows p → PendingReady (raised id rows) p
+pub pending_raised : (id : List ℕ) (rows : List Row) (p : Option Waiting) → PendingReady rows p
+    → PendingReady (raised id rows) p
 pending_raised id rows None h = tt
 pending_raised id rows (Some w) h = all_along _ _ w.ids (λ q e. grind (arith, find_raised)) h
 
 -- What holds of the rows after each change of them holds after a turn.
-rows_case : (P : List Row → Type 0) (u : Setup) (s : State) (t : ℕ) (e : Event) → WorkReady u.room s.rows s.work → P s.rows → P []
+rows_case : (P : List Row → Type 0) (u : Setup) (s : State) (t : ℕ) (e : Event) → WorkReady u.room s.rows s.work
+    → P s.rows → P []
     → ((id : List ℕ) → P (raised id s.rows)) → ((m : Making) (key : NewKey) → (fits u.room m s.rows ≡ true)
     × (is_some (find (has_id key.id) s.rows) ≡ false) → P (stored (new_row m key) s.rows)) → P (turn u s t e).state.rows
 unfolding turn
 rows_case P u s t e w h none raise make = grind arith
 
-turn_lawful : (u : Setup) (s : State) (t : ℕ) (e : Event) → Ready u.room s → Lawful u.room s.rows → Lawful u.room (turn u s t e).state.rows
+turn_lawful : (u : Setup) (s : State) (t : ℕ) (e : Event) → Ready u.room s → Lawful u.room s.rows
+    → Lawful u.room (turn u s t e).state.rows
 turn_lawful u s t e r h =
     rows_case (Lawful u.room) u s t e r.work h (record { distinct = refl; one_each = refl; few = omega arith }) (λ id. Lawful-raised u.room id _ h)
     (λ m key f. Lawful-stored u.room (new_row m key) s.rows h (grind arith) (grind (arith, nat_tests, one_replaced)))
 
-requested_keeps : (u : Setup) (rows : List Row) (p : Option Waiting) (t cid : ℕ) (read : Result Asked ℕ) → PendingReady rows p
+requested_keeps : (u : Setup) (rows : List Row) (p : Option Waiting) (t cid : ℕ) (read : Result Asked ℕ)
+    → PendingReady rows p
     → let x = (requested u rows p t cid read).state in
     Ready u.room x × (length rows ≤ u.room → pending_count p ≤ u.room → pending_count x.pending ≤ u.room)
 requested_keeps u rows p t cid (Ok (GetAssertion hash rp_id allow up)) h =
@@ -118,7 +129,8 @@ pub record Sound (start k : CoreState) : Type 0 where
   pub lawful : Lawful k.setup.room k.state.rows
   pub few : pending_count start.state.pending ≤ start.setup.room → pending_count k.state.pending ≤ k.setup.room
 
-pub core_sound : (start : CoreState) (h : List Step) → Ready start.setup.room start.state → Lawful start.setup.room start.state.rows
+pub core_sound : (start : CoreState) (h : List Step) → Ready start.setup.room start.state
+    → Lawful start.setup.room start.state.rows
     → Sound start (core_at start h)
 unfolding core_at
 core_sound start [] r l = record { setup = refl; ready = r; lawful = l; few = λ f. f }

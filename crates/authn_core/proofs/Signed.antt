@@ -19,12 +19,13 @@ use Rattle.authn_core.specs.GetAssertion.{begins, user_in}
 use Rattle.authn_core.specs.Turn.{Start, first_state, requested, replied, reply_turn, turn}
 use Rattle.authn_core.specs.Views.{needs, sign}
 use Rattle.authn_core.specs.Marks.{Step, Comes, Orderly, core_at}
-use Rattle.authn_core.specs.Signed.{Heard, newer, hears, heard, rp_of, IsNeeded, IsSigned, assertion_asked, TaskSigns, WorkSigns, AllOf, PendingFor, IsGranted, Signs}
+use Rattle.authn_core.specs.Signed.{Heard, newer, hears, heard, rp_of, IsSigned, assertion_asked, TaskSigns, WorkSigns, AllOf, PendingFor, IsGranted, Signs}
 use Rattle.authn_core.proofs.Readiness.{all_along, applicable_all, all_found, core_sound, find_raised}
 
 -- ---- turns
 
-pending_raised : (asked : Option Asked) (id : List ℕ) (rows : List Row) (p : Option Waiting) → PendingFor asked rows p → PendingFor asked (raised id rows) p
+pending_raised : (asked : Option Asked) (id : List ℕ) (rows : List Row) (p : Option Waiting) → PendingFor asked rows p
+    → PendingFor asked (raised id rows) p
 pending_raised asked id rows None h = tt
 pending_raised asked id rows (Some w) h = (h.0, h.1, all_along _ _ w.ids (λ q e. grind (arith, find_raised)) h.2)
 
@@ -34,7 +35,8 @@ begins_signs : (aaguid : List ℕ) (h : Heard) (rows : List Row) (t cid : ℕ) (
 begins_signs aaguid h rows t cid hash rp up given [] c a = grind arith
 begins_signs aaguid h rows t cid hash rp up given (id ∷ others) c a = grind (arith, find_raised, same_bytes, pending_raised)
 
-requested_signs : (u : Setup) (h : Heard) (rows : List Row) (p : Option Waiting) (t cid : ℕ) (read : Result Asked ℕ) → no_two same_id rows ≡ true → PendingFor h.asked rows p → IsGranted h.granted p
+requested_signs : (u : Setup) (h : Heard) (rows : List Row) (p : Option Waiting) (t cid : ℕ) (read : Result Asked ℕ)
+    → no_two same_id rows ≡ true → PendingFor h.asked rows p → IsGranted h.granted p
     → Signs u.aaguid (newer h read) (requested u rows p t cid read).state
 requested_signs u h rows p t cid (Ok (GetAssertion hash rp_id allow up)) d f k =
     let rp = sha256 rp_id in
@@ -44,7 +46,8 @@ requested_signs u h rows p t cid (Ok (GetAssertion hash rp_id allow up)) d f k =
 requested_signs u h rows p t cid read d f k = grind (arith, find_raised, same_bytes, pending_raised)
 
 -- Every turn keeps the invariant, where a request comes only while no work waits.
-pub turn_signs : (u : Setup) (s : State) (t : ℕ) (e : Event) (h : Heard) → Comes s.work e → Lawful u.room s.rows → Signs u.aaguid h s → Signs u.aaguid (hears e h) (turn u s t e).state
+pub turn_signs : (u : Setup) (s : State) (t : ℕ) (e : Event) (h : Heard) → Comes s.work e → Lawful u.room s.rows
+    → Signs u.aaguid h s → Signs u.aaguid (hears e h) (turn u s t e).state
 unfolding turn
 turn_signs u s t (Request cid bytes) h c l g = requested_signs u h s.rows s.pending t cid (read_of bytes) l.distinct g.pending (grind arith)
 turn_signs u s t e h c l g = grind (arith, find_raised, same_bytes, pending_raised)
@@ -71,7 +74,8 @@ task_answers u s t (Some (MakeCredential hash rp_id user_id user_name discoverab
     (new_row m key, refl, grind arith, refl, grind arith)
 task_answers u s t asked granted keys cid k id signed sig w e = grind arith
 
-pub work_answers : (u : Setup) (s : State) (t : ℕ) (h : Heard) (v : Option Job) (id signed sig : List ℕ) → WorkSigns u.aaguid h s.rows v
+pub work_answers : (u : Setup) (s : State) (t : ℕ) (h : Heard) (v : Option Job) (id signed sig : List ℕ)
+    → WorkSigns u.aaguid h s.rows v
     → needs v ≡ sign id signed → IsSigned u.aaguid v id signed sig (reply_turn u s t v (SignatureIs (Some sig))).answer h.asked
 work_answers u s t h None id signed sig w e = cc
 work_answers u s t h (Some v) id signed sig w e = task_answers u s t h.asked h.granted h.keys v.cid v.task id signed sig w e

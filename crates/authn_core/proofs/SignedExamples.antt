@@ -1,13 +1,12 @@
 -- What came, what has to be signed and what is answered, by computation.
 use Rattle.std.proofs.Common.{◌≡◌, ℕ, List, [], ◌∷◌, ◌++◌, true, false, Some, None, replicate, refl}
-use Rattle.cred_table.specs.declared.row.Row.{Row}
 use Rattle.ctap_message.specs.Asked.{Selection}
 use Rattle.ctap_message.specs.Answers.{assertion_answer}
 use Rattle.ctap_message.specs.Requests.{read_of}
 use Rattle.authn_core.specs.Marks.{Step, Text}
 use Rattle.authn_core.specs.Rising.{all_rise}
 use Rattle.authn_core.specs.Signed.{heard}
-use Rattle.authn_core.specs.State.{Setup, State, Event, Request, SignatureIs, Cancel, Answered}
+use Rattle.authn_core.specs.State.{State, Event, Request, SignatureIs, Cancel, Answered}
 use Rattle.authn_core.specs.Turn.{turn}
 use Rattle.authn_core.specs.Views.{needs, sign}
 use Rattle.authn_core.proofs.Examples.{setup, row, waiting}

@@ -45,13 +45,9 @@ rows_among start later (m ∷ past) =
 abbrev pub rows_of : List Row → List Mark → List Row
 rows_of start h = rows_among start [] h
 
--- one mark's change of the rows, and all of them one after another
+-- one mark's change of the rows
 abbrev pub marked : Mark → List Row → List Row
 marked m rows = flat_map (left (m ∷ [])) rows ++ option_to_list m.made
-
-unfoldable pub folded : List Row → List Mark → List Row
-folded start [] = start
-folded start (m ∷ past) = marked m (folded start past)
 
 abbrev pub row_made : Task → Option Row
 row_made (SignsMake m key signed) = Some (new_row m key)

@@ -99,11 +99,7 @@ waits rows pending cid task =
 abbrev pub ignores : State → Turned
 ignores s = record { state = s; answer = Ignored }
 
--- what an assertion signs: authenticator data and the hash of the client data (WebAuthn Level 2, section 6.3.3)
-abbrev pub signing : Asserting → (counter : ℕ) → Task
-signing a counter = SignsAssert a counter (assertion_bytes a.rp a.presence counter ++ a.hash)
-
--- The row's counter is raised, and a signature is needed.
+-- The row's counter is raised, and a signature is needed (WebAuthn Level 2, section 6.3.3).
 abbrev pub signs : List Row → Option Waiting → (cid : ℕ) → Asserting → Turned
 signs rows pending cid a =
     let counter = counter_of a.id rows + 1 in

@@ -33,7 +33,8 @@ record Asks (m : Message) (v : Verdict) : Type 0 where
   quiet : verdict_packets v m.bytes ≡ []
   asks : verdict_event v m.bytes ≡ Some (Request m.cid m.bytes)
 
-asked : (g : ℕ) (w : Option ℕ) (o : Option Open) (f : Fields) (m : Message) (r : Ruling) → message_after o f r ≡ Some m → m.cmd ≡ CBOR
+asked : (g : ℕ) (w : Option ℕ) (o : Option Open) (f : Fields) (m : Message) (r : Ruling)
+    → message_after o f r ≡ Some m → m.cmd ≡ CBOR
     → Asks m (ruling_verdict g w f (Some m) r)
 unfolding message_after ruling_verdict
 asked g w o f m r h is = record { quiet = grind (arith, nat_tests); asks = grind (arith, nat_tests) }
@@ -95,7 +96,8 @@ unfolding admits
 admitted_first g c k p others b carries served low high = grind (arith, nat_tests)
 
 -- one that carries a whole message finishes it
-pub one_packet_finishes : (start : Start) (h : List Timed) (x : Timed) (p : Packet64) (c k : ℕ) (b : List ℕ) → x.input ≡ Packet p
+pub one_packet_finishes : (start : Start) (h : List Timed) (x : Timed) (p : Packet64) (c k : ℕ) (b : List ℕ)
+    → x.input ≡ Packet p
     → Carries p.0 [] c k b
     → (k ≡ PING) ⊎ ((k ≡ CBOR) × (1 ≤ length b)) → 1 ≤ c → c ≤ given (judged start h)
     → open_at (judged start h) (judge start x (judged start h)).at ≡ None → working (core start (judged start h)) ≡ None

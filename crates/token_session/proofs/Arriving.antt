@@ -22,7 +22,8 @@ use Rattle.token_session.proofs.Opens.{From, from_earlier, goes_on_prefix, own-a
 
 -- ---- the moments
 
-judged_at_end : (start : Start) (h : List Timed) (x : Timed) → end start (judged start h) ≤ (judge start x (judged start h)).at
+judged_at_end : (start : Start) (h : List Timed) (x : Timed)
+    → end start (judged start h) ≤ (judge start x (judged start h)).at
 unfolding judge
 judged_at_end start h x = omega arith
 
@@ -54,12 +55,14 @@ begins_open start h x admitted long M t goes =
     rw (admitted, long, goes) refl
 
 -- what isn't admitted opens nothing
-skipped : (y : Judged) (M H : List Judged) (t : ℕ) → y.admitted ≡ false → open_among M (y ∷ H) t ≡ open_among (y ∷ M) H t
+skipped : (y : Judged) (M H : List Judged) (t : ℕ) → y.admitted ≡ false
+    → open_among M (y ∷ H) t ≡ open_among (y ∷ M) H t
 unfolding open_among is_open
 skipped y M H t e = rw e refl
 
 -- one more input that isn't admitted
-one_longer : (e : Judged) (start : Start) (g : List Timed) (D : List Judged) (z : Timed) → (judge start z (judged start g)).admitted ≡ false
+one_longer : (e : Judged) (start : Start) (g : List Timed) (D : List Judged) (z : Timed)
+    → (judge start z (judged start g)).admitted ≡ false
     → StaysOpen e start g D
     → StaysOpen e start (z ∷ g) (D ++ judge start z (judged start g) ∷ [])
 unfolding judged
@@ -69,7 +72,8 @@ one_longer e start g D z away stays M t goes =
     rw same (skipped y M (judged start g) t away ∙ stays (y ∷ M) t (rw same at goes))
 
 -- where a message is open, nothing is admitted
-alone : (start : Start) (g : List Timed) (z : Timed) → (open_at (judged start g) (judge start z (judged start g)).at ≡ None → ⊥)
+alone : (start : Start) (g : List Timed) (z : Timed)
+    → (open_at (judged start g) (judge start z (judged start g)).at ≡ None → ⊥)
     → (judge start z (judged start g)).admitted ≡ false
 unfolding judged
 alone start g z is_open_there = false_from_ne_true _ (λ a. is_open_there ((good_judged start (z ∷ g)).lawful.1 a))
@@ -96,7 +100,8 @@ stays_open e start (z ∷ zs) g D t stays le goes =
 
 -- ---- the packets of a message
 
-all_go_on : (os : List Judged) (c len m since t : ℕ) (q : Judged) → On c os → Continue c m (packets_of os ++ packet q.input ∷ [])
+all_go_on : (os : List Judged) (c len m since t : ℕ) (q : Judged) → On c os
+    → Continue c m (packets_of os ++ packet q.input ∷ [])
     → 57 + 59 * (m + length os) < len → ComeSoon since (os ++ q ∷ []) → t ≡ q.at
     → goes_on len m since os t ≡ true
 unfolding goes_on is_next is_own
@@ -124,7 +129,8 @@ record Ends (b : Begun) (q : List ℕ) (cmd : ℕ) (bytes : List ℕ) : Type 0 w
   long : is_long b.packet ≡ true
   carried : message b.packet (packets_of b.own ++ q ∷ []) ≡ record { cid = channel b.packet; cmd = cmd; bytes = bytes }
 
-ends : (b : Begun) (q : List ℕ) (cmd : ℕ) (bytes : List ℕ) → Carries b.packet (packets_of b.own ++ q ∷ []) (channel b.packet) cmd bytes
+ends : (b : Begun) (q : List ℕ) (cmd : ℕ) (bytes : List ℕ)
+    → Carries b.packet (packets_of b.own ++ q ∷ []) (channel b.packet) cmd bytes
     → Ends b q cmd bytes
 unfolding is_last is_long
 ends b q cmd bytes c =

@@ -25,7 +25,8 @@ one_open (e ∷ before) L start t l f le =
     let none : e.admitted ≡ true → all_open (e ∷ L) before t ≡ [] = λ a. none_all before (e ∷ L) t (none_stays before [] (e ∷ L) e.at t (omega arith, f) le (l.1 a)) in
     grind (arith, open_is_admitted e L t, none, one_open before (e ∷ L) start t l.2 (l.0, from_earlier L (end start before) e.at l.0 f) (omega (arith, l.0)))
 
-pub goes_on_below : (os : List Judged) (len m since t : ℕ) → 57 + 59 * m < len → goes_on len m since os t ≡ true → 57 + 59 * (m + length os) < len
+pub goes_on_below : (os : List Judged) (len m since t : ℕ) → 57 + 59 * m < len → goes_on len m since os t ≡ true
+    → 57 + 59 * (m + length os) < len
 unfolding goes_on is_next
 goes_on_below [] len m since t lt h = omega arith
 goes_on_below (o ∷ os) len m since t lt h = grind (arith, nat_tests, goes_on_below os len (m + 1) o.at t)
@@ -35,7 +36,8 @@ abbrev FewOwn : Option Begun → Type 0
 FewOwn None = Unit {0}
 FewOwn (Some b) = 57 + 59 * length b.own ≤ 7550
 
-few_here : (e : Judged) (L : List Judged) (t : ℕ) → is_open e L t ≡ true → 57 + 59 * length (own (channel (packet e.input)) L) ≤ 7550
+few_here : (e : Judged) (L : List Judged) (t : ℕ) → is_open e L t ≡ true
+    → 57 + 59 * length (own (channel (packet e.input)) L) ≤ 7550
 unfolding is_open is_long
 few_here e L t h = grind (arith, nat_tests, goes_on_below (own (channel (packet e.input)) L) (message_length (packet e.input)) 0 e.at t)
 
@@ -63,5 +65,6 @@ few_steps steps each (m ∷ ms) =
     let rest = few_steps steps each ms in
     omega (arith, sum_by-cons steps m ms, sum_by-cons (λ (b : List ℕ). length b - 1) m ms)
 
-pub few_capped : (steps bytes count : ℕ) → steps ≤ 4 * bytes + 2 * count → min steps LARGEST ≤ 4 * min bytes LARGEST + 2 * min count LARGEST
+pub few_capped : (steps bytes count : ℕ) → steps ≤ 4 * bytes + 2 * count
+    → min steps LARGEST ≤ 4 * min bytes LARGEST + 2 * min count LARGEST
 few_capped steps bytes count h = omega arith

@@ -35,12 +35,14 @@ length_parts (p ∷ ps) a =
     let rest = length_parts ps a.1 in
     omega (arith, length-append (take 59 (drop 5 p)) (flat_map continuation_data ps))
 
-continue_more : (c m n : ℕ) (ps : List (List ℕ)) (p : List ℕ) → n ≡ m + length ps → Continue c m ps → is_initialization p ≡ false → channel p ≡ c
+continue_more : (c m n : ℕ) (ps : List (List ℕ)) (p : List ℕ) → n ≡ m + length ps → Continue c m ps
+    → is_initialization p ≡ false → channel p ≡ c
     → sequence p ≡ n → Continue c m (ps ++ p ∷ [])
 continue_more c m n [] p e k a b s = let same : n ≡ m = omega arith in (a, b, s ∙ same, tt)
 continue_more c m n (q ∷ ps) p e k a b s = (k.0, k.1, k.2, continue_more c (m + 1) n ps p (omega arith) k.3 a b s)
 
-all_continue : (os : List Judged) (c len m since t : ℕ) → On c os → goes_on len m since os t ≡ true → Continue c m (packets_of os)
+all_continue : (os : List Judged) (c len m since t : ℕ) → On c os → goes_on len m since os t ≡ true
+    → Continue c m (packets_of os)
 unfolding goes_on is_own is_next
 all_continue [] c len m since t o h = tt
 all_continue (e ∷ es) c len m since t o h = grind (arith, nat_tests, all_continue es c len (m + 1) e.at t o.1)
@@ -49,7 +51,8 @@ are64_more : (ps : List (List ℕ)) (p : List ℕ) → Are64 ps → length p ≡
 are64_more [] p a h = (h, tt)
 are64_more (q ∷ ps) p a h = (a.0, are64_more ps p a.1 h)
 
-length_joined : (start : List ℕ) (ps : List (List ℕ)) → length start ≡ 64 → Are64 ps → length (joined start ps) ≡ 57 + 59 * length ps
+length_joined : (start : List ℕ) (ps : List (List ℕ)) → length start ≡ 64 → Are64 ps
+    → length (joined start ps) ≡ 57 + 59 * length ps
 unfolding initialization_data
 length_joined start ps h a =
     let one : length (take 57 (drop 7 start)) ≡ 57 = omega (arith, length-take 57 (drop 7 start), length-drop 7 start, h) in
@@ -57,7 +60,8 @@ length_joined start ps h a =
     omega (arith, length-append (take 57 (drop 7 start)) (flat_map continuation_data ps))
 
 -- The start and its own packets, up to the last, carry the bytes that are handed on.
-pub last_carries : (b : Begun) (t : ℕ) (p : List ℕ) → is_initialization b.packet ≡ true → length b.packet ≡ 64 → Are64 (packets_of b.own)
+pub last_carries : (b : Begun) (t : ℕ) (p : List ℕ) → is_initialization b.packet ≡ true → length b.packet ≡ 64
+    → Are64 (packets_of b.own)
     → length p ≡ 64
     → On (channel b.packet) b.own → 58 ≤ message_length b.packet → message_length b.packet ≤ 7609
     → goes_on (message_length b.packet) 0 b.at b.own t ≡ true → is_last b p ≡ true
@@ -130,7 +134,8 @@ long_is : (b : Begun) (p : List ℕ) (m : Message) → finished_long (Some b) p 
 unfolding finished_long
 long_is b p m h = grind arith
 
-long_carried : (o : Option Begun) (t : ℕ) (p : List ℕ) (m : Message) → ((b : Begun) → o ≡ Some b → Known b t) → length p ≡ 64
+long_carried : (o : Option Begun) (t : ℕ) (p : List ℕ) (m : Message) → ((b : Begun) → o ≡ Some b → Known b t)
+    → length p ≡ 64
     → finished_long o p ≡ Some m
     → CarriesMessage (long_carriers o p) m.cid m.cmd m.bytes
 unfolding finished_long long_carriers
@@ -158,14 +163,16 @@ short_carries p start whole few =
     }
 
 -- what an input finishes
-carried : (o : Option Begun) (t : ℕ) (admitted : Bool) (i : Input) (m : Message) → ((b : Begun) → o ≡ Some b → Known b t) → IsWhole i
+carried : (o : Option Begun) (t : ℕ) (admitted : Bool) (i : Input) (m : Message)
+    → ((b : Begun) → o ≡ Some b → Known b t) → IsWhole i
     → (admitted ≡ true → is_initialization (packet i) ≡ true) → finished o admitted i ≡ Some m
     → CarriesMessage (carriers o admitted i) m.cid m.cmd m.bytes
 unfolding finished carriers
 carried o t admitted (Packet p) m k whole starts h =
     go (admitted && nat_le (message_length p.0) 57) refl h
   where
-    go : (b : Bool) → (admitted && nat_le (message_length p.0) 57) ≡ b → cond b (Some (message p.0 [])) (finished_long o p.0) ≡ Some m
+    go : (b : Bool) → (admitted && nat_le (message_length p.0) 57) ≡ b
+        → cond b (Some (message p.0 [])) (finished_long o p.0) ≡ Some m
         → CarriesMessage (cond b (p.0 ∷ []) (long_carriers o p.0)) m.cid m.cmd m.bytes
     go true e q =
         let few : message_length p.0 ≤ 57 = grind (arith, nat_tests) in
@@ -173,7 +180,8 @@ carried o t admitted (Packet p) m k whole starts h =
     go false e q = long_carried o t p.0 m k whole q
 carried o t admitted other m k whole starts h = cc
 
-admitted_starts : (g : ℕ) (o : Option Begun) (w : Option ℕ) (i : Input) → is_packet (admits g o w) i ≡ true → is_initialization (packet i) ≡ true
+admitted_starts : (g : ℕ) (o : Option Begun) (w : Option ℕ) (i : Input) → is_packet (admits g o w) i ≡ true
+    → is_initialization (packet i) ≡ true
 unfolding admits
 admitted_starts g o w i h = grind arith
 

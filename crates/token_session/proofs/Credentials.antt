@@ -35,7 +35,8 @@ core_is start (e ∷ past) = ap (λ k. event_core k e.at (event_at start e past)
 no_job : (w : Option Job) → option_map (λ (v : Work). v.cid) (option_map as_work w) ≡ None → w ≡ None
 no_job w h = grind arith
 
-one_orderly : (g : ℕ) (k : CoreState) (at : ℕ) (e : Option Event) (past : List Step) → EventGiven g (working (core_at k past)) e
+one_orderly : (g : ℕ) (k : CoreState) (at : ℕ) (e : Option Event) (past : List Step)
+    → EventGiven g (working (core_at k past)) e
     → Orderly k past → Orderly k (step_of at e ++ past)
 unfolding Orderly
 one_orderly g k at None past a o = o
@@ -62,7 +63,8 @@ answered_bytes aaguid work id signed sig answer (Some (GetAssertion hash rp_id a
 answered_bytes aaguid work id signed sig answer (Some (MakeCredential hash rp_id user_id user_name discoverable exclude)) s = (_, s.3)
 answered_bytes aaguid work id signed sig answer other s = absurd s
 
-sends : (k : CoreState) (t : ℕ) (sig bytes : List ℕ) (cid : ℕ) → working k ≡ Some cid → core_answer k t (SignatureIs (Some sig)) ≡ Answered bytes
+sends : (k : CoreState) (t : ℕ) (sig bytes : List ℕ) (cid : ℕ) → working k ≡ Some cid
+    → core_answer k t (SignatureIs (Some sig)) ≡ Answered bytes
     → event_packets k t (Some (SignatureIs (Some sig))) ≡ written cid CBOR bytes
 unfolding answer_packets
 sends k t sig bytes cid w a = rw (w, a) refl
@@ -72,7 +74,8 @@ asked_on : (work : Option Job) (id signed : List ℕ) → needs work ≡ sign id
 asked_on None id signed e = cc
 asked_on (Some job) id signed e = (job.cid, refl)
 
-pub signature_at : (start : Start) (e : Judged) (h : List Judged) (id signed sig : List ℕ) → e.input ≡ Signature (Some sig)
+pub signature_at : (start : Start) (e : Judged) (h : List Judged) (id signed sig : List ℕ)
+    → e.input ≡ Signature (Some sig)
     → needs (core start h).state.work ≡ sign id signed
     → IsSigned start.aaguid (core start h).state.work id signed sig (core_answer (core start h) e.at (SignatureIs (Some sig))) (came start h).asked → IsAnsweredBy start h e id signed sig
 unfolding service_packets table_packets finished event answer_packets

@@ -25,13 +25,15 @@ sends_append : (xs : List Timed) (s : SessionState) (x : Timed) (n m : ℕ) → 
 sends_append [] s x n m e = let same : m ≡ n = omega arith in rw same (append-nil (numbered n (sent_by s x)))
 sends_append (y ∷ xs) s x n m e = rw (append_assoc, sends_append xs (stepped s y) x (n + 1) m (omega arith)) refl
 
-pub driven_more : (xs : List Timed) (i : ℕ) (s v w : SessionState) (x d : Timed) → i < length xs → x ≡ get_or xs i d → w ≡ stepped v x
+pub driven_more : (xs : List Timed) (i : ℕ) (s v w : SessionState) (x d : Timed) → i < length xs → x ≡ get_or xs i d
+    → w ≡ stepped v x
     → v ≡ driven s (take i xs) → w ≡ driven s (take (i + 1) xs)
 driven_more xs i s v w x d h is e f = rw (e, is, f, take_more xs i d h, driven_append (take i xs) s (get_or xs i d)) refl
 
 pub sends_more : (xs : List Timed) (i : ℕ) (s v : SessionState) (ps : List (List ℕ)) (old now next : List (ℕ × List ℕ)) (x d : Timed)
     → i < length xs → x ≡ get_or xs i d
-    → next ≡ now ++ numbered i ps → ps ≡ sent_by v x → v ≡ driven s (take i xs) → now ≡ old ++ driven_sends 0 s (take i xs)
+    → next ≡ now ++ numbered i ps → ps ≡ sent_by v x → v ≡ driven s (take i xs)
+    → now ≡ old ++ driven_sends 0 s (take i xs)
     → next ≡ old ++ driven_sends 0 s (take (i + 1) xs)
 sends_more xs i s v ps old now next x d h is a b f e =
     rw (a, e, b, is, f, take_more xs i d h, sends_append (take i xs) s (get_or xs i d) 0 i (omega (arith, length-take i xs))) (append_assoc old _ _)
@@ -40,11 +42,13 @@ whole_append : (xs : List Timed) (x : Timed) → ArriveWhole xs → IsWhole x.in
 whole_append [] x w is = (is, tt)
 whole_append (y ∷ xs) x w is = (w.0, whole_append xs x w.1 is)
 
-pub whole_more : (xs : List Timed) (i : ℕ) (x d : Timed) → i < length xs → x ≡ get_or xs i d → ArriveWhole (take i xs) → IsWhole x.input
+pub whole_more : (xs : List Timed) (i : ℕ) (x d : Timed) → i < length xs → x ≡ get_or xs i d → ArriveWhole (take i xs)
+    → IsWhole x.input
     → ArriveWhole (take (i + 1) xs)
 whole_more xs i x d h is w one = rw (take_more xs i d h, ← is) (whole_append (take i xs) x w one)
 
-pub room_here : (now all : List (ℕ × List ℕ)) (places : ℕ) → now ≡ all → length now + 130 ≤ places → length all + 130 ≤ places
+pub room_here : (now all : List (ℕ × List ℕ)) (places : ℕ) → now ≡ all → length now + 130 ≤ places
+    → length all + 130 ≤ places
 room_here now all places e h = let n = ap (length {A = ℕ × List ℕ}) e in omega (arith, n)
 
 -- A session that stands after a history is driven along it.
@@ -53,7 +57,8 @@ pub driven_stands : (xs : List Timed) (s : SessionState) (start : Start) (h : Li
 driven_stands [] s start h b = b
 driven_stands (x ∷ xs) s start h b = driven_stands xs (stepped s x) start (x ∷ h) (stands_longer s start h x b)
 
-pub driven_follows : (xs : List Timed) (s : SessionState) (start : Start) (n : ℕ) (h : List Timed) → StandsAfter s start h
+pub driven_follows : (xs : List Timed) (s : SessionState) (start : Start) (n : ℕ) (h : List Timed)
+    → StandsAfter s start h
     → driven_sends n s xs ≡ sent_from n start h xs
 driven_follows [] s start n h b = refl
 driven_follows (x ∷ xs) s start n h b =
@@ -66,8 +71,10 @@ IsPassed r m = let passed : Result Meters BothFault = Ok m in MatchResult r (λ 
 -- Two drives by which quiet histories go on.
 pub drives_alike : (start : Start) (h g xs ys : List Timed) (s t : SessionState) (r q : Result Meters DriveFault) (m k : Meters) (old new : List (ℕ × List ℕ))
     → IsPassed r m → IsPassed q k → Quiet start h g → Quiet start (onto xs h) (onto ys g)
-    → StandsAfter s start (onto (take (done_of (length xs) r) xs) h) → StandsAfter t start (onto (take (done_of (length ys) q) ys) g)
-    → IfOk r (λ m. m ≡ s.meters) → IfOk q (λ k. k ≡ t.meters) → new ≡ old ++ sent_from 0 start g (take (done_of (length ys) q) ys)
+    → StandsAfter s start (onto (take (done_of (length xs) r) xs) h)
+    → StandsAfter t start (onto (take (done_of (length ys) q) ys) g)
+    → IfOk r (λ m. m ≡ s.meters) → IfOk q (λ k. k ≡ t.meters)
+    → new ≡ old ++ sent_from 0 start g (take (done_of (length ys) q) ys)
     → (s ≡ t) × (m ≡ k) × (new ≡ old ++ quiet_from 0 start h xs ys)
 drives_alike start h g xs ys s t (Err e) q m k old new is is' quiet longer stands stands' counts counts' sent = absurd is
 drives_alike start h g xs ys s t (Ok x) (Err e) m k old new is is' quiet longer stands stands' counts counts' sent = absurd is'

@@ -50,7 +50,8 @@ time_few s t = grind (arith, one_packet)
 below : (a b : List (List ℕ)) → length a ≤ 1 → length b ≤ 129 → length (a ++ b) ≤ 130
 below a b h k = omega (arith, length-append a b)
 
-pub served_few : (s : State) (early : List (List ℕ)) (i : Input) → length early ≤ 1 → length (served s early i).packets ≤ 130
+pub served_few : (s : State) (early : List (List ℕ)) (i : Input) → length early ≤ 1
+    → length (served s early i).packets ≤ 130
 served_few s early (Packet p) h =
     let a : Assembly = record { given = s.given; current = s.current; finished = [] } in
     below early _ h (verdict_few s.core s.now (verdict a (working s.core) (fields p.0)) (accepted a s.now (working s.core) (fields p.0)).finished)

@@ -31,7 +31,8 @@ pub record Good (start : Start) (h : List Judged) : Type 0 where
 still_given : (g t : ℕ) (w : Option ℕ) (o : Option Begun) → OpenGiven g o w → OpenGiven g (still t o) w
 still_given g t w o h = grind arith
 
-pub safe_at : (start : Start) (t : ℕ) (h : List Judged) → Good start h → end start h ≤ t → Safe (given h) (open_at h t) (working (core start h))
+pub safe_at : (start : Start) (t : ℕ) (h : List Judged) → Good start h → end start h ≤ t
+    → Safe (given h) (open_at h t) (working (core start h))
 safe_at start t h good le =
     record { few = (good.safe).few; works = (good.safe).works; opens = rw (still_open h start t good.lawful le) (still_given (given h) t (working (core start h)) _ (good.safe).opens) }
 
@@ -54,7 +55,8 @@ time_named start t h good le = rw (still_open h start t good.lawful le) (grind (
 
 -- ---- service
 
-given_more : (e : Judged) (h : List Judged) → given (e ∷ h) ≡ cond (is_packet asks_channel e.input) (min (given h + 1) LAST_CHANNEL) (given h)
+given_more : (e : Judged) (h : List Judged)
+    → given (e ∷ h) ≡ cond (is_packet asks_channel e.input) (min (given h + 1) LAST_CHANNEL) (given h)
 unfolding given
 given_more e h = rw (sum_by-cons (λ (v : Judged). cond (is_packet asks_channel v.input) 1 0) e h) (grind arith)
 
@@ -97,7 +99,8 @@ served_named start t h other good le =
     named_turn start e h _ _ _ _ (sym (given_more e h)) (sym (ap (option_map as_open) (open_next_is h e start good.lawful le) ∙ grind arith)) refl refl
 
 -- One input: the machine's turn on the state that a history names gives the state that the longer history names, and its packets.
-pub follows : (start : Start) (h : List Judged) (x : Timed) → Good start h → turn (named start h) x ≡ goal_turn start (judge start x h) h
+pub follows : (start : Start) (h : List Judged) (x : Timed) → Good start h
+    → turn (named start h) x ≡ goal_turn start (judge start x h) h
 unfolding turn judge named
 follows start h x good =
     let t = max (end start h) x.at in
@@ -144,16 +147,20 @@ pub turn_after : (s : State) (start : Start) (h : List Timed) (x : Timed) → Is
 unfolding judged sent_now
 turn_after s start h x b = ap (λ v. turn v x) b ∙ follows start (judged start h) x (good_judged start h)
 
-pub step_after : (s : State) (start : Start) (h : List Timed) (x : Timed) → IsAfter s start h → IsAfter (turn s x).state start (x ∷ h)
+pub step_after : (s : State) (start : Start) (h : List Timed) (x : Timed) → IsAfter s start h
+    → IsAfter (turn s x).state start (x ∷ h)
 step_after s start h x b = ap (λ (v : Turn). v.state) (turn_after s start h x b)
 
-pub step_sends : (s : State) (start : Start) (h : List Timed) (x : Timed) → IsAfter s start h → (turn s x).packets ≡ sent_now start h x
+pub step_sends : (s : State) (start : Start) (h : List Timed) (x : Timed) → IsAfter s start h
+    → (turn s x).packets ≡ sent_now start h x
 step_sends s start h x b = ap (λ (v : Turn). v.packets) (turn_after s start h x b)
 
-pub run_after : (xs : List Timed) (s : State) (start : Start) (h : List Timed) → IsAfter s start h → IsAfter (run_state s xs) start (onto xs h)
+pub run_after : (xs : List Timed) (s : State) (start : Start) (h : List Timed) → IsAfter s start h
+    → IsAfter (run_state s xs) start (onto xs h)
 run_after [] s start h b = b
 run_after (x ∷ xs) s start h b = run_after xs (turn s x).state start (x ∷ h) (step_after s start h x b)
 
-pub run_sends : (xs : List Timed) (s : State) (start : Start) (n : ℕ) (h : List Timed) → IsAfter s start h → run_sent n s xs ≡ sent_from n start h xs
+pub run_sends : (xs : List Timed) (s : State) (start : Start) (n : ℕ) (h : List Timed) → IsAfter s start h
+    → run_sent n s xs ≡ sent_from n start h xs
 run_sends [] s start n h b = refl
 run_sends (x ∷ xs) s start n h b = rw (step_sends s start h x b, run_sends xs (turn s x).state start (n + 1) (x ∷ h) (step_after s start h x b)) refl

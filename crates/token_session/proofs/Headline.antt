@@ -54,7 +54,8 @@ onto_reverse [] h = refl
 onto_reverse (x ∷ xs) h = rw (onto_reverse xs (x ∷ h), reverse-append (x ∷ []) xs) (sym (append_assoc (reverse xs) (x ∷ []) h))
 
 -- the packets of a start's inputs are those of the history, which has the newest first
-sent_reverse : (xs : List Timed) (start : Start) → map (λ (p : ℕ × List ℕ). p.1) (sent_from 0 start [] xs) ≡ sent start (judged start (reverse xs))
+sent_reverse : (xs : List Timed) (start : Start)
+    → map (λ (p : ℕ × List ℕ). p.1) (sent_from 0 start [] xs) ≡ sent start (judged start (reverse xs))
 unfolding sent judged
 sent_reverse xs start = sent_along xs 0 start [] ∙ ap (λ h. sent start (judged start h)) (onto_reverse xs [] ∙ append-nil (reverse xs))
 
@@ -70,7 +71,8 @@ packets_pairs [] = refl
 packets_pairs (s ∷ sent) = ap (λ ps. packet_of s ∷ ps) (packets_pairs sent)
 
 -- A list of sent packets that are those of a start's inputs answers the history of these inputs.
-pub run_answered : (start : Start) (xs : List Timed) (out : List Sent) → ArriveWhole xs → map as_pair out ≡ sent_from 0 start [] xs
+pub run_answered : (start : Start) (xs : List Timed) (out : List Sent) → ArriveWhole xs
+    → map as_pair out ≡ sent_from 0 start [] xs
     → (ArriveWhole (reverse xs) → IsAnswered start (reverse xs) (turns_send start (reverse xs)))
     → IsAnswered start (reverse xs) (map packet_of out)
 run_answered start xs out w is answers =

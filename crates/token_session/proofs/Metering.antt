@@ -56,7 +56,8 @@ unfolding meters_of metered requests peak_held peak_rows peak_pending
 meters_more start e h = rw (counted_more (request_in (event_at start e h)) (peak_held start h) (peak_rows start h) (peak_pending start h) (requests start h)) refl
 
 -- A session that stands after a history stands after the longer one.
-pub stands_longer : (s : SessionState) (start : Start) (h : List Timed) (x : Timed) → StandsAfter s start h → StandsAfter (stepped s x) start (x ∷ h)
+pub stands_longer : (s : SessionState) (start : Start) (h : List Timed) (x : Timed) → StandsAfter s start h
+    → StandsAfter (stepped s x) start (x ∷ h)
 unfolding stepped session_of named judged
 stands_longer s start h x b =
     let past = judged start h in
@@ -64,7 +65,8 @@ stands_longer s start h x b =
     rw (b, turn_after (named start past) start h x refl, held_named start (e ∷ past), meters_more start e past) refl
 
 -- A turn of the machine, counted, is a step of the session.
-pub stepped_is : (m n : State) (k l : Meters) (s : SessionState) (x : Timed) (held rows pending : ℕ) → record { machine = m; meters = k } ≡ s
+pub stepped_is : (m n : State) (k l : Meters) (s : SessionState) (x : Timed) (held rows pending : ℕ)
+    → record { machine = m; meters = k } ≡ s
     → n ≡ (turn m x).state → l ≡ counted k (request_in (turn m x).event)
     → held ≡ max l.held (held_bytes n.current) → rows ≡ max l.rows (length n.core.state.rows)
     → pending ≡ max l.pending (pending_count n.core.state.pending)
@@ -74,15 +76,18 @@ stepped_is m n k l s x held rows pending is state finished held_is rows_are pend
 
 -- the session at its start
 pub begins : (start : Start) (m : State) (k : Meters) (rows : ℕ) → m ≡ start_state start
-    → k ≡ record { held = 0; rows = rows; pending = 0; requests = 0; bytes = 0; steps = 0 } → rows ≡ length m.core.state.rows
+    → k ≡ record { held = 0; rows = rows; pending = 0; requests = 0; bytes = 0; steps = 0 }
+    → rows ≡ length m.core.state.rows
     → record { machine = m; meters = k } ≡ session_of start []
 unfolding start_state session_of named meters_of requests peak_held peak_rows peak_pending held given open_at open_among core last_keepalive
 begins start m k rows is first counted = rw (first, counted, is) refl
 
-pub bounded_first : (k : Meters) (rows : ℕ) → k ≡ record { held = 0; rows = rows; pending = 0; requests = 0; bytes = 0; steps = 0 } → AreBounded k
+pub bounded_first : (k : Meters) (rows : ℕ)
+    → k ≡ record { held = 0; rows = rows; pending = 0; requests = 0; bytes = 0; steps = 0 } → AreBounded k
 bounded_first k rows first = rw first (omega arith)
 
-pub machine_after : (s : SessionState) (start : Start) (h : List Timed) → StandsAfter s start h → IsAfter s.machine start h
+pub machine_after : (s : SessionState) (start : Start) (h : List Timed) → StandsAfter s start h
+    → IsAfter s.machine start h
 unfolding session_of
 machine_after s start h b = ap (λ (v : SessionState). v.machine) b
 

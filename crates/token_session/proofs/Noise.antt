@@ -33,18 +33,21 @@ ruled s f early r =
     let v = ruling_verdict s.given (working s.core) f m r in
     happens s.now (given_after s.given r) (open_after s.current s.now f r) s.core s.keepalive_at early (verdict_packets v (bytes_of m)) (verdict_event v (bytes_of m))
 
-row_leaves : (s : State) (f : Fields) (early : List (List ℕ)) (r : Ruling) → is_noise r ≡ true → Leaves (ruled s f early r) (served s early Tick)
+row_leaves : (s : State) (f : Fields) (early : List (List ℕ)) (r : Ruling) → is_noise r ≡ true
+    → Leaves (ruled s f early r) (served s early Tick)
 unfolding open_after message_after ruling_verdict
 row_leaves s f early r h = record { state = grind arith; request = grind arith }
 
 -- An event that leaves the authenticator as it is, and that it doesn't answer, leaves what a tick leaves.
 event_leaves : (s : State) (early : List (List ℕ)) (e : Event)
-    → turn_of (s.core).setup (s.core).state s.now e ≡ record { state = (s.core).state; answer = Ignored } → request_in (Some e) ≡ None
+    → turn_of (s.core).setup (s.core).state s.now e ≡ record { state = (s.core).state; answer = Ignored }
+    → request_in (Some e) ≡ None
     → Leaves (happens s.now s.given s.current s.core s.keepalive_at early [] (Some e)) (served s early Tick)
 unfolding answer_keeps_alive
 event_leaves s early e ignored unread = rw ignored (record { state = grind arith; request = unread })
 
-served_leaves : (s : State) (early : List (List ℕ)) (i : Input) → is_noise_to s i ≡ true → Leaves (served s early i) (served s early Tick)
+served_leaves : (s : State) (early : List (List ℕ)) (i : Input) → is_noise_to s i ≡ true
+    → Leaves (served s early i) (served s early Tick)
 unfolding accepted verdict
 served_leaves s early (Packet p) h = row_leaves s (fields p.0) early (ruling_of s.given s.current (working s.core) (fields p.0)) h
 served_leaves s early (Presence reply) h = event_leaves s early (PresenceIs reply) (presence_ignored (s.core).setup (s.core).state s.now reply (grind arith)) refl
@@ -58,13 +61,16 @@ noise_leaves s x h = served_leaves (time_passed s (max s.now x.at)).state (time_
 
 -- whether an input is noise, by the parts of a session when time has passed
 pub noise_now : (s : State) (latest keepalive_at at now : ℕ) (a : Assembly) (k : CoreState) (i : Input) (answer : Bool)
-    → record { now = latest; given = a.given; current = a.current; core = k; keepalive_at = keepalive_at } ≡ s → now ≡ max latest at
-    → answer ≡ is_noise_among a.given (still_open a.current now) k i → answer ≡ is_noise_at s (record { at = at; input = i })
+    → record { now = latest; given = a.given; current = a.current; core = k; keepalive_at = keepalive_at } ≡ s
+    → now ≡ max latest at
+    → answer ≡ is_noise_among a.given (still_open a.current now) k i
+    → answer ≡ is_noise_at s (record { at = at; input = i })
 unfolding is_noise_at time_passed
 noise_now s latest keepalive_at at now a k i answer is moment told = rw (← is, told, moment) refl
 
 -- To a session, noise is a tick.
-pub noise_steps : (s : SessionState) (x : Timed) → is_noise_at s.machine x ≡ true → stepped s x ≡ stepped s (tick_at x.at)
+pub noise_steps : (s : SessionState) (x : Timed) → is_noise_at s.machine x ≡ true
+    → stepped s x ≡ stepped s (tick_at x.at)
 unfolding stepped
 noise_steps s x h =
     let same = noise_leaves s.machine x h in
@@ -94,7 +100,8 @@ stepped_alike start h x y (inr tick) =
     rw tick.0 (noise_steps (session_of start (judged start h)) x (noise_is_named (named start (judged start h)) start h x refl ∙ tick.1))
 
 -- Sessions after quiet histories hold the same.
-pub quiet_alike : (start : Start) (h g : List Timed) → Quiet start h g → session_of start (judged start h) ≡ session_of start (judged start g)
+pub quiet_alike : (start : Start) (h g : List Timed) → Quiet start h g
+    → session_of start (judged start h) ≡ session_of start (judged start g)
 quiet_alike start [] [] q = refl
 quiet_alike start (x ∷ h) (y ∷ g) q =
     let s = session_of start (judged start h) in
@@ -127,7 +134,8 @@ quiet_sends_now start h g x y q (inl same) = rw same (now_same start h g x (ap (
 quiet_sends_now start h g x y q (inr tick) = rw tick.0 (now_tick start h g x (ap (λ (v : SessionState). v.machine) (quiet_alike start h g q)) tick.1)
 
 -- The quiet history sends what the other sends, less the packets of service at the replaced inputs.
-pub quiet_sends : (start : Start) (h g : List Timed) → Quiet start h g → sent start (judged start g) ≡ quiet_sent start h g
+pub quiet_sends : (start : Start) (h g : List Timed) → Quiet start h g
+    → sent start (judged start g) ≡ quiet_sent start h g
 unfolding sent judged sent_now quiet_sent
 quiet_sends start [] [] q = refl
 quiet_sends start (x ∷ h) (y ∷ g) q =
@@ -144,12 +152,14 @@ onto_length : (xs h : List Timed) → length (onto xs h) ≡ length xs + length 
 onto_length [] h = omega arith
 onto_length (x ∷ xs) h = onto_length xs (x ∷ h) ∙ omega arith
 
-shorter : (xs ys : List Timed) (start : Start) (h g : List Timed) → length xs ≡ length ys → Quiet start (onto xs h) (onto ys g) → Quiet start h g
+shorter : (xs ys : List Timed) (start : Start) (h g : List Timed) → length xs ≡ length ys
+    → Quiet start (onto xs h) (onto ys g) → Quiet start h g
 shorter [] [] start h g n q = q
 shorter (x ∷ xs) (y ∷ ys) start h g n q = (shorter xs ys start (x ∷ h) (y ∷ g) (omega (arith, n)) q).0
 shorter xs ys start h g n q = absurd (omega (arith, n))
 
-runs_alike : (xs ys : List Timed) (n : ℕ) (start : Start) (h g : List Timed) → length xs ≡ length ys → Quiet start (onto xs h) (onto ys g)
+runs_alike : (xs ys : List Timed) (n : ℕ) (start : Start) (h g : List Timed) → length xs ≡ length ys
+    → Quiet start (onto xs h) (onto ys g)
     → sent_from n start g ys ≡ quiet_from n start h xs ys
 runs_alike [] [] n start h g l q = refl
 runs_alike (x ∷ xs) (y ∷ ys) n start h g l q =
@@ -158,7 +168,8 @@ runs_alike (x ∷ xs) (y ∷ ys) n start h g l q =
     rw (quiet_sends_now start h g x y one.0 one.1, runs_alike xs ys (n + 1) start (x ∷ h) (y ∷ g) k q) refl
 runs_alike xs ys n start h g l q = absurd (omega (arith, l))
 
-pub quiet_runs : (n : ℕ) (start : Start) (h g xs ys : List Timed) → Quiet start h g → Quiet start (onto xs h) (onto ys g)
+pub quiet_runs : (n : ℕ) (start : Start) (h g xs ys : List Timed) → Quiet start h g
+    → Quiet start (onto xs h) (onto ys g)
     → sent_from n start g ys ≡ quiet_from n start h xs ys
 quiet_runs n start h g xs ys q longer =
     let a = same_length start h g q in

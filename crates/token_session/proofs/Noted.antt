@@ -29,7 +29,8 @@ goes : (cid number : ℕ) (part : List ℕ) → number < 128 → is_initializati
 unfolding is_initialization continuation_packet padded
 goes cid number part h = grind (arith, nat_tests)
 
-none_among : (most cid number : ℕ) (bytes : List ℕ) → number + most ≤ 128 → keeps_alive (continuation_packets most cid number bytes) ≡ false
+none_among : (most cid number : ℕ) (bytes : List ℕ) → number + most ≤ 128
+    → keeps_alive (continuation_packets most cid number bytes) ≡ false
 unfolding continuation_packets
 none_among zero cid number bytes h = refl
 none_among (suc most) cid number [] h = refl

@@ -31,7 +31,8 @@ own-append c L M = filter-append (is_own c) L M
 
 -- ---- an earlier moment, with fewer inputs
 
-pub goes_on_prefix : (os ps : List Judged) (len m since t u : ℕ) → From t ps → t ≤ u → goes_on len m since (os ++ ps) u ≡ true
+pub goes_on_prefix : (os ps : List Judged) (len m since t u : ℕ) → From t ps → t ≤ u
+    → goes_on len m since (os ++ ps) u ≡ true
     → goes_on len m since os t ≡ true
 unfolding goes_on
 goes_on_prefix [] [] len m since t u f le h = grind (arith, nat_tests)
@@ -39,7 +40,8 @@ goes_on_prefix [] (p ∷ ps) len m since t u f le h = let late = f.0 in grind (a
 goes_on_prefix (o ∷ os) ps len m since t u f le h = grind (arith, goes_on_prefix os ps len (m + 1) o.at t u f le)
 
 -- What is open earlier among fewer inputs is more.
-is_open_prefix : (e : Judged) (L M : List Judged) (t u : ℕ) → From t M → t ≤ u → is_open e (L ++ M) u ≡ true → is_open e L t ≡ true
+is_open_prefix : (e : Judged) (L M : List Judged) (t u : ℕ) → From t M → t ≤ u → is_open e (L ++ M) u ≡ true
+    → is_open e L t ≡ true
 unfolding is_open
 is_open_prefix e L M t u f le h =
     let c = channel (packet e.input) in
@@ -47,7 +49,8 @@ is_open_prefix e L M t u f le h =
     grind (arith, goes_on_prefix (own c L) (own c M) (message_length (packet e.input)) 0 e.at t u (own_from c M t f) le)
 
 -- where nothing is open, nothing that came before is open later
-pub none_stays : (h L M : List Judged) (t u : ℕ) → From t M → t ≤ u → open_among L h t ≡ None → open_among (L ++ M) h u ≡ None
+pub none_stays : (h L M : List Judged) (t u : ℕ) → From t M → t ≤ u → open_among L h t ≡ None
+    → open_among (L ++ M) h u ≡ None
 unfolding open_among
 none_stays [] L M t u f le n = refl
 none_stays (e ∷ before) L M t u f le n = grind (arith, is_open_prefix e L M t u f le, none_stays before (e ∷ L) M t u f le)
@@ -80,7 +83,8 @@ unfolding goes_on
 goes_on_more [] x len m since n e = let same : m ≡ n = omega arith in rw same (grind (arith, nat_tests))
 goes_on_more (o ∷ os) x len m since n e = grind (arith, goes_on_more os x len (m + 1) o.at n (omega arith))
 
-own_more : (c : ℕ) (x : Judged) (L : List Judged) → own c (L ++ x ∷ []) ≡ cond (is_own c x) (own c L ++ x ∷ []) (own c L)
+own_more : (c : ℕ) (x : Judged) (L : List Judged)
+    → own c (L ++ x ∷ []) ≡ cond (is_own c x) (own c L ++ x ∷ []) (own c L)
 unfolding own
 own_more c x L = grind (arith, filter-append, append-nil)
 
@@ -126,7 +130,8 @@ abbrev pub still : ℕ → Option Begun → Option Begun
 still u None = None
 still u (Some b) = cond (nat_lt u (last_at b.at b.own + 500)) (Some b) None
 
-later_open : (h L : List Judged) (start : Start) (t u : ℕ) → Lawful start h → From (end start h) L → end start h ≤ t → t ≤ u
+later_open : (h L : List Judged) (start : Start) (t u : ℕ) → Lawful start h → From (end start h) L → end start h ≤ t
+    → t ≤ u
     → open_among L h u ≡ still u (open_among L h t)
 unfolding open_among open_at
 later_open [] L start t u l f le lu = refl
@@ -136,6 +141,7 @@ later_open (e ∷ before) L start t u l f le lu =
     rw (open_still e L t u lu) (grind (arith, open_is_admitted e L t, ih, none))
 
 -- what is open at the end of a history, and still at a later moment
-pub still_open : (h : List Judged) (start : Start) (u : ℕ) → Lawful start h → end start h ≤ u → open_at h u ≡ still u (open_at h (end start h))
+pub still_open : (h : List Judged) (start : Start) (u : ℕ) → Lawful start h → end start h ≤ u
+    → open_at h u ≡ still u (open_at h (end start h))
 unfolding open_at
 still_open h start u l le = later_open h [] start (end start h) u l tt (omega arith) le

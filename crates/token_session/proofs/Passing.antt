@@ -36,12 +36,14 @@ abbrev dropped : Option Open → ℕ → Option ℕ
 dropped c t = cond (is_overdue c t) (option_map (λ m. m.cid) c) None
 
 module _ (n b t : ℕ) (a d : Assembly) (k : CoreState) (m : Meters) (v : SessionState) (sent : List (List ℕ)) (is : record { machine = whole n a k b; meters = m } ≡ v) (kept : d ≡ passed_to a t) where
-  pub late_passed : (x : ℕ) → Some x ≡ dropped a.current t → sent ≡ error x 5 → IsPassed v t (record { machine = whole t d k b; meters = m }) sent
+  pub late_passed : (x : ℕ) → Some x ≡ dropped a.current t → sent ≡ error x 5
+      → IsPassed v t (record { machine = whole t d k b; meters = m }) sent
   unfolding time_passed is_overdue
   late_passed x r s = rw (← is, kept, s) (record { state = grind arith; meters = refl; packets = grind arith })
 
   -- where no message is overdue
-  pub due_passed : None ≡ dropped a.current t → keepalive_due (waiting k) b t ≡ true → sent ≡ keepalive_packets (waiting k)
+  pub due_passed : None ≡ dropped a.current t → keepalive_due (waiting k) b t ≡ true
+      → sent ≡ keepalive_packets (waiting k)
       → IsPassed v t (record { machine = whole t d k t; meters = m }) sent
   unfolding time_passed is_overdue
   due_passed r due s = rw (← is, kept, s) (record { state = grind arith; meters = refl; packets = grind arith })

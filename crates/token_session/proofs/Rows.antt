@@ -50,8 +50,7 @@ sent_by xs = sent at_zero (judged at_zero (reverse xs))
 
 -- the first lines of the plainest log
 init_and_ping : sent_by (came 0 init_line ∷ came 5 (0 ∷ 0 ∷ 0 ∷ 1 ∷ 129 ∷ 0 ∷ 3 ∷ 97 ∷ 98 ∷ 99 ∷ []) ∷ []) ≡ greeted 1 ∷ pad (0 ∷ 0 ∷ 0 ∷ 1 ∷ 129 ∷ 0 ∷ 3 ∷ 97 ∷ 98 ∷ 99 ∷ []) ∷ []
-unfolding sent_by
-init_and_ping = refl
+init_and_ping = unfold sent_by in refl
 
 -- Two channels are given at 0; what these inputs send is dropped.
 abbrev begun_with_two : List Timed → List Timed
@@ -81,45 +80,36 @@ error_1 code = pad (one (191 ∷ 0 ∷ 1 ∷ code ∷ []))
 
 two_hosts : sent_by (begun_with_two (came 0 ping_100 ∷ came 10 (two (129 ∷ 0 ∷ 1 ∷ 97 ∷ [])) ∷ came 20 (number 0) ∷ []))
     ≡ after_two (pad (two (191 ∷ 0 ∷ 1 ∷ 6 ∷ [])) ∷ ping_100_back)
-unfolding sent_by
-two_hosts = refl
+two_hosts = unfold sent_by in refl
 
 wrong_sequence : sent_by (begun_with_two (came 0 ping_100 ∷ came 0 (two (0 ∷ [])) ∷ came 0 (number 1) ∷ came 0 (number 0) ∷ []))
     ≡ after_two (error_1 4 ∷ [])
-unfolding sent_by error_1
-wrong_sequence = refl
+wrong_sequence = unfold sent_by error_1 in refl
 
 init_on_open : sent_by (begun_with_two (came 0 ping_100 ∷ came 0 (one (134 ∷ 0 ∷ 8 ∷ replicate 8 8)) ∷ came 0 (number 0) ∷ []))
     ≡ after_two (pad (one (134 ∷ 0 ∷ 17 ∷ replicate 8 8 ++ 0 ∷ 0 ∷ 0 ∷ 1 ∷ 2 ∷ 1 ∷ 0 ∷ 0 ∷ 12 ∷ [])) ∷ [])
-unfolding sent_by
-init_on_open = refl
+init_on_open = unfold sent_by in refl
 
 init_of_seven : sent_by (begun_with_two (came 0 ping_100 ∷ came 0 (one (134 ∷ 0 ∷ 7 ∷ replicate 7 8)) ∷ came 0 (number 0) ∷ []))
     ≡ after_two (error_1 3 ∷ [])
-unfolding sent_by error_1
-init_of_seven = refl
+init_of_seven = unfold sent_by error_1 in refl
 
 init_elsewhere : sent_by (begun_with_two (came 0 ping_100 ∷ came 0 init_line ∷ came 0 (number 0) ∷ []))
     ≡ after_two (greeted 3 ∷ ping_100_back)
-unfolding sent_by
-init_elsewhere = refl
+init_elsewhere = unfold sent_by in refl
 
 in_time : sent_by (begun_with_two (came 1000 ping_100 ∷ came 1499 (number 0) ∷ [])) ≡ after_two ping_100_back
-unfolding sent_by
-in_time = refl
+in_time = unfold sent_by in refl
 
 late : sent_by (begun_with_two (came 2000 ping_100 ∷ tick 2300 ∷ came 2400 (one (145 ∷ 0 ∷ 0 ∷ [])) ∷ came 2500 (number 0) ∷ [])) ≡ after_two (error_1 5 ∷ [])
-unfolding sent_by error_1
-late = refl
+late = unfold sent_by error_1 in refl
 
 earlier : sent_by (begun_with_two (came 3000 ping_100 ∷ came 900 (number 0) ∷ [])) ≡ after_two ping_100_back
-unfolding sent_by
-earlier = refl
+earlier = unfold sent_by in refl
 
 broken_off : sent_by (begun_with_two (came 0 ping_100 ∷ came 10 (one (145 ∷ 0 ∷ 0 ∷ [])) ∷ came 20 (one (129 ∷ 0 ∷ 0 ∷ [])) ∷ came 30 (one (129 ∷ 0 ∷ 0 ∷ [])) ∷ []))
     ≡ after_two (error_1 4 ∷ pad (one (129 ∷ 0 ∷ 0 ∷ [])) ∷ [])
-unfolding sent_by error_1
-broken_off = refl
+broken_off = unfold sent_by error_1 in refl
 
 -- the packets 0 .. n-1 after the first
 abbrev numbers_from : ℕ → ℕ → List Timed
@@ -132,40 +122,32 @@ back_from (suc n) k = one (k ∷ replicate 59 2) ∷ back_from n (k + 1)
 
 -- 57 + 10 * 59 = 647 = 2 * 256 + 135
 ten : sent_by (begun_with_two (came 0 (one (129 ∷ 2 ∷ 135 ∷ replicate 57 1)) ∷ numbers_from 10 0)) ≡ after_two (one (129 ∷ 2 ∷ 135 ∷ replicate 57 1) ∷ back_from 10 0)
-unfolding sent_by
-ten = refl
+ten = unfold sent_by in refl
 
 forty : sent_by (begun_with_two (came 0 (one (129 ∷ 9 ∷ 113 ∷ replicate 57 1)) ∷ numbers_from 40 0)) ≡ after_two (one (129 ∷ 9 ∷ 113 ∷ replicate 57 1) ∷ back_from 40 0)
-unfolding sent_by
-forty = refl
+forty = unfold sent_by in refl
 
 longest : sent_by (begun_with_two (came 0 (one (129 ∷ 29 ∷ 185 ∷ replicate 57 1)) ∷ numbers_from 128 0)) ≡ after_two (one (129 ∷ 29 ∷ 185 ∷ replicate 57 1) ∷ back_from 128 0)
-unfolding sent_by
-longest = refl
+longest = unfold sent_by in refl
 
 too_long : sent_by (begun_with_two (came 0 (one (129 ∷ 29 ∷ 186 ∷ replicate 57 1)) ∷ came 1 (number 0) ∷ [])) ≡ after_two (error_1 3 ∷ [])
-unfolding sent_by error_1
-too_long = refl
+too_long = unfold sent_by error_1 in refl
 
 -- PING of 0, 57 and 58 bytes
 ping_0 : sent_by (begun_with_two (came 0 (one (129 ∷ 0 ∷ 0 ∷ [])) ∷ [])) ≡ after_two (pad (one (129 ∷ 0 ∷ 0 ∷ [])) ∷ [])
-unfolding sent_by
-ping_0 = refl
+ping_0 = unfold sent_by in refl
 
 ping_57 : sent_by (begun_with_two (came 0 (one (129 ∷ 0 ∷ 57 ∷ replicate 57 7)) ∷ [])) ≡ after_two (one (129 ∷ 0 ∷ 57 ∷ replicate 57 7) ∷ [])
-unfolding sent_by
-ping_57 = refl
+ping_57 = unfold sent_by in refl
 
 ping_58 : sent_by (begun_with_two (came 0 (one (129 ∷ 0 ∷ 58 ∷ replicate 57 7)) ∷ came 0 (one (0 ∷ 7 ∷ [])) ∷ []))
     ≡ after_two (one (129 ∷ 0 ∷ 58 ∷ replicate 57 7) ∷ pad (one (0 ∷ 7 ∷ [])) ∷ [])
-unfolding sent_by
-ping_58 = refl
+ping_58 = unfold sent_by in refl
 
 -- commands that aren't served, a channel that wasn't given, a CBOR message without a byte and one that isn't served
 refusals : sent_by (begun_with_two (came 0 (one (131 ∷ 0 ∷ 0 ∷ [])) ∷ came 1 (0 ∷ 0 ∷ 0 ∷ 3 ∷ 129 ∷ 0 ∷ 0 ∷ []) ∷ came 2 (one (144 ∷ 0 ∷ 0 ∷ [])) ∷ came 3 (one (144 ∷ 0 ∷ 1 ∷ 6 ∷ [])) ∷ []))
     ≡ after_two (error_1 1 ∷ pad (0 ∷ 0 ∷ 0 ∷ 3 ∷ 191 ∷ 0 ∷ 1 ∷ 11 ∷ []) ∷ error_1 3 ∷ pad (one (144 ∷ 0 ∷ 1 ∷ 1 ∷ [])) ∷ [])
-unfolding sent_by error_1
-refusals = refl
+refusals = unfold sent_by error_1 in refl
 
 -- authenticatorGetInfo's answer, for that AAGUID, as a CBOR message on channel 1
 info_1 : List (List ℕ)
@@ -173,13 +155,11 @@ unfolding written initialization_packet continuation_packet continuation_packets
 info_1 = written 1 0x10 (info_answer (replicate 16 0))
 
 get_info : sent_by (begun_with_two (came 0 (one (144 ∷ 0 ∷ 1 ∷ 4 ∷ [])) ∷ [])) ≡ after_two info_1
-unfolding sent_by info_1
-get_info = refl
+get_info = unfold sent_by info_1 in refl
 
 -- a byte after its command
 get_info_refused : sent_by (begun_with_two (came 0 (one (144 ∷ 0 ∷ 2 ∷ 4 ∷ 0 ∷ [])) ∷ [])) ≡ after_two (pad (one (144 ∷ 0 ∷ 1 ∷ 3 ∷ [])) ∷ [])
-unfolding sent_by
-get_info_refused = refl
+get_info_refused = unfold sent_by in refl
 
 -- Work waits for the user's presence on channel 1 since the moment 0.
 abbrev waiting : State
@@ -194,19 +174,16 @@ waits : runs waiting (came 20 (two (129 ∷ 0 ∷ 1 ∷ 7 ∷ [])) ∷ came 25 (
     ∷ came 210 (two (145 ∷ 0 ∷ 0 ∷ [])) ∷ came 220 (one (145 ∷ 0 ∷ 0 ∷ [])) ∷ came 230 (one (145 ∷ 0 ∷ 0 ∷ [])) ∷ tick 500 ∷ [])
     ≡ (0, pad (two (191 ∷ 0 ∷ 1 ∷ 6 ∷ []))) ∷ (1, error_1 6) ∷ (2, greeted 3) ∷ (3, pad (one (187 ∷ 0 ∷ 1 ∷ 2 ∷ []))) ∷ (5, pad (one (187 ∷ 0 ∷ 1 ∷ 2 ∷ [])))
     ∷ (7, pad (one (144 ∷ 0 ∷ 1 ∷ 45 ∷ []))) ∷ []
-unfolding runs error_1
-waits = refl
+waits = unfold runs error_1 in refl
 
 -- INIT on its channel drops the work, which is answered by nothing from then on
 drops : runs waiting (came 30 (one (134 ∷ 0 ∷ 8 ∷ replicate 8 9)) ∷ tick 500 ∷ came 510 (one (145 ∷ 0 ∷ 0 ∷ [])) ∷ [])
     ≡ (0, pad (one (134 ∷ 0 ∷ 17 ∷ replicate 8 9 ++ 0 ∷ 0 ∷ 0 ∷ 1 ∷ 2 ∷ 1 ∷ 0 ∷ 0 ∷ 12 ∷ []))) ∷ []
-unfolding runs
-drops = refl
+drops = unfold runs in refl
 
 -- time first, service then
 cancel_in_time : runs waiting (came 100 (one (145 ∷ 0 ∷ 0 ∷ [])) ∷ []) ≡ (0, pad (one (187 ∷ 0 ∷ 1 ∷ 2 ∷ []))) ∷ (0, pad (one (144 ∷ 0 ∷ 1 ∷ 45 ∷ []))) ∷ []
-unfolding runs
-cancel_in_time = refl
+cancel_in_time = unfold runs in refl
 
 -- A KEEPALIVE is sent as work begins and as its status changes, and not where it stays.
 keepalives : List (List (List ℕ))
@@ -214,13 +191,11 @@ unfolding answer_packets written initialization_packet continuation_packets padd
 keepalives = answer_packets (Some 1) None (Waits 2) ∷ answer_packets (Some 1) (Some 2) (Waits 1) ∷ answer_packets (Some 1) (Some 2) (Waits 2) ∷ []
 
 begins_and_changes : keepalives ≡ (pad (one (187 ∷ 0 ∷ 1 ∷ 2 ∷ [])) ∷ []) ∷ (pad (one (187 ∷ 0 ∷ 1 ∷ 1 ∷ [])) ∷ []) ∷ [] ∷ []
-unfolding keepalives
-begins_and_changes = refl
+begins_and_changes = unfold keepalives in refl
 
 -- A KEEPALIVE is due at 100 ms and not at 99.
 due : runs waiting (tick 99 ∷ tick 100 ∷ tick 199 ∷ tick 200 ∷ []) ≡ (1, pad (one (187 ∷ 0 ∷ 1 ∷ 2 ∷ []))) ∷ (3, pad (one (187 ∷ 0 ∷ 1 ∷ 2 ∷ []))) ∷ []
-unfolding runs
-due = refl
+due = unfold runs in refl
 
 -- all channels were given out
 abbrev full : State
@@ -229,8 +204,7 @@ full = record { now = 0; given = 4294967294; current = None; core = record { set
 -- INIT asks for one more, and then for one in vain with a length of 7; CANCEL there isn't answered, a command that isn't served is refused for its channel
 none_left : runs full (came 0 init_line ∷ came 0 (255 ∷ 255 ∷ 255 ∷ 255 ∷ 134 ∷ 0 ∷ 7 ∷ []) ∷ came 0 (255 ∷ 255 ∷ 255 ∷ 255 ∷ 145 ∷ []) ∷ came 0 (255 ∷ 255 ∷ 255 ∷ 255 ∷ 131 ∷ []) ∷ [])
     ≡ (0, pad (255 ∷ 255 ∷ 255 ∷ 255 ∷ 191 ∷ 0 ∷ 1 ∷ 127 ∷ [])) ∷ (1, pad (255 ∷ 255 ∷ 255 ∷ 255 ∷ 191 ∷ 0 ∷ 1 ∷ 3 ∷ [])) ∷ (3, pad (255 ∷ 255 ∷ 255 ∷ 255 ∷ 191 ∷ 0 ∷ 1 ∷ 11 ∷ [])) ∷ []
-unfolding runs
-none_left = refl
+none_left = unfold runs in refl
 
 -- An assertion is pending for channel 1, by a credential with the counter 4.
 credential : Row
@@ -247,8 +221,7 @@ second_sends x y = (turn (turn pending x).state y).packets
 -- The next assertion is signed and answered on the channel that asked: the hash of the RP id, UP and the counter 5.
 signature_answered : second_sends (came 10 (one (144 ∷ 0 ∷ 1 ∷ 8 ∷ []))) (record { at = 20; input = Signature (Some (0x30 ∷ [])) })
     ≡ written 1 0x10 (assertion_answer (replicate 32 0xaa) (replicate 32 7 ++ 0x01 ∷ 0x00 ∷ 0x00 ∷ 0x00 ∷ 0x05 ∷ []) (0x30 ∷ []) (Some (1 ∷ [])) None)
-unfolding second_sends
-signature_answered = refl
+signature_answered = unfold second_sends in refl
 
 -- A PING of three packets at 0, 300 and 700, with another host's PING, a CANCEL of its own channel and a tick between.
 finishes_at : List Timed → List Timed → Timed → Option Message
@@ -266,17 +239,14 @@ abbrev between_three : List Timed
 between_three = came 10 (two (129 ∷ 0 ∷ 1 ∷ 97 ∷ [])) ∷ came 300 (one (0 ∷ replicate 59 2)) ∷ came 400 (one (145 ∷ 0 ∷ 0 ∷ [])) ∷ tick 600 ∷ []
 
 three_finish : finishes_at first_of_three between_three (came 700 (one (1 ∷ replicate 10 3))) ≡ Some (record { cid = 1; cmd = 1; bytes = replicate 57 1 ++ replicate 59 2 ++ replicate 10 3 })
-unfolding finishes_at
-three_finish = refl
+three_finish = unfold finishes_at in refl
 
 -- only the middle one is the channel's own, and 500 ms later it is too late
 own_is_middle : own_between first_of_three between_three ≡ one (0 ∷ replicate 59 2) ∷ []
-unfolding own_between
-own_is_middle = refl
+own_is_middle = unfold own_between in refl
 
 too_late : finishes_at first_of_three between_three (came 800 (one (1 ∷ replicate 10 3))) ≡ None
-unfolding finishes_at
-too_late = refl
+too_late = unfold finishes_at in refl
 
 -- so the message arrives, by the law's own premises
 arrives : Arrives at_zero (came 0 init_line ∷ came 0 init_line ∷ []) (came 0 (one (129 ∷ 0 ∷ 126 ∷ replicate 57 1))) between_three (judge at_zero (came 700 (one (1 ∷ replicate 10 3))) (judged at_zero (onto between_three first_of_three))) 1 1

@@ -26,7 +26,8 @@ abbrev pub EventGiven : ℕ → Option ℕ → Option Event → Type 0
 EventGiven g w (Some (Request cid bytes)) = (1 ≤ cid) × (cid ≤ g) × (w ≡ None)
 EventGiven g w e = Unit {0}
 
-packet_given : (g : ℕ) (w : Option ℕ) (m : Option Message) (p : List ℕ) → MessageGiven g w m → EventGiven g w (packet_event w m p)
+packet_given : (g : ℕ) (w : Option ℕ) (m : Option Message) (p : List ℕ) → MessageGiven g w m
+    → EventGiven g w (packet_event w m p)
 unfolding packet_event
 packet_given g w m p h = grind arith
 
@@ -45,11 +46,13 @@ unfolding finished finished_long admits is_long
 begun_alone g w t x b e = grind (arith, nat_tests)
 
 still_alone : (g : ℕ) (a : Begun) (w : Option ℕ) (t : ℕ) (x : Packet64) (b : Begun) → OpenGiven g (Some a) w
-    → new_open g (Some a) w t (Packet x) ≡ Some b → IsAlone g w (finished (Some a) (admits g (Some a) w x.0) (Packet x)) b
+    → new_open g (Some a) w t (Packet x) ≡ Some b
+    → IsAlone g w (finished (Some a) (admits g (Some a) w x.0) (Packet x)) b
 unfolding finished finished_long is_last next is_own is_next
 still_alone g a w t x b h e = let f = rw (never_admitted g a w x.0) at e in rw (never_admitted g a w x.0) (grind arith)
 
-packet_alone : (g : ℕ) (o : Option Begun) (w : Option ℕ) (t : ℕ) (x : Packet64) (b : Begun) → OpenGiven g o w → new_open g o w t (Packet x) ≡ Some b
+packet_alone : (g : ℕ) (o : Option Begun) (w : Option ℕ) (t : ℕ) (x : Packet64) (b : Begun) → OpenGiven g o w
+    → new_open g o w t (Packet x) ≡ Some b
     → IsAlone g w (finished o (admits g o w x.0) (Packet x)) b
 packet_alone g None w t x b h e = begun_alone g w t x b e
 packet_alone g (Some a) w t x b h e = still_alone g a w t x b h e
@@ -65,14 +68,16 @@ event_works g k t (Some (Request cid bytes)) w h = work_stays_given g k t (Reque
 event_works g k t (Some e) w h = work_stays_given g k t e w tt
 
 -- what is idle stays idle where no request comes
-still_idle : (k : CoreState) (t : ℕ) (e : Option Event) → working k ≡ None → EventGiven 0 (working k) e → working (event_core k t e) ≡ None
+still_idle : (k : CoreState) (t : ℕ) (e : Option Event) → working k ≡ None → EventGiven 0 (working k) e
+    → working (event_core k t e) ≡ None
 still_idle k t e idle h = none_given _ (event_works 0 k t e (rw idle tt) h)
 
 abbrev pub finished_by : ℕ → Option Begun → Option ℕ → Input → Option Message
 finished_by g o w i = finished o (is_packet (admits g o w) i) i
 
 -- the event of an input
-pub event_given : (g : ℕ) (o : Option Begun) (w : Option ℕ) (i : Input) → OpenGiven g o w → EventGiven g w (event w (finished_by g o w i) i)
+pub event_given : (g : ℕ) (o : Option Begun) (w : Option ℕ) (i : Input) → OpenGiven g o w
+    → EventGiven g w (event w (finished_by g o w i) i)
 unfolding event
 event_given g o w (Packet x) h = packet_given g w _ x.0 (finished_given g o w x h)
 event_given g o w other h = tt
@@ -90,7 +95,8 @@ input_alone g (Some c) k t other b h e =
 input_alone g None k t other b h e = cc
 
 -- After an input at most one message is open or waits.
-pub input_safe : (g : ℕ) (o : Option Begun) (k : CoreState) (t : ℕ) (i : Input) (n : Option Begun) → Safe g o (working k)
+pub input_safe : (g : ℕ) (o : Option Begun) (k : CoreState) (t : ℕ) (i : Input) (n : Option Begun)
+    → Safe g o (working k)
     → new_open g o (working k) t i ≡ n
     → Safe g n (working (event_core k t (event (working k) (finished_by g o (working k) i) i)))
 input_safe g o k t i None s e = record { few = s.few; works = event_works g k t _ s.works (event_given g o (working k) i s.opens); opens = tt }

@@ -134,19 +134,22 @@ message_none : (s : Tests) (f : Fields) (m : Message) → Agree s → s.here ≡
 unfolding message_after
 message_none s f m a alone small is = grind arith
 
-event_row : (s : Tests) (w : Option ℕ) (g : ℕ) (o : Option Open) (f : Fields) (m : Option Message) → Agree s → is_on w (channel_of f) ≡ s.on
+event_row : (s : Tests) (w : Option ℕ) (g : ℕ) (o : Option Open) (f : Fields) (m : Option Message) → Agree s
+    → is_on w (channel_of f) ≡ s.on
     → m ≡ message_after o f (Begins (row s))
     → cond (s.cancel && s.on) (Some Cancel) (cond ((s.init && s.eight) && s.on) (Some Drop) (request_event m))
     ≡ verdict_event (ruling_verdict g w f m (Begins (row s))) (bytes_of m)
 unfolding message_after ruling_verdict
 event_row s w g o f m a on is = grind arith
 
-open_some : (s : Tests) (t : ℕ) (f : Fields) (b : Begun) → Agree s → s.apart ≡ not s.here → s.on ≡ false → (channel b.packet == channel_of f) ≡ s.here
+open_some : (s : Tests) (t : ℕ) (f : Fields) (b : Begun) → Agree s → s.apart ≡ not s.here → s.on ≡ false
+    → (channel b.packet == channel_of f) ≡ s.here
     → option_map as_open (cond (s.here && not s.cancel) None (Some b)) ≡ open_after (Some (as_open b)) t f (Begins (row s))
 unfolding open_after
 open_some s t f b a apart idle here = grind arith
 
-message_some : (s : Tests) (f : Fields) (o : Open) → s.apart ≡ not s.here → None ≡ message_after (Some o) f (Begins (row s))
+message_some : (s : Tests) (f : Fields) (o : Open) → s.apart ≡ not s.here
+    → None ≡ message_after (Some o) f (Begins (row s))
 unfolding message_after
 message_some s f o apart = grind arith
 
@@ -157,7 +160,8 @@ starts p = initialization (channel p) (command p) (message_length p) (initializa
 abbrev goes : List ℕ → Fields
 goes p = continuation (channel p) (sequence p) (continuation_data p)
 
-admits_none : (g : ℕ) (w : Option ℕ) (p : List ℕ) → is_initialization p ≡ true → admits g None w p ≡ admitted (tests g None w p)
+admits_none : (g : ℕ) (w : Option ℕ) (p : List ℕ) → is_initialization p ≡ true
+    → admits g None w p ≡ admitted (tests g None w p)
 unfolding admits
 admits_none g w p st = rw st (grind (arith, nat_tests))
 
@@ -168,7 +172,8 @@ long_is p = grind (arith, nat_tests)
 small : (n : ℕ) → nat_le n INITIALIZATION_DATA ≡ true → nat_lt LONGEST_MESSAGE n ≡ false
 small n h = grind (arith, nat_tests)
 
-start_none : (g : ℕ) (w : Option ℕ) (t : ℕ) (x : Packet64) → g ≤ LAST_CHANNEL → IsGiven g w → is_initialization x.0 ≡ true
+start_none : (g : ℕ) (w : Option ℕ) (t : ℕ) (x : Packet64) → g ≤ LAST_CHANNEL → IsGiven g w
+    → is_initialization x.0 ≡ true
     → Serves g None w t x (starts x.0) (Begins (initialization_row g None w (channel x.0) (command x.0) (message_length x.0)))
 unfolding asks_channel finished finished_long packet_event initialization_row message_after table_packets
 start_none g w t x few wg st =
@@ -197,7 +202,8 @@ start_next : (b : Begun) (t : ℕ) (x : Packet64) → is_initialization x.0 ≡ 
 unfolding next is_own is_next
 start_next b t x st = rw st (grind arith)
 
-start_some : (g : ℕ) (b : Begun) (t : ℕ) (x : Packet64) → g ≤ LAST_CHANNEL → IsGiven g (Some (channel b.packet)) → is_initialization x.0 ≡ true
+start_some : (g : ℕ) (b : Begun) (t : ℕ) (x : Packet64) → g ≤ LAST_CHANNEL → IsGiven g (Some (channel b.packet))
+    → is_initialization x.0 ≡ true
     → Serves g (Some b) None t x (starts x.0) (Begins (initialization_row g (Some (channel b.packet)) None (channel x.0) (command x.0) (message_length x.0)))
 unfolding asks_channel finished finished_long is_last packet_event initialization_row table_packets
 start_some g b t x few og st =

@@ -32,7 +32,8 @@ module _ (n b : ℕ) (a d : Assembly) (k : CoreState) (v : State) (early : List 
     pub request : request_in E ≡ request_in (served v early i).event
 
   pub is_served : (i : Input) → d ≡ assembly_after a n w i → V ≡ input_verdict a w i → E ≡ input_event i V B
-      → (k' : CoreState) (b' : ℕ) (old out : List (List ℕ)) → k' ≡ event_core k n E → b' ≡ cond (event_keeps_alive k n E) n b
+      → (k' : CoreState) (b' : ℕ) (old out : List (List ℕ)) → k' ≡ event_core k n E
+      → b' ≡ cond (event_keeps_alive k n E) n b
       → old ≡ early ++ verdict_packets V B → out ≡ old ++ event_packets k n E → IsServed i (whole n d k' b') out
   is_served i ed eV eE k' b' old out ek eb eo es =
       let turn = input_turn i ed eV eE in
@@ -49,7 +50,8 @@ module _ (n b : ℕ) (a d : Assembly) (k : CoreState) (v : State) (early : List 
       let all = simp length-append at (subst (λ (t : Turn). length t.packets ≤ 130) (sym (input_turn i ed eV eE)) (served_few v early i few)) in
       simp length-append (omega arith)
 
-pub step_turn : (v mid : State) (t : ℕ) (x : Timed) (early : List (List ℕ)) → t ≡ max v.now x.at → mid ≡ (time_passed v t).state
+pub step_turn : (v mid : State) (t : ℕ) (x : Timed) (early : List (List ℕ)) → t ≡ max v.now x.at
+    → mid ≡ (time_passed v t).state
     → early ≡ (time_passed v t).packets
     → served mid early x.input ≡ turn v x
 unfolding turn
