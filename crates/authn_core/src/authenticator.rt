@@ -195,6 +195,7 @@ impl<T: Table<C>, const C: usize> Core<T, C> {
     }
 
     /// Ends the waiting work with no answer.
+    #[tactic(auto, unfolding(crate::specs::Turn::turn))]
     pub fn drop_work(&mut self)
         ensures { IsTurn self.old self.new Nothing 0 DropWork }
     {
@@ -202,6 +203,7 @@ impl<T: Table<C>, const C: usize> Core<T, C> {
     }
 
     /// Takes the turn of an event that came at `at`.
+    #[tactic(auto, unfolding(crate::specs::Turn::turn))]
     pub fn take(&mut self, at: u64, event: &Event<'_>) -> Turn
         ensures { IsTurn self.old self.new (answer_of result) at (event_of event.now) }
     {

@@ -34,7 +34,11 @@ still_given g t w o h = grind arith
 pub safe_at : (start : Start) (t : ℕ) (h : List Judged) → Good start h → end start h ≤ t
     → Safe (given h) (open_at h t) (working (core start h))
 safe_at start t h good le =
-    record { few = (good.safe).few; works = (good.safe).works; opens = rw (still_open h start t good.lawful le) (still_given (given h) t (working (core start h)) _ (good.safe).opens) }
+    record {
+      few = (good.safe).few;
+      works = (good.safe).works;
+      opens = rw (still_open h start t good.lawful le) (still_given (given h) t (working (core start h)) _ (good.safe).opens);
+    }
 
 -- ---- time
 

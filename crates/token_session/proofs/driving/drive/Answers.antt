@@ -24,15 +24,19 @@ returns g c =
       whole = rw (← e) c.loop-i.invariant.whole;
       full = tt;
       after = λ start h b. rw (← e) (c.loop-i.invariant.state ∙ driven_stands (take c.loop-i.i c.args.inputs.now) _ start h b);
-      sent = λ start h b. rw (← e) (c.loop-i.invariant.packets ∙ ap (λ q. map as_pair c.args.sent.now.items ++ q) (driven_follows (take c.loop-i.i c.args.inputs.now) _ start 0 h b));
+      sent = λ start h b. rw (← e) (c.loop-i.invariant.packets
+          ∙ ap (λ q. map as_pair c.args.sent.now.items ++ q) (driven_follows (take c.loop-i.i c.args.inputs.now) _ start 0 h b));
     }
 
 pub loop-i-preserved : goal.loop-i-preserved
 loop-i-preserved g c = record {
   state = driven_more c.args.inputs.now c.loop-i.i _ _ _ c.index-inputs-i.result _ c.loop-i-test.true c.index-inputs-i.is c.step.ensures.state c.loop-i.invariant.state;
-  packets = sends_more c.args.inputs.now c.loop-i.i _ _ _ _ _ _ c.index-inputs-i.result _ c.loop-i-test.true c.index-inputs-i.is c.take_all.ensures.sent c.step.ensures.packets c.loop-i.invariant.state c.loop-i.invariant.packets;
+  packets = sends_more c.args.inputs.now c.loop-i.i _ _ _ _ _ _ c.index-inputs-i.result _ c.loop-i-test.true c.index-inputs-i.is
+      c.take_all.ensures.sent c.step.ensures.packets c.loop-i.invariant.state c.loop-i.invariant.packets;
   whole = whole_more c.args.inputs.now c.loop-i.i c.index-inputs-i.result _ c.loop-i-test.true c.index-inputs-i.is c.loop-i.invariant.whole c.known_input.ensures;
-  room = below_more _ _ c.loop-i.invariant.room (room_here (map as_pair c.loop-i.sent.items) _ g.row.N c.loop-i.invariant.packets (let n : length (map as_pair c.loop-i.sent.items) ≡ array_vec_len c.loop-i.sent = simp length-map in omega (arith, c.if-remaining_capacity-lt-OUTBOX_CAPACITY.false, c.remaining_capacity.ensures)));
+  room = below_more _ _ c.loop-i.invariant.room (room_here (map as_pair c.loop-i.sent.items) _ g.row.N c.loop-i.invariant.packets
+      (let n : length (map as_pair c.loop-i.sent.items) ≡ array_vec_len c.loop-i.sent = simp length-map in
+      omega (arith, c.if-remaining_capacity-lt-OUTBOX_CAPACITY.false, c.remaining_capacity.ensures)));
   empty = c.take_all.ensures.empty;
 }
 

@@ -9,5 +9,7 @@ returns c = record {
   lawful = λ start h l. rw (core_is start (judged start h)) (c.rows_follow_history.ensures.lawful _ _ (first_ready start) l);
   texts = λ start h l. c.texts_to_sign_differ.ensures.differ _ _ (first_ready start) l (orderly start h);
   rise = λ start h l. c.texts_to_sign_differ.ensures.rise _ _ (first_ready start) l (orderly start h);
-  newest = λ start h id l e. let k = core_is start (judged start h) in rw k (c.texts_to_sign_differ.ensures.newest _ _ id refl (first_ready start) l (orderly start h) (rw k at e));
+  newest = λ start h id l e.
+      let k = core_is start (judged start h) in
+      rw k (c.texts_to_sign_differ.ensures.newest _ _ id refl (first_ready start) l (orderly start h) (rw k at e));
 }
