@@ -64,8 +64,11 @@ build_program() {
         cp release/hidlog "$made/hidlog"
         return
     fi
-    gcc -static -Wl,--build-id=none -s -o "$made/hidlog" crates/hidlog/out/hidlog.o "$kit/c/libos_c.a" \
-        "$kit/c/liblibc_c.a"
+    # Position-independent, with what is relocated read-only once it is: gcc and Debian's libc.a have it so.
+    gcc -static-pie -Wl,--build-id=none -Wl,-z,relro,-z,now -s -o "$made/hidlog" crates/hidlog/out/hidlog.o \
+        "$kit/c/libos_c.a" "$kit/c/liblibc_c.a"
+    [[ $(readelf -dW "$made/hidlog") == *"Flags: NOW PIE"* && $(readelf -lW "$made/hidlog") == *GNU_RELRO* ]] ||
+        stop "the linker made no position-independent program with read-only relocations"
 }
 
 # Returns the sum of the object file; of a kept program, that with which release/ was made.
@@ -121,7 +124,7 @@ write_build() {
 }
 
 # Compares release/ with what was made. With another linker or C library the program is compared by its object file, and
-# with another wasm-opt the module as it was before.
+# with another wasm-opt the module as it was before. Of the toolchain the sum of its logic decides, and not its name.
 compare() {
     local name differ=0
     for name in "${names[@]}"; do
@@ -132,7 +135,7 @@ compare() {
         elif [ "$name" = hidlog.wasm ] && is_made_otherwise "lowered by"; then
             echo "same  release/hidlog.wasm, as it was before wasm-opt: this machine's is another"
         elif [ "$name" = BUILD ] && is_same_but_tools; then
-            echo "same  release/BUILD, but for the linker or wasm-opt"
+            echo "same  release/BUILD, except for the toolchain's name, the linker or wasm-opt"
         else
             echo "DIFFERS  release/$name"
             differ=1
@@ -142,9 +145,14 @@ compare() {
     [ "$differ" = 0 ] || stop "release/ is not what was made now: release/build.sh writes it anew"
 }
 
-# Whether all that BUILD says but the linker and wasm-opt is the same: the sums of what they are handed, too.
+# Prints what a BUILD file says except for the linker, wasm-opt and the toolchain's name: its logic's sum stays.
+without_tools() {
+    grep -v '^linker:\|^lowered by:' "$1" | sed 's/^kit: .* logic /kit: logic /'
+}
+
+# Whether all that BUILD says except for the tools is the same: the sums of what they are handed, too.
 is_same_but_tools() {
-    diff <(grep -v '^linker:\|^lowered by:' release/BUILD) <(grep -v '^linker:\|^lowered by:' "$made/BUILD") >/dev/null
+    diff <(without_tools release/BUILD) <(without_tools "$made/BUILD") >/dev/null
 }
 
 # Whether BUILD differs in one tool, and in nothing but tools: is_made_otherwise WORD

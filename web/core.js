@@ -6,6 +6,8 @@
 (() => {
     const OUTCOME_BYTES = 32;
     const WRITE_FAULT = 5;
+    // hidlog_show explains: a person reads it.
+    const EXPLAINED = 1;
     const PAGE = 65536;
     // No more memory than that is asked of the browser.
     const MOST = 128 * 1024 * 1024;
@@ -72,9 +74,9 @@
             this.grow(outAt + room);
             this.bytes.set(log, logAt);
             this.bytes.set(snapshot, snapshotAt);
-            const start = command === "show" ? [] : [snapshotAt, snapshot.length];
-            const given = [logAt, log.length, ...start, outAt, room, this.base];
-            this.exports[`hidlog_${command}`](...given.map(BigInt));
+            const between = command === "show" ? [EXPLAINED] : [snapshotAt, snapshot.length].map(BigInt);
+            const [from, size, to, most, at] = [logAt, log.length, outAt, room, this.base].map(BigInt);
+            this.exports[`hidlog_${command}`](from, size, ...between, to, most, at);
             return {
                 status: this.outcome.getUint32(0, true),
                 fault: this.outcome.getUint32(4, true),

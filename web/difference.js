@@ -85,5 +85,20 @@
         ];
     };
 
-    globalThis.hidlogDifference = { find, nodes };
+    /** The difference in a sentence: what the log has in the place of what the key sends. */
+    const inWords = ({ has, sends }, shown) => {
+        const [own, other] = [has, sends].map((line) => (line ? shown.detail(line) : []));
+        const [has1, sends1] = [[own, other], [other, own]].map(([lines, others]) =>
+            lines.find((it) => !others.includes(it) && it.length < SHORT)?.trim());
+        if (other.join().includes(NONE) && !own.join().includes(NONE)) {
+            return HINT.trim();
+        }
+        if (!has || !sends) {
+            return has ? "The log has a packet that the key doesn't send." : "The log lacks a packet that the key sends.";
+        }
+        return has1 && sends1 ? `The log has ${has1}, and the key sends ${sends1}.`
+            : "The log has another packet than the key sends.";
+    };
+
+    globalThis.hidlogDifference = { find, nodes, inWords };
 })();

@@ -11,7 +11,7 @@
     const placeLifelines = (channels, width) => {
         const own = channels.slice(0, MOST_CHANNELS);
         const names = [...own.map((it) => (it === BROADCAST ? "broadcast" : `host ${it}`)), "key", "caller"];
-        const left = width < 700 ? 44 : 120;
+        const left = width < 700 ? 84 : 120;
         const step = (width - left - 40) / Math.max(1, names.length - 1);
         const places = names.map((_, at) => left + at * step);
         const ofChannel = (channel) => places[Math.max(0, Math.min(own.indexOf(channel), own.length - 1))];
@@ -97,9 +97,19 @@
     /** What a row says, in fewer words. */
     const brief = (says) => says.replace(/^CBOR \d+ {2}|^KEEPALIVE 1 \d\d {2}/, "");
 
-    const between = (pen, from, to, y, text, colour, dashes) => {
-        pen.arrow(from, to, y, colour, dashes);
-        pen.label(brief(text), (from + to) / 2, y, colour, Math.abs(to - from) - 26);
+    /** A text between two lifelines; where there is little space, a whole one from the first lifeline on. */
+    const between = (pen, lanes, [from, to], y, text, colour) => {
+        if (lanes.isNarrow) {
+            const left = lanes.places[0] + 12;
+            pen.label(brief(text), left, y, colour, pen.width - left - 12, "left");
+        } else {
+            pen.label(brief(text), (from + to) / 2, y, colour, Math.abs(to - from) - 26);
+        }
+    };
+
+    const arrow = (pen, lanes, ends, y, text, colour, dashes) => {
+        pen.arrow(ends[0], ends[1], y, colour, dashes);
+        between(pen, lanes, ends, y, text, colour);
     };
 
     /** How each kind of row is drawn. */
@@ -111,26 +121,24 @@
         const left = lanes.places[0] + 8;
         const comment = (colour) => pen.label(row.says, left, y, colour, pen.width - left - 12, "left");
         const drawers = {
-            host: () => between(pen, host, lanes.key, y, row.says, row.noise ? "faint" : "host", noise ?? []),
-            key: () => between(pen, lanes.key, host, y, row.says, "key", keepalive),
-            caller: () => between(pen, lanes.caller, lanes.key, y, row.says, "caller", noise ?? []),
-            need: () => between(pen, lanes.key, lanes.caller, y, row.says, "need", [4, 4]),
+            host: () => arrow(pen, lanes, [host, lanes.key], y, row.says, row.noise ? "faint" : "host", noise ?? []),
+            key: () => arrow(pen, lanes, [lanes.key, host], y, row.says, "key", keepalive),
+            caller: () => arrow(pen, lanes, [lanes.caller, lanes.key], y, row.says, "caller", noise ?? []),
+            need: () => arrow(pen, lanes, [lanes.key, lanes.caller], y, row.says, "need", [4, 4]),
             time: () => pen.line(lanes.places[0], y, lanes.caller, y, "line", [1, 4]),
             fault: () => comment("fault"),
         };
         (drawers[row.kind] ?? (() => comment("faint")))();
-        if (!lanes.isNarrow && line.moment !== undefined) {
-            pen.label(`${line.moment} ms`, 10, y, "faint", 90, "left");
+        if (line.moment !== undefined) {
+            pen.label(`${line.moment} ms`, lanes.isNarrow ? 2 : 10, y, "faint", lanes.isNarrow ? 62 : 90, "left");
         }
     };
 
     const drawTransaction = (pen, lanes, row, y) => {
         const host = lanes.ofChannel(row.transaction.channel);
         pen.line(host, y, lanes.key, y, "host", [], 3);
-        pen.label(brief(row.says), (host + lanes.key) / 2, y, "ink", Math.abs(lanes.key - host) - 10);
-        if (!lanes.isNarrow) {
-            pen.label(`${row.line.moment} ms`, 10, y, "faint", 90, "left");
-        }
+        between(pen, lanes, [host - 8, lanes.key + 8], y, row.says, "ink");
+        pen.label(`${row.line.moment} ms`, lanes.isNarrow ? 2 : 10, y, "faint", lanes.isNarrow ? 62 : 90, "left");
     };
 
     const drawHeads = (pen, lanes) => {
@@ -148,21 +156,22 @@
     };
 
     /** Draws the rows from `first` on, as far as the canvas reaches, the first one's top at `top`. */
-    const draw = (canvas, { rows, first, top, rowHeight, channels, chosen }) => {
+    const draw = (canvas, { count, rowAt, first, top, rowHeight, channels, chosen }) => {
         const pen = new Pen(canvas);
         const lanes = placeLifelines(channels, pen.width);
-        const last = Math.min(rows.length, first + Math.ceil(pen.height / rowHeight) + 1);
+        const last = Math.min(count, first + Math.ceil(pen.height / rowHeight) + 1);
         for (const place of lanes.places) {
             pen.line(place, HEAD, place, pen.height, "line");
         }
         for (let at = first; at < last; at += 1) {
             const y = HEAD + top + (at - first) * rowHeight;
-            pen.behind = behindRow(rows[at], at === chosen);
+            const row = rowAt(at);
+            pen.behind = behindRow(row, at === chosen);
             if (pen.behind !== "paper") {
                 pen.to.fillStyle = pen.colour(pen.behind);
                 pen.to.fillRect(0, y, pen.width, rowHeight);
             }
-            (rows[at].transaction ? drawTransaction : drawRow)(pen, lanes, rows[at], y + rowHeight / 2);
+            (row.transaction ? drawTransaction : drawRow)(pen, lanes, row, y + rowHeight / 2);
         }
         drawHeads(pen, lanes);
     };

@@ -1,183 +1,254 @@
-// A log as a session: its lines, the messages that its packets carry, and the transactions that these make. It sets
-// `globalThis.hidlogSession`.
+// A log as a session: its lines, and the transactions that they make (walk.js). Lines are read in slices, so that a page
+// stays usable, and each has its text only once that is asked for. It sets `globalThis.hidlogSession`.
 "use strict";
 
 (() => {
-    const { fromHex } = globalThis.hidlogBytes;
+    const { Walk, BROADCAST } = globalThis.hidlogWalk;
     const decoder = new TextDecoder("utf-8", { ignoreBOM: true });
-    const CANCEL = 0x11;
-    const KEEPALIVE = 0x3b;
-    const ERROR = 0x3f;
-    const MOST_BYTES = 7609;
-    const BROADCAST = "ffffffff";
-
+    const [NEWLINE, SPACE] = [10, 32];
+    const PACKET_DIGITS = 128;
+    const EXACT_DIGITS = 15;
+    const LINE_MOST = 255;
+    // Lines that are read before the clock is looked at.
+    const BATCH = 512;
     const KINDS = {
         ">": "host", "<": "key", t: "tick", p: "presence", k: "new key", s: "signature", "#": "comment", "=": "count",
     };
+    const kindOf = Array.from({ length: 256 }, (_, code) => KINDS[String.fromCharCode(code)]);
+    const isInputKind = new Set(["host", "tick", "presence", "new key", "signature"]);
 
-    /** The fields of a line that the core has read, so that it is one of the grammar. */
-    const readLine = (text, number, bytes, from, to) => {
-        const kind = KINDS[text[0]] ?? "empty";
-        const line = {
-            number, text, bytes, from, to, kind, at: null, channel: null, says: "", message: null, transaction: null,
-        };
-        const fields = text.split(" ");
-        if (kind === "host" || kind === "key") {
-            const packet = fields[fields.length - 1].toLowerCase();
-            line.at = kind === "host" ? fields[1] : null;
-            line.channel = packet.slice(0, 8);
-            line.packet = fromHex(packet);
-        } else if (kind === "comment") {
-            const need = /^# (need|signed) (.*)/.exec(text);
-            line.kind = need ? "need" : kind;
-            line.says = need ? need[0].slice(2) : text.slice(1).trim();
-        } else if (kind === "count") {
-            line.says = text.slice(1).trim();
-        } else if (kind !== "empty") {
-            line.at = fields[1];
-            line.says = { t: "time passes", p: fields[2] }[text[0]] ?? (fields[2] === "no" ? "no" : "yes");
-        }
-        return line;
-    };
+    /** The value of a hexadecimal digit by its character code, or 16 and more for others. */
+    const digits = Uint8Array.from({ length: 256 }, (_, code) => {
+        const value = parseInt(String.fromCharCode(code), 16);
+        return Number.isNaN(value) ? 99 : value;
+    });
 
-    /** Collects the messages of one direction, a channel each. */
-    class Collector {
-        constructor() {
-            this.open = new Map();
+    /** A line of the log. What it has of its text is read when it is asked for. */
+    class Line {
+        constructor(bytes, number, from, to, kind) {
+            this.bytes = bytes;
+            this.number = number;
+            this.from = from;
+            this.to = to;
+            this.kind = kind;
+            this.at = null;
+            this.moment = 0;
+            this.channel = null;
+            this.packetAt = 0;
+            this.message = null;
+            this.transaction = null;
+            this.words = null;
+            // Of a quiet log: what stood here before, as a line and as a text.
+            this.source = null;
+            this.went = undefined;
         }
 
-        /** Adds a packet's line. A message is whole once it has its length. */
-        add(line) {
-            const { packet, channel } = line;
-            if (packet[4] >= 128) {
-                this.begin(line, packet[4] - 128, packet[5] * 256 + packet[6]);
-                return;
-            }
-            const message = this.open.get(channel);
-            if (message && packet[4] === message.next) {
-                message.next += 1;
-                this.append(message, line, packet.length - 5);
-            }
+        get text() {
+            return decoder.decode(this.bytes.subarray(this.from, this.to));
         }
 
-        begin(line, command, length) {
-            const message = { command, length, held: 0, next: 0, lines: [], isWhole: false, asks: null };
-            line.begins = true;
-            if (command !== CANCEL && length <= MOST_BYTES) {
-                this.open.set(line.channel, message);
-            }
-            this.append(message, line, line.packet.length - 7);
+        /** A byte of the packet. */
+        byte(place) {
+            const at = this.packetAt + 2 * place;
+            return digits[this.bytes[at]] * 16 + digits[this.bytes[at + 1]];
         }
 
-        append(message, line, count) {
-            message.held = Math.min(message.length, message.held + count);
-            message.lines.push(line);
-            line.message = message;
-            if (message.held === message.length) {
-                message.isWhole = true;
-                line.ends = true;
-                this.open.delete(line.channel);
+        get says() {
+            if (this.source) {
+                return this.source.says;
             }
+            const { text, kind } = this;
+            if (kind === "need") {
+                return text.slice(2);
+            }
+            if (kind === "comment" || kind === "count") {
+                return text.slice(1).trim();
+            }
+            const word = text.split(" ")[2];
+            return { tick: "time passes", presence: word, host: "", key: "", empty: "" }[kind]
+                ?? (word === "no" ? "no" : "yes");
         }
     }
 
-    /** Joins lines to transactions: a host's message, all up to its answer, and what the caller did meanwhile. */
-    class Transactions {
-        constructor() {
-            this.all = [];
-            this.byChannel = new Map();
-            this.latest = null;
+    /** The number in decimal digits from a place on, and the place after it; or null. */
+    const readMoment = (bytes, from, to) => {
+        let [at, value] = [from, 0];
+        while (at < to && bytes[at] >= 48 && bytes[at] <= 57) {
+            value = value * 10 + bytes[at] - 48;
+            at += 1;
+        }
+        if (at === from) {
+            return null;
+        }
+        const isExact = at - from <= EXACT_DIGITS;
+        return { at: isExact ? value : BigInt(decoder.decode(bytes.subarray(from, at))), next: at };
+    };
+
+    /** Whether there are just a packet's digits between two places. */
+    const isPacket = (bytes, from, to) => {
+        if (to - from !== PACKET_DIGITS) {
+            return false;
+        }
+        for (let at = from; at < to; at += 1) {
+            if (digits[bytes[at]] > 15) {
+                return false;
+            }
+        }
+        return true;
+    };
+
+    /** Reads the lines of a log, a slice at a time. */
+    class Reader {
+        constructor(bytes) {
+            this.bytes = bytes;
+            this.lines = [];
+            this.walk = new Walk();
+            this.from = 0;
+            this.latest = 0;
+            this.names = new Map();
+            // The number of the line that is none, where one is met.
+            this.faulty = 0;
+            this.counted = 0;
         }
 
-        add(line) {
-            const current = line.kind === "host" || line.kind === "key" ? this.ofPacket(line) : this.latest;
-            if (!current || line.kind === "comment" || line.kind === "count" || line.kind === "empty") {
+        get isDone() {
+            return this.faulty > 0 || this.from >= this.bytes.length;
+        }
+
+        /** Reads until a moment of the clock, or the end. */
+        readUntil(end) {
+            while (!this.isDone) {
+                for (let count = 0; count < BATCH && !this.isDone; count += 1) {
+                    this.readOne();
+                }
+                if (performance.now() >= end) {
+                    return;
+                }
+            }
+        }
+
+        readOne() {
+            const { bytes, from } = this;
+            let to = bytes.indexOf(NEWLINE, from);
+            to = to < 0 ? bytes.length : to;
+            const line = this.lineOf(from, to);
+            if (!line || to - from > LINE_MOST) {
+                this.faulty = this.lines.length + 1;
                 return;
             }
-            line.transaction = current;
-            current.lines.push(line);
-            if (line.ends && line.kind === "key" && line.message.command !== KEEPALIVE) {
-                this.finish(line.channel, current, line.message);
+            this.from = to + 1;
+            if (line.at !== null && line.at > this.latest) {
+                this.latest = line.at;
             }
+            line.moment = this.latest;
+            this.walk.add(line);
+            this.lines.push(line);
         }
 
-        ofPacket(line) {
-            const current = this.byChannel.get(line.channel);
-            const isNew = line.kind === "host" && line.begins && !(current && line.message.command === CANCEL);
-            if (isNew) {
-                return this.begin(line);
+        /** The line between two places, or null where there is none of the grammar. */
+        lineOf(from, to) {
+            const { bytes } = this;
+            const kind = from === to ? "empty" : kindOf[bytes[from]];
+            if (!kind) {
+                return null;
             }
-            return current ?? null;
+            const line = new Line(bytes, this.lines.length + 1, from, to, kind);
+            if (kind === "key") {
+                return this.withPacket(line, from + 2) ? line : null;
+            }
+            if (kind === "comment") {
+                line.kind = this.isNeed(from) ? "need" : kind;
+                return line;
+            }
+            return !isInputKind.has(kind) || this.withMoment(line) ? line : null;
         }
 
-        begin(line) {
-            const begun = {
-                place: this.all.length, channel: line.channel, lines: [], asks: line.message, answer: null,
-                before: this.byChannel.get(line.channel) ?? null,
-            };
-            this.all.push(begun);
-            this.byChannel.set(line.channel, begun);
-            this.latest = begun;
-            return begun;
+        withMoment(line) {
+            const { bytes } = this;
+            const moment = bytes[line.from + 1] === SPACE ? readMoment(bytes, line.from + 2, line.to) : null;
+            if (!moment) {
+                return false;
+            }
+            line.at = moment.at;
+            return line.kind !== "host" || this.withPacket(line, moment.next + 1);
         }
 
-        finish(channel, transaction, answer) {
-            transaction.answer = answer;
-            answer.asks = transaction.asks;
-            // A request that is refused meanwhile doesn't end the one that waits.
-            const waiting = answer.command === ERROR ? transaction.before : null;
-            this.byChannel[waiting ? "set" : "delete"](channel, waiting);
-            this.latest = this.latest === transaction ? waiting : this.latest;
+        withPacket(line, at) {
+            const { bytes } = this;
+            if (bytes[at - 1] !== SPACE || !isPacket(bytes, at, line.to)) {
+                return false;
+            }
+            line.packetAt = at;
+            const name = line.byte(0) * 2 ** 24 + line.byte(1) * 65536 + line.byte(2) * 256 + line.byte(3);
+            let channel = this.names.get(name);
+            if (!channel) {
+                channel = name.toString(16).padStart(8, "0");
+                this.names.set(name, channel);
+            }
+            line.channel = channel;
+            return true;
+        }
+
+        /** Whether a comment is one of `need` or `signed`, which the program writes. */
+        isNeed(from) {
+            const letter = this.bytes[from + 2];
+            return (letter === 110 || letter === 115)
+                && /^# (need|signed) /.test(decoder.decode(this.bytes.subarray(from, from + 9)));
+        }
+
+        /** Counts the lines of transactions, once all are read, until a moment of the clock. Returns whether it did. */
+        countUntil(end) {
+            while (this.counted < this.lines.length) {
+                const { transaction, number } = this.lines[this.counted];
+                this.counted += 1;
+                if (transaction) {
+                    transaction.count += 1;
+                    transaction.until = number;
+                }
+                if (this.counted % BATCH === 0 && performance.now() >= end) {
+                    return false;
+                }
+            }
+            return true;
+        }
+
+        /** The session of the lines so far. */
+        session() {
+            this.walk.close();
+            return new Session(this.lines, this.walk.transactions, [...this.names.values()]);
         }
     }
 
-    /** The latest moment that is named so far, for lines that name none. */
-    const setMoments = (lines) => {
-        let latest = "0";
-        for (const line of lines) {
-            latest = line.at !== null && BigInt(line.at) > BigInt(latest) ? line.at : latest;
-            line.moment = latest;
+    class Session {
+        constructor(lines, transactions, channels) {
+            Object.assign(this, { lines, transactions, channels });
         }
-    };
 
-    /** The lines of a log, each with its place in the bytes. */
-    const readLines = (bytes) => {
-        const texts = decoder.decode(bytes).split("\n");
-        if (texts[texts.length - 1] === "") {
-            texts.pop();
+        /** The lines of a transaction. */
+        linesOf(transaction) {
+            return this.lines.slice(transaction.line.number - 1, transaction.until)
+                .filter((it) => it.transaction === transaction);
         }
-        let from = 0;
-        return texts.map((text, place) => {
-            const end = bytes.indexOf(10, from);
-            const line = readLine(text, place + 1, bytes, from, end < 0 ? bytes.length : end);
-            from = line.to + 1;
-            return line;
-        });
-    };
+    }
 
-    /** Reads a log that the core found without fault. */
+    /** Reads a log at once. */
     const readSession = (bytes) => {
-        const lines = readLines(bytes);
-        const collectors = { host: new Collector(), key: new Collector() };
-        const transactions = new Transactions();
-        for (const line of lines) {
-            collectors[line.kind]?.add(line);
-            transactions.add(line);
-        }
-        setMoments(lines);
-        const channels = [...new Set(lines.filter((it) => it.channel).map((it) => it.channel))];
-        return { lines, transactions: transactions.all, channels };
+        const reader = new Reader(bytes);
+        reader.readUntil(Infinity);
+        reader.countUntil(Infinity);
+        return reader.session();
     };
 
     /** The bytes of the first lines of a log. */
     const firstLines = (bytes, count) => {
         let [end, found] = [0, 0];
         while (found < count && end < bytes.length) {
-            found += bytes[end] === 10 ? 1 : 0;
-            end += 1;
+            const next = bytes.indexOf(NEWLINE, end);
+            end = next < 0 ? bytes.length : next + 1;
+            found += 1;
         }
         return bytes.subarray(0, end);
     };
 
-    globalThis.hidlogSession = { readSession, firstLines, BROADCAST };
+    globalThis.hidlogSession = { Reader, readSession, firstLines, BROADCAST };
 })();

@@ -111,15 +111,26 @@
             return message.command === CBOR ? `${rest}  ${this.name(message)}` : rest;
         }
 
-        title({ asks, answer }) {
-            return `${this.name(asks)} → ${answer ? this.name(answer) : "no answer"}`;
+        /** What a host asked, and how that ended. */
+        title(transaction) {
+            const { answer, by, end, code } = transaction;
+            const ends = { replaced: "replaced by", dropped: "dropped by" }[end];
+            const last = answer ?? (code !== null && by ? by.message : null);
+            const ended = ends ? `${ends} line ${by.number}` : end === "not whole" ? "not whole" : "no answer";
+            return `${this.name(transaction)} → ${last ? this.name(last) : ended}`;
+        }
+
+        /** The id of the relying party that a request names, or nothing. */
+        rpIdOf(transaction) {
+            const { below } = this.words(transaction.lines[transaction.lines.length - 1]);
+            return below.map((it) => /^ {2}(?:1 rpId: |2 rp: \{"id": )"([^"]*)"/.exec(it)?.[1]).find(Boolean);
         }
 
         /** A message in lines. Where its members have lines of their own, the item that they are of is left out. */
         message(message) {
-            const { lines, held, isWhole, length } = message;
+            const { lines, came, isWhole, length } = message;
             const packets = lines.length > 1 ? `, ${lines.length} packets` : "";
-            const missing = isWhole ? "" : `, not whole: ${held} of ${length} bytes`;
+            const missing = isWhole ? "" : `, not whole: ${came} of ${length} bytes`;
             const { below } = this.words(lines.at(-1));
             const hasMembers = below.some((it) => it.startsWith("  "));
             const shortened = below.map((it) => (hasMembers && isItem(it) ? shortItem(it) : it));

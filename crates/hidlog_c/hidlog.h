@@ -7,8 +7,8 @@
  * key one more input, put its line after the log and call again.
  *
  * No pointer may be null, also where the length beside it is 0, and *outcome and the buffer overlap nothing else. Where
- * the buffer is too small, it is full, and the fault is 5; no byte past it is touched. Where the snapshot is refused
- * nothing is written. */
+ * the buffer is too small, it is full, and the fault is 5; no byte past it is touched. Bytes of the buffer behind what
+ * was written may have been overwritten. Where the snapshot is refused nothing is written. */
 #ifndef HIDLOG_H
 #define HIDLOG_H
 
@@ -64,11 +64,13 @@ void hidlog_check(const uint8_t *log, size_t log_len, const uint8_t *snapshot, s
 void hidlog_quiet(const uint8_t *log, size_t log_len, const uint8_t *snapshot, size_t snapshot_len, uint8_t *out,
                   size_t room, struct hidlog_outcome *outcome);
 
-/* Writes what a person reads of the log (docs/LOG_FORMAT.md, "Shown to a person"). No key plays it: it takes no
- * snapshot, and the status is never HIDLOG_REFUSED. Its faults are HIDLOG_BAD_LINE, HIDLOG_TOO_LONG and
- * HIDLOG_TOO_MANY_LINES, with the texts of the lines before the faulty one in `out`, and HIDLOG_WRITE, with the front
- * of the text. To have the text of any log, call again with a larger buffer while the fault is HIDLOG_WRITE. */
-void hidlog_show(const uint8_t *log, size_t log_len, uint8_t *out, size_t room, struct hidlog_outcome *outcome);
+/* Writes what the log's lines say (docs/LOG_FORMAT.md): where `explain` is 0 the fixed text, for programs; else with
+ * names, members and comments, for people. No key plays the log: it takes no snapshot, and the status is never
+ * HIDLOG_REFUSED. Its faults are HIDLOG_BAD_LINE, HIDLOG_TOO_LONG and HIDLOG_TOO_MANY_LINES, with the texts of the lines
+ * before the faulty one in `out`, and HIDLOG_WRITE, with the front of the text. To have the text of any log, call again
+ * with a larger buffer while the fault is HIDLOG_WRITE. */
+void hidlog_show(const uint8_t *log, size_t log_len, uint32_t explain, uint8_t *out, size_t room,
+                 struct hidlog_outcome *outcome);
 
 /* ---- A key that is held: state in, one input, packets out --------------------------------------------------------
  *
@@ -82,7 +84,7 @@ void hidlog_show(const uint8_t *log, size_t log_len, uint8_t *out, size_t room, 
  * was. No pointer may be null. Moments are milliseconds; one that is earlier than the latest counts as the latest.
  *
  * hidlog_key_make takes 95 kB of the stack, hidlog_key_add 80 kB, _remove 60 kB, _clear 20 kB, _lines 45 kB, each
- * other call on a key under 20 kB (x86-64); hidlog_show takes 35 kB, each other function on a whole log 85 kB. */
+ * other call on a key under 20 kB (x86-64); hidlog_show takes 60 kB, each other function on a whole log 85 kB. */
 
 struct hidlog_key {
     void *memory;      /* hidlog_key_size() bytes, aligned to 16 */

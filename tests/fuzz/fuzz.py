@@ -48,10 +48,10 @@ def built(program):
 
 
 def runner_of(program):
-    """What runs a command of the program on a log."""
+    """What runs a command of the program on a log, with what it explains; `--plain` among the options is stronger."""
 
     def run(command, log, *options):
-        words = [program, command, *options]
+        words = [program, command, "--explain", *options]
         ran = subprocess.run(words, input=log, capture_output=True, timeout=SECONDS, check=False)
         return ran.returncode, ran.stdout, ran.stderr
 

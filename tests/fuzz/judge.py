@@ -254,6 +254,13 @@ def judge_show(log, run):
     hold(len(found) == len(wanted), "show", f"{len(found)} lines, not {len(wanted)}")
     for line, front in zip(found, wanted):
         hold((line + b" ").startswith(front + b" "), "show", f"{line[:99]!r} for {front!r}")
+    # The fixed text has these lines too, each at the front of one that is explained. Its messages are collected by a rule of
+    # its own, one in each direction.
+    fixed = lines_of(judge_end("show", run("show", log, "--plain"), None))
+    packets = [it for it in fixed if not re.match(rb"\d+   ", it)]
+    hold(len(packets) == len(found), "show", f"the fixed text has {len(packets)} of {len(found)} lines")
+    for line, more in zip(packets, found):
+        hold((more + b"  ").startswith(line + b"  "), "show", f"{line[:99]!r} of {more!r}")
 
 
 def judge_fault(log, fault, run):
@@ -270,6 +277,10 @@ def judge_fault(log, fault, run):
         if command in ("replay", "live"):
             cut = b"".join(it + b"\n" for it in lines_of(whole)[:-1])
         hold(output == cut, "lines before", f"{command} wrote {len(output)} bytes and not {len(cut)}")
+    for command in (*outputs, "check"):
+        told = run(command, log, "--plain")[2]
+        first = run(command, log)[2].partition(b"\n")[0] + b"\n"
+        hold(told == first, "fault", f"{command} said {told!r} in the fixed form")
     return before
 
 

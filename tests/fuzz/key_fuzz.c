@@ -2,6 +2,8 @@
 // held and, as a line of a log, to the text that `hidlog_replay` plays at the end. Both have to send the same packets
 // and count the same. It also makes calls out of turn, which have to be refused and to change nothing.
 //
+// tests/fuzz/guided.sh builds it with the code that it tries. Without sight of that:
+//
 //     clang -g -O1 -fsanitize=fuzzer,address,undefined -I release -o key_fuzz tests/fuzz/key_fuzz.c release/libhidlog.a
 //     ./key_fuzz -max_total_time=600 -max_len=4096
 #include "hidlog.h"

@@ -26,11 +26,7 @@ from changed import (
     large_heads_long_keys_and_deep_values,
     three_hosts_in_every_order,
 )
-from snapshots import (
-    each_byte_of_a_snapshot_changed,
-    snapshots_are_loaded_or_refused,
-    snapshots_are_saved_as_version_2,
-)
+from snapshots import each_byte_of_a_snapshot_changed, snapshots_are_loaded_or_refused, snapshots_are_saved_as_version_2
 from tables import made
 
 HERE = Path(__file__).resolve().parent
@@ -117,7 +113,7 @@ def cases_of_the_file(room: Path) -> None:
 def cases_of_logs(room: Path) -> None:
     """What each command makes of logs."""
     files = sorted((HERE / "logs").glob("*.txt"))
-    assert len(files) == 8, f"there are {len(files)} files of cases"
+    assert len(files) == 10, f"there are {len(files)} files of cases"
     for file in files:
         for case in cases_of(file):
             case.run(room)
@@ -160,7 +156,7 @@ def each_byte_of_requests_changed(room: Path) -> None:
 
 def nothing_is_saved_after_a_fault(room: Path) -> None:
     """A fault of the log leaves the file of --save as it was."""
-    said = "?hidlog: line 2: not a log line\n?  byte 4 is '5', which fits no log line here"
+    said = "?hidlog: line 2: not a log line"
     Case(f"1 hidlog replay --save new\n|t 5\n-t 05\n{said}").run(room)
     assert not (room / "new").exists() or (room / "new").read_bytes() == b"", "something was saved"
 

@@ -10,7 +10,7 @@ from concurrent.futures import ThreadPoolExecutor
 from pathlib import Path
 from typing import Callable, Sequence
 
-from running import AGAIN, EXAMPLES, INIT, PROGRAM, run, run_in_parts, wants
+from running import AGAIN, EXAMPLES, INIT, PROGRAM, explained, run, run_in_parts, wants
 
 # ---- what differs, for a person
 
@@ -39,7 +39,7 @@ def a_counter_is_named(_: Path) -> None:
     log = EXAMPLES / "failing/counter_stays.log"
     lines = log.read_text().splitlines()
     raised = lines[65][: 2 + 2 * 44] + "02"
-    said = run(["check", str(log)])
+    said = explained(["check", str(log)])
     assert said.returncode == 1 and said.stdout == b""
     wanted = [
         "hidlog: line 64: differs at packet 2",
@@ -62,9 +62,9 @@ def a_counter_is_named(_: Path) -> None:
     ]
     begins(said.stderr, wanted)
     # The same by standard input, from a file and from a pipe.
-    assert run(["check"], stdin=log).stderr == said.stderr
-    assert run(["check"], log.read_bytes()).stderr == said.stderr
-    assert run(["check", "-"], log.read_bytes()).stderr == said.stderr
+    assert explained(["check"], stdin=log).stderr == said.stderr
+    assert explained(["check"], log.read_bytes()).stderr == said.stderr
+    assert explained(["check", "-"], log.read_bytes()).stderr == said.stderr
 
 
 INIT_SENT = b"< " + b"ffffffff860011000102030405060700000001020100000c".ljust(128, b"0") + b"\n"
@@ -77,18 +77,18 @@ def each_place_is_named(_: Path) -> None:
         old = sent[2 * at : 2 * at + 2]
         new = "fe" if old == "ff" else f"{int(old, 16) ^ 1:02x}"
         changed = sent[: 2 * at] + new + sent[2 * at + 2 :]
-        text = run(["check"], INIT + f"< {changed}\n".encode()).stderr.decode()
+        text = explained(["check"], INIT + f"< {changed}\n".encode()).stderr.decode()
         assert f"\n  byte {at} of the packet{name} is {new} in the log and {old} from the key:\n" in text, text
         start = at - at % 16
         mark = " " * (8 + 3 * (at - start)) + "^^"
         rows = f"\n    log {row(changed, start)}\n    key {row(sent, start)}\n{mark}\n"
         assert rows in text, text
-    said = run(["check", str(EXAMPLES / "registration.log")])
+    said = explained(["check", str(EXAMPLES / "registration.log")])
     assert said.stderr == b""
     lines = (EXAMPLES / "registration.log").read_bytes().splitlines(keepends=True)
     more = next(place for place, line in enumerate(lines) if line.startswith(b"< 0000000100"))
     lines[more] = lines[more].replace(b"< 0000000100", b"< 0000000101")
-    said = run(["check"], b"".join(lines))
+    said = explained(["check"], b"".join(lines))
     assert (
         b"byte 4 of the packet, the sequence number, is 01 in the log and 00 from the key" in said.stderr
     ), said.stderr
@@ -100,14 +100,14 @@ def a_snapshot_that_is_missing_is_named(room: Path) -> None:
     log, folder = EXAMPLES / "failing/wrong_snapshot.log", EXAMPLES / "failing"
     missing = b"\n  this key lacks a credential that the log's key had: was the log recorded with --load?\n"
     other = b"\n  this key lacks a credential that the log's key had: is the snapshot of --load another key's?\n"
-    assert run(["check", str(log)]).stderr.endswith(missing)
-    assert run(["check", "--load", str(folder / "bob.snapshot"), str(log)]).stderr.endswith(other)
-    wants(run(["check", "--load", str(folder / "alice.snapshot"), str(log)]), 0, b"")
+    assert explained(["check", str(log)]).stderr.endswith(missing)
+    assert explained(["check", "--load", str(folder / "bob.snapshot"), str(log)]).stderr.endswith(other)
+    wants(explained(["check", "--load", str(folder / "alice.snapshot"), str(log)]), 0, b"")
     # The log of a registration that is excluded, from its second request on.
     lines = (folder / "excluded_credential.log").read_bytes().splitlines(keepends=True)
-    said = run(["check"], b"".join(lines[:3] + lines[30:])).stderr
+    said = explained(["check"], b"".join(lines[:3] + lines[30:])).stderr
     assert missing in said and b"answer 19  CTAP2_ERR_CREDENTIAL_EXCLUDED" in said, said
-    assert missing not in run(["check", str(folder / "counter_stays.log")]).stderr
+    assert missing not in explained(["check", str(folder / "counter_stays.log")]).stderr
 
 
 def a_long_pipe_is_named(room: Path) -> None:
@@ -117,24 +117,26 @@ def a_long_pipe_is_named(room: Path) -> None:
         front = line * ((1 << 14) - 3 + more // 64)
         log = front + INIT + b"#".ljust(64 * 3 - len(INIT) - 1) + b"\n"
         assert len(log) == (1 << 20) + more
-        said = run(["check"], log)
+        said = explained(["check"], log)
         number = (1 << 14) - 2 + more // 64
         fault = b"hidlog: line %d: differs at packet 1\n" % number
         assert said.returncode == 1 and said.stderr.startswith(fault), said
         once = b"  to see the packets, name the log as a file: hidlog check FILE\n"
         assert (said.stderr == fault + once) != is_kept and (b"  the key sends:\n" in said.stderr) == is_kept, said
         (room / "log").write_bytes(log)
-        assert b"  the key sends:\n" in run(["check", str(room / "log")]).stderr
-        assert b"  the key sends:\n" in run(["check"], stdin=room / "log").stderr
+        assert b"  the key sends:\n" in explained(["check", str(room / "log")]).stderr
+        assert b"  the key sends:\n" in explained(["check"], stdin=room / "log").stderr
 
 
 def standard_input_that_was_read_before(room: Path) -> None:
     """A log whose file was read before from the same standard input isn't compared with another part of it."""
     (room / "log").write_bytes(b"t 1\n" + INIT)
-    script = 'read -r _; exec "$0" check'
-    with open(room / "log", "rb") as log:
-        said = subprocess.run(["bash", "-c", script, PROGRAM], stdin=log, capture_output=True)
-    wants(said, 1, b"hidlog: line 1: differs at packet 1\n  the log was changed while it was compared\n", b"")
+    differs = b"hidlog: line 1: differs at packet 1\n"
+    for word, more in (("--plain", b""), ("--explain", b"  the log was changed while it was compared\n")):
+        with open(room / "log", "rb") as log:
+            script = 'read -r _; exec "$0" check "$1"'
+            said = subprocess.run(["bash", "-c", script, PROGRAM, word], stdin=log, capture_output=True)
+        wants(said, 1, differs + more, b"")
 
 
 def all_differences_are_counted(room: Path) -> None:
@@ -142,14 +144,14 @@ def all_differences_are_counted(room: Path) -> None:
     ping = packet("00000001810003616263")
     group = [f"> 5 {ping}", f"< {ping}"]
     right = INIT + INIT_SENT + "".join(f"{line}\n" for line in group * 30).encode()
-    wants(run(["check", "--all"], right), 0, b"", b"same 31 inputs 31 packets\n")
+    wants(explained(["check", "--all"], right), 0, b"", b"same 31 inputs 31 packets\n")
     lines = right.decode().splitlines()
     wrong = list(lines)
     # Three kinds: a packet that differs, one that is missing (of the seventh input), and one too many at the end.
     wrong[5] = wrong[5][:-1] + "1"
     wrong.append(f"< {ping}")
     del wrong[13]
-    said = run(["check", "--all"], "\n".join(wrong).encode())
+    said = explained(["check", "--all"], "\n".join(wrong).encode())
     assert said.returncode == 1 and said.stdout == b"", said
     faults = [line for line in said.stderr.decode().splitlines() if line.startswith("hidlog: ")]
     assert faults == [
@@ -158,22 +160,25 @@ def all_differences_are_counted(room: Path) -> None:
         "hidlog: line 60: differs at packet 2",
         "hidlog: 3 inputs with differences",
     ], faults
-    said = run(["check", "--all"], "\n".join(lines[:5] + wrong[5:6] + lines[6:]).encode())
+    said = explained(["check", "--all"], "\n".join(lines[:5] + wrong[5:6] + lines[6:]).encode())
     assert said.stderr.endswith(b"\nhidlog: 1 input with differences\n"), said
-    said = run(["check"], "\n".join(wrong).encode())
+    said = explained(["check"], "\n".join(wrong).encode())
     assert b"hidlog: line 13" not in said.stderr and b"inputs with" not in said.stderr, said
     # A packet that is missing is found at the next input, whose own are compared.
-    assert b"  the log has no packet here, up to line 14\n" in run(["check", "--all"], "\n".join(wrong).encode()).stderr
+    assert (
+        b"  the log has no packet here, up to line 14\n"
+        in explained(["check", "--all"], "\n".join(wrong).encode()).stderr
+    )
     many = INIT + INIT_SENT + "".join(f"> 5 {ping}\n< {ping[:-1]}1\n" for _ in range(25)).encode()
-    said = run(["check", "--all"], many)
+    said = explained(["check", "--all"], many)
     faults = [line for line in said.stderr.decode().splitlines() if line.startswith("hidlog: ")]
     assert len(faults) == 21 and faults[-1] == "hidlog: 25 inputs with differences, the first 20 are said", faults
     assert said.stderr.decode().count("  the key sends:\n") == 20
     # A bad line ends it, and several logs are counted each.
-    said = run(["check", "--all"], many + b"t 5x\n")
+    said = explained(["check", "--all"], many + b"t 5x\n")
     assert said.stderr.decode().splitlines()[-2:] == ["hidlog: line 53: not a log line", faults[-1]], said
     (room / "log").write_bytes(many)
-    said = run(["check", "--all", str(room / "log"), str(AGAIN), str(EXAMPLES / "registration.log")])
+    said = explained(["check", "--all", str(room / "log"), str(AGAIN), str(EXAMPLES / "registration.log")])
     assert f"{room}/log: 25 inputs with differences, the first 20 are said\n" in said.stderr.decode(), said
     assert f"{AGAIN}: line " in said.stderr.decode() and said.stdout.startswith(str(EXAMPLES).encode()), said
 
@@ -183,11 +188,12 @@ def parts_of_a_log_are_read_on(_: Path) -> None:
     ping = packet("00000001810003616263")
     many = INIT + INIT_SENT + "".join(f"> 5 {ping}\n< {ping[:-1]}1\n" for _ in range(25)).encode() + b"t 5x\n"
     logs = [many, *((EXAMPLES / name).read_bytes() for name in ("registration.log", "failing/counter_stays.log"))]
-    for words in "check", "check --all", "check --all -", "replay", "live", "quiet", "show", "show --json":
+    for words in ("check", "check --all", "check --all -", "replay", "live", "quiet", "show", "show --json"):
         for log in logs:
-            whole = run(words.split(), log)
+            given = [words.split()[0], "--explain", *words.split()[1:]]
+            whole = run(given, log)
             for part in (61, 263, 4096):
-                said = run_in_parts(words.split(), log, part)
+                said = run_in_parts(given, log, part)
                 same = said.returncode == whole.returncode and said.stdout == whole.stdout
                 assert same and said.stderr == whole.stderr, (part, said, whole)
 
@@ -214,14 +220,14 @@ def notes_are_said(room: Path) -> None:
         (INIT + INIT_SENT + f"> 5 {ping}\n< {ping}\n".encode(), []),
     ]
     for number, (log, notes) in enumerate(cases):
-        said = run(["check"], log)
+        said = explained(["check"], log)
         assert said.returncode == 0 and said.stdout.startswith(b"same "), said
         assert said.stderr.decode() == "".join(f"hidlog: note: {note}\n" for note in notes), said
         (room / f"{number}").write_bytes(log)
         for command in ("replay", "live", "quiet", "show"):
-            wants(run([command], log), 0, b"")
+            wants(explained([command], log), 0, b"")
     paths = [str(room / f"{number}") for number in range(len(cases))]
-    said = run(["check", *paths])
+    said = explained(["check", *paths])
     wanted = [f"{path}: note: {note}\n" for path, (_, notes) in zip(paths, cases) for note in notes]
     assert said.returncode == 0 and said.stderr.decode() == "".join(wanted), said
 
@@ -258,7 +264,7 @@ def lines_are_cut_at_a_terminal(_: Path) -> None:
     """At a terminal lines are cut at its width, whole with --wide, and line numbers are aligned. Elsewhere, and in other
     commands, every byte is as it was."""
     log = (EXAMPLES / "registration.log").read_bytes()
-    plain = run(["show"], log).stdout
+    plain = explained(["show"], log).stdout
     whole = shown_at(["show", "--wide"], log, NO_COLOR="1")
     assert b"\x1b" not in whole
     assert [line.lstrip() for line in whole.splitlines()] == plain.splitlines()
@@ -270,7 +276,7 @@ def lines_are_cut_at_a_terminal(_: Path) -> None:
             is_cut = len(old) > wanted
             assert line == (old[: wanted - 2] + b".." if is_cut else old), (line, old)
     for words in (["replay"], ["live"], ["quiet"], ["check"], ["show", "--json"], ["--help"]):
-        assert shown_at(words, log, COLUMNS="20") == run(words, log).stdout, words
+        assert shown_at(words, log, COLUMNS="20") == explained(words, log).stdout, words
 
 
 def characters_are_cut_whole(_: Path) -> None:
@@ -293,14 +299,14 @@ def colours_are_for_terminals(_: Path) -> None:
     coloured = shown_at(["show", "--wide"], log)
     assert COLOUR.sub(b"", coloured) == plain and coloured != plain
     assert shown_at(["show", "--wide"], log, NO_COLOR="") == coloured
-    assert b"\x1b" not in run(["show"], log).stdout
+    assert b"\x1b" not in explained(["show"], log).stdout
     fronts = {line.split(b"m")[0] + b"m" for line in coloured.splitlines() if b" ERROR " in line}
     assert fronts == {b"\x1b[31m"}, fronts
     for line in coloured.splitlines():
         assert line.startswith(b"\x1b[") == line.endswith(b"\x1b[0m"), line
     # A summary has a colour where something was refused.
     summary = shown_at(["show", "--summary", "--wide"], log)
-    assert COLOUR.sub(b"", summary) == run(["show", "--summary"], log).stdout
+    assert COLOUR.sub(b"", summary) == explained(["show", "--summary"], log).stdout
     assert any(line.startswith(b"\x1b[31m") and b"ERR_CHANNEL_BUSY" in line for line in summary.splitlines()), summary
 
 
@@ -327,10 +333,27 @@ def faults_at(words: Sequence[str], log: Path) -> tuple[int, bytes]:
 def differences_are_cut_at_a_terminal(_: Path) -> None:
     """What differs is cut at the width of the terminal at which it is said."""
     log = EXAMPLES / "failing/counter_stays.log"
-    whole = run(["check", str(log)]).stderr.splitlines()
+    whole = explained(["check", str(log)]).stderr.splitlines()
     status, said = faults_at(["check", str(log)], log)
     cut = [line if len(line) <= 60 else line[:58] + b".." for line in whole]
     assert status == 1 and said.splitlines() == [whole[0], *cut[1:]], said
+
+
+def the_form_follows_the_reader(_: Path) -> None:
+    """A terminal gets the explained form, and the fixed one with --plain; a pipe gets the fixed form, and the explained
+    one with --explain; --plain is stronger."""
+    log = EXAMPLES / "failing/counter_stays.log"
+    fixed, people = run(["show"], log.read_bytes()).stdout, explained(["show"], log.read_bytes()).stdout
+    assert b"authenticatorGetAssertion" in people and b"authenticator" not in fixed
+    shown = shown_at(["show", "--wide"], log.read_bytes(), NO_COLOR="1")
+    assert [line.lstrip() for line in shown.splitlines()] == people.splitlines()
+    for words in (["show", "--plain"], ["show", "--plain", "--explain"]):
+        assert shown_at(words, log.read_bytes()) == fixed, words
+        assert run(words, log.read_bytes()).stdout == fixed, words
+    told, reasons = run(["check", str(log)]).stderr, explained(["check", str(log)]).stderr
+    assert told == b"hidlog: line 64: differs at packet 2\n" and reasons.startswith(told + b"  in ")
+    assert faults_at(["check", "--plain", str(log)], log) == (1, told)
+    assert len(faults_at(["check", str(log)], log)[1].splitlines()) == len(reasons.splitlines())
 
 
 def progress_is_erased(room: Path) -> None:
@@ -345,7 +368,7 @@ def progress_is_erased(room: Path) -> None:
         assert status == 0 and len(steps) > 3 and steps[-1] == b"", said
         assert steps[0] == f"  67 of {size} MB".encode() and not steps[-2].strip(), said
         assert max(map(len, steps)) <= len(steps[-2]), said
-    wants(run(["check"], stdin=log), 0, b"")
+    wants(explained(["check"], stdin=log), 0, b"")
     short = room / "short"
     short.write_bytes(INIT + INIT_SENT)
     assert faults_at(["check"], short) == (0, b"")
@@ -369,5 +392,6 @@ TESTS: list[Callable[[Path], None]] = [
     characters_are_cut_whole,
     colours_are_for_terminals,
     differences_are_cut_at_a_terminal,
+    the_form_follows_the_reader,
     progress_is_erased,
 ]

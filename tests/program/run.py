@@ -24,7 +24,7 @@ from pathlib import Path
 from typing import Any, Callable, Optional, Sequence
 
 import person
-from running import AGAIN, COUNTS, EXAMPLES, INIT, PROGRAM, SNAPSHOT, STACK, TOP, Said, run, wants
+from running import AGAIN, COUNTS, EXAMPLES, INIT, PROGRAM, SNAPSHOT, STACK, TOP, Said, explained, run, wants
 
 NOBODY = 65534
 
@@ -48,13 +48,16 @@ def live_refuses_first(room: Path) -> None:
     """`live` says what is wrong with the path of --save before it reads a line."""
     missing, folder = f"{room}/none/keys", str(room)
     wants(
-        run(["live", "--save", missing], INIT), 2, lacks(room, missing, "No such file or directory (os error 2)"), b""
+        explained(["live", "--save", missing], INIT),
+        2,
+        lacks(room, missing, "No such file or directory (os error 2)"),
+        b"",
     )
-    wants(run(["live", "--save", folder], INIT), 2, lacks(room, folder, "Is a directory (os error 21)"), b"")
-    wants(run(["live", "--save", ""], INIT), 2, lacks(room, "", "No such file or directory (os error 2)"), b"")
+    wants(explained(["live", "--save", folder], INIT), 2, lacks(room, folder, "Is a directory (os error 21)"), b"")
+    wants(explained(["live", "--save", ""], INIT), 2, lacks(room, "", "No such file or directory (os error 2)"), b"")
     inside = f"{SNAPSHOT}/keys"
-    wants(run(["live", "--save", inside], INIT), 2, lacks(room, inside, "Not a directory (os error 20)"), b"")
-    said = run(["live", "--save", f"{room}/keys"], b"t 5\n")
+    wants(explained(["live", "--save", inside], INIT), 2, lacks(room, inside, "Not a directory (os error 20)"), b"")
+    said = explained(["live", "--save", f"{room}/keys"], b"t 5\n")
     wants(said, 0, b"")
     assert sorted(os.listdir(room)) == ["keys"], os.listdir(room)
 
@@ -66,9 +69,9 @@ def live_needs_permission(room: Path) -> None:
     keys.chmod(0o444)
     room.chmod(0o555)
     denied = "Permission denied (os error 13)"
-    wants(run(["live", "--save", str(keys)], INIT, before=as_nobody), 2, lacks(room, str(keys), denied), b"")
-    wants(run(["live", "--save", f"{keys}2"], INIT, before=as_nobody), 2, lacks(room, f"{keys}2", denied), b"")
-    said = run(["replay", "--save", str(keys)], b"", before=as_nobody)
+    wants(explained(["live", "--save", str(keys)], INIT, before=as_nobody), 2, lacks(room, str(keys), denied), b"")
+    wants(explained(["live", "--save", f"{keys}2"], INIT, before=as_nobody), 2, lacks(room, f"{keys}2", denied), b"")
+    said = explained(["replay", "--save", str(keys)], b"", before=as_nobody)
     wants(said, 2, lacks(room, str(keys), denied), COUNTS)
     room.chmod(0o755)
     assert keys.read_bytes() == b"old" and os.listdir(room) == ["keys"]
@@ -77,10 +80,15 @@ def live_needs_permission(room: Path) -> None:
 def replay_refuses_last(room: Path) -> None:
     """`replay` writes its result whole, and then says that the snapshot can't be written."""
     missing = f"{room}/none/keys"
-    wants(run(["replay", "--save", missing]), 2, lacks(room, missing, "No such file or directory (os error 2)"), COUNTS)
-    wants(run(["replay", "--save", str(room)]), 2, lacks(room, str(room), "Is a directory (os error 21)"), COUNTS)
+    wants(
+        explained(["replay", "--save", missing]),
+        2,
+        lacks(room, missing, "No such file or directory (os error 2)"),
+        COUNTS,
+    )
+    wants(explained(["replay", "--save", str(room)]), 2, lacks(room, str(room), "Is a directory (os error 21)"), COUNTS)
     full = "No space left on device (os error 28)"
-    wants(run(["replay", "--save", "/dev/full"]), 2, lacks(room, "/dev/full", full), COUNTS)
+    wants(explained(["replay", "--save", "/dev/full"]), 2, lacks(room, "/dev/full", full), COUNTS)
 
 
 def the_log_is_kept(room: Path) -> None:
@@ -88,15 +96,15 @@ def the_log_is_kept(room: Path) -> None:
     log = room / "log"
     log.write_bytes(INIT)
     lost = lacks(room, str(log), "it is the log, which would be lost")
-    wants(run(["live", "--save", str(log)], stdin=log), 2, lost, b"")
-    said = run(["replay", "--save", str(log)], stdin=log)
+    wants(explained(["live", "--save", str(log)], stdin=log), 2, lost, b"")
+    said = explained(["replay", "--save", str(log)], stdin=log)
     assert said.returncode == 2 and said.stderr == lost and said.stdout.startswith(INIT)
     assert log.read_bytes() == INIT
     other = room / "link"
     os.link(log, other)
-    assert run(["replay", "--save", str(other)], stdin=log).returncode == 2 and log.read_bytes() == INIT
+    assert explained(["replay", "--save", str(other)], stdin=log).returncode == 2 and log.read_bytes() == INIT
     with open(room / "out", "wb") as out:
-        words = [PROGRAM, "replay", "--save", str(room / "out")]
+        words = [PROGRAM, "replay", "--explain", "--save", str(room / "out")]
         ended = subprocess.run(words, input=b"", stdout=out, stderr=subprocess.PIPE)
     wants(ended, 2, lacks(room, str(room / "out"), "it is the file that standard output goes to"))
     assert (room / "out").read_bytes() == COUNTS
@@ -106,10 +114,10 @@ def a_pipe_needs_its_reader(room: Path) -> None:
     """--save to a FIFO without a reader is refused at once; one with a reader gets the snapshot."""
     fifo = room / "fifo"
     os.mkfifo(fifo)
-    wants(run(["replay", "--save", str(fifo)]), 2, lacks(room, str(fifo), "Broken pipe (os error 32)"), COUNTS)
+    wants(explained(["replay", "--save", str(fifo)]), 2, lacks(room, str(fifo), "Broken pipe (os error 32)"), COUNTS)
     reader = os.open(fifo, os.O_RDONLY | os.O_NONBLOCK)
     try:
-        wants(run(["replay", "--save", str(fifo)]), 0, b"", COUNTS)
+        wants(explained(["replay", "--save", str(fifo)]), 0, b"", COUNTS)
         assert os.read(reader, 100) == bytes.fromhex("a201020280")
     finally:
         os.close(reader)
@@ -145,7 +153,7 @@ def a_failed_write_keeps(room: Path) -> None:
             assert said.returncode != 0, f"{fault}: nothing was injected"
             assert keys.read_bytes() == old, f"{fault}: the file has {len(keys.read_bytes())} bytes"
             if fault.startswith("error"):
-                assert said.stderr.startswith(b"hidlog: cannot write snapshot\n  "), said.stderr
+                assert said.stderr == b"hidlog: cannot write snapshot\n", said.stderr
 
 
 def a_full_disk_keeps(room: Path) -> None:
@@ -166,10 +174,10 @@ def a_full_disk_keeps(room: Path) -> None:
             keys.write_bytes(old)
             fresh.write_bytes(b"")
             filled(fill)
-            said = run(["replay", "--load", str(SNAPSHOT), "--save", str(fresh)], AGAIN.read_bytes())
+            said = explained(["replay", "--load", str(SNAPSHOT), "--save", str(fresh)], AGAIN.read_bytes())
             assert said.returncode == 2 and fresh.read_bytes() == b"", said.stderr
             wants(said, 2, lacks(room, str(fresh), "No space left on device (os error 28)"))
-            said = run(["replay", "--load", str(SNAPSHOT), "--save", str(keys)], AGAIN.read_bytes())
+            said = explained(["replay", "--load", str(SNAPSHOT), "--save", str(keys)], AGAIN.read_bytes())
             assert keys.read_bytes() == (wanted if said.returncode == 0 else old), said.stderr
             fill.unlink()
     finally:
@@ -255,17 +263,17 @@ def snapshots_are_refused_in_words(room: Path) -> None:
         words = [command, "--load", str(keys)]
         for data, number, reason in cases:
             keys.write_bytes(data)
-            wants(run(words, INIT), 2, f"hidlog: snapshot refused: {number}\n  {keys}: {reason}\n".encode(), b"")
+            wants(explained(words, INIT), 2, f"hidlog: snapshot refused: {number}\n  {keys}: {reason}\n".encode(), b"")
         keys.unlink()
         cannot = f"hidlog: cannot read snapshot\n  {keys}: No such file or directory (os error 2)\n"
-        wants(run(words, INIT), 2, cannot.encode(), b"")
+        wants(explained(words, INIT), 2, cannot.encode(), b"")
         cannot = f"hidlog: cannot read snapshot\n  {room}: Is a directory (os error 21)\n"
-        wants(run([command, "--load", str(room)], INIT), 2, cannot.encode(), b"")
+        wants(explained([command, "--load", str(room)], INIT), 2, cannot.encode(), b"")
         keys.write_bytes(whole)
         keys.chmod(0)
         cannot = f"hidlog: cannot read snapshot\n  {keys}: Permission denied (os error 13)\n"
         room.chmod(0o755)
-        wants(run(words, INIT, before=as_nobody), 2, cannot.encode(), b"")
+        wants(explained(words, INIT, before=as_nobody), 2, cannot.encode(), b"")
         keys.chmod(0o644)
 
 
@@ -302,51 +310,60 @@ def bad_lines_say_where(_: Path) -> None:
     ]
     for line, reason in cases:
         for command in ("replay", "live", "check", "quiet", "show"):
-            said = run([command], line + b"\n")
+            wants(run([command], line + b"\n"), 1, b"hidlog: line 1: not a log line\n")
+            said = explained([command], line + b"\n")
             wants(said, 1, f"hidlog: line 1: not a log line\n  {reason}\n".encode())
     # The line is found after many others too, and before those that were read with it.
     for front in (1, 3, 40, 5000):
         log = b"# a comment of some length, so that reads end within lines\n" * front + b"t 5x\nt 6y\n" + b"t 7\n" * 99
-        said = run(["quiet"], log)
+        said = explained(["quiet"], log)
         wants(said, 1, f"hidlog: line {front + 1}: not a log line\n  byte 4 is 'x', {fits_not}\n".encode())
 
 
 def other_faults_have_no_reason(_: Path) -> None:
     """A fault of another kind says nothing about lines that weren't played."""
     said = b"  the log has in line 1:\n    < 00000000 +0\n  the key sends no packet here\n"
-    wants(run(["check"], b"< " + b"0" * 128 + b"\nt 5x\n"), 1, b"hidlog: line 0: differs at packet 1\n" + said, b"")
-    wants(run(["replay"], b"#" * 256 + b"\nt 5x\n"), 1, b"hidlog: line 1: longer than 255 bytes\n", b"")
+    different, long = b"< " + b"0" * 128 + b"\nt 5x\n", b"#" * 256 + b"\nt 5x\n"
+    wants(run(["check"], different), 1, b"hidlog: line 0: differs at packet 1\n", b"")
+    wants(explained(["check"], different), 1, b"hidlog: line 0: differs at packet 1\n" + said, b"")
+    for runs in (run, explained):
+        wants(runs(["replay"], long), 1, b"hidlog: line 1: longer than 255 bytes\n", b"")
 
 
 # ---- streams that fail
 
 
-def a_closed_pipe_is_silent(room: Path) -> None:
-    """`| head` ends the program without a word, with the status of a program that SIGPIPE ended."""
-    for words in (["replay"], ["live"], ["quiet"], ["show"], ["--help"]):
+WRITING_FAILED = b"hidlog: writing failed\n"
+
+
+def a_closed_pipe_is_told(room: Path) -> None:
+    """A standard output that nobody reads, as of `| head`, is a write that failed; with help the status is 2."""
+    for words, status in ((["replay"], 1), (["live"], 1), (["quiet"], 1), (["show"], 1), (["--help"], 2)):
         reader, writer = os.pipe()
         os.close(reader)
         said = subprocess.run([PROGRAM, *words], input=INIT * 9, stdout=writer, stderr=subprocess.PIPE)
         os.close(writer)
-        wants(said, 141, b"")
+        wants(said, status, WRITING_FAILED)
     # In the midst of its output, too.
     script = '"$0" replay 2>"$1" <"$2" | head -1 >/dev/null; echo "${PIPESTATUS[0]}"'
     (room / "log").write_bytes(INIT * 40_000)
     words = ["bash", "-c", script, PROGRAM, str(room / "faults"), str(room / "log")]
-    assert subprocess.run(words, capture_output=True).stdout == b"141\n"
-    assert (room / "faults").read_bytes() == b""
+    assert subprocess.run(words, capture_output=True).stdout == b"1\n"
+    assert (room / "faults").read_bytes() == WRITING_FAILED
 
 
 def a_full_output_says_so(_: Path) -> None:
-    """A standard output that can't be written to is told with the reason; help too."""
-    full = b"hidlog: writing failed\n  standard output: No space left on device (os error 28)\n"
+    """A standard output that can't be written to is told, explained with the reason; help too."""
+    full = b"  standard output: No space left on device (os error 28)\n"
     for words, status in ((["replay"], 1), (["check"], 1), (["show"], 1), (["--help"], 2), (["--version"], 2)):
-        with open("/dev/full", "wb") as out:
-            said = subprocess.run([PROGRAM, *words], input=INIT[:-1], stdout=out, stderr=subprocess.PIPE)
-        if words == ["check"]:
-            assert said.returncode == 1 and said.stderr.startswith(b"hidlog: line 1: differs at packet 1\n"), said
-        else:
-            wants(said, status, full)
+        forms: list[list[str]] = [[]] if words[0].startswith("-") else [[], ["--explain"]]
+        for more in forms:
+            with open("/dev/full", "wb") as out:
+                said = subprocess.run([PROGRAM, *words, *more], input=INIT[:-1], stdout=out, stderr=subprocess.PIPE)
+            if words == ["check"]:
+                assert said.returncode == 1 and said.stderr.startswith(b"hidlog: line 1: differs at packet 1\n"), said
+            else:
+                wants(said, status, WRITING_FAILED + (full if more else b""))
 
 
 def a_full_standard_error_changes_nothing(_: Path) -> None:
@@ -358,33 +375,41 @@ def a_full_standard_error_changes_nothing(_: Path) -> None:
 
 
 def folders_on_standard_input(_: Path) -> None:
-    """A folder on standard input is told with the reason, by each command."""
+    """A folder on standard input is told by each command, explained with the reason."""
+    reason = b"  standard input: Is a directory (os error 21)\n"
     for command in ("replay", "live", "check", "quiet", "show"):
-        folder = os.open("/", os.O_RDONLY)
-        try:
-            said = subprocess.run([PROGRAM, command], stdin=folder, capture_output=True)
-        finally:
-            os.close(folder)
-        wants(said, 1, b"hidlog: line 1: reading failed\n  standard input: Is a directory (os error 21)\n", b"")
+        for words, more in (([command], b""), ([command, "--explain"], reason)):
+            folder = os.open("/", os.O_RDONLY)
+            try:
+                said = subprocess.run([PROGRAM, *words], stdin=folder, capture_output=True)
+            finally:
+                os.close(folder)
+            wants(said, 1, b"hidlog: line 1: reading failed\n" + more, b"")
 
 
-def interrupted_calls_are_tried_again(_: Path) -> None:
-    """EINTR at any of the first reads and writes changes nothing."""
+def failed_calls_are_not_made_again(_: Path) -> None:
+    """A read or a write that failed once is told, and made no more: EINTR and EAGAIN too. What came before isn't lost."""
     log = (EXAMPLES / "registration.log").read_bytes()
-    for call in ("read", "write"):
-        for when in ("1", "2", "2+", "1..3"):
-            spread = "1+2" if when == "2+" else when
-            said = run(["replay"], log, trace=["-e", f"inject={call}:error=EINTR:when={spread}"])
-            wants(said, 0, b"", log)
-
-
-def a_call_that_would_wait_is_told(_: Path) -> None:
-    """EAGAIN is told as what it is."""
-    again = "Resource temporarily unavailable (os error 11)"
-    said = run(["replay"], INIT, trace=["-e", "inject=write:error=EAGAIN:when=1"])
-    wants(said, 1, f"hidlog: writing failed\n  standard output: {again}\n".encode(), b"")
-    said = run(["replay"], INIT, trace=["-e", "inject=read:error=EAGAIN:when=1"])
-    wants(said, 1, f"hidlog: line 1: reading failed\n  standard input: {again}\n".encode(), b"")
+    for error, name in (
+        ("EINTR", "Interrupted system call (os error 4)"),
+        ("EAGAIN", "Resource temporarily unavailable (os error 11)"),
+    ):
+        for when in (1, 2, 5):
+            trace = ["-e", f"inject=write:error={error}:when={when}"]
+            said = run(["replay"], log, trace=trace)
+            wants(said, 1, WRITING_FAILED)
+            assert log.startswith(said.stdout) and said.stdout.count(b"> ") <= when, said
+        said = run(["replay"], log, trace=["-e", f"inject=read:error={error}:when=1"])
+        wants(said, 1, b"hidlog: line 1: reading failed\n", b"")
+        said = run(["replay"], log, trace=["-e", f"inject=read:error={error}:when=2"])
+        # All lines were read before, and each was played; only the counts are missing.
+        lines = log.splitlines(keepends=True)[:-1]
+        inputs = log.rpartition(b"= held")[0]
+        wants(said, 1, f"hidlog: line {len(lines) + 2}: reading failed\n".encode(), inputs)
+        said = run(["replay", "--explain"], INIT, trace=["-e", f"inject=write:error={error}:when=1"])
+        wants(said, 1, WRITING_FAILED + f"  standard output: {name}\n".encode(), b"")
+        said = run(["replay", "--explain"], INIT, trace=["-e", f"inject=read:error={error}:when=1"])
+        wants(said, 1, f"hidlog: line 1: reading failed\n  standard input: {name}\n".encode(), b"")
 
 
 # ---- logs by their names
@@ -420,9 +445,9 @@ def bad_files_are_told(room: Path) -> None:
     ]
     for command in ("replay", "live", "check", "quiet", "show"):
         for path, reason in cases:
-            said = run([command, path], before=as_nobody)
+            said = explained([command, path], before=as_nobody)
             wants(said, 1, f"hidlog: cannot read log\n  {path}: {reason}\n".encode(), b"")
-    said = run(["replay", "--load", "/none", f"{room}/none.log"])
+    said = explained(["replay", "--load", "/none", f"{room}/none.log"])
     assert said.returncode == 1 and said.stderr.startswith(b"hidlog: cannot read log\n"), said.stderr
 
 
@@ -431,11 +456,11 @@ def faults_of_files_say_why(room: Path) -> None:
     log = room / "a.log"
     log.write_bytes(INIT + b"t 5\r\n")
     for command in ("replay", "live", "quiet", "show"):
-        wants(run([command, str(log)]), 1, run([command], stdin=log).stderr)
-    assert b"byte 4 is a carriage return" in run(["show", str(log)]).stderr
+        wants(explained([command, str(log)]), 1, explained([command], stdin=log).stderr)
+    assert b"byte 4 is a carriage return" in explained(["show", str(log)]).stderr
     reading = ["-P", str(log), "-e", "inject=read:error=EIO:when=1"]
     wants(
-        run(["replay", str(log)], trace=reading),
+        explained(["replay", str(log)], trace=reading),
         1,
         f"hidlog: line 1: reading failed\n  {log}: Input/output error (os error 5)\n".encode(),
         b"",
@@ -455,10 +480,10 @@ MISSING = """\
 def several_are_checked(room: Path) -> None:
     """`check` compares each file on a session of its own, and says of each what came of it; no other command does."""
     good, again = EXAMPLES / "registration.log", EXAMPLES / "sign_in.log"
-    same = run(["check"], stdin=good).stdout
-    more = run(["check"], stdin=again).stdout
+    same = explained(["check"], stdin=good).stdout
+    more = explained(["check"], stdin=again).stdout
     wants(
-        run(["check", str(good), str(again), str(good)]),
+        explained(["check", str(good), str(again), str(good)]),
         0,
         b"",
         f"{good}: ".encode() + same + f"{again}: ".encode() + more + f"{good}: ".encode() + same,
@@ -472,33 +497,33 @@ def several_are_checked(room: Path) -> None:
         f"hidlog: cannot read log\n  {none}: No such file or directory (os error 2)\n"
     )
     paths = [str(it) for it in (differs, bad, none, good)]
-    wants(run(["check", *paths]), 1, told.encode(), f"{good}: ".encode() + same)
+    wants(explained(["check", *paths]), 1, told.encode(), f"{good}: ".encode() + same)
     # Standard input may be one of them, and a snapshot is loaded for each.
-    loaded = run(["check", "--load", str(SNAPSHOT)], stdin=AGAIN).stdout
-    said = run(["check", "--load", str(SNAPSHOT), "-", str(AGAIN)], stdin=AGAIN)
+    loaded = explained(["check", "--load", str(SNAPSHOT)], stdin=AGAIN).stdout
+    said = explained(["check", "--load", str(SNAPSHOT), "-", str(AGAIN)], stdin=AGAIN)
     wants(said, 0, b"", b"-: " + loaded + f"{AGAIN}: ".encode() + loaded)
-    mixed = run(["check", str(good), "-", str(again)], again.read_bytes())
+    mixed = explained(["check", str(good), "-", str(again)], again.read_bytes())
     wants(mixed, 0, b"", f"{good}: ".encode() + same + b"-: " + more + f"{again}: ".encode() + more)
     wants(
-        run(["check", "--load", "/none", str(good), str(good)]),
+        explained(["check", "--load", "/none", str(good), str(good)]),
         2,
         b"hidlog: cannot read snapshot\n  /none: No such file or directory (os error 2)\n",
         b"",
     )
     for command in ("replay", "live", "quiet", "show"):
-        said = run([command, str(good), str(again)])
+        said = explained([command, str(good), str(again)])
         assert said.returncode == 2 and b"unexpected argument" in said.stderr and said.stdout == b""
 
 
 def forms_are_shown(room: Path) -> None:
     """`show --summary` and `show --json` say other things than lines, of a log with a fault too; JSON comes first."""
     log = EXAMPLES / "sign_in.log"
-    lines = run(["show", str(log)]).stdout
-    summary = run(["show", "--summary", str(log)])
+    lines = explained(["show", str(log)]).stdout
+    summary = explained(["show", "--summary", str(log)])
     wants(summary, 0, b"")
     assert b"authenticatorGetAssertion" in summary.stdout and summary.stdout != lines
     for words in (["show", "--json"], ["show", "--summary", "--json"]):
-        said = run([*words, str(log)])
+        said = explained([*words, str(log)])
         wants(said, 0, b"")
         objects = [json.loads(line) for line in said.stdout.splitlines()]
         assert len(objects) > 20 and all(isinstance(it, dict) for it in objects)
@@ -506,16 +531,15 @@ def forms_are_shown(room: Path) -> None:
     bad.write_bytes(log.read_bytes() + b"t 5x\n")
     count = len(bad.read_bytes().splitlines())
     told = f"hidlog: line {count}: not a log line\n  byte 4 is 'x', which fits no log line here\n".encode()
-    said = run(["show", "--summary", str(bad)])
+    said = explained(["show", "--summary", str(bad)])
     wants(said, 1, told, summary.stdout)
-    said = run(["show", "--json", str(bad)])
+    said = explained(["show", "--json", str(bad)])
     wants(said, 1, told)
     assert [json.loads(line) for line in said.stdout.splitlines()][-1] not in objects
     for form in ("--summary", "--json"):
         with open("/dev/full", "wb") as out:
             ended = subprocess.run([PROGRAM, "show", form, str(log)], stdout=out, stderr=subprocess.PIPE)
-        full = b"hidlog: writing failed\n  standard output: No space left on device (os error 28)\n"
-        wants(ended, 1, full)
+        wants(ended, 1, WRITING_FAILED)
 
 
 KINDS = {
@@ -567,10 +591,9 @@ def every_log_is_json(_: Path) -> None:
 def a_full_output_ends_several(_: Path) -> None:
     """Where standard output is full or closed, no further log is compared."""
     good = str(EXAMPLES / "registration.log")
-    full = b"hidlog: writing failed\n  standard output: No space left on device (os error 28)\n"
     with open("/dev/full", "wb") as out:
         said = subprocess.run([PROGRAM, "check", good, good, "/none"], stdout=out, stderr=subprocess.PIPE)
-    wants(said, 1, full)
+    wants(said, 1, WRITING_FAILED)
 
 
 def many_files_take_no_memory(room: Path) -> None:
@@ -593,14 +616,14 @@ def the_named_log_is_kept(room: Path) -> None:
     os.symlink(log, link)
     for path in (log, link):
         lost = lacks(room, str(path), "it is the log, which would be lost")
-        wants(run(["live", "--save", str(path), str(log)]), 2, lost, b"")
-        said = run(["replay", "--save", str(path), str(log)])
+        wants(explained(["live", "--save", str(path), str(log)]), 2, lost, b"")
+        said = explained(["replay", "--save", str(path), str(log)])
         assert said.returncode == 2 and said.stderr == lost and said.stdout.startswith(INIT)
         assert log.read_bytes() == INIT
     # What isn't the log may be saved to, whatever standard input is.
     keys = room / "keys"
     keys.write_bytes(b"old")
-    wants(run(["replay", "--save", str(keys), str(log)], stdin=keys), 0, b"")
+    wants(explained(["replay", "--save", str(keys), str(log)], stdin=keys), 0, b"")
     assert keys.read_bytes() == bytes.fromhex("a201020280")
 
 
@@ -617,11 +640,12 @@ def at_a_terminal(words: Sequence[str], typed: bytes) -> bytes:
 
 
 def a_terminal_is_told(_: Path) -> None:
-    """Where standard input is a terminal and no file is named, it is said once what is awaited."""
+    """Where standard input is a terminal and no file is named, it is said once what is awaited, if it is explained."""
     awaited = b"hidlog: reads a log from the terminal, up to Ctrl-D\n"
     for words in (["replay"], ["live"], ["check"], ["quiet"], ["show"], ["show", "-"]):
-        assert at_a_terminal(words, b"t 5\nt 6\n") == awaited, words
-    assert at_a_terminal(["show", str(AGAIN)], b"") == b""
+        assert at_a_terminal([*words, "--explain"], b"t 5\nt 6\n") == awaited, words
+        assert at_a_terminal(words, b"t 5\nt 6\n") == b"", words
+    assert at_a_terminal(["show", "--explain", str(AGAIN)], b"") == b""
     assert at_a_terminal(["--help"], b"") == b""
 
 
@@ -650,7 +674,7 @@ def little_stack_is_enough(_: Path) -> None:
     # What differs is said there, too.
     bob = str(EXAMPLES / "failing/bob.snapshot")
     for name, loaded in (("counter_stays", ()), ("wrong_snapshot", ("--load", bob))):
-        said = run(["check", "--all", *loaded], stdin=EXAMPLES / f"failing/{name}.log", before=small)
+        said = explained(["check", "--all", *loaded], stdin=EXAMPLES / f"failing/{name}.log", before=small)
         assert said.returncode == 1 and b"  the key sends:\n" in said.stderr, said
 
 
@@ -658,12 +682,7 @@ class Skipped(Exception):
     """Something is missing that a test needs."""
 
 
-TRACED = {
-    a_failed_write_keeps,
-    faults_of_files_say_why,
-    interrupted_calls_are_tried_again,
-    a_call_that_would_wait_is_told,
-}
+TRACED = {a_failed_write_keeps, faults_of_files_say_why, failed_calls_are_not_made_again}
 TESTS = [
     live_refuses_first,
     live_needs_permission,
@@ -678,12 +697,11 @@ TESTS = [
     snapshots_are_refused_in_words,
     bad_lines_say_where,
     other_faults_have_no_reason,
-    a_closed_pipe_is_silent,
+    a_closed_pipe_is_told,
     a_full_output_says_so,
     a_full_standard_error_changes_nothing,
     folders_on_standard_input,
-    interrupted_calls_are_tried_again,
-    a_call_that_would_wait_is_told,
+    failed_calls_are_not_made_again,
     files_are_read_by_name,
     bad_files_are_told,
     faults_of_files_say_why,

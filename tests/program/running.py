@@ -41,6 +41,25 @@ def run(
         return subprocess.run(command, stdin=file, capture_output=True, preexec_fn=before, timeout=60)
 
 
+def explained(
+    words: Sequence[str],
+    log: bytes = b"",
+    *,
+    stdin: Optional[Path] = None,
+    trace: Sequence[str] = (),
+    before: Optional[Callable[[], None]] = None,
+) -> Said:
+    """Runs the program as `run` does, with what it says for people. Fails unless the fixed text of its faults is what is
+    left without that: lines that begin with two spaces, and notes."""
+    said = run([words[0], "--explain", *words[1:]], log, stdin=stdin, trace=trace, before=before)
+    if "--save" not in words and not trace:
+        fixed = run(words, log, stdin=stdin, before=before)
+        lines = said.stderr.splitlines(keepends=True)
+        left = b"".join(it for it in lines if not it.startswith(b"  ") and b": note: " not in it)
+        assert fixed.returncode == said.returncode and fixed.stderr == left, (words, fixed, said)
+    return said
+
+
 def run_in_parts(words: Sequence[str], log: bytes, part: int) -> Said:
     """Runs the program on a log through a pipe, so many bytes at a time, each part once the one before was read."""
     with subprocess.Popen(

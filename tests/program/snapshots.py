@@ -10,7 +10,7 @@ import ctypes
 from pathlib import Path
 from typing import Optional
 
-from running import COUNTS, TOP, run
+from running import COUNTS, TOP, explained, run
 
 NOT_SNAPSHOT, TOO_MANY, ROW_BROKEN = 1, 2, 3
 # The SHA-256 hash of `example.com`, the id without its last byte, the coordinates, and the head of a user handle.
@@ -149,14 +149,17 @@ def expected(place: int, byte: int) -> Optional[tuple[int, str]]:
 def loads(room: Path, text: bytes, wanted: Optional[tuple[int, str]], rows: int) -> None:
     """Fails unless the program loads so many rows, or refuses the snapshot with this number and says it of that."""
     (room / "old").write_bytes(text)
-    said = run(["replay", "--load", str(room / "old")])
+    words = ["replay", "--load", str(room / "old")]
+    said = run(words)
     if wanted is None:
         assert said.returncode == 0 and said.stderr == b"", f"{text.hex()}: {said.stderr!r}"
         assert said.stdout == COUNTS.replace(b"rows 0", b"rows %d" % rows), f"{text.hex()}: {said.stdout!r}"
         return
-    front = f"hidlog: snapshot refused: {wanted[0]}\n  {room / 'old'}: {wanted[1]} ".encode()
+    front = f"hidlog: snapshot refused: {wanted[0]}\n".encode()
     assert said.returncode == 2 and said.stdout == b"", f"{text.hex()} is loaded"
-    assert said.stderr.startswith(front), f"{text.hex()}: {said.stderr!r}"
+    assert said.stderr == front, f"{text.hex()}: {said.stderr!r}"
+    front += f"  {room / 'old'}: {wanted[1]} ".encode()
+    assert explained(words).stderr.startswith(front), f"{text.hex()}: {said.stderr!r}"
 
 
 def snapshots_are_loaded_or_refused(room: Path) -> None:

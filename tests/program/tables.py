@@ -57,11 +57,16 @@ STATUSES = """\
 3f CTAP2_ERR_UV_INVALID
 40 CTAP2_ERR_UNAUTHORIZED_PERMISSION
 7f CTAP1_ERR_OTHER
+df CTAP2_ERR_SPEC_LAST
+e0 CTAP2_ERR_EXTENSION_FIRST
+ef CTAP2_ERR_EXTENSION_LAST
+f0 CTAP2_ERR_VENDOR_FIRST
+ff CTAP2_ERR_VENDOR_LAST
 13
 38
 41
-e0
-ff
+e1
+fe
 """
 
 # The authenticator's commands with their names (section 6), and some numbers that have none.
@@ -181,15 +186,15 @@ ff1805 ff fault 3 at 0  NotShortest: a number or a length that has a shorter enc
 
 # Lines with characters that can't be seen, and of 255 and 256 bytes.
 LINES = [
-    "1 hidlog replay\n-t 5\r\n?hidlog: line 1: not a log line\n"
+    "1 hidlog replay --explain\n-t 5\r\n?hidlog: line 1: not a log line\n"
     "?  byte 4 is a carriage return: lines end with a line feed alone (tr -d '\\r' drops the others)",
-    "1 hidlog replay\n-\r\n?hidlog: line 1: not a log line\n"
+    "1 hidlog replay --explain\n-\r\n?hidlog: line 1: not a log line\n"
     "?  byte 1 is a carriage return: lines end with a line feed alone (tr -d '\\r' drops the others)",
-    "1 hidlog replay\n-\ufefft 5\n?hidlog: line 1: not a log line\n?  byte 1 begins a byte order mark: a log has none",
-    "1 hidlog replay\n|t 5\n-\x20\n?hidlog: line 2: not a log line\n?  byte 1 is ' ', which fits no log line here",
+    "1 hidlog replay --explain\n-\ufefft 5\n?hidlog: line 1: not a log line\n?  byte 1 begins a byte order mark: a log has none",
+    "1 hidlog replay --explain\n|t 5\n-\x20\n?hidlog: line 2: not a log line\n?  byte 1 is ' ', which fits no log line here",
     f"0 hidlog replay\n|{'#' * 255}\n!\n+{COUNTS}",
     f"1 hidlog replay\n-{'#' * 256}\n!\n?hidlog: line 1: longer than 255 bytes",
-    f"1 hidlog replay\n-{'x' * 255}\n!\n?hidlog: line 1: not a log line\n?  byte 1 is 'x', which fits no log line here",
+    f"1 hidlog replay --explain\n-{'x' * 255}\n!\n?hidlog: line 1: not a log line\n?  byte 1 is 'x', which fits no log line here",
     f"1 hidlog replay\n-{'x' * 256}\n!\n?hidlog: line 1: longer than 255 bytes",
 ]
 # Of what `live` reads, comments that say what was needed before are dropped, and no others.
@@ -203,7 +208,7 @@ COMMENTS = [
 ]
 # Comments as they are shown.
 SHOWN = [
-    '0 hidlog show\n-# alice "registers" \\ \x1b[31m\x9b\u202e\u2066\ufeff\U000e0041ü\n-#\n'
+    '0 hidlog show --explain\n-# alice "registers" \\ \x1b[31m\x9b\u202e\u2066\ufeff\U000e0041ü\n-#\n'
     '+1 # alice "registers" \\ \\u001b[31m\\u009b\\u202e\\u2066\\ufeff\\u{0e0041}ü\n+2 #',
     '0 hidlog show --json\n-# "a" \\ \x1b\x9b\u202eü\U000e0041\n'
     '+{"line":1,"kind":"comment","text":"# \\"a\\" \\\\ \\u001b\\u009b\\u202eü\\udb40\\udc41"}',
@@ -225,28 +230,28 @@ def named(name: str) -> str:
 def message(data: str, shown: str) -> str:
     """Returns the case of a CBOR message of one packet of a host."""
     length = len(data) // 2
-    return f"0 hidlog show\n-> 0 0000000190{length:04x}{data}..\n+1 > 0 00000001 CBOR {length}\n+1   request {shown}"
+    return f"0 hidlog show --explain\n-> 0 0000000190{length:04x}{data}..\n+1 > 0 00000001 CBOR {length}\n+1   request {shown}"
 
 
 def long_message(length: int, end: str) -> str:
     """Returns the case of a message of the key in 129 packets: a byte string of zeros after its first byte."""
     first = f"-< 0000000190{length:04x}0059{length - 4:04x}..\n+1 < 00000001 CBOR {length}\n"
     rest = (f"-< 00000001{number:02x}..\n+{number + 2} < 00000001 +{number}\n" for number in range(128))
-    return ("0 hidlog show\n" + first + "".join(rest) + end).rstrip("\n")
+    return ("0 hidlog show --explain\n" + first + "".join(rest) + end).rstrip("\n")
 
 
 def made() -> Iterator[str]:
     """Yields the cases."""
     for number, name in rows(STATUSES):
-        head = f"0 hidlog show\n-< 00000001900001{number}..\n+1 < 00000001 CBOR 1\n"
+        head = f"0 hidlog show --explain\n-< 00000001900001{number}..\n+1 < 00000001 CBOR 1\n"
         yield f"{head}+1   answer {number}{named(name)}"
     for number, name in rows(COMMANDS):
         yield message(number, number + named(name))
     for number, name in rows(ERRORS):
-        yield f"0 hidlog show\n-< 00000001bf0001{number}..\n+1 < 00000001 ERROR 1 {number}{named(name)}"
+        yield f"0 hidlog show --explain\n-< 00000001bf0001{number}..\n+1 < 00000001 ERROR 1 {number}{named(name)}"
     for command in range(128):
         shown = CTAPHID.get(command, f"0x{command:02x} 65535")
-        yield f"0 hidlog show\n-< 0123abcd{command | 128:02x}ffffa0..\n+1 < 0123abcd {shown}"
+        yield f"0 hidlog show --explain\n-< 0123abcd{command | 128:02x}ffffa0..\n+1 < 0123abcd {shown}"
     for item, text in rows(HIDDEN):
         yield message(f"05{item}", f'05 "{text}"')
     for item, text in rows(ITEMS):

@@ -53,13 +53,17 @@ const textOf = (bytes) =>
 const fromBase64 = (text) => Uint8Array.from(atob(text), (letter) => letter.charCodeAt(0));
 
 /** @param {Uint8Array} bytes */
-const toBase64url = (bytes) => {
+const toBase64 = (bytes) => {
     let text = "";
     for (const byte of bytes) {
         text += String.fromCharCode(byte);
     }
-    return btoa(text).replaceAll("+", "-").replaceAll("/", "_").replaceAll("=", "");
+    return btoa(text);
 };
+
+/** @param {Uint8Array} bytes */
+const toBase64url = (bytes) =>
+    toBase64(bytes).replaceAll("+", "-").replaceAll("/", "_").replaceAll("=", "");
 
 /** The bytes of a text in base64url, or null where it isn't one. @param {string} text */
 const fromBase64url = (text) => {
@@ -97,7 +101,7 @@ const joined = (...parts) => {
     }
     return bytes;
 };
-return { toHex, fromHex, utf8, textOf, fromBase64, toBase64url, fromBase64url, isBuffer, tagOf, copyOf, bufferOf, isSame, joined };
+return { toHex, fromHex, utf8, textOf, fromBase64, toBase64, toBase64url, fromBase64url, isBuffer, tagOf, copyOf, bufferOf, isSame, joined };
 })();
 
 globalThis.hidlogBytes = { ...parts["bytes.js"] };

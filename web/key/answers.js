@@ -27,9 +27,12 @@ const madeOf = (type, members) => {
     return made;
 };
 
-/** @param {Uint8Array} id @param {any} response @param {object} responseJson @param {object} extensions */
-const credentialOf = (id, response, responseJson, extensions) => {
-    const shared = { id: toBase64url(id), type: "public-key", authenticatorAttachment: "cross-platform" };
+/**
+ * @param {Uint8Array} id @param {any} response @param {object} responseJson @param {object} extensions
+ * @param {string} attachment
+ */
+const credentialOf = (id, response, responseJson, extensions, attachment) => {
+    const shared = { id: toBase64url(id), type: "public-key", authenticatorAttachment: attachment };
     return madeOf("PublicKeyCredential", {
         ...shared, rawId: bufferOf(id), response,
         getClientExtensionResults: () => extensions,
@@ -48,8 +51,9 @@ export const credentialIdIn = (authData) => {
 /**
  * The credential that a registration made. A self attestation with no AAGUID is handed on as it is.
  * @param {Map<number, any>} answer @param {Uint8Array} clientData @param {object} extensions
+ * @param {import("./abilities.js").Abilities} abilities
  */
-export const registered = (answer, clientData, extensions) => {
+export const registered = (answer, clientData, extensions, abilities) => {
     const authData = answer.get(2);
     const id = credentialIdIn(authData);
     const key = readCbor(authData.subarray(ID_AT + id.length)).value;
@@ -59,21 +63,22 @@ export const registered = (answer, clientData, extensions) => {
     };
     const read = {
         authenticatorData: bufferOf(authData), publicKey: bufferOf(spkiOf(key.get(-2), key.get(-3))),
-        publicKeyAlgorithm: ES256, transports: ["usb"],
+        publicKeyAlgorithm: ES256, transports: [abilities.get("transport")],
     };
     const response = madeOf("AuthenticatorAttestationResponse", {
         ...parts,
         getAuthenticatorData: () => read.authenticatorData.slice(0), getPublicKey: () => read.publicKey.slice(0),
         getPublicKeyAlgorithm: () => ES256, getTransports: () => [...read.transports],
     });
-    return credentialOf(id, response, { ...parts, ...read }, extensions);
+    return credentialOf(id, response, { ...parts, ...read }, extensions, abilities.attachment);
 };
 
 /**
  * The credential that signed in.
- * @param {Map<number, any>} answer @param {Uint8Array} clientData @param {object} extensions
+ * @param {{ answer: Map<number, any>, id: Uint8Array }} given the answer, and the credential's id for the page
+ * @param {Uint8Array} clientData @param {object} extensions @param {string} attachment
  */
-export const signedIn = (answer, clientData, extensions) => {
+export const signedIn = ({ answer, id }, clientData, extensions, attachment) => {
     const user = answer.get(4)?.get("id");
     const parts = {
         clientDataJSON: bufferOf(clientData), authenticatorData: bufferOf(answer.get(2)),
@@ -82,5 +87,5 @@ export const signedIn = (answer, clientData, extensions) => {
     const handle = user ? bufferOf(user) : null;
     const response = madeOf("AuthenticatorAssertionResponse", { ...parts, userHandle: handle });
     const responseJson = handle ? { ...parts, userHandle: handle } : parts;
-    return credentialOf(answer.get(1).get("id"), response, responseJson, extensions);
+    return credentialOf(id, response, responseJson, extensions, attachment);
 };

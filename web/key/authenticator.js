@@ -1,8 +1,9 @@
 // CTAP2 over CTAPHID to the proved core: requests in, answers out, and the caller that hands the key what it needs.
 import { toHex } from "./bytes.js";
+import { namesOf } from "./outside.js";
 import { CANCEL, CBOR, Collector, INIT } from "./packets.js";
 import { checkEnded, clearInterval, pause, setInterval, unlessEnded } from "./platform.js";
-import { Session } from "./session.js";
+import { Recordings } from "./recordings.js";
 import { statusName } from "./statuses.js";
 
 // The first channel that the key gives out: no other host speaks to it.
@@ -18,6 +19,7 @@ const NONCE = Uint8Array.of(0, 1, 2, 3, 4, 5, 6, 7);
  * @property {AbortSignal} signal ends it early
  * @property {() => Promise<string>} ask asks the user
  * @property {(id: Uint8Array) => void} made is told the id of a new key pair
+ * @property {(id: Uint8Array) => number} flags returns the bits that are set in what a credential signs
  * @property {() => Promise<void>} enter is called before the credentials change, and may begin another session
  */
 
@@ -32,44 +34,52 @@ export class CtapError extends Error {
 }
 
 export class Authenticator {
-    /** @type {{ snapshot: Uint8Array, log: string }[]} */
-    #ended = [];
-    #isOpen = false;
     #collector = new Collector(CHANNEL);
+    #recordings;
 
     /**
      * @param {import("./private_keys.js").PrivateKeys} privateKeys
      * @param {import("./faults.js").Faults} faults
      * @param {(passed?: number) => number} clock
-     * @param {Uint8Array} snapshot the credentials to begin with
+     * @param {{ snapshot: Uint8Array, kept: import("./recordings.js").Kept | null }} begun the credentials to begin
+     * with, and what a store has of their history
      */
-    constructor(privateKeys, faults, clock, snapshot) {
+    constructor(privateKeys, faults, clock, { snapshot, kept }) {
         this.privateKeys = privateKeys;
         this.faults = faults;
         this.clock = clock;
-        this.session = new Session(snapshot, clock);
+        this.#recordings = new Recordings(snapshot, clock, kept);
+    }
+
+    get session() {
+        return this.#recordings.session;
+    }
+
+    get recordings() {
+        return this.#recordings;
     }
 
     /** Begins a session with other credentials. @param {Uint8Array} snapshot */
     begin(snapshot) {
         this.#cancel();
-        if (this.#isOpen) {
-            this.#ended.push({ snapshot: this.session.recording.snapshot, log: this.session.log() });
-        }
-        this.session = new Session(snapshot, this.clock);
-        this.#isOpen = false;
+        this.#recordings.begin(snapshot);
+        this.#collector = new Collector(CHANNEL);
     }
 
-    /** All sessions, the last of them so far: the snapshot that each began with, and its log. */
-    recordings() {
-        return [...this.#ended, { snapshot: this.session.recording.snapshot, log: this.session.log() }];
+    /**
+     * Goes on where a store's recording ends.
+     * @param {import("./recordings.js").Kept} kept @param {Uint8Array} snapshot
+     */
+    take(kept, snapshot) {
+        this.#cancel();
+        this.#recordings.take(kept, snapshot);
+        this.#collector = new Collector(CHANNEL);
     }
 
     /** Sends a request, after an INIT where the session has no channel yet. @param {Uint8Array} bytes */
     #send(bytes) {
-        if (!this.#isOpen) {
+        if (!this.session.isOpen) {
             this.session.send(BROADCAST, INIT, NONCE);
-            this.#isOpen = true;
         }
         return this.#collector.add(this.session.send(CHANNEL, CBOR, bytes));
     }
@@ -147,7 +157,7 @@ export class Authenticator {
      * Hands the key what it needs beside the user. After each wait the request may be over, and another one served.
      * @param {Turn} turn
      */
-    async #worked({ signal, made }) {
+    async #worked({ signal, made, flags }) {
         const { need } = this.session;
         if (need.kind === "key") {
             const pair = await unlessEnded(this.privateKeys.make(), signal);
@@ -156,20 +166,23 @@ export class Authenticator {
             return this.session.newKey(pair);
         }
         if (need.kind === "signature") {
-            const signature = await unlessEnded(this.#sign(need), signal);
+            const signature = await unlessEnded(this.#sign(need, flags(need.id)), signal);
             checkEnded(signal);
             return this.session.signature(signature);
         }
         throw new Error(`the authenticator did not answer, and needs ${need.kind}`);
     }
 
-    /** @param {import("./held.js").Need} need */
-    async #sign(need) {
+    /** @param {import("./held.js").Need} need @param {number} flags that are set in what is signed */
+    async #sign(need, flags) {
         const held = this.privateKeys.get(need.id);
         if (!held) {
             return null;
         }
-        const altered = await this.faults.signedInstead(need);
+        if (flags) {
+            this.session.recording.note(`outside of the core: flags ${namesOf(flags)}, and the signature over them`);
+        }
+        const altered = await this.faults.signedInstead(need, flags);
         if (this.faults.wrongSignature) {
             this.session.recording.note("fault: the signature is by another private key");
             return this.privateKeys.signWrongly(altered);

@@ -47,13 +47,17 @@ export const textOf = (bytes) =>
 export const fromBase64 = (text) => Uint8Array.from(atob(text), (letter) => letter.charCodeAt(0));
 
 /** @param {Uint8Array} bytes */
-export const toBase64url = (bytes) => {
+export const toBase64 = (bytes) => {
     let text = "";
     for (const byte of bytes) {
         text += String.fromCharCode(byte);
     }
-    return btoa(text).replaceAll("+", "-").replaceAll("/", "_").replaceAll("=", "");
+    return btoa(text);
 };
+
+/** @param {Uint8Array} bytes */
+export const toBase64url = (bytes) =>
+    toBase64(bytes).replaceAll("+", "-").replaceAll("/", "_").replaceAll("=", "");
 
 /** The bytes of a text in base64url, or null where it isn't one. @param {string} text */
 export const fromBase64url = (text) => {

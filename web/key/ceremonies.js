@@ -1,5 +1,5 @@
 // Registration and sign-in: what of the page's options goes to the authenticator, as requests of CTAP2.
-import { fromBase64url } from "./bytes.js";
+import { TRANSPORTS } from "./abilities.js";
 import { writeCbor } from "./cbor.js";
 import { checkCreationExtensions, checkRequestExtensions } from "./extensions.js";
 import { notAllowed, notSupported } from "./errors.js";
@@ -11,13 +11,14 @@ export const GET_NEXT_ASSERTION = Uint8Array.of(8);
 const ES256 = -7;
 const RS256 = -257;
 const PUBLIC_KEY = "public-key";
-const TRANSPORTS = ["usb", "nfc", "ble", "smart-card", "hybrid", "internal"];
-const RESIDENT_KEY = ["required", "preferred", "discouraged"];
 const LIST_MOST = 64;
 
-/** Descriptors of the one type that there is, as CTAP2 has them. */
-const descriptorsOf = (list) =>
-    list.filter(({ type }) => type === PUBLIC_KEY).map(({ id }) => new Map([["id", id], ["type", PUBLIC_KEY]]));
+/** The ids in a list, of the one type that there is. */
+const idsOf = (list) => list.filter(({ type }) => type === PUBLIC_KEY).map(({ id }) => id);
+
+/** Descriptors as CTAP2 has them, or nothing for none. @param {Uint8Array[]} ids */
+const descriptorsOf = (ids) =>
+    (ids.length ? ids.map((id) => new Map([["id", id], ["type", PUBLIC_KEY]])) : undefined);
 
 /** Refuses a list that is longer than Chromium takes. @param {string} name @param {any[]} list */
 const checkLength = (name, list) => {
@@ -27,9 +28,9 @@ const checkLength = (name, list) => {
 };
 
 /** Whether a list names transports, and never this key's. */
-const isOfOtherTransports = (list) => {
+const isOfOtherTransports = (list, transport) => {
     const named = list.map(({ transports = [] }) => transports.filter((it) => TRANSPORTS.includes(it)));
-    return list.length > 0 && named.every((it) => it.length && !it.includes("usb"));
+    return list.length > 0 && named.every((it) => it.length && !it.includes(transport));
 };
 
 /** The map of a request: the members that are there, by their numbers. */
@@ -37,8 +38,6 @@ const requestOf = (command, members) => {
     const present = members.map((value, at) => [at + 1, value]).filter(([, value]) => value !== undefined);
     return writeCbor(new Map(present), [command]);
 };
-
-const filled = (list) => (list.length ? list : undefined);
 
 /** The algorithms that the page takes. */
 const parametersOf = (list) => {
@@ -50,21 +49,18 @@ const parametersOf = (list) => {
     return known.map(({ alg }) => new Map([["alg", alg], ["type", PUBLIC_KEY]]));
 };
 
-const isDiscoverable = ({ residentKey, requireResidentKey = false }) =>
-    RESIDENT_KEY.includes(residentKey) ? residentKey !== "discouraged" : requireResidentKey;
+/**
+ * @typedef {object} Asked what a ceremony asks of the key
+ * @property {Uint8Array[]} ids the page's, of its list
+ * @property {() => boolean} verify verifies the user, where that is wanted, and returns whether it did
+ * @property {(hash: Uint8Array, ids: Uint8Array[]) => Uint8Array} request its bytes, with the ids that the core has
+ */
 
-/** What the key can't do. @param {string | undefined} userVerification @param {string} [attachment] */
-const checkAbilities = (userVerification, attachment) => {
-    if (userVerification === "required") {
-        throw notAllowed("the key verifies no users, and userVerification is required");
-    }
-    if (attachment === "platform") {
-        throw notAllowed("the key is no platform authenticator");
-    }
-};
-
-/** What a registration asks of the key. @param {any} options converted ones @param {string} origin */
-export const registrationOf = (options, origin) => {
+/**
+ * What a registration asks of the key.
+ * @param {any} options converted ones @param {string} origin @param {import("./abilities.js").Abilities} abilities
+ */
+export const registrationOf = (options, origin, abilities) => {
     const { excludeCredentials = [], extensions = {}, pubKeyCredParams, rp, user } = options;
     const selection = options.authenticatorSelection ?? {};
     if (user.id.length > 64) {
@@ -74,33 +70,39 @@ export const registrationOf = (options, origin) => {
     const parameters = parametersOf(pubKeyCredParams);
     checkCreationExtensions(extensions, selection, origin);
     const rpId = rpIdOf(rp.id, origin);
-    checkAbilities(selection.userVerification, selection.authenticatorAttachment);
-    const discoverable = isDiscoverable(selection);
+    abilities.checkAttachment(selection.authenticatorAttachment);
+    abilities.checkVerification(selection.userVerification);
+    const discoverable = abilities.isDiscoverable(selection);
     return {
-        rpId, discoverable, extensions, question: `Register ${user.name} at ${rpId}?`,
-        label: { rpId, userName: user.name, userDisplayName: user.displayName },
-        request: (hash) => requestOf(MAKE_CREDENTIAL, [
+        rpId, discoverable, extensions, verify: () => abilities.isVerified(selection.userVerification, true),
+        question: `Register ${user.name} at ${rpId}?`,
+        label: { rpId, userName: user.name, userDisplayName: user.displayName }, ids: idsOf(excludeCredentials),
+        request: (hash, ids) => requestOf(MAKE_CREDENTIAL, [
             hash, new Map([["id", rpId], ["name", rp.name]]),
             new Map([["id", user.id], ["name", user.name], ["displayName", user.displayName]]), parameters,
-            filled(descriptorsOf(excludeCredentials)), undefined, discoverable ? new Map([["rk", true]]) : undefined,
+            descriptorsOf(ids), undefined, discoverable ? new Map([["rk", true]]) : undefined,
         ]),
     };
 };
 
-/** What a sign-in asks of the key. @param {any} options converted ones @param {string} origin */
-export const signInOf = (options, origin) => {
+/**
+ * What a sign-in asks of the key.
+ * @param {any} options converted ones @param {string} origin @param {import("./abilities.js").Abilities} abilities
+ */
+export const signInOf = (options, origin, abilities) => {
     const { allowCredentials = [], extensions = {}, rpId: id, userVerification } = options;
     checkLength("allowCredentials", allowCredentials);
-    const allowed = descriptorsOf(allowCredentials);
-    checkRequestExtensions(extensions, allowed.length > 0, origin);
+    const ids = idsOf(allowCredentials);
+    checkRequestExtensions(extensions, ids.length > 0, origin);
     const rpId = rpIdOf(id, origin);
-    checkAbilities(userVerification);
-    if (isOfOtherTransports(allowCredentials.filter(({ type }) => type === PUBLIC_KEY))) {
-        throw notAllowed("allowCredentials names other transports than usb, which is this key's");
+    abilities.checkVerification(userVerification);
+    const transport = abilities.get("transport");
+    if (isOfOtherTransports(allowCredentials.filter(({ type }) => type === PUBLIC_KEY), transport)) {
+        throw notAllowed(`allowCredentials names other transports than ${transport}, which is this key's`);
     }
     return {
-        rpId, extensions, question: `Sign in at ${rpId}?`, allowed: allowed.map((it) => it.get("id")),
-        request: (hash, list = allowed) => requestOf(GET_ASSERTION, [rpId, hash, filled(list)]),
-        only: (credentialId) => descriptorsOf([{ type: PUBLIC_KEY, id: fromBase64url(credentialId) }]),
+        rpId, extensions, verify: () => abilities.isVerified(userVerification, false),
+        question: `Sign in at ${rpId}?`, ids,
+        request: (hash, sent) => requestOf(GET_ASSERTION, [rpId, hash, descriptorsOf(sent)]),
     };
 };

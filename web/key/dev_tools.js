@@ -1,5 +1,6 @@
 // The commands of Chromium's DevTools on virtual authenticators, on the key in place: the same names, the same
 // members.
+import { ABILITIES } from "./abilities.js";
 import { fromBase64url } from "./bytes.js";
 import { checkKind, checkMembers, checkName } from "./checks.js";
 import { current, install } from "./place.js";
@@ -7,12 +8,15 @@ import { current, install } from "./place.js";
 const ID = "hidlogKey";
 const BYTES = ["credentialId", "privateKey", "userHandle"];
 const OVERRIDES = ["authenticatorId", "isBogusSignature", "isBadUV", "isBadUP"];
-// What a virtual authenticator can be, and what this key is.
-const ABILITIES = {
-    protocol: "ctap2", ctap2Version: "ctap2_0", transport: "usb", hasResidentKey: true, hasUserVerification: false,
-    hasLargeBlob: false, hasCredBlob: false, hasMinPinLength: false, hasPrf: false, isUserVerified: false,
-    defaultBackupEligibility: false, defaultBackupState: false,
+// What a virtual authenticator can be beside its abilities, and what this key is.
+const ALWAYS = {
+    hasLargeBlob: false, hasCredBlob: false, hasMinPinLength: false, hasPrf: false, hasHmacSecret: false,
+    hasHmacSecretMc: false,
 };
+// What DevTools calls transports and protocols that have another name in WebAuthn.
+const TRANSPORTS = { cable: "hybrid" };
+const PROTOCOLS = { u2f: "ctap1/u2f", ctap2_0: "ctap2" };
+const NAMED = ["ctap2Version", ...Object.keys(ALWAYS), ...ABILITIES];
 
 /** A credential with its bytes in base64, as DevTools has them. */
 const inBase64 = (credential) => {
@@ -33,14 +37,29 @@ const removeKey = () => {
     return {};
 };
 
-const addKey = async ({ options }) => {
-    const { automaticPresenceSimulation = true, ...abilities } = options;
-    checkMembers("option of a virtual authenticator", abilities, Object.keys(ABILITIES));
-    for (const [name, value] of Object.entries(abilities)) {
-        const own = JSON.stringify(ABILITIES[name]);
-        checkKind(name, value, value === ABILITIES[name], `${own}, which is what this key is`);
+/** Checks options, and returns the abilities among them, with defaults for those that aren't there. */
+const abilitiesOf = (options) => {
+    checkMembers("option of a virtual authenticator", options, NAMED);
+    for (const [name, value] of Object.entries(options).filter(([it]) => it in ALWAYS)) {
+        checkKind(name, value, value === ALWAYS[name], `${ALWAYS[name]}, which is what this key is`);
     }
-    await (current() ?? install()).setAutomaticPresenceSimulation(automaticPresenceSimulation);
+    const { protocol = "ctap2", ctap2Version = protocol, transport = "usb", hasUserVerification = false } = options;
+    const named = protocol === "ctap2" ? ctap2Version : protocol;
+    const abilities = Object.fromEntries(Object.entries(options).filter(([name]) => ABILITIES.includes(name)));
+    return {
+        hasResidentKey: false, defaultBackupEligibility: false, defaultBackupState: false, ...abilities,
+        protocol: PROTOCOLS[named] ?? named, transport: TRANSPORTS[transport] ?? transport, hasUserVerification,
+        // As in Chromium, a user of a key that verifies none is as good as not verified.
+        isUserVerified: hasUserVerification && (options.isUserVerified ?? false),
+    };
+};
+
+const addKey = async ({ options }) => {
+    const { automaticPresenceSimulation = true, ...given } = options;
+    const abilities = abilitiesOf(given);
+    const key = current() ?? install(abilities);
+    key.setAbilities(abilities);
+    await key.setAutomaticPresenceSimulation(automaticPresenceSimulation);
     return { authenticatorId: ID };
 };
 
@@ -64,7 +83,10 @@ const COMMANDS = {
     removeCredential: ({ credentialId }) => keyInPlace().removeCredential(credentialId),
     clearCredentials: () => keyInPlace().clearCredentials(),
     setAutomaticPresenceSimulation: ({ enabled }) => keyInPlace().setAutomaticPresenceSimulation(enabled),
-    setUserVerified: ({ isUserVerified }) => keyInPlace().setUserVerified(isUserVerified),
+    setUserVerified: ({ isUserVerified }) => {
+        const key = keyInPlace();
+        return key.setUserVerified(isUserVerified && key.hasUserVerification);
+    },
     setCredentialProperties: ({ authenticatorId, credentialId, ...properties }) =>
         keyInPlace().setCredentialProperties(credentialId, properties),
     setResponseOverrideBits: overrideBits,

@@ -47,15 +47,20 @@ export const checkCreationExtensions = (extensions, selection, origin) => {
     }
 };
 
-/** What a registration says of its extensions. @param {any} extensions @param {boolean} isDiscoverable */
-export const creationResults = ({ credBlob, credProps, hmacCreateSecret, largeBlob, prf }, isDiscoverable) => ({
-    // A FIDO 2.0 key may make any credential discoverable, so that one which isn't is left open.
-    ...(credProps && { credProps: isDiscoverable ? { rk: true } : {} }),
-    ...(credBlob && { credBlob: false }),
-    ...(hmacCreateSecret && { hmacCreateSecret: false }),
-    ...(largeBlob?.support && { largeBlob: { supported: false } }),
-    ...(prf && { prf: { enabled: false } }),
-});
+/**
+ * What a registration says of its extensions.
+ * @param {any} extensions @param {{ rk?: boolean }} residence what credProps says
+ */
+export const creationResults = (extensions, residence) => {
+    const { credBlob, credProps, hmacCreateSecret, largeBlob, prf } = extensions;
+    return {
+        ...(credProps && { credProps: residence }),
+        ...(credBlob && { credBlob: false }),
+        ...(hmacCreateSecret && { hmacCreateSecret: false }),
+        ...(largeBlob?.support && { largeBlob: { supported: false } }),
+        ...(prf && { prf: { enabled: false } }),
+    };
+};
 
 /** @param {any} prf @param {boolean} hasList */
 const checkPrf = (prf, hasList) => {

@@ -8,6 +8,7 @@ const OFF = {
     status: null, delay: 0, cutShort: 0, wrongSignature: false, counterStays: false, otherRp: null,
 };
 const HASH_BYTES = 32;
+const FLAGS_AT = 32;
 const COUNTER_AT = 33;
 
 const KINDS = {
@@ -90,15 +91,21 @@ export class Faults {
         return this.values.wrongSignature;
     }
 
-    /** What is signed in the place of authenticator data and a hash. @param {import("./held.js").Need} need */
-    async signedInstead({ id, signed }) {
+    /**
+     * What is signed in the place of authenticator data and a hash. The flags are set too: they are no fault, and what
+     * is set is a comment of its own.
+     * @param {import("./held.js").Need} need @param {number} flags
+     */
+    async signedInstead({ id, signed }, flags) {
         const kept = signed.subarray(0, -HASH_BYTES);
         const altered = kept.slice();
+        altered[FLAGS_AT] |= flags;
+        const flagged = altered.slice();
         if (this.values.otherRp !== null) {
             altered.set(await this.hash(utf8(this.values.otherRp)));
         }
         this.#setCounter(toHex(id), new DataView(altered.buffer));
-        this.#altered = isSame(kept, altered) ? null : { kept, altered };
+        this.#altered = isSame(kept, altered) ? null : { kept, altered, isFault: !isSame(flagged, altered) };
         return joined(altered, signed.subarray(-HASH_BYTES));
     }
 
@@ -135,8 +142,10 @@ export class Faults {
         }
         const sent = answer.slice();
         sent.set(this.#altered.altered, place);
+        if (this.#altered.isFault) {
+            recording.note("fault: the authenticator data is altered");
+        }
         this.#altered = null;
-        recording.note("fault: the authenticator data is altered");
         return sent;
     }
 }

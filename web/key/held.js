@@ -10,7 +10,7 @@ const FAULTS = new Map([
     [-17, "it is no snapshot"], [-18, "it has more than 64 credentials"], [-19, "a credential in it is broken"],
 ]);
 const NEEDS = ["nothing", "presence", "key", "signature"];
-const PRESENCE = ["granted", "denied", "timeout"];
+export const PRESENCE = ["granted", "denied", "timeout"];
 
 /** @typedef {{ kind: string, id: Uint8Array, signed: Uint8Array }} Need what the key waits for */
 /**

@@ -1,8 +1,9 @@
 // The place of a key: the functions of navigator.credentials and of PublicKeyCredential that it takes over, and puts
 // back.
 import { notSupported } from "./errors.js";
+import { checkPage, sayWhatItIs } from "./pages.js";
 import { SecurityKey } from "./security_key.js";
-import { STATICS } from "./statics.js";
+import { staticsOf } from "./statics.js";
 
 const ONE_TYPE = "Only exactly one of 'password', 'federated', and 'publicKey' credential types are currently"
     + " supported.";
@@ -73,7 +74,7 @@ const put = (key) => {
     const { prototype } = globalThis.CredentialsContainer;
     undo.push(replaced(prototype, "create", served("create", key, prototype.create, refuseOthers)));
     undo.push(replaced(prototype, "get", served("get", key, prototype.get, () => {})));
-    for (const [name, value] of Object.entries(STATICS)) {
+    for (const [name, value] of Object.entries(staticsOf(key))) {
         undo.push(replaced(globalThis.PublicKeyCredential, name, value));
     }
     placed = { key, undo: () => undo.reverse().forEach((it) => it()) };
@@ -99,8 +100,10 @@ export const install = (options) => {
     if (placed) {
         throw new Error("hidlogKey: a key is in place already; uninstall it first: hidlogKey.current().uninstall()");
     }
+    checkPage(options?.allowOrigins);
     const key = new InstalledKey(options);
     put(key);
+    sayWhatItIs();
     return key;
 };
 

@@ -1,5 +1,5 @@
 // Key pairs on P-256 by WebCrypto, which the page holds for the key. They are for tests alone.
-import { fromBase64url, fromHex, joined, toHex } from "./bytes.js";
+import { fromBase64url, fromHex, isSame, joined, toHex } from "./bytes.js";
 
 const P256 = { name: "ECDSA", namedCurve: "P-256" };
 const SIGNING = { name: "ECDSA", hash: "SHA-256" };
@@ -33,6 +33,12 @@ const derOf = (raw) => {
 
 /** @param {Uint8Array} x @param {Uint8Array} y */
 export const spkiOf = (x, y) => joined(SPKI_HEAD, x, y);
+
+/** Whether bytes are a private key as this file writes it. @param {Uint8Array} pkcs8 */
+export const isPrivateKey = (pkcs8) =>
+    pkcs8.length === PKCS8_HEAD.length + 32 + PKCS8_MIDDLE.length + 64
+    && isSame(pkcs8.subarray(0, PKCS8_HEAD.length), PKCS8_HEAD)
+    && isSame(pkcs8.subarray(PKCS8_HEAD.length + 32, -64), PKCS8_MIDDLE);
 
 /**
  * A private key as this file writes it, whose public key stands at its end.
@@ -70,10 +76,15 @@ export class PrivateKeys {
         return new Uint8Array(await this.crypto().subtle.digest("SHA-256", bytes));
     }
 
+    /** A new key pair. @returns {Promise<PrivateKey>} */
+    async pair() {
+        const { privateKey } = await this.crypto().subtle.generateKey(P256, true, ["sign"]);
+        return this.#described(privateKey);
+    }
+
     /** Makes a key pair under a new credential id. @returns {Promise<import("./session.js").NewKey>} */
     async make() {
-        const { privateKey } = await this.crypto().subtle.generateKey(P256, true, ["sign"]);
-        const held = await this.#described(privateKey);
+        const held = await this.pair();
         const id = this.random(32);
         this.set(id, held);
         return { id, x: held.x, y: held.y };

@@ -25,26 +25,40 @@ const commentLines = (text) =>
     });
 
 export class Recording {
+    /** @type {string[]} an input's lines, or a comment */
     #entries = [];
 
-    /** @param {Uint8Array} snapshot the credentials that the session begins with */
-    constructor(snapshot) {
-        this.snapshot = snapshot;
+    /** How many inputs and comments are recorded. */
+    get size() {
+        return this.#entries.length;
     }
 
     /**
+     * Adds an input, and returns its lines.
      * @param {string} input its line
      * @param {Uint8Array[]} packets what the key sent for it
      * @param {import("./held.js").Need} need
      */
     add(input, packets, need) {
         const sent = packets.map((packet) => `< ${toHex(packet)}`);
-        this.#entries.push([input, ...sent, ...needLines(need)].join("\n"));
+        const lines = [input, ...sent, ...needLines(need)];
+        this.#entries.push(lines.join("\n"));
+        return lines;
     }
 
     /** @param {string} text */
     note(text) {
         this.#entries.push(...commentLines(text));
+    }
+
+    /** Adds a line that is a comment already. @param {string} line */
+    keep(line) {
+        this.#entries.push(line);
+    }
+
+    /** The lines so far, without an end of the last one. */
+    lines() {
+        return this.#entries.join("\n");
     }
 
     /** The log so far, with what its session counted. @param {string} meters */

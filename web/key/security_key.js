@@ -1,26 +1,31 @@
 // A security key in a page: registrations and sign-ins as navigator.credentials serves them, and what a test does
 // with a virtual authenticator. The key is the proved core; each session of it is a log that replays exactly.
+import { Abilities, ABILITIES } from "./abilities.js";
 import { registered, signedIn } from "./answers.js";
 import { Authenticator, CtapError } from "./authenticator.js";
-import { isSame, toBase64url } from "./bytes.js";
+import { fromBase64url, isSame, toBase64url } from "./bytes.js";
 import { readCbor } from "./cbor.js";
 import { GET_NEXT_ASSERTION, registrationOf, signInOf } from "./ceremonies.js";
 import { checkKind, checkMembers, checkName } from "./checks.js";
 import { accountOf, checkWhich, Choices } from "./choices.js";
-import { Credentials, snapshotOf } from "./credentials.js";
+import { clockOf } from "./clock.js";
+import { Credentials } from "./credentials.js";
 import { excluded, failure, notAllowed } from "./errors.js";
 import { creationResults, requestResults } from "./extensions.js";
 import { Faults } from "./faults.js";
 import { readCreation, readRequest } from "./options.js";
-import { checkEnded, now, unlessEnded, webCrypto } from "./platform.js";
+import { Outside } from "./outside.js";
+import { checkEnded, unlessEnded, webCrypto } from "./platform.js";
 import { PrivateKeys } from "./private_keys.js";
 import { checkPolicy, clientDataOf } from "./relying_party.js";
 import { Requests } from "./requests.js";
-import { rowsIn, stateOf } from "./state.js";
+import { snapshotOf } from "./snapshots.js";
+import { checkState, rowsIn, stateOf } from "./state.js";
 import { checkStore, Store } from "./store.js";
 import { User } from "./user.js";
 
-const OPTIONS = ["presence", "delay", "account", "clock", "state", "store", "origin", "crypto"];
+const OPTIONS = ["presence", "delay", "account", "clock", "state", "store", "origin", "crypto", "allowOrigins",
+    ...ABILITIES];
 const EVENTS = ["credentialAdded", "credentialAsserted", "credentialDeleted", "credentialUpdated"];
 const CREDENTIAL_EXCLUDED = 0x19;
 
@@ -33,32 +38,40 @@ const readAnswer = (bytes) => {
     }
 };
 
-/** Moments of the log: milliseconds since the key was made, or those of a test, never one earlier than the last. */
-const clockOf = (given, begun, state) => {
-    const start = now();
-    const read = given ?? (() => Math.floor(now() - start) + begun);
-    return (passed) => {
-        const moment = read(passed);
-        checkKind("what clock gives", moment, Number.isInteger(moment) && moment >= 0, "whole milliseconds");
-        state.moment = Math.max(state.moment, moment);
-        return state.moment;
-    };
-};
+/** The abilities among options. @param {Record<string, unknown>} options */
+const abilitiesIn = (options) =>
+    Object.fromEntries(Object.entries(options).filter(([name]) => ABILITIES.includes(name)));
 
 export class SecurityKey extends EventTarget {
+    #abilities;
     #authenticator = null;
     #account;
     #choices = new Choices();
     #clock;
     #credentials;
     #faults;
+    #kept = null;
     #origin;
+    #outside = new Outside();
     #privateKeys;
     #requests = new Requests();
-    #start;
+    #start = [];
     #store;
     #time = { moment: 0 };
     #user;
+
+    static {
+        for (const name of ABILITIES) {
+            Object.defineProperty(this.prototype, name, {
+                get() {
+                    return this.#abilities.get(name);
+                },
+                set(value) {
+                    this.#abilities.take({ [name]: value });
+                },
+            });
+        }
+    }
 
     /** @param {import("../dist/security_key.js").Options} [options] */
     constructor(options = {}) {
@@ -68,27 +81,43 @@ export class SecurityKey extends EventTarget {
         checkKind("clock", clock, ["undefined", "function"].includes(typeof clock), "a function of milliseconds");
         this.#user = new User({ presence, delay });
         this.account = account;
+        this.#abilities = new Abilities(abilitiesIn(options));
         this.#origin = origin;
         this.#privateKeys = new PrivateKeys(crypto ? () => crypto : webCrypto);
         this.#faults = new Faults((bytes) => this.#privateKeys.hash(bytes));
-        this.#credentials = new Credentials(this.#privateKeys);
+        this.#credentials = new Credentials(this.#privateKeys, this.#outside);
         if (store !== undefined) {
             checkStore(store);
         }
         this.#store = new Store(store);
-        const kept = this.#store.news() ?? state;
-        this.#start = kept === undefined ? [] : rowsIn(kept, this.#credentials);
-        this.#time.moment = kept?.moment ?? 0;
+        this.#restore(state);
         this.#clock = clockOf(clock, this.#time.moment, this.#time);
         this.faults = this.#faults.settings();
         // A property that there isn't, such as a typo, can't be set.
         Object.freeze(this);
     }
 
+    /** Begins with what the store has, or else with a state that is given. */
+    #restore(state) {
+        if (state !== undefined) {
+            checkState(state);
+        }
+        const stored = this.#store.news();
+        const begun = stored ?? state;
+        if (begun) {
+            this.#start = rowsIn(begun, this.#credentials);
+            this.#time.moment = begun.moment;
+            this.#kept = stored?.recordings ?? null;
+        }
+    }
+
     /** The proved key, which is made when it is asked for first. */
     get #key() {
-        const snapshot = snapshotOf(this.#start);
-        this.#authenticator ??= new Authenticator(this.#privateKeys, this.#faults, this.#clock, snapshot);
+        if (!this.#authenticator) {
+            const begun = { snapshot: snapshotOf(this.#start), kept: this.#kept };
+            this.#authenticator = new Authenticator(this.#privateKeys, this.#faults, this.#clock, begun);
+            this.#kept = null;
+        }
         return this.#authenticator;
     }
 
@@ -125,12 +154,12 @@ export class SecurityKey extends EventTarget {
 
     /** The recording since the last change of credentials by hand: a log that `hidlog check` passes. */
     log() {
-        return this.#key.recordings().at(-1).log;
+        return this.recordings().at(-1).log;
     }
 
     /** All recordings: each with the snapshot that it began with, for `hidlog check --load`. */
     recordings() {
-        return this.#key.recordings();
+        return this.#key.recordings.list();
     }
 
     /** The credentials, their private keys and counters, and the moment, as one value of JSON. */
@@ -143,15 +172,25 @@ export class SecurityKey extends EventTarget {
         const news = this.#store.news();
         if (news) {
             this.#time.moment = Math.max(this.#time.moment, news.moment);
-            this.#take(rowsIn(news, this.#credentials));
+            this.#take(rowsIn(news, this.#credentials), news.recordings);
         }
     }
 
-    /** Goes on with other credentials. */
-    #take(rows) {
+    /** Goes on with other credentials, and with the recording that led to them, where there is one. */
+    #take(rows, recordings = undefined) {
         const snapshot = snapshotOf(rows);
-        if (!isSame(snapshot, snapshotOf(this.#rows))) {
+        if (recordings) {
+            this.#key.take(recordings, snapshot);
+        } else if (!isSame(snapshot, snapshotOf(this.#rows))) {
             this.#key.begin(snapshot);
+        }
+    }
+
+    /** Writes the state and the recordings into the store. */
+    async #write() {
+        const kept = () => ({ state: this.state(), recordings: this.#key.recordings.kept(snapshotOf(this.#rows)) });
+        if (await this.#store.write(kept)) {
+            this.#key.recordings.wasKept();
         }
     }
 
@@ -160,7 +199,7 @@ export class SecurityKey extends EventTarget {
         const free = await this.#store.hold();
         const release = async () => {
             try {
-                await this.#store.write(() => this.state());
+                await this.#write();
             } finally {
                 free();
             }
@@ -174,6 +213,13 @@ export class SecurityKey extends EventTarget {
         }
     }
 
+    /** Writes what is recorded and not in the store yet. */
+    async #keep() {
+        if (this.#store.isThere && this.#authenticator?.recordings.isAhead) {
+            await (await this.#hold())();
+        }
+    }
+
     // Registrations and sign-ins.
 
     /** As navigator.credentials.create. @param {any} options */
@@ -182,16 +228,18 @@ export class SecurityKey extends EventTarget {
         checkEnded(signal);
         const origin = this.#pageOrigin();
         checkPolicy("create", origin);
-        const asked = registrationOf(publicKey, origin);
+        const asked = registrationOf(publicKey, origin, this.#abilities);
         if (mediation === "conditional") {
             throw notAllowed("the key makes no credentials without a dialog");
         }
         const clientData = clientDataOf("create", publicKey.challenge, origin);
         return this.#requests.run({ signal, timeout: publicKey.timeout, isConditional: false }, (ending) =>
             this.#during(asked, ending, async (turn) => {
-                const hash = await unlessEnded(this.#privateKeys.hash(clientData), ending);
-                const answer = await this.#exchange(asked.request(hash), turn);
-                const made = registered(answer, clientData, creationResults(asked.extensions, asked.discoverable));
+                const bytes = await this.#requestOf(asked, asked.ids, clientData, turn);
+                const answer = await this.#exchange(bytes, turn);
+                const residence = this.#abilities.residence(asked.discoverable);
+                const results = creationResults(asked.extensions, residence);
+                const made = registered(answer, clientData, results, this.#abilities);
                 this.#tell("credentialAdded", made.id);
                 return made;
             }));
@@ -203,17 +251,28 @@ export class SecurityKey extends EventTarget {
         checkEnded(signal);
         const origin = this.#pageOrigin();
         checkPolicy("get", origin);
-        const asked = signInOf(publicKey, origin);
+        const asked = signInOf(publicKey, origin, this.#abilities);
         const clientData = clientDataOf("get", publicKey.challenge, origin);
         const isConditional = mediation === "conditional";
         return this.#requests.run({ signal, timeout: publicKey.timeout, isConditional }, (ending) =>
             this.#during(asked, ending, async (turn) => {
-                const hash = await unlessEnded(this.#privateKeys.hash(clientData), ending);
-                const serve = isConditional ? this.#chosenAnswer(asked, hash, turn) : this.#answer(asked, hash, turn);
-                const used = signedIn(await serve, clientData, requestResults(asked.extensions));
+                const serve = isConditional ? this.#chosenAnswer : this.#answer;
+                const answer = await serve.call(this, asked, clientData, turn);
+                const id = this.#outside.pageId(answer.get(1).get("id"));
+                const results = requestResults(asked.extensions);
+                const used = signedIn({ answer, id }, clientData, results, this.#abilities.attachment);
                 this.#tell("credentialAsserted", used.id);
                 return used;
             }));
+    }
+
+    /** The bytes of a request for credentials of the page, with the hash of its client data. The user is verified. */
+    async #requestOf(asked, ids, clientData, turn) {
+        const hash = (bytes) => this.#privateKeys.hash(bytes);
+        const sent = await unlessEnded(this.#outside.sentIds(ids, hash), turn.signal);
+        const clientDataHash = await unlessEnded(hash(clientData), turn.signal);
+        turn.isVerified = asked.verify();
+        return asked.request(clientDataHash, sent);
     }
 
     #pageOrigin() {
@@ -228,8 +287,13 @@ export class SecurityKey extends EventTarget {
         let release = null;
         const turn = {
             signal,
+            isVerified: false,
             ask: () => this.#user.answer(asked.question, signal),
-            made: (id) => this.#credentials.label(id, asked.label),
+            made: (id) => {
+                this.#credentials.label(id, asked.label);
+                this.#outside.backUp(id, this.#abilities.backup);
+            },
+            flags: (id) => this.#outside.flags(id, turn.isVerified),
             enter: async () => {
                 const held = await this.#hold();
                 release = held;
@@ -248,6 +312,7 @@ export class SecurityKey extends EventTarget {
             return await serve(turn);
         } finally {
             await turn.leave();
+            await this.#keep();
         }
     }
 
@@ -264,25 +329,27 @@ export class SecurityKey extends EventTarget {
     }
 
     /** The answer of one account: the only one, or the one that `account` picks. */
-    async #answer(asked, hash, turn) {
-        const answers = [await this.#exchange(asked.request(hash), turn)];
+    async #answer(asked, clientData, turn) {
+        const bytes = await this.#requestOf(asked, asked.ids, clientData, turn);
+        const answers = [await this.#exchange(bytes, turn)];
         for (let more = (answers[0].get(5) ?? 1) - 1; more > 0; more -= 1) {
             answers.push(await this.#exchange(GET_NEXT_ASSERTION, turn));
         }
         if (answers.length === 1) {
             return answers[0];
         }
-        const accounts = answers.map((it) => this.#shown(toBase64url(it.get(1).get("id"))));
+        const accounts = answers.map((it) => this.#shown(this.#outside.pageId(it.get(1).get("id"))));
         return answers[accounts.indexOf(await unlessEnded(accountOf(accounts, this.#account), turn.signal))];
     }
 
     /** The answer of the account that a test chooses, once it does. */
-    async #chosenAnswer(asked, hash, turn) {
+    async #chosenAnswer(asked, clientData, turn) {
         for (;;) {
             const choice = await this.#choices.next(turn.signal);
             try {
                 const account = await accountOf(await this.#accountsOf(asked), choice.which);
-                const answer = await this.#exchange(asked.request(hash, asked.only(account.credentialId)), turn);
+                const ids = [fromBase64url(account.credentialId)];
+                const answer = await this.#exchange(await this.#requestOf(asked, ids, clientData, turn), turn);
                 choice.done(account);
                 return answer;
             } catch (error) {
@@ -295,7 +362,7 @@ export class SecurityKey extends EventTarget {
     }
 
     /** The discoverable credentials that a sign-in can take, the newest first. */
-    async #accountsOf({ rpId, allowed }) {
+    async #accountsOf({ rpId, ids: allowed }) {
         this.#refresh();
         const ids = allowed.map(toBase64url);
         return (await this.getCredentials()).reverse().filter((it) =>
@@ -317,7 +384,7 @@ export class SecurityKey extends EventTarget {
 
     #shown(credentialId) {
         const rows = this.#rows;
-        return this.#credentials.shown(rows[Credentials.placeOf(rows, credentialId)]);
+        return this.#credentials.shown(rows[this.#credentials.placeOf(rows, credentialId)]);
     }
 
     /** Changes the credentials by hand, while no request changes them. */
@@ -332,8 +399,11 @@ export class SecurityKey extends EventTarget {
 
     /** Adds a credential, and returns it as it is held. @param {any} credential */
     async addCredential(credential) {
-        const row = await this.#credentials.added(credential);
-        await this.#change((rows) => Credentials.with(rows, row));
+        const { isResidentCredential: isResident } = credential ?? {};
+        checkKind("isResidentCredential", isResident, !isResident || this.#abilities.get("hasResidentKey"),
+            "false: this key makes no discoverable credentials (hasResidentKey is false)");
+        const row = await this.#credentials.added(credential, this.#abilities.backup);
+        await this.#change((rows) => this.#credentials.with(rows, row));
         return this.#credentials.shown(row);
     }
 
@@ -341,6 +411,12 @@ export class SecurityKey extends EventTarget {
     async getCredentials() {
         this.#refresh();
         return this.#rows.map((row) => this.#credentials.shown(row));
+    }
+
+    /** Goes on with the credentials of a state. @param {any} state what `key.state()` gave */
+    async restore(state) {
+        checkState(state);
+        await this.#change(() => rowsIn(state, this.#credentials));
     }
 
     /** @param {string} credentialId */
@@ -351,7 +427,7 @@ export class SecurityKey extends EventTarget {
 
     /** @param {string} credentialId */
     async removeCredential(credentialId) {
-        await this.#change((rows) => Credentials.without(rows, credentialId));
+        await this.#change((rows) => this.#credentials.without(rows, credentialId));
         this.#dispatch("credentialDeleted", { credentialId });
     }
 
@@ -375,9 +451,23 @@ export class SecurityKey extends EventTarget {
         this.presence = enabled ? "granted" : "none";
     }
 
-    /** @param {boolean} isUserVerified */
+    /** Whether the user passes verification. @param {boolean} isUserVerified */
     async setUserVerified(isUserVerified) {
-        checkKind("isUserVerified", isUserVerified, isUserVerified === false, "false: this key verifies no users");
+        this.#abilities.take({ isUserVerified });
+    }
+
+    /** What the key is as a virtual authenticator: all that is given, or nothing where it is refused. */
+    setAbilities(abilities) {
+        this.#abilities.take(abilities);
+    }
+
+    /** What PublicKeyCredential says of the key. */
+    get capabilities() {
+        const { isVerifyingPlatform } = this.#abilities;
+        return {
+            passkeyPlatformAuthenticator: isVerifyingPlatform && this.#abilities.get("hasResidentKey"),
+            userVerifyingPlatformAuthenticator: isVerifyingPlatform,
+        };
     }
 
     // Events.

@@ -60,16 +60,16 @@ const decodedOptions = ({ where, options }, lists) => {
     return made;
 };
 
-/** Static functions by their names. */
-export const STATICS = {
+/** Static functions of a key by their names. @param {import("./security_key.js").SecurityKey} key */
+export const staticsOf = (key) => ({
     async isUserVerifyingPlatformAuthenticatorAvailable() {
-        return false;
+        return key.capabilities.userVerifyingPlatformAuthenticator;
     },
     async isConditionalMediationAvailable() {
         return true;
     },
     async getClientCapabilities() {
-        return { ...CAPABILITIES };
+        return { ...CAPABILITIES, ...key.capabilities };
     },
     parseCreationOptionsFromJSON(...given) {
         return decodedOptions(readCreationJson(given), ["excludeCredentials"]);
@@ -79,4 +79,4 @@ export const STATICS = {
         read.options.userVerification ??= "preferred";
         return decodedOptions(read, ["allowCredentials"]);
     },
-};
+});

@@ -1,6 +1,7 @@
 // A store that holds the state of a key, which several tabs may share: one of them at a time changes it.
 import { checkKind } from "./checks.js";
 import { setTimeout } from "./platform.js";
+import { checkState } from "./state.js";
 
 const NAME = "hidlogKey";
 // How often, and how many times, a tab looks for what another has written.
@@ -8,7 +9,9 @@ const LOOK_MS = 5;
 const LOOKS = 100;
 
 /** @typedef {Pick<Storage, "getItem" | "setItem">} KeptIn */
-/** @typedef {import("./state.js").State & { version: number }} Stored */
+/**
+ * @typedef {import("./state.js").State & { version: number, recordings?: import("./recordings.js").Kept }} Stored
+ */
 
 /** @param {any} store */
 export const checkStore = (store) => {
@@ -46,6 +49,8 @@ export class Store {
     #last = Promise.resolve();
     /** @type {string | null} */
     #seen = null;
+    /** @type {unknown} */
+    #failure = null;
     #unmark = () => {};
     #version = 0;
 
@@ -55,39 +60,67 @@ export class Store {
         this.isShared = isOfTabs(storage) && Boolean(globalThis.navigator?.locks);
     }
 
-    /** The state that another has written since, or null. @returns {Stored | null} */
+    get isThere() {
+        return Boolean(this.storage);
+    }
+
+    /**
+     * The state that another has written since, or null. What is no state of a key is refused once: then the key goes
+     * on with what it has, and writes that.
+     * @returns {Stored | null}
+     */
     news() {
         const text = this.storage?.getItem(NAME) ?? null;
         if (text === null || text === this.#seen) {
             return null;
         }
+        this.#seen = text;
         try {
             const stored = JSON.parse(text);
-            this.#seen = text;
+            checkState(stored);
             this.#version = Math.max(this.#version, stored.version ?? 0);
             return stored;
         } catch (error) {
-            throw new TypeError(`the store holds something else under "${NAME}"`, { cause: error });
+            throw new TypeError(`the store holds something else under "${NAME}", and removeItem("${NAME}") removes it`
+                + ` (${error.message})`, { cause: error });
         }
     }
 
     /**
-     * Writes a state, where there is a store. Other tabs are told its version by a lock that is held.
-     * @param {() => import("./state.js").State} state
+     * Writes a state, where there is a store, with its recordings as far as there is space. Other tabs are told its
+     * version by a lock that is held. Returns whether the recordings were written.
+     * @param {() => { state: import("./state.js").State, recordings: import("./recordings.js").Kept }} kept
      */
-    async write(state) {
+    async write(kept) {
         if (!this.storage) {
-            return;
+            return false;
         }
-        const text = JSON.stringify({ ...state(), version: this.#version + 1 });
-        this.storage.setItem(NAME, text);
-        this.#seen = text;
-        this.#version += 1;
+        const { state, recordings } = kept();
+        const version = this.#version + 1;
+        const whole = this.#put({ ...state, version, recordings });
+        if (!whole && !this.#put({ ...state, version })) {
+            throw this.#failure;
+        }
+        this.#version = version;
         if (this.isShared) {
             const unmark = this.#unmark;
             this.#unmark = await granted(`${NAME} ${this.#version}`, "shared");
             unmark();
         }
+        return whole;
+    }
+
+    /** Writes a value. Returns whether there was space for it. @param {object} stored */
+    #put(stored) {
+        const text = JSON.stringify(stored);
+        try {
+            this.storage.setItem(NAME, text);
+        } catch (error) {
+            this.#failure = error;
+            return false;
+        }
+        this.#seen = text;
+        return true;
     }
 
     /** Waits until no other holds the store. @returns {Promise<() => void>} what releases it */
@@ -126,7 +159,12 @@ export class Store {
         this.#unmark = () => {};
     }
 
+    /** The version that is stored, or 0 where what is stored is something else. */
     #storedVersion() {
-        return JSON.parse(this.storage.getItem(NAME) ?? "{}").version ?? 0;
+        try {
+            return JSON.parse(this.storage.getItem(NAME) ?? "{}").version ?? 0;
+        } catch {
+            return 0;
+        }
     }
 }

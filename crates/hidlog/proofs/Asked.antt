@@ -3,14 +3,15 @@ use Rattle.std.proofs.Common.{◌≡◌, ◌≢◌, ◌⊎◌, inl, inr, ℕ, Li
 use Rattle.clap.specs.Kinds.{IsAmong, Kinds}
 use Rattle.clap.specs.declared.error.kind.ErrorKind.{ErrorKind}
 use Rattle.clap.specs.declared.error.kind.ErrorKind.TheVariants.{OutOfMemory}
+use Rattle.hidlog.specs.declared.command_line.Manner.{Manner}
 use Rattle.hidlog.specs.CommandLine.{Ask, answers_to, asked_by, unless}
 
-no_kinds : (kinds : Kinds) (found : Option Ask) (ask : Ask) → unless kinds found ≡ Some ask → kinds ≡ []
+no_kinds : (kinds : Kinds) (found : Option (Ask × Manner)) (ask : Ask × Manner) → unless kinds found ≡ Some ask → kinds ≡ []
 no_kinds [] found ask is = refl
 no_kinds (kind ∷ kinds) found ask is = cc
 
 -- Words that ask for something have no fault.
-faultless : (words : List (List ℕ)) (ask : Ask) → asked_by words ≡ Some ask → answers_to words ≡ []
+faultless : (words : List (List ℕ)) (ask : Ask × Manner) → asked_by words ≡ Some ask → answers_to words ≡ []
 unfolding asked_by
 faultless words ask is = no_kinds (answers_to words) _ ask is
 
@@ -23,10 +24,14 @@ lacks_memory kind memory (inl lacks) = lacks
 lacks_memory kind memory (inr other) = absurd (other.0 memory)
 
 -- Where the words ask for something, memory was wanting.
-pub unasked : {A B L H Q : Type 0} (P : Ask → Type 0) (words : List (List ℕ)) (kind : ErrorKind) → A → B → IsAmong kind (OutOfMemory ∷ answers_to words)
+pub unasked : {A B L H Q : Type 0} (P : Ask × Manner → Type 0) (words : List (List ℕ)) (kind : ErrorKind) → A → B → IsAmong kind (OutOfMemory ∷ answers_to words)
     → L ⊎ ((kind ≢ OutOfMemory) × H) → Q → MatchOption (asked_by words) Q (λ ask. P ask ⊎ (A × B × L))
 unasked {A} {B} {L} {H} {Q} P words kind a b among explained answer = go (asked_by words) refl
   where
-    go : (o : Option Ask) → asked_by words ≡ o → MatchOption o Q (λ ask. P ask ⊎ (A × B × L))
+    go : (o : Option (Ask × Manner)) → asked_by words ≡ o → MatchOption o Q (λ ask. P ask ⊎ (A × B × L))
     go None is = answer
     go (Some ask) is = inr (a, b, lacks_memory kind (only_memory kind (answers_to words) (faultless words ask is) among) explained)
+
+-- Where the words ask for something, that is done.
+pub done : (Q : Type 0) (P : Ask × Manner → Type 0) (words : List (List ℕ)) (ask : Ask × Manner) → asked_by words ≡ Some ask → P ask → MatchOption (asked_by words) Q P
+done Q P words ask is h = rw is h

@@ -21,9 +21,11 @@ use Rattle.clap.specs.declared.parser.matches.ArgMatches.{ArgMatches}
 use Rattle.clap.specs.declared.parser.matches.Found.{Found}
 use Rattle.clap.specs.declared.error.kind.ErrorKind.TheVariants as kind
 use Rattle.hidlog.specs.declared.command_line.Form.TheVariants.{Lines}
+use Rattle.hidlog.specs.declared.command_line.Manner.{Manner}
+use Rattle.hidlog.specs.declared.command_line.Manner.TheVariants.{ByTerminal}
 use Rattle.hidlog.specs.declared.command_line.Name.{Name}
 use Rattle.hidlog.specs.declared.command_line.Parameter.{Parameter}
-use Rattle.hidlog.specs.CommandLine.{command, command_for, rule_for, ask_of, asked_by, grammar, answers_to, logs_of, play, check, show}
+use Rattle.hidlog.specs.CommandLine.{Ask, command, command_for, rule_for, ask_of, asked_by, grammar, answers_to, logs_of, manner_of, play, check, show, task_by}
 use Rattle.session_log.specs.declared.command.Command.TheVariants as playing
 
 -- the rules of which clap's clauses speak
@@ -247,27 +249,29 @@ logs_are found logs is = ap (λ all. unwrap_or all []) (is ∙ raw_values-rows f
 pub no_logs : (found : Found) → None ≡ option_map raw_values (matched_of found (codes "log")) → [] ≡ logs_of (rows_of found)
 no_logs found is = ap (λ all. unwrap_or all []) (is ∙ raw_values-rows found (codes "log"))
 
-pub asks_of : (m : ArgMatches) (name word : Text) (rows : List Row) → subcommand_rows_of m ≡ Some (name, rows) → name ≡ word
-    → option_and_then ask_of (subcommand_rows_of m) ≡ ask_of (word, rows)
-asks_of m name word rows is named = ap (option_and_then ask_of) (is ∙ ap (λ n. Some (n, rows)) named)
+-- What the command that was met asks for, with the manner of its texts.
+pub asked_is_met : (m : ArgMatches) (name : Text) (rows : List Row) (task : Option Ask) (manner : Manner) → subcommand_rows_of m ≡ Some (name, rows)
+    → task ≡ task_by name rows → manner ≡ manner_of rows → option_map (λ ask. (ask, manner)) task ≡ option_and_then ask_of (subcommand_rows_of m)
+asked_is_met m name rows task manner met is worded =
+    ap₂ (λ t w. option_map (λ ask. (ask, w)) t) is worded ∙ sym (ap (option_and_then ask_of) met)
 
 -- What a command alone asks for, whatever the program's name is.
-pub plain_replay : (name : Text) → asked_by (name ∷ codes "replay" ∷ []) ≡ Some (play playing.Replay None None None)
+pub plain_replay : (name : Text) → asked_by (name ∷ codes "replay" ∷ []) ≡ Some (play playing.Replay None None None, ByTerminal)
 unfolding asked_by answers_to clap_on_literals
 plain_replay name = refl
 
-pub plain_live : (name : Text) → asked_by (name ∷ codes "live" ∷ []) ≡ Some (play playing.Live None None None)
+pub plain_live : (name : Text) → asked_by (name ∷ codes "live" ∷ []) ≡ Some (play playing.Live None None None, ByTerminal)
 unfolding asked_by answers_to clap_on_literals
 plain_live name = refl
 
-pub plain_check : (name : Text) → asked_by (name ∷ codes "check" ∷ []) ≡ Some (check None false [])
+pub plain_check : (name : Text) → asked_by (name ∷ codes "check" ∷ []) ≡ Some (check None false [], ByTerminal)
 unfolding asked_by answers_to clap_on_literals
 plain_check name = refl
 
-pub plain_quiet : (name : Text) → asked_by (name ∷ codes "quiet" ∷ []) ≡ Some (play playing.Quiet None None None)
+pub plain_quiet : (name : Text) → asked_by (name ∷ codes "quiet" ∷ []) ≡ Some (play playing.Quiet None None None, ByTerminal)
 unfolding asked_by answers_to clap_on_literals
 plain_quiet name = refl
 
-pub plain_show : (name : Text) → asked_by (name ∷ codes "show" ∷ []) ≡ Some (show Lines false None)
+pub plain_show : (name : Text) → asked_by (name ∷ codes "show" ∷ []) ≡ Some (show Lines false None, ByTerminal)
 unfolding asked_by answers_to clap_on_literals
 plain_show name = refl

@@ -11,7 +11,10 @@ use Rattle.clap.specs.declared.builder.action.ArgAction.TheVariants.{Append, Set
 use Rattle.hidlog.specs.declared.command_line.Form.{Form}
 use Rattle.hidlog.specs.declared.command_line.Form.TheVariants.{Json, Lines, Summary}
 use Rattle.hidlog.specs.declared.command_line.Parameter.{Parameter}
-use Rattle.hidlog.specs.declared.command_line.Parameter.TheVariants.{Load, Save, All, Summary as SummaryFlag, Json as JsonFlag, Wide, Log, Logs}
+use Rattle.hidlog.specs.declared.command_line.Parameter.TheVariants.{Load, Save, All, Summary as SummaryFlag, Json as JsonFlag, Wide, Explain, Plain, Log, Logs}
+use Rattle.hidlog.specs.declared.command_line.Manner.{Manner}
+use Rattle.hidlog.specs.declared.command_line.Manner.TheVariants.{ByTerminal, Explained, Fixed}
+use Rattle.hidlog.specs.declared.command_line.Asked.{Asked}
 use Rattle.hidlog.specs.declared.command_line.Name.{Name}
 use Rattle.hidlog.specs.declared.command_line.Name.TheVariants as name
 use Rattle.hidlog.specs.declared.command_line.Task.{Task}
@@ -36,6 +39,10 @@ log_path = record (new_rule (codes "log")) { value_names = 1 }
 abbrev pub log_paths : Rule
 log_paths = record (new_rule (codes "log")) { value_names = 1; action = Some Append }
 
+-- the two words that each command takes on its texts, and then its logs
+abbrev pub worded : Rule → List Rule
+worded logs = flag (codes "explain") ∷ flag (codes "plain") ∷ logs ∷ []
+
 -- a command with these options
 abbrev pub command : List ℕ → List Rule → Shape
 command name options = record (new_shape name) { rules = options }
@@ -48,6 +55,8 @@ rule_for All = flag (codes "all")
 rule_for SummaryFlag = flag (codes "summary")
 rule_for JsonFlag = flag (codes "json")
 rule_for Wide = flag (codes "wide")
+rule_for Explain = flag (codes "explain")
+rule_for Plain = flag (codes "plain")
 rule_for Log = log_path
 rule_for Logs = log_paths
 
@@ -60,11 +69,11 @@ word_for name.Quiet = codes "quiet"
 word_for name.Show = codes "show"
 
 abbrev pub parameters_for : Name → List Parameter
-parameters_for name.Replay = Load ∷ Save ∷ Log ∷ []
-parameters_for name.Live = Load ∷ Save ∷ Log ∷ []
-parameters_for name.Check = Load ∷ All ∷ Logs ∷ []
-parameters_for name.Quiet = Load ∷ Log ∷ []
-parameters_for name.Show = SummaryFlag ∷ JsonFlag ∷ Wide ∷ Log ∷ []
+parameters_for name.Replay = Load ∷ Save ∷ Explain ∷ Plain ∷ Log ∷ []
+parameters_for name.Live = Load ∷ Save ∷ Explain ∷ Plain ∷ Log ∷ []
+parameters_for name.Check = Load ∷ All ∷ Explain ∷ Plain ∷ Logs ∷ []
+parameters_for name.Quiet = Load ∷ Explain ∷ Plain ∷ Log ∷ []
+parameters_for name.Show = SummaryFlag ∷ JsonFlag ∷ Wide ∷ Explain ∷ Plain ∷ Log ∷ []
 
 abbrev pub command_for : Name → Shape
 command_for name = command (word_for name) (map rule_for (parameters_for name))
@@ -73,11 +82,11 @@ command_for name = command (word_for name) (map rule_for (parameters_for name))
 abbrev pub grammar : App
 grammar = record {
   top = record (new_shape (codes "hidlog")) { has_version = true; subcommand_required = true; is_leaf = false };
-  subs = command (codes "replay") (path_option (codes "load") ∷ path_option (codes "save") ∷ log_path ∷ [])
-      ∷ command (codes "live") (path_option (codes "load") ∷ path_option (codes "save") ∷ log_path ∷ [])
-      ∷ command (codes "check") (path_option (codes "load") ∷ flag (codes "all") ∷ log_paths ∷ [])
-      ∷ command (codes "quiet") (path_option (codes "load") ∷ log_path ∷ [])
-      ∷ command (codes "show") (flag (codes "summary") ∷ flag (codes "json") ∷ flag (codes "wide") ∷ log_path ∷ [])
+  subs = command (codes "replay") (path_option (codes "load") ∷ path_option (codes "save") ∷ worded log_path)
+      ∷ command (codes "live") (path_option (codes "load") ∷ path_option (codes "save") ∷ worded log_path)
+      ∷ command (codes "check") (path_option (codes "load") ∷ flag (codes "all") ∷ worded log_paths)
+      ∷ command (codes "quiet") (path_option (codes "load") ∷ worded log_path)
+      ∷ command (codes "show") (flag (codes "summary") ∷ flag (codes "json") ∷ flag (codes "wide") ∷ worded log_path)
       ∷ [];
 }
 
@@ -114,13 +123,28 @@ is_set name found = option_map_or (λ text. bytes_eq text (codes "true")) (first
 abbrev pub form_of : List Row → Form
 form_of found = if is_set (codes "json") found then Json else if is_set (codes "summary") found then Summary else Lines
 
+-- for whom texts are worded: `--plain` is stronger than `--explain`
+abbrev pub manner_of : List Row → Manner
+manner_of found = if is_set (codes "plain") found then Fixed
+    else if is_set (codes "explain") found then Explained else ByTerminal
+
+-- whether a text is for people, which goes to a terminal or elsewhere
+abbrev pub explains : Manner → (is_terminal : Bool) → Bool
+explains Explained is_terminal = true
+explains Fixed is_terminal = false
+explains ByTerminal is_terminal = is_terminal
+
 -- the paths of logs that were found
 abbrev pub logs_of : List Row → List (List ℕ)
 logs_of found = unwrap_or (all_of (codes "log") found) []
 
--- a command that was met, and what was found for its options
-abbrev pub ask_of : List ℕ × List Row → Option Ask
-ask_of (name, found) =
+-- what the code found to be asked
+abbrev pub asked_as : Asked → Ask × Manner
+asked_as asked = (asks asked.task, asked.manner)
+
+-- what a command asks for, by its name and what was found for its options
+abbrev pub task_by : List ℕ → List Row → Option Ask
+task_by name found =
     if bytes_eq name (codes "replay") then Some (play playing.Replay (first_of (codes "load") found)
     (first_of (codes "save") found) (first_of (codes "log") found))
     else if bytes_eq name (codes "live") then Some (play playing.Live (first_of (codes "load") found)
@@ -133,12 +157,16 @@ ask_of (name, found) =
     (first_of (codes "log") found))
     else None
 
-abbrev pub unless : Kinds → Option Ask → Option Ask
+-- a command that was met, and what was found for its options
+abbrev pub ask_of : List ℕ × List Row → Option (Ask × Manner)
+ask_of (name, found) = option_map (λ ask. (ask, manner_of found)) (task_by name found)
+
+abbrev pub unless : Kinds → Option (Ask × Manner) → Option (Ask × Manner)
 unless [] ask = ask
 unless (kind ∷ kinds) ask = None
 
 -- what the words ask for, of which the first is the program's name; nothing where they are no command line
-unfoldable pub asked_by : List (List ℕ) → Option Ask
+unfoldable pub asked_by : List (List ℕ) → Option (Ask × Manner)
 asked_by words = unless (answers_to words) (option_and_then ask_of (subcommand_of grammar words))
 
 -- The log that a path names: none, and `-`, name that on standard input.

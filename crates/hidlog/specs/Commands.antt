@@ -1,5 +1,5 @@
 -- What each command does. A pair is the files, a source or a target before and after the call.
-use Rattle.std.specs.Prelude.{◌≡◌, ◌⊎◌, ℕ, Bool, List, [], ◌∷◌, Option, Some, None, Result, Err, MatchOption, MatchResult, IsSomeAnd, OnOk}
+use Rattle.std.specs.Prelude.{◌≡◌, ◌⊎◌, ℕ, Bool, true, false, List, [], ◌∷◌, Option, Some, None, Result, Err, MatchOption, MatchResult, IsSomeAnd, OnOk}
 use Rattle.clap.specs.Words.{IsAmong}
 use Rattle.clap.specs.declared.error.kind.ErrorKind.{ErrorKind}
 use Rattle.clap.specs.declared.error.kind.ErrorKind.TheVariants.{OutOfMemory}
@@ -8,13 +8,21 @@ use Rattle.cred_table.specs.declared.row.Row.{Row}
 use Rattle.token_session.specs.Meters.{SessionState}
 use Rattle.session_log.specs.declared.fault.LogFault.{LogFault}
 use Rattle.session_log.specs.Command.{IsCounted, RunsLog, Status, start_with, status_of}
+use Rattle.session_log.specs.Ending.{ending_of}
+use Rattle.session_log.specs.Replay.{ReadsTo}
+use Rattle.session_log.specs.Streams.{IsAllRead}
 use Rattle.session_log.specs.declared.command.Command.{Command}
 use Rattle.session_log.specs.declared.command.Command.TheVariants.{Check, Live}
-use Rattle.hidlog.specs.CommandLine.{Ask, answers_to, asked_by, named, play, check, show}
+use Rattle.session_show.specs.Shown.{IsLineText, Shows, reading}
+use Rattle.session_show.specs.declared.wording.Wording.{Wording}
+use Rattle.session_show.specs.declared.wording.Wording.TheVariants.{Explained, Fixed}
+use Rattle.hidlog.specs.CommandLine.{Ask, answers_to, asked_by, explains, named, play, check, show}
+use Rattle.hidlog.specs.declared.remarks.Terminals.{Terminals}
 use Rattle.hidlog.specs.declared.command_line.Form.{Form}
 use Rattle.hidlog.specs.declared.command_line.Form.TheVariants.{Lines}
 use Rattle.hidlog.specs.Program.{Explains, IsTold, IsWhole, LacksMemory, cannot_read_log}
 use Rattle.hidlog.specs.Saved.{FailsToOpen, FailsToSave, Opens, Saves}
+use Rattle.hidlog.specs.Several.{AreSame}
 
 -- The path to save at that is looked at before the log is read: that of `live`, whose log may take long to come.
 abbrev pub looked_at : Command → Option (List ℕ) → Option (List ℕ)
@@ -26,13 +34,13 @@ module _ {D I O F : Type 0} (holds : D → List ℕ → List ℕ → Type 0) (un
     (written unwritten : D → List ℕ → List ℕ → D → Type 0) (unwritable : D → List ℕ → Type 0)
     (opened : I → List ℕ → I → Type 0) (unopenable : I → List ℕ → Type 0)
     (left : I → Option (List ℕ)) (unread : I → ℕ) (ended : I → Bool) (taken : O → Option (List ℕ)) (unput : O → ℕ)
-    (said : F → Option (List ℕ)) (unsaid : F → ℕ) where
+    (said : F → Option (List ℕ)) (unsaid : F → ℕ) (explained : Bool) where
   -- The log at the path is read, or that on standard input where none is named. Where it can't be opened, the status is
   -- 1, and nothing is written.
   abbrev pub Reads : Option (List ℕ) → ((I × I) → Type 0) → Status → (D × D) → (I × I) → (O × O) → (F × F) → Type 0
   Reads log Goes status files input output faults =
       ((status ≡ Err 1) × (files.1 ≡ files.0) × (input.1 ≡ input.0) × (output.1 ≡ output.0)
-      × IsSomeAnd (named log) (unopenable input.0) × IsTold said unsaid faults cannot_read_log)
+      × IsSomeAnd (named log) (unopenable input.0) × IsTold explained said unsaid faults cannot_read_log)
       ⊎ ((begun : I) × MatchOption (named log) (begun ≡ input.0) (λ path. opened input.0 path begun)
       × Goes (begun, input.1))
 
@@ -41,7 +49,7 @@ module _ {D I O F : Type 0} (holds : D → List ℕ → List ℕ → Type 0) (un
   abbrev pub Begins : Option (List ℕ) → (Start → Type 0) → Status → (D × D) → (I × I) → (O × O) → (F × F) → Type 0
   Begins path Goes status files input output faults =
       ((status ≡ Err 2) × (files.1 ≡ files.0) × (input.1 ≡ input.0) × (output.1 ≡ output.0)
-      × FailsToOpen holds unreadable files.0 path said unsaid faults)
+      × FailsToOpen holds unreadable files.0 path said unsaid explained faults)
       ⊎ ((rows : List Row) × Opens holds files.0 path rows × Goes (start_with rows))
 
   -- The log was played on the start. Then, where it had no fault, the credentials were saved at the path, if there is
@@ -49,7 +57,7 @@ module _ {D I O F : Type 0} (holds : D → List ℕ → List ℕ → Type 0) (un
   abbrev pub RunsOn : Command → Option (List ℕ) → Status → (D × D) → (I × I) → (O × O) → (F × F) → Start → Type 0
   RunsOn command save status files input output faults start =
       (ran : Status) × (s : SessionState) × RunsLog command start [] left unread ended taken unput ran s input output
-      × MatchResult ran (λ _. Saves written unwritten save s said unsaid status files faults)
+      × MatchResult ran (λ _. Saves written unwritten save s said unsaid explained status files faults)
       (λ code. (status ≡ Err code) × (files.1 ≡ files.0))
 
   -- The command plays the log at a path, from the credentials of a snapshot, and saves those that there are then. Where
@@ -59,35 +67,54 @@ module _ {D I O F : Type 0} (holds : D → List ℕ → List ℕ → Type 0) (un
   RunsCommand command load save log status files input output faults =
       Reads log (λ read. Begins load (λ start.
       ((status ≡ Err 2) × (files.1 ≡ files.0) × (read.1 ≡ read.0) × (output.1 ≡ output.0)
-      × FailsToSave unwritable files.0 (looked_at command save) said unsaid faults)
+      × FailsToSave unwritable files.0 (looked_at command save) said unsaid explained faults)
       ⊎ RunsOn command save status files read output faults start) status files read output faults)
       status files input output faults
 
-  -- The log was shown. Without a fault all of it was read, and no read and no write failed.
-  abbrev pub Shows : Form → Status → (D × D) → (I × I) → (O × O) → (F × F) → Type 0
-  Shows Lines status files input output faults =
+  -- The log was shown: these of its lines, by texts that begin with their numbers, and no more was read than it takes to
+  -- find a fault. Without a fault all of it was read, and no read and no write failed.
+  abbrev pub ShowsLog : Form → Wording → Status → (D × D) → (I × I) → (O × O) → (F × F) → Type 0
+  ShowsLog Lines wording status files input output faults =
       ((answer : Result (Unit {0}) LogFault) × (status ≡ status_of answer)
+      × Shows (IsLineText wording) (left input.0, left input.1) (taken output.0, taken output.1) (ending_of answer)
+      × ReadsTo reading tt (left input.0) (left input.1) (IsAllRead left ended input.1) (ending_of answer)
       × IsCounted left unread ended unput answer input output)
       × (files.1 ≡ files.0) × OnOk status (faults.1 ≡ faults.0)
-  Shows _ status files input output faults =
+  ShowsLog _ wording status files input output faults =
       (files.1 ≡ files.0) × OnOk status (IsWhole left ended unread unput input output × (faults.1 ≡ faults.0))
 
-  -- What is asked for is done. Of several logs each is compared, and the files stay as they are.
-  abbrev pub Does : Ask → Status → (D × D) → (I × I) → (O × O) → (F × F) → Type 0
-  Does (play command load save log) status files input output faults =
+  -- What is asked for is done. Of several logs each is compared, the files stay as they are, and the status is 0 only
+  -- where none differs.
+  abbrev pub Does : Ask → Wording → Status → (D × D) → (I × I) → (O × O) → (F × F) → Type 0
+  Does (play command load save log) wording status files input output faults =
       RunsCommand command load save log status files input output faults
-  Does (check load all []) status files input output faults = RunsCommand Check load None None status files input output faults
-  Does (check load all (log ∷ [])) status files input output faults =
+  Does (check load all []) wording status files input output faults =
+      RunsCommand Check load None None status files input output faults
+  Does (check load all (log ∷ [])) wording status files input output faults =
       RunsCommand Check load None (Some log) status files input output faults
-  Does (check load all (log ∷ next ∷ logs)) status files input output faults = files.1 ≡ files.0
-  Does (show form wide log) status files input output faults = Reads log (λ read. Shows form status files read output faults)
-      status files input output faults
+  Does (check load all (log ∷ next ∷ logs)) wording status files input output faults =
+      (files.1 ≡ files.0) × OnOk status (AreSame holds opened left ended load files.0 (log ∷ next ∷ logs) input)
+  Does (show form wide log) wording status files input output faults =
+      Reads log (λ read. ShowsLog form wording status files read output faults) status files input output faults
 
-  -- What words ask for is done, or memory was refused. Where they ask for nothing, clap's answer is given. But for what
-  -- was asked for, the files and the log are left as they are.
-  abbrev pub Answers : List (List ℕ) → Status → (D × D) → (I × I) → (O × O) → (F × F) → Type 0
-  Answers words status files input output faults = MatchOption (asked_by words)
+-- for whom lines are worded
+abbrev pub wording_for : (explained : Bool) → Wording
+wording_for true = Explained
+wording_for false = Fixed
+
+module _ {D I O F : Type 0} (holds : D → List ℕ → List ℕ → Type 0) (unreadable : D → List ℕ → Type 0)
+    (written unwritten : D → List ℕ → List ℕ → D → Type 0) (unwritable : D → List ℕ → Type 0)
+    (opened : I → List ℕ → I → Type 0) (unopenable : I → List ℕ → Type 0)
+    (left : I → Option (List ℕ)) (unread : I → ℕ) (ended : I → Bool) (taken : O → Option (List ℕ)) (unput : O → ℕ)
+    (said : F → Option (List ℕ)) (unsaid : F → ℕ) where
+  -- What words ask for is done, or memory was refused. Where they ask for nothing, clap's answer is returned. Except for
+  -- what was asked for, the files and the log are left as they are. Texts are for people where that is asked for, or
+  -- where they go to a terminal.
+  abbrev pub Answers : List (List ℕ) → Terminals → Status → (D × D) → (I × I) → (O × O) → (F × F) → Type 0
+  Answers words terminals status files input output faults = MatchOption (asked_by words)
       ((files.1 ≡ files.0) × (input.1 ≡ input.0) × ((kind : ErrorKind) × IsAmong kind (OutOfMemory ∷ answers_to words)
       × Explains kind taken unput said unsaid status output faults))
-      (λ ask. Does ask status files input output faults
+      (λ asked. Does holds unreadable written unwritten unwritable opened unopenable left unread ended taken unput said unsaid
+      (explains asked.1 terminals.faults) asked.0 (wording_for (explains asked.1 terminals.output)) status files input output
+      faults
       ⊎ ((files.1 ≡ files.0) × (input.1 ≡ input.0) × LacksMemory said unsaid status output faults))

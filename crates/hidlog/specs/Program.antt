@@ -13,10 +13,15 @@ abbrev pub IsGiven : {F : Type 0} → (F → Option (List ℕ)) → (F → ℕ) 
 IsGiven taken failed target text = IsTaken taken failed target text ⊎ IsBroken taken failed target text
 
 -- a text was given to a target and then, where it was taken whole, perhaps one that says more
-abbrev pub IsTold : {F : Type 0} → (F → Option (List ℕ)) → (F → ℕ) → (F × F) → List ℕ → Type 0
-IsTold {F} taken failed target text = IsBroken taken failed target text
+abbrev pub IsExplained : {F : Type 0} → (F → Option (List ℕ)) → (F → ℕ) → (F × F) → List ℕ → Type 0
+IsExplained {F} taken failed target text = IsBroken taken failed target text
     ⊎ ((told : F) × IsTaken taken failed (target.0, told) text
     × ((target.1 ≡ told) ⊎ ((more : List ℕ) × IsGiven taken failed (told, target.1) more)))
+
+-- the text of a fault was given to a target, and nothing else, unless faults are explained
+abbrev pub IsTold : {F : Type 0} → (explained : Bool) → (F → Option (List ℕ)) → (F → ℕ) → (F × F) → List ℕ → Type 0
+IsTold explained taken failed target text =
+    MatchBool explained (IsExplained taken failed target text) (IsGiven taken failed target text)
 
 -- all of a source was read, and no call of it or of a target failed
 abbrev pub IsWhole : {I O : Type 0} → (I → Option (List ℕ)) → (I → Bool) → (I → ℕ) → (O → ℕ) → (I × I) → (O × O) → Type 0
@@ -26,6 +31,10 @@ IsWhole left ended unread unput input output = IsAllRead left ended input.1
 -- the text where memory is refused
 abbrev pub no_memory : List ℕ
 no_memory = codes "hidlog: no memory" ++ 10 ∷ []
+
+-- the text for a write that failed
+abbrev pub writing_failed : List ℕ
+writing_failed = codes "hidlog: writing failed" ++ 10 ∷ []
 
 -- the text for an argument that is no text
 abbrev pub not_text : List ℕ
@@ -64,16 +73,17 @@ abbrev pub Refuses : {O F : Type 0} → (F → Option (List ℕ)) → (F → ℕ
 Refuses said unsaid status output faults =
     (status ≡ Err 2) × (output.1 ≡ output.0) × ((text : List ℕ) × IsGiven said unsaid faults text)
 
--- Help was written.
-abbrev pub Helps : {O F : Type 0} → (O → Option (List ℕ)) → (O → ℕ) → Status → (O × O) → (F × F) → Type 0
-Helps taken failed status output faults = (faults.1 ≡ faults.0) × ((text : List ℕ)
-    × MatchResult status (λ _. IsTaken taken failed output text)
-    (λ code. (code ≡ 2) × IsBroken taken failed output text))
+-- Help was written; or it couldn't be, and that was.
+abbrev pub Helps : {O F : Type 0} → (O → Option (List ℕ)) → (O → ℕ) → (F → Option (List ℕ)) → (F → ℕ) → Status
+    → (O × O) → (F × F) → Type 0
+Helps taken failed said unsaid status output faults = (text : List ℕ) × MatchResult status
+    (λ _. IsTaken taken failed output text × (faults.1 ≡ faults.0))
+    (λ code. (code ≡ 2) × IsBroken taken failed output text × IsGiven said unsaid faults writing_failed)
 
 -- An answer of clap's was given, of this kind, or there was no memory for it.
 abbrev pub Explains : {O F : Type 0} → ErrorKind → (O → Option (List ℕ)) → (O → ℕ) → (F → Option (List ℕ)) → (F → ℕ)
     → Status → (O × O) → (F × F) → Type 0
 Explains kind taken failed said unsaid status output faults =
     LacksMemory said unsaid status output faults
-    ⊎ ((kind ≢ OutOfMemory) × MatchBool (is_help kind) (Helps taken failed status output faults)
+    ⊎ ((kind ≢ OutOfMemory) × MatchBool (is_help kind) (Helps taken failed said unsaid status output faults)
     (Refuses said unsaid status output faults))

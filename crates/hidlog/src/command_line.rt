@@ -1,9 +1,10 @@
 //! The command line of the program.
 ghost use Rattle.std.specs.Prelude.{◌≡◌, [], ◌∷◌, false, Some, None, codes, IfOk, IfErr, IfSome, option_map, option_and_then};
+ghost use Rattle.hidlog.specs.declared.command_line.Manner.TheVariants.{ByTerminal as by_terminal};
 ghost use Rattle.clap.specs.Words.{HasKind, app_of, rule_of, shape_of, subcommand_rows_of};
 ghost use Rattle.clap.specs.declared.builder.command.Command.TheViews.{out-Command as fields_of};
 ghost use Rattle.hidlog.specs.CommandLine.{command_for, flag, grammar, log_path, log_paths, parameters_for, path_option, rule_for, word_for};
-ghost use Rattle.hidlog.specs.CommandLine.{answers_to, ask_of, asked_by, asks, form_of, is_set as is_found, logs_of, path_of, play, texts_of};
+ghost use Rattle.hidlog.specs.CommandLine.{answers_to, ask_of, asked_as, asked_by, asks, explains, form_of, is_set as is_found, logs_of, manner_of, path_of, play, task_by as task_asked, texts_of};
 ghost use Rattle.clap.specs.Matches.{found_of};
 ghost use Rattle.clap.specs.Walk.{first_of, rows_of};
 
@@ -46,6 +47,37 @@ pub enum Task<'a> {
     },
 }
 
+/// For whom texts are worded.
+#[derive(Clone, Copy)]
+pub enum Manner {
+    /// For people, with names, members, reasons and notes.
+    Explained,
+    /// For programs: the fixed texts.
+    Fixed,
+    /// For people where a terminal shows them.
+    ByTerminal,
+}
+
+impl Manner {
+    /// Returns whether a text is for people, which goes to a terminal or elsewhere.
+    pub fn explains(self, is_terminal: bool) -> bool
+        ensures { result ≡ explains self is_terminal }
+    {
+        match self {
+            Manner::Explained => true,
+            Manner::Fixed => false,
+            Manner::ByTerminal => is_terminal,
+        }
+    }
+}
+
+/// What the program is asked to do, and for whom it words its texts.
+#[derive(Drop)]
+pub struct Asked<'a> {
+    pub task: Task<'a>,
+    pub manner: Manner,
+}
+
 /// What may come after a command's name.
 #[derive(Clone, Copy)]
 enum Parameter {
@@ -61,6 +93,10 @@ enum Parameter {
     Json,
     /// `--wide`
     Wide,
+    /// `--explain`
+    Explain,
+    /// `--plain`
+    Plain,
     /// The path of a log.
     Log,
     /// The paths of any number of logs.
@@ -139,6 +175,16 @@ fn argument<'a>(alloc: Global, parameter: Parameter) -> Arg<'a>
             "wide",
             "Writes lines whole at a terminal, where they are cut at its width otherwise",
         ),
+        Parameter::Explain => flag(
+            alloc,
+            "explain",
+            "Explains: adds names, members, reasons and notes, as it does at a terminal without this word",
+        ),
+        Parameter::Plain => flag(
+            alloc,
+            "plain",
+            "Explains nothing at a terminal either: writes the fixed texts",
+        ),
         Parameter::Log => log(
             alloc,
             "The log; standard input where none is named, and for -",
@@ -191,14 +237,39 @@ impl Name {
         ensures { result.now ≡ parameters_for self }
     {
         match self {
-            Name::Replay | Name::Live => &[Parameter::Load, Parameter::Save, Parameter::Log],
-            Name::Check => &[Parameter::Load, Parameter::All, Parameter::Logs],
-            Name::Quiet => &[Parameter::Load, Parameter::Log],
+            Name::Replay | Name::Live => {
+                &[
+                    Parameter::Load,
+                    Parameter::Save,
+                    Parameter::Explain,
+                    Parameter::Plain,
+                    Parameter::Log,
+                ]
+            }
+            Name::Check => {
+                &[
+                    Parameter::Load,
+                    Parameter::All,
+                    Parameter::Explain,
+                    Parameter::Plain,
+                    Parameter::Logs,
+                ]
+            }
+            Name::Quiet => {
+                &[
+                    Parameter::Load,
+                    Parameter::Explain,
+                    Parameter::Plain,
+                    Parameter::Log,
+                ]
+            }
             Name::Show => {
                 &[
                     Parameter::Summary,
                     Parameter::Json,
                     Parameter::Wide,
+                    Parameter::Explain,
+                    Parameter::Plain,
                     Parameter::Log,
                 ]
             }
@@ -261,6 +332,19 @@ fn form_in(options: &ArgMatches<'_>) -> Form
     }
 }
 
+/// Returns for whom texts are worded: `--plain` is stronger than `--explain`.
+fn manner_in(options: &ArgMatches<'_>) -> Manner
+    ensures { result ≡ manner_of (rows_of (found_of options.now)) }
+{
+    if is_set(options, "plain") {
+        Manner::Fixed
+    } else if is_set(options, "explain") {
+        Manner::Explained
+    } else {
+        Manner::ByTerminal
+    }
+}
+
 /// Returns the paths of logs that were found.
 fn logs_in<'a>(alloc: Global, options: &ArgMatches<'a>) -> Result<Vec<&'a str>, AllocError>
     ensures { IfOk result (λ logs. texts_of logs.items ≡ logs_of (rows_of (found_of options.now))) }
@@ -287,13 +371,14 @@ fn play_in<'a>(command: LogCommand, options: &ArgMatches<'a>, save: Option<&'a s
     })
 }
 
-/// What the command that was met asks for.
-fn task_in<'a>(alloc: Global, matches: &ArgMatches<'a>) -> Result<Option<Task<'a>>, AllocError>
-    ensures { IfOk result (λ task. option_map asks task ≡ option_and_then ask_of (subcommand_rows_of matches.now)) }
+/// Returns what a command asks for, by its name and what was found for its options.
+fn task_named<'a>(
+    alloc: Global,
+    name: &str,
+    options: &ArgMatches<'a>,
+) -> Result<Option<Task<'a>>, AllocError>
+    ensures { IfOk result (λ task. option_map asks task ≡ task_asked name.now (rows_of (found_of options.now))) }
 {
-    let Some((name, options)) = matches.subcommand() else {
-        return Ok(None);
-    };
     match name {
         "replay" => {
             let save = options.get_str("save");
@@ -318,6 +403,22 @@ fn task_in<'a>(alloc: Global, matches: &ArgMatches<'a>) -> Result<Option<Task<'a
     }
 }
 
+/// Returns what the command that was met asks for.
+fn task_in<'a>(alloc: Global, matches: &ArgMatches<'a>) -> Result<Option<Asked<'a>>, AllocError>
+    ensures { IfOk result (λ asked. option_map asked_as asked ≡ option_and_then ask_of (subcommand_rows_of matches.now)) }
+{
+    let Some((name, options)) = matches.subcommand() else {
+        return Ok(None);
+    };
+    match task_named(alloc, name, options)? {
+        Some(task) => Ok(Some(Asked {
+            task,
+            manner: manner_in(options),
+        })),
+        None => Ok(None),
+    }
+}
+
 /// Returns what a command that plays a log asks for where no word is behind it.
 fn plain_play<'a>(command: LogCommand) -> Task<'a>
     ensures { asks result ≡ play command None None None }
@@ -332,7 +433,7 @@ fn plain_play<'a>(command: LogCommand) -> Task<'a>
 
 /// Returns what a word after the program's name asks for, where it is a command.
 fn plain_task<'a>(alloc: Global, program: &str, name: &str) -> Option<Task<'a>>
-    ensures { IfSome result (λ task. asked_by (program.now ∷ name.now ∷ []) ≡ Some (asks task)) }
+    ensures { IfSome result (λ task. asked_by (program.now ∷ name.now ∷ []) ≡ Some (asks task, by_terminal)) }
 {
     match name {
         "replay" => Some(plain_play(LogCommand::Replay)),
@@ -354,13 +455,17 @@ fn plain_task<'a>(alloc: Global, program: &str, name: &str) -> Option<Task<'a>>
 
 /// Returns what the words ask for where they are a command alone. Clap isn't asked: it takes a fifth of the
 /// instructions to the first line.
-fn alone<'a>(alloc: Global, words: &[&str]) -> Option<Task<'a>>
-    ensures { IfSome result (λ task. asked_by (texts_of words.now) ≡ Some (asks task)) }
+fn alone<'a>(alloc: Global, words: &[&str]) -> Option<Asked<'a>>
+    ensures { IfSome result (λ asked. asked_by (texts_of words.now) ≡ Some (asked_as asked)) }
 {
-    match words {
-        [program, name] => plain_task(alloc, program, name),
-        _ => None,
-    }
+    let [program, name] = words else {
+        return None;
+    };
+    let task = plain_task(alloc, program, name)?;
+    Some(Asked {
+        task,
+        manner: Manner::ByTerminal,
+    })
 }
 
 /// Returns what the words ask for by the command line's grammar; or clap's answer.
@@ -368,14 +473,14 @@ fn task_by<'a>(
     alloc: Global,
     program: &mut Command<'a>,
     words: &'a [&'a str],
-) -> Result<Task<'a>, Error>
+) -> Result<Asked<'a>, Error>
     requires { app_of program.old ≡ grammar }
-    ensures task { IfOk result (λ task. asked_by (texts_of words.now) ≡ Some (asks task)) }
+    ensures task { IfOk result (λ asked. asked_by (texts_of words.now) ≡ Some (asked_as asked)) }
     ensures answer { IfErr result (λ error. HasKind (answers_to (texts_of words.now)) error) }
 {
     let matches = program.try_get_matches_from_mut(words)?;
     match task_in(alloc, &matches)? {
-        Some(task) => Ok(task),
+        Some(asked) => Ok(asked),
         None => Err(program.error(ErrorKind::MissingSubcommand, "a command is needed")?),
     }
 }
@@ -383,12 +488,12 @@ fn task_by<'a>(
 /// What the words ask for, the first of them being the program's name; or clap's answer, which is help or
 /// says what is wrong with them.
 #[inline(never)]
-pub fn task_of<'a>(alloc: Global, words: &'a [&'a str]) -> Result<Task<'a>, Error>
-    ensures task { IfOk result (λ task. asked_by (texts_of words.now) ≡ Some (asks task)) }
+pub fn task_of<'a>(alloc: Global, words: &'a [&'a str]) -> Result<Asked<'a>, Error>
+    ensures task { IfOk result (λ asked. asked_by (texts_of words.now) ≡ Some (asked_as asked)) }
     ensures answer { IfErr result (λ error. HasKind (answers_to (texts_of words.now)) error) }
 {
-    if let Some(task) = alone(alloc, words) {
-        return Ok(task);
+    if let Some(asked) = alone(alloc, words) {
+        return Ok(asked);
     }
     let mut program = program(alloc)?;
     task_by(alloc, &mut program, words)

@@ -7,11 +7,11 @@ ghost use Rattle.hidlog.specs.Commands.{RunsCommand, looked_at};
 
 use crate::files::Files;
 use crate::logs::Logs;
+use crate::process::Reporting;
 use crate::program::{open_log, path_in};
 use crate::remarks::Remarks;
 use crate::snapshots::{begin, look, save_rows};
 use session_log::{CAPACITY, Command, Target};
-use std::alloc::Global;
 use token_session::Session;
 
 /// A command that plays a log, with the paths of the snapshots and of the log.
@@ -42,7 +42,7 @@ pub fn play_on<D, L, O, E>(
     session: &mut Session<CAPACITY>,
     play: &Play<'_>,
     files: &mut D,
-    alloc: Global,
+    reporting: Reporting,
     input: &mut L,
     output: &mut O,
     remarks: &mut Remarks,
@@ -59,18 +59,24 @@ where
     requires tells { E.failed faults.old < 2 ^ 64 - 1 }
     ensures status { IfErr result (λ code. (code ≡ 1) ⊎ (code ≡ 2)) }
     ensures does { RunsCommand D.holds D.unreadable D.written D.unwritten D.unwritable L.opened L.unopenable L.left L.failed L.ended
-        O.taken O.failed E.taken E.failed
+        O.taken O.failed E.taken E.failed reporting.explains
         play.now.command (path_of play.now.load) (path_of play.now.save) (path_of play.now.log) result
         (files.old, files.new) (input.old, input.new) (output.old, output.new) (faults.old, faults.new) }
     ensures kept { path_of play.now.save ≡ None → files.new ≡ files.old }
 {
-    open_log(input, alloc, play.log, faults)?;
-    let session = begin(session, files, alloc, play.load, faults)?;
-    look(files, alloc, play.looked_at(), path_in(play.log), faults)?;
+    open_log(input, reporting, play.log, faults)?;
+    let session = begin(session, files, reporting, play.load, faults)?;
+    look(
+        files,
+        reporting,
+        play.looked_at(),
+        path_in(play.log),
+        faults,
+    )?;
     play.command.run(session, input, output, faults)?;
     remarks.look(play.command, session);
     match play.save {
-        Some(path) => save_rows(files, alloc, path, path_in(play.log), session, faults),
+        Some(path) => save_rows(files, reporting, path, path_in(play.log), session, faults),
         None => Ok(()),
     }
 }

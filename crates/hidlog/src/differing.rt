@@ -4,7 +4,7 @@ ghost use Rattle.session_log.specs.Command.{start_with};
 ghost use Rattle.token_session.specs.Meters.{session_of};
 
 use crate::files::Files;
-use crate::process::tell;
+use crate::process::{Reporting, tell};
 use crate::program::fresh;
 use crate::screen::put_cut;
 use crate::sides::{lacks_credential, put_first, put_sides};
@@ -36,7 +36,7 @@ const OTHER_SNAPSHOT: &[u8] =
 /// How the differences of a log are said.
 #[derive(Clone, Copy)]
 pub struct Wish<'a> {
-    pub alloc: Global,
+    pub reporting: Reporting,
     /// What the line of a fault begins with.
     pub name: &'a str,
     /// The path of the snapshot that is loaded.
@@ -47,7 +47,8 @@ pub struct Wish<'a> {
     pub width: Option<usize>,
 }
 
-/// Says what differs in a log, after the text of the fault. The log is read once more, if it can be.
+/// Says what differs in a log, after the text of the fault: explained, the packets; and all differences, where they are
+/// wished for. The log is read once more, if it can be.
 pub fn tell_differences<D: Files, S: Source + Drop, E: Target>(
     files: &D,
     wish: &Wish<'_>,
@@ -55,6 +56,9 @@ pub fn tell_differences<D: Files, S: Source + Drop, E: Target>(
     told: &[u8],
     faults: &mut E,
 ) {
+    if !wish.reporting.explains && !wish.is_all {
+        return;
+    }
     match again {
         Some(mut reader) => compare_anew(files, wish, &mut reader, told, faults),
         None => say(faults, READ_ONCE),
@@ -93,11 +97,11 @@ fn compare_on<D: Files, S: Source, E: Target>(
     requires { session.old ≡ session_of (start_with []) [] }
 {
     // The snapshot was loaded before, so nothing is wrong with it.
-    let mut unsaid = ToWrite::new(Vec::new(wish.alloc));
-    let Ok(session) = begin(session, files, wish.alloc, wish.load, &mut unsaid) else {
+    let mut unsaid = ToWrite::new(Vec::new(wish.reporting.alloc));
+    let Ok(session) = begin(session, files, wish.reporting, wish.load, &mut unsaid) else {
         return;
     };
-    if let Some(mut comparison) = begun(wish.alloc) {
+    if let Some(mut comparison) = begun(wish.reporting.alloc) {
         say_each(&mut *comparison, session, wish, reader, told, faults);
     }
 }
@@ -121,7 +125,8 @@ fn say_each<S: Source, E: Target>(
     let mut count = 0_u64;
     for _ in 0..u64::MAX {
         match comparison.find(reader, session) {
-            Ok(Some(difference)) if count == 0 && !is_told(wish.alloc, &difference, told) => {
+            Ok(Some(difference))
+                if count == 0 && !is_told(wish.reporting.alloc, &difference, told) => {
                 say(faults, CHANGED);
                 return;
             }
@@ -142,7 +147,7 @@ fn say_each<S: Source, E: Target>(
             break;
         }
     }
-    if !comparison.has_sent(reader) {
+    if wish.reporting.explains && !comparison.has_sent(reader) {
         say(faults, INPUTS_ALONE);
     }
 }
@@ -161,7 +166,7 @@ fn say_count<E: Target>(wish: &Wish<'_>, count: u64, fault: Option<LogFault>, fa
     if !wish.is_all {
         return;
     }
-    let (alloc, name) = (wish.alloc, wish.name);
+    let (alloc, name) = (wish.reporting.alloc, wish.name);
     if let Some(fault) = fault
         && let Ok(text) = format!(in alloc; "{name}: {fault}\n")
     {
@@ -204,25 +209,42 @@ fn described<S: Source>(
     difference: &Difference,
     is_first: bool,
 ) -> io::Result<Vec<u8>> {
-    let mut text = Vec::new(wish.alloc);
+    let mut text = Vec::new(wish.reporting.alloc);
     if !is_first {
         let (name, fault) = (wish.name, difference.fault());
         writeln!(text, "{name}: {fault}")?;
     }
+    if wish.reporting.explains {
+        describe(&mut text, comparison, wish, reader, difference)?;
+    }
+    put_cut(wish.reporting.alloc, text.as_slice(), wish.width)
+}
+
+/// Describes a difference: its transaction, the packets and messages, and where they differ first.
+fn describe<S: Source>(
+    text: &mut Vec<u8>,
+    comparison: &mut Comparison,
+    wish: &Wish<'_>,
+    reader: &mut S,
+    difference: &Difference,
+) -> io::Result<()> {
     if let Some(transaction) = comparison.transaction(difference) {
         text.extend_from_slice(b"  in ")?;
-        let _ = put_transaction(&mut ToWrite::new(&mut text), &transaction);
+        let _ = put_transaction(&mut ToWrite::new(&mut *text), &transaction);
         text.extend_from_slice(b"\n")?;
     }
-    let (mut logged, mut sent) = (Vec::new(wish.alloc), Vec::new(wish.alloc));
+    let alloc = wish.reporting.alloc;
+    let (mut logged, mut sent, mut reason) = (Vec::new(alloc), Vec::new(alloc), Vec::new(alloc));
+    let _ = comparison.put_reason(difference, &mut ToWrite::new(&mut reason));
     let _ = comparison.put(
         difference,
         reader,
         &mut ToWrite::new(&mut logged),
         &mut ToWrite::new(&mut sent),
     );
-    put_sides(&mut text, difference, &logged, &sent)?;
-    put_first(&mut text, difference, &logged, &sent)?;
+    put_sides(text, difference, &logged, &sent)?;
+    text.extend_from_slice(reason.as_slice())?;
+    put_first(text, difference, &logged, &sent)?;
     if lacks_credential(difference) {
         let hint = if wish.load.is_some() {
             OTHER_SNAPSHOT
@@ -231,5 +253,5 @@ fn described<S: Source>(
         };
         text.extend_from_slice(hint)?;
     }
-    put_cut(wish.alloc, text.as_slice(), wish.width)
+    Ok(())
 }

@@ -1,9 +1,12 @@
 //! The logs that the program reads.
-ghost use Rattle.std.specs.Prelude.{◌≡◌, ℕ, List, None, IfOk, MatchResult};
+ghost use Rattle.std.specs.Prelude.{◌≡◌, ℕ, List, [], IfOk, OnOk, MatchResult};
+ghost use Rattle.std.specs.Io.KnownBytes.{Keeps, IsAtEnd, prepend_known};
+ghost use Rattle.hidlog.specs.Streams.{unread};
 
 use crate::progress::Progress;
+use crate::recent::Recent;
 use crate::seen::Seen;
-use crate::streams::Patient;
+use crate::streams::Noting;
 use session_log::{Failed, FromRead, Source};
 use std::fs::{self, File};
 use std::io::{self, BufReader, Chain, Cursor, Error, IsTerminal, Read, Stdin, Write};
@@ -45,16 +48,33 @@ pub trait Logs: Source {
     fn seen(&self) -> &Seen;
 }
 
-/// Where the bytes of a log come from.
-#[derive(Drop)]
-pub enum Stream {
-    /// Standard input.
-    Standard(Stdin),
-    /// A file that is named.
-    Named(File),
+/// What a log is read by.
+pub trait Opens: Read + Drop {
+    /// The file at a path is read by it, from its front.
+    ghost is_at: { List ℕ → Self → Type 0 };
+
+    /// Returns that of standard input.
+    fn standard(rt: &HostRuntime) -> Self;
+
+    /// Opens a file that isn't a folder. Returns how many bytes it has, where it can be read again.
+    fn open(rt: &HostRuntime, path: &str) -> io::Result<(Self, Option<u64>)>
+        ensures { IfOk result (λ opened. is_at path.now opened.0) };
 }
 
-impl Read for Stream {
+/// Where the bytes of a log come from.
+#[derive(Drop)]
+pub enum Stream<I, F> {
+    /// Standard input.
+    Standard(I),
+    /// A file that is named.
+    Named(F),
+}
+
+impl<I: Read, F: Read> Read for Stream<I, F> {
+    ghost use Rattle.hidlog.specs.Opened.{stream_left};
+
+    ghost remaining = { λ s. stream_left I.remaining F.remaining s };
+
     fn read(&mut self, buf: &mut [u8]) -> io::Result<usize> {
         match self {
             Stream::Standard(input) => input.read(buf),
@@ -63,17 +83,28 @@ impl Read for Stream {
     }
 }
 
+/// The streams of the system. No clause says what they hold.
+impl Opens for Stream<Stdin, File> {
+    ghost is_at = { λ _ _. Unit {0} };
+
+    fn standard(rt: &HostRuntime) -> Self {
+        Stream::Standard(rt.stdin())
+    }
+
+    fn open(rt: &HostRuntime, path: &str) -> io::Result<(Self, Option<u64>)> {
+        let (file, size) = open_file(rt, path)?;
+        Ok((Stream::Named(file), size))
+    }
+}
+
 /// What was kept of a log, and after it what was left to read.
-pub type FromFront = Chain<Cursor<Vec<u8>>, Patient<Stream>>;
+pub type FromFront<S> = Chain<Cursor<Vec<u8>>, Noting<S>>;
+
+/// The log of the process.
+pub type ProcessLog<'a> = HostLog<'a, Stream<Stdin, File>>;
 
 /// The path of standard input.
 const STANDARD_INPUT: &str = "/dev/stdin";
-
-/// How many bytes are held, of those that were read last.
-const HELD: usize = 8192;
-
-/// How many of them stay where there are more. A line that is refused begins in the last 256 that were read.
-const KEPT: usize = 4096;
 
 /// The system's number for a folder.
 const EISDIR: i32 = 21;
@@ -81,47 +112,37 @@ const EISDIR: i32 = 21;
 /// What is said where a terminal is read.
 const AWAITED: &[u8] = b"hidlog: reads a log from the terminal, up to Ctrl-D\n";
 
+/// What is said of a log to a person at a terminal while it is read.
+#[derive(Clone, Copy)]
+pub struct Audience {
+    /// What is awaited.
+    pub is_told: bool,
+    /// How much of a long log was read.
+    pub sees_progress: bool,
+}
+
 /// The log that the process reads: standard input, until a file is opened.
 #[derive(Drop)]
-pub struct HostLog<'a> {
+pub struct HostLog<'a, S> {
     rt: &'a HostRuntime,
     name: String,
-    stream: Patient<Stream>,
+    stream: Noting<S>,
     is_new: bool,
+    /// Whether what is awaited is said, to a person.
+    is_told: bool,
     /// The path by which it can be read again, where it is a file.
     path: Option<String>,
     /// Whether it may have to be read again.
     is_kept: bool,
     seen: Seen,
-    held: Vec<u8>,
-    at: usize,
-    end: usize,
-    forgot: bool,
+    recent: Recent,
     ended: bool,
     failures: u64,
 }
 
-/// Keeps the last bytes of those that are held, where there are many. Returns how many are held then.
-fn keep_last(held: &mut [u8], end: usize) -> usize {
-    if end <= KEPT || end > held.len() {
-        return end;
-    }
-    held.copy_within(end - KEPT..end, 0);
-    KEPT
-}
-
-/// Returns the bytes from one place to another.
-fn between(held: &[u8], at: usize, end: usize) -> &[u8] {
-    let front = held.split_at_checked(end).map_or(held, |parts| parts.0);
-    match front.split_at_checked(at) {
-        Some((_, rest)) => rest,
-        None => &[],
-    }
-}
-
-/// Says what is awaited, where a terminal is read.
-fn say_awaited(rt: &HostRuntime) {
-    if rt.stdin().is_terminal() {
+/// Says what is awaited, where a terminal is read, to a person.
+fn say_awaited(rt: &HostRuntime, is_said: bool) {
+    if is_said && rt.stdin().is_terminal() {
         let _ = rt.stderr().write_all(AWAITED);
     }
 }
@@ -149,38 +170,36 @@ fn size_of_input(rt: &HostRuntime) -> Option<u64> {
     }
 }
 
-impl<'a> HostLog<'a> {
+impl<'a, S: Opens> HostLog<'a, S> {
     /// Returns the log on standard input, or that there is no memory. Where `is_kept`, a log that can't be read again is
-    /// kept, if it is short. Where `says_progress`, it is said how much was read of a long one.
-    pub fn new(rt: &'a HostRuntime, is_kept: bool, says_progress: bool) -> io::Result<Self>
-        ensures { IfOk result (λ log. ⟦<HostLog<'a> as Source>⟧.failed log ≡ 0) }
+    /// kept, if it is short. A person reads what the audience says.
+    pub fn new(rt: &'a HostRuntime, is_kept: bool, audience: Audience) -> io::Result<Self>
+        ensures { IfOk result (λ log. ⟦<HostLog<'a, S> as Source>⟧.failed log ≡ 0) }
     {
         Ok(HostLog {
             rt,
             name: String::from_str(rt.alloc(), "standard input")?,
-            stream: Patient::new(Stream::Standard(rt.stdin())),
+            stream: Noting::new(S::standard(rt)),
             is_new: true,
+            is_told: audience.is_told,
             path: None,
             is_kept,
-            seen: Seen::new(Progress::new(says_progress, None)),
-            held: vec![in rt.alloc(); 0; HELD]?,
-            at: 0,
-            end: 0,
-            forgot: false,
+            seen: Seen::new(Progress::new(audience.sees_progress, None)),
+            recent: Recent::new(rt.alloc())?,
             ended: false,
             failures: 0,
         })
     }
 
     /// Begins to read a stream, of which it is said first what is awaited, where that may be a terminal.
-    fn begin(&mut self, stream: Stream, is_new: bool)
-        ensures { self.new.failures ≡ self.old.failures }
+    fn begin(&mut self, stream: S, is_new: bool)
+        ensures counted { self.new.failures ≡ self.old.failures }
+        ensures stream { self.new.stream.inner ≡ stream }
+        ensures none { unread self.new.recent.held.items self.new.recent.at self.new.recent.end ≡ [] }
     {
-        self.stream = Patient::new(stream);
+        self.stream = Noting::new(stream);
         self.is_new = is_new;
-        self.at = 0;
-        self.end = 0;
-        self.forgot = false;
+        self.recent.clear();
         self.ended = false;
     }
 
@@ -193,6 +212,8 @@ impl<'a> HostLog<'a> {
     fn look(&mut self, size: Option<u64>, path: &str)
         ensures counted { self.new.failures ≡ self.old.failures }
         ensures ends { self.new.ended ≡ self.old.ended }
+        ensures stream { self.new.stream ≡ self.old.stream }
+        ensures recent { self.new.recent ≡ self.old.recent }
     {
         self.seen = Seen::new(Progress::new(self.seen.progress.is_said(), size));
         self.path = match size {
@@ -204,37 +225,38 @@ impl<'a> HostLog<'a> {
         }
     }
 
-    /// Reads more, after what was read before.
+    /// Reads more, where all that was read before was handed on.
     fn fill(&mut self) -> io::Result<()>
         ensures counted { self.new.failures ≡ self.old.failures }
         ensures ends { self.new.ended ≡ self.old.ended }
+        ensures bytes { Keeps
+            (prepend_known (unread self.old.recent.held.items self.old.recent.at self.old.recent.end) (S.remaining self.old.stream.inner))
+            (prepend_known (unread self.new.recent.held.items self.new.recent.at self.new.recent.end) (S.remaining self.new.stream.inner)) }
+        ensures end { OnOk result (unread self.new.recent.held.items self.new.recent.at self.new.recent.end ≡ []
+            → IsAtEnd (S.remaining self.new.stream.inner)) }
     {
+        if !self.recent.is_read() {
+            return Ok(());
+        }
         if self.is_new {
             self.is_new = false;
-            say_awaited(self.rt);
+            say_awaited(self.rt, self.is_told);
             self.look(size_of_input(self.rt), STANDARD_INPUT);
         }
-        if self.end > HELD - KEPT {
-            self.end = keep_last(&mut self.held, self.end);
-            self.at = self.end;
-            self.forgot = true;
-        }
-        if let Some((_, space)) = self.held.split_at_mut_checked(self.end) {
-            let n = self.stream.read(space)?;
-            let end = self.end.saturating_add(n);
-            self.seen.take(between(&self.held, self.end, end));
-            self.end = end;
-            self.say_read(n);
-        }
+        let n = self.recent.fill(&mut self.stream)?;
+        self.seen.take(self.recent.unread());
+        self.say_read(n);
         Ok(())
     }
 }
 
-impl HostLog<'_> {
+impl<S: Opens> HostLog<'_, S> {
     /// Says how much was read, after so many bytes more.
     fn say_read(&mut self, more: usize)
         ensures counted { self.new.failures ≡ self.old.failures }
         ensures ends { self.new.ended ≡ self.old.ended }
+        ensures stream { self.new.stream ≡ self.old.stream }
+        ensures recent { self.new.recent ≡ self.old.recent }
     {
         let (rt, len) = (self.rt, self.seen.len());
         if more == 0 {
@@ -245,22 +267,20 @@ impl HostLog<'_> {
     }
 }
 
-impl Source for HostLog<'_> {
-    ghost left = { λ _. None };
+impl<S: Opens> Source for HostLog<'_, S> {
+    // What was read and not handed on, and then what the stream has left.
+    ghost left = { λ s. prepend_known (unread s.recent.held.items s.recent.at s.recent.end) (S.remaining s.stream.inner) };
 
     ghost ended = { λ s. s.ended };
 
     ghost failed = { λ s. s.failures };
 
     fn get(&mut self, out: &mut [u8]) -> Result<usize, Failed> {
-        if self.at >= self.end && self.fill().is_err() {
+        if self.fill().is_err() {
             self.failures += 1;
             return Err(Failed);
         }
-        let new = between(&self.held, self.at, self.end);
-        let n = new.len().min(out.len());
-        out[..n].copy_from_slice(&new[..n]);
-        self.at = self.at.saturating_add(n);
+        let n = self.recent.take(out);
         self.ended = self.ended || n == 0 && !out.is_empty();
         Ok(n)
     }
@@ -270,48 +290,42 @@ impl Source for HostLog<'_> {
     }
 }
 
-impl Logs for HostLog<'_> {
-    type Again = FromRead<BufReader<FromFront>>;
+impl<S: Opens> Logs for HostLog<'_, S> {
+    type Again = FromRead<BufReader<FromFront<S>>>;
 
-    ghost opened = { λ _ _ _. Unit {0} };
+    ghost opened = { λ _ path s. S.is_at path s.stream.inner
+        × (unread s.recent.held.items s.recent.at s.recent.end ≡ []) };
 
     ghost unopenable = { λ _ _. Unit {0} };
 
     fn open(&mut self, path: &str) -> io::Result<()> {
-        let (file, size) = open_file(self.rt, path)?;
+        let (stream, size) = S::open(self.rt, path)?;
         self.name = String::from_str(self.rt.alloc(), path)?;
-        self.begin(Stream::Named(file), false);
+        self.begin(stream, false);
         self.look(size, path);
         Ok(())
     }
 
     fn restart(&mut self) {
-        self.begin(Stream::Standard(self.rt.stdin()), true);
+        self.begin(S::standard(self.rt), true);
     }
 
     fn lines(&self) -> &[u8] {
-        let read = between(&self.held, 0, self.end);
-        if !self.forgot {
-            return read;
-        }
-        match read.iter().position(|byte| *byte == b'\n') {
-            Some(end) => read.split_at(end).1,
-            None => &[],
-        }
+        self.recent.lines()
     }
 
     fn failure(&self) -> Option<&Error> {
         self.stream.failure()
     }
 
-    fn again(&mut self) -> Option<FromRead<BufReader<FromFront>>> {
+    fn again(&mut self) -> Option<FromRead<BufReader<FromFront<S>>>> {
         let (kept, rest) = match (&self.path, self.seen.take_kept()) {
             (Some(path), _) => {
-                let file = open_file(self.rt, path.as_str()).ok()?.0;
-                (Vec::new(self.rt.alloc()), Patient::new(Stream::Named(file)))
+                let stream = S::open(self.rt, path.as_str()).ok()?.0;
+                (Vec::new(self.rt.alloc()), Noting::new(stream))
             }
             (None, Some(kept)) => {
-                let spent = Patient::new(Stream::Standard(self.rt.stdin()));
+                let spent = Noting::new(S::standard(self.rt));
                 (kept, mem::replace(&mut self.stream, spent))
             }
             (None, None) => return None,

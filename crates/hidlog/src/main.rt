@@ -6,12 +6,14 @@ ghost use Rattle.std.specs.Prelude.{◌<◌, ◌-◌, ◌^◌};
 mod command_line;
 mod commands;
 mod differing;
+mod escaped;
 mod files;
 mod logs;
 mod misfit;
 mod process;
 mod program;
 mod progress;
+mod recent;
 mod remarks;
 mod screen;
 mod seen;
@@ -21,52 +23,72 @@ mod snapshots;
 mod streams;
 mod terminal;
 
-use command_line::{Task, task_of};
+use command_line::{Asked, Task, task_of};
 use differing::{Wish, tell_differences};
+use escaped::Escaped;
 use files::HostFiles;
-use logs::{HostLog, Logs};
+use logs::{HostLog, Logs, ProcessLog};
 use misfit::first_reason;
-use process::{no_memory, tell, tell_why, words_of};
+use process::{Reporting, no_memory, tell, words_of};
 use program::run;
 use remarks::{Remarks, note};
 use screen::Screen;
 use session_log::{Target, ToWrite};
 use std::alloc::Global;
-use std::io::{self, ErrorKind, Printer};
+use std::io::{self, Printer};
 use std::process::ExitCode;
-use streams::{Faults, Patient, Told, WRITING_FAILED};
-use terminal::{says_progress, style_of, width_of_faults};
-
-/// The exit status where standard output was closed, as a shell returns it for a program that SIGPIPE ended.
-const CLOSED_PIPE: u8 = 141;
+use streams::{Faults, Noting, Told};
+use terminal::{audience_of, style_of, terminals_of, width_of_faults};
 
 /// What standard output is written by.
-type Output<'a> = Patient<Printer<'a, HostRuntime>>;
+type Output<'a> = Noting<Printer<'a, HostRuntime>>;
 
-/// Says why a line of the log is none, why reading it failed or what differs in it; and, where nothing is wrong, what may
-/// be.
+/// Says what differs in a log that isn't one of several, where that is explained or all differences are wished for; and,
+/// explained, why a line of the log is none or why reading it failed and, where nothing is wrong, what may be.
 fn say_more<E: Target>(
     rt: &HostRuntime,
     words: &[&str],
-    input: &mut HostLog<'_>,
+    input: &mut ProcessLog<'_>,
     remarks: &Remarks,
     faults: &mut Faults<E>,
 )
     requires { E.failed faults.old.inner < 2 ^ 64 - 1 }
 {
-    let alloc = rt.alloc();
+    if let Some(told) = faults.difference() {
+        say_differences(rt, words, input, remarks, &told, faults);
+    } else if remarks.explains {
+        say_why(rt.alloc(), input, remarks, faults);
+    }
+}
+
+/// Says why a line of the log is none or why reading it failed; and, where nothing is wrong, what may be.
+fn say_why<E: Target>(
+    alloc: Global,
+    input: &ProcessLog<'_>,
+    remarks: &Remarks,
+    faults: &mut Faults<E>,
+)
+    requires { E.failed faults.old.inner < 2 ^ 64 - 1 }
+{
     if faults.has_bad_line() {
         if let Some(reason) = first_reason(alloc, input.lines()) {
             tell(faults, reason.as_bytes());
         }
     } else if faults.has_failed_read() {
         if let Some(error) = input.failure() {
-            tell_why(faults, alloc, b"", input.name(), error);
+            say_failure(alloc, input.name(), error, faults);
         }
-    } else if let Some(told) = faults.difference() {
-        say_differences(rt, words, input, remarks, &told, faults);
     } else if let Some(ending) = &remarks.ending {
         note(faults, alloc, "hidlog", input.seen(), ending);
+    }
+}
+
+/// Says why a stream failed.
+fn say_failure<E: Target>(alloc: Global, name: &str, error: &io::Error, faults: &mut Faults<E>)
+    requires { E.failed faults.old.inner < 2 ^ 64 - 1 }
+{
+    if let Ok(text) = format!(in alloc; "  {}: {error}\n", Escaped(name)) {
+        tell(faults, text.as_bytes());
     }
 }
 
@@ -74,16 +96,26 @@ fn say_more<E: Target>(
 fn say_differences<E: Target>(
     rt: &HostRuntime,
     words: &[&str],
-    input: &mut HostLog<'_>,
+    input: &mut ProcessLog<'_>,
     remarks: &Remarks,
     told: &Told,
     faults: &mut Faults<E>,
 ) {
-    let Ok(Task::Check { load, all, .. }) = task_of(rt.alloc(), words) else {
+    let alloc = rt.alloc();
+    let Ok(
+        Asked {
+            task: Task::Check { load, all, .. },
+            ..
+        },
+    ) = task_of(alloc, words)
+    else {
         return;
     };
     let wish = Wish {
-        alloc: rt.alloc(),
+        reporting: Reporting {
+            alloc,
+            explains: remarks.explains,
+        },
         name: "hidlog",
         load,
         is_all: all,
@@ -108,45 +140,39 @@ fn play<'a, E: Target>(
     requires { E.failed faults.old.inner < 2 ^ 64 - 1 }
 {
     let alloc = rt.alloc();
+    let terminals = terminals_of(rt);
     let is_check = words.get(1).is_some_and(|word| *word == "check");
-    let Ok(mut input) = HostLog::new(rt, is_check, says_progress(rt, is_check)) else {
+    let audience = audience_of(rt, words, terminals, is_check);
+    let made: io::Result<ProcessLog<'_>> = HostLog::new(rt, is_check, audience);
+    let Ok(mut input) = made else {
         return Err(no_memory(faults));
     };
     let mut remarks = Remarks {
-        width: width_of_faults(rt),
+        explains: false,
+        width: width_of_faults(rt, terminals),
         ending: None,
     };
     let ended = run(
         &mut HostFiles(rt),
         alloc,
         words,
+        terminals,
         &mut input,
-        &mut Screen::new(alloc, ToWrite::new(writer), style_of(rt, words)),
+        &mut Screen::new(
+            alloc,
+            ToWrite::new(&mut *writer),
+            style_of(rt, words, terminals),
+        ),
         &mut remarks,
         faults,
     );
-    if faults.failures() == 0 {
-        say_more(rt, words, &mut input, &remarks, faults);
-    }
-    ended
-}
-
-/// Says why writing failed. A standard output that was closed has an exit status of its own, and nothing is said.
-fn explain<E: Target>(
-    alloc: Global,
-    writer: &Output<'_>,
-    faults: &mut Faults<E>,
-    ended: Result<(), u8>,
-) -> Result<(), u8> {
-    let held_back = faults.pass_all();
     if faults.failures() > 0 {
         return ended;
     }
     match writer.failure() {
-        Some(error) if error.kind() == ErrorKind::BrokenPipe => return Err(CLOSED_PIPE),
-        Some(error) => tell_why(faults, alloc, WRITING_FAILED, "standard output", error),
-        None if held_back => tell(faults, WRITING_FAILED),
-        None => {}
+        Some(error) if remarks.explains => say_failure(alloc, "standard output", error, faults),
+        Some(_) => {}
+        None => say_more(rt, words, &mut input, &remarks, faults),
     }
     ended
 }
@@ -160,13 +186,12 @@ fn start<E: Target>(rt: &HostRuntime, faults: &mut Faults<E>) -> Result<(), u8>
     let Ok(words) = words else {
         return Err(no_memory(faults));
     };
-    let mut writer = Patient::new(io::writer(rt));
-    let ended = play(rt, words.as_slice(), &mut writer, faults);
-    explain(rt.alloc(), &writer, faults, ended)
+    let mut writer = Noting::new(io::writer(rt));
+    play(rt, words.as_slice(), &mut writer, faults)
 }
 
 fn main(rt: HostRuntime) -> ExitCode {
-    let mut faults = Faults::new(ToWrite::new(Patient::new(rt.stderr())));
+    let mut faults = Faults::new(ToWrite::new(Noting::new(rt.stderr())));
     match start(&rt, &mut faults) {
         Ok(()) => ExitCode::SUCCESS,
         Err(status) => ExitCode::from(status),

@@ -2,12 +2,25 @@
 ghost use Rattle.std.specs.Prelude.{◌≡◌, ◌<◌, ◌-◌, ◌^◌, ◌⊎◌, IfErr, OnOk, OnErr};
 ghost use Rattle.hidlog.specs.Program.{IsGiven, IsTold, no_memory as no_memory_text, not_text};
 
+use crate::escaped::Escaped;
 use session_log::{LogFault, Target, put_all, tell_fault};
 use std::alloc::{AllocGlobal, Global};
 use std::env;
 use std::fmt::Display;
 use std::io::{self, ErrorKind};
 use std::rt::Env;
+
+/// The text of a write that failed.
+pub const WRITING_FAILED: &[u8] = b"hidlog: writing failed\n";
+
+/// How faults are reported.
+#[derive(Clone, Copy)]
+pub struct Reporting {
+    /// What reasons are allocated in.
+    pub alloc: Global,
+    /// Whether the reason follows a fault's text, for people.
+    pub explains: bool,
+}
 
 /// Writes a text to the faults. One that can't be written is dropped.
 pub fn tell<E: Target>(faults: &mut E, text: &[u8])
@@ -17,22 +30,26 @@ pub fn tell<E: Target>(faults: &mut E, text: &[u8])
     let _ = put_all(faults, text);
 }
 
-/// Writes a text to the faults, and on the next line what it is about and why. Where memory is refused, that line is
-/// left out.
+/// Writes a text to the faults and, where it is explained, on the next line what it is about and why. Where memory is
+/// refused, that line is left out.
 pub fn tell_why<E: Target, W: Display>(
     faults: &mut E,
-    alloc: Global,
+    reporting: Reporting,
     text: &[u8],
     about: &str,
     why: &W,
 )
     requires { E.failed faults.old < 2 ^ 64 - 1 }
-    ensures { IsTold E.taken E.failed (faults.old, faults.new) text.now }
+    ensures { IsTold reporting.explains E.taken E.failed (faults.old, faults.new) text.now }
 {
+    if !reporting.explains {
+        tell(faults, text);
+        return;
+    }
     if put_all(faults, text).is_err() {
         return;
     }
-    if let Ok(more) = format!(in alloc; "  {about}: {why}\n") {
+    if let Ok(more) = format!(in reporting.alloc; "  {}: {why}\n", Escaped(about)) {
         tell(faults, more.as_bytes());
     }
 }

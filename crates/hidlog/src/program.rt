@@ -1,29 +1,36 @@
 //! The program over any source and targets.
 ghost use Rattle.std.specs.Prelude.{◌≡◌, ◌<◌, ◌-◌, ◌^◌, ◌⊎◌, ◌∷◌, [], false, None, Some, Result, IfErr, IsSomeAnd, MatchOption, OnOk, OnErr, codes, option_and_then};
 ghost use Rattle.clap.specs.Words.{kind_of};
-ghost use Rattle.session_log.specs.Command.{start_with, status_of};
+ghost use Rattle.session_log.specs.Command.{IsCounted, start_with, status_of};
+ghost use Rattle.session_log.specs.Ending.{ending_of};
+ghost use Rattle.session_log.specs.Replay.{ReadsTo};
+ghost use Rattle.session_log.specs.Streams.{IsAllRead};
+ghost use Rattle.session_show.specs.Shown.{IsLineText, Shows, reading};
 ghost use Rattle.token_session.specs.Meters.{session_of};
 ghost use Rattle.hidlog.specs.CommandLine.{check, named, show as shown, path_of, texts_of};
 ghost use Rattle.hidlog.specs.Program.{Explains, IsTold, IsWhole, cannot_read_log};
-ghost use Rattle.hidlog.specs.Commands.{Answers, Does, RunsCommand};
+ghost use Rattle.session_show.specs.declared.wording.Wording.TheVariants.{Fixed as fixed};
+ghost use Rattle.hidlog.specs.Commands.{Answers, Does, RunsCommand, wording_for};
 
-use crate::command_line::{Form, Task, task_of};
+use crate::command_line::{Asked, Form, Task, task_of};
 use crate::commands::{Play, play_on};
 use crate::files::Files;
 use crate::logs::Logs;
-use crate::process::{log_fault, no_memory, tell, tell_why};
-use crate::remarks::Remarks;
+use crate::process::{Reporting, WRITING_FAILED, log_fault, no_memory, tell, tell_why};
+use crate::remarks::{Remarks, Terminals};
 use crate::several::check_each;
 use clap::Error;
 use clap::error::ErrorKind;
 use session_log::{CAPACITY, Command, LogFault, Target, put_all};
-use session_show::{Summary, put_json_fault, show, show_json, summarize};
+use session_show::{
+    Objects, Summary, Wording, explain, put_json_fault, show, show_json, summarize,
+};
 use std::alloc::Global;
 use token_session::Session;
 
-/// Writes what clap answers: help to the output, what is wrong with the words to the faults. The status is
-/// 2 for all but help that was written.
-fn explain<O: Target, E: Target>(
+/// Writes what clap answers: help to the output, what is wrong with the words to the faults. The status is 2 except for
+/// help that was written.
+fn answer_words<O: Target, E: Target>(
     alloc: Global,
     error: &Error,
     output: &mut O,
@@ -42,7 +49,11 @@ fn explain<O: Target, E: Target>(
         tell(faults, text.as_bytes());
         return Err(2);
     }
-    put_all(output, text.as_bytes()).map_err(|_| 2)
+    if put_all(output, text.as_bytes()).is_err() {
+        tell(faults, WRITING_FAILED);
+        return Err(2);
+    }
+    Ok(())
 }
 
 /// Returns the path of the log, where it isn't on standard input.
@@ -58,7 +69,7 @@ pub fn path_in(log: Option<&str>) -> Option<&str>
 /// Begins at the front of the log. Where it can't be opened, that is written, and an error holds the exit status, 1.
 pub fn open_log<L: Logs, E: Target>(
     input: &mut L,
-    alloc: Global,
+    reporting: Reporting,
     log: Option<&str>,
     faults: &mut E,
 ) -> Result<(), u8>
@@ -68,7 +79,7 @@ pub fn open_log<L: Logs, E: Target>(
     ensures silent { OnOk result (faults.new ≡ faults.old) }
     ensures status { IfErr result (λ code. code ≡ 1) }
     ensures told { OnErr result (IsSomeAnd (named (path_of log.entry)) (L.unopenable input.old)
-        × IsTold E.taken E.failed (faults.old, faults.new) cannot_read_log) }
+        × IsTold reporting.explains E.taken E.failed (faults.old, faults.new) cannot_read_log) }
     ensures unread { OnErr result (input.new ≡ input.old) }
     ensures counted { L.failed input.new ≡ L.failed input.old }
 {
@@ -78,7 +89,13 @@ pub fn open_log<L: Logs, E: Target>(
     match input.open(path) {
         Ok(()) => Ok(()),
         Err(error) => {
-            tell_why(faults, alloc, b"hidlog: cannot read log\n", path, &error);
+            tell_why(
+                faults,
+                reporting,
+                b"hidlog: cannot read log\n",
+                path,
+                &error,
+            );
             Err(1)
         }
     }
@@ -100,7 +117,7 @@ pub fn fresh() -> Session<CAPACITY>
 pub fn play_log<D, L, O, E>(
     play: &Play<'_>,
     files: &mut D,
-    alloc: Global,
+    reporting: Reporting,
     input: &mut L,
     output: &mut O,
     remarks: &mut Remarks,
@@ -116,7 +133,7 @@ where
     requires tells { E.failed faults.old < 2 ^ 64 - 1 }
     ensures status { IfErr result (λ code. (code ≡ 1) ⊎ (code ≡ 2)) }
     ensures does { RunsCommand D.holds D.unreadable D.written D.unwritten D.unwritable L.opened L.unopenable L.left L.failed L.ended
-        O.taken O.failed E.taken E.failed
+        O.taken O.failed E.taken E.failed reporting.explains
         play.now.command (path_of play.now.load) (path_of play.now.save) (path_of play.now.log) result
         (files.old, files.new) (input.old, input.new) (output.old, output.new) (faults.old, faults.new) }
     ensures kept { path_of play.now.save ≡ None → files.new ≡ files.old }
@@ -125,7 +142,7 @@ where
         &mut fresh(),
         play,
         files,
-        alloc,
+        reporting,
         input,
         output,
         remarks,
@@ -158,19 +175,30 @@ fn show_summary<L: Logs, O: Target>(input: &mut L, output: &mut O) -> Result<(),
     }
 }
 
-/// Writes the log as objects of JSON. A fault is the last one.
+/// Writes the log as objects of JSON. What is open at its end is before the last one, which is its fault, if it has one.
 #[inline(never)]
 fn show_objects<L: Logs, O: Target>(input: &mut L, output: &mut O) -> Result<(), LogFault>
     requires reads { L.failed input.old < 2 ^ 64 - 1 }
     requires writes { O.failed output.old < 2 ^ 64 - 1 }
     ensures { OnOk result (IsWhole L.left L.ended L.failed O.failed (input.old, input.new) (output.old, output.new)) }
 {
-    match show_json(input, output) {
-        Ok(()) => Ok(()),
-        Err(fault) => {
-            if fault != LogFault::Write && output.failures() < u64::MAX {
-                let _ = put_json_fault(output, &fault);
+    let mut objects = Objects::new();
+    match show_json(input, output, &mut objects) {
+        Ok(()) => {
+            match objects.put(output) {
+                Ok(()) => Ok(()),
+                Err(_) => Err(LogFault::Write),
             }
+        }
+        Err(fault) => {
+            let is_lost = fault == LogFault::Write || output.failures() == u64::MAX;
+            if is_lost {
+                return Err(fault);
+            }
+            if objects.put(output).is_err() || output.failures() == u64::MAX {
+                return Err(LogFault::Write);
+            }
+            let _ = put_json_fault(output, &fault);
             Err(fault)
         }
     }
@@ -188,12 +216,44 @@ fn shown_to<E: Target>(faults: &mut E, answer: Result<(), LogFault>) -> Result<(
     }
 }
 
+/// Returns how lines are worded.
+fn wording_of(explains: bool) -> Wording
+    ensures { result ≡ wording_for explains }
+{
+    if explains {
+        Wording::Explained
+    } else {
+        Wording::Fixed
+    }
+}
+
+/// Shows the log line by line.
+fn show_lines<L: Logs, O: Target>(
+    wording: Wording,
+    input: &mut L,
+    output: &mut O,
+) -> Result<(), LogFault>
+    requires reads { L.failed input.old < 2 ^ 64 - 1 }
+    requires writes { O.failed output.old < 2 ^ 64 - 1 }
+    ensures shown { Shows (IsLineText wording) (L.left input.old, L.left input.new) (O.taken output.old, O.taken output.new)
+        (ending_of result) }
+    ensures reach { ReadsTo reading tt (L.left input.old) (L.left input.new) (IsAllRead L.left L.ended input.new)
+        (ending_of result) }
+    ensures counted { IsCounted L.left L.failed L.ended O.failed result (input.old, input.new) (output.old, output.new) }
+{
+    match wording {
+        Wording::Fixed => show(input, output),
+        Wording::Explained => explain(input, output),
+    }
+}
+
 /// Shows the log.
 #[inline(never)]
 fn show_log<D, L, O, E>(
     files: &D,
-    alloc: Global,
+    reporting: Reporting,
     form: Form,
+    wording: Wording,
     log: Option<&str>,
     input: &mut L,
     output: &mut O,
@@ -209,13 +269,13 @@ where
     requires tells { E.failed faults.old < 2 ^ 64 - 1 }
     ensures status { IfErr result (λ code. (code ≡ 1) ⊎ (code ≡ 2)) }
     ensures does { Does D.holds D.unreadable D.written D.unwritten D.unwritable L.opened L.unopenable L.left L.failed L.ended
-        O.taken O.failed E.taken E.failed (shown form false (path_of log.entry)) result
+        O.taken O.failed E.taken E.failed reporting.explains (shown form false (path_of log.entry)) wording result
         (files.now, files.now) (input.old, input.new) (output.old, output.new) (faults.old, faults.new) }
 {
-    open_log(input, alloc, log, faults)?;
+    open_log(input, reporting, log, faults)?;
     match form {
         Form::Lines => {
-            let answer = show(input, output);
+            let answer = show_lines(wording, input, output);
             shown_to(faults, answer)
         }
         Form::Summary => {
@@ -232,7 +292,7 @@ where
 /// Compares the logs at these paths, each on a session of its own. Of several it is said which is meant.
 fn check_logs<'a, D, L, O, E>(
     files: &mut D,
-    alloc: Global,
+    reporting: Reporting,
     load: Option<&'a str>,
     all: bool,
     logs: &[&'a str],
@@ -251,8 +311,8 @@ where
     requires tells { E.failed faults.old < 2 ^ 64 - 1 }
     ensures status { IfErr result (λ code. (code ≡ 1) ⊎ (code ≡ 2)) }
     ensures does { Does D.holds D.unreadable D.written D.unwritten D.unwritable L.opened L.unopenable L.left L.failed L.ended
-        O.taken O.failed E.taken E.failed
-        (check (path_of load.entry) all (texts_of logs.now)) result
+        O.taken O.failed E.taken E.failed reporting.explains
+        (check (path_of load.entry) all (texts_of logs.now)) fixed result
         (files.old, files.new) (input.old, input.new) (output.old, output.new) (faults.old, faults.new) }
 {
     let play = Play {
@@ -262,27 +322,28 @@ where
         log: None,
     };
     match logs {
-        [] => play_log(&play, files, alloc, input, output, remarks, faults),
+        [] => play_log(&play, files, reporting, input, output, remarks, faults),
         [log] => {
             let named = Play {
                 log: Some(*log),
                 ..play
             };
-            play_log(&named, files, alloc, input, output, remarks, faults)
+            play_log(&named, files, reporting, input, output, remarks, faults)
         }
         _ => check_each(
-            files, alloc, load, all, logs, input, output, remarks, faults,
+            files, reporting, load, all, logs, input, output, remarks, faults,
         ),
     }
 }
 
 /// Runs the program on these words, the first of them being its own name. An error holds the exit status: 1
 /// for a fault of the log, 2 for words that are no command, for a snapshot's file, and for refused memory
-/// outside the log. Its text was given to `faults`, if that could be.
+/// outside the log. Its text was given to `faults`, if that could be. The remarks have whether faults are explained.
 pub fn run<'a, D, L, O, E>(
     files: &mut D,
     alloc: Global,
     words: &'a [&'a str],
+    terminals: Terminals,
     input: &mut L,
     output: &mut O,
     remarks: &mut Remarks,
@@ -299,20 +360,27 @@ where
     ensures status { IfErr result (λ code. (code ≡ 1) ⊎ (code ≡ 2)) }
     // What the words ask for is done.
     ensures answered { Answers D.holds D.unreadable D.written D.unwritten D.unwritable L.opened L.unopenable L.left L.failed L.ended
-        O.taken O.failed E.taken E.failed (texts_of words.now) result
+        O.taken O.failed E.taken E.failed (texts_of words.now) terminals result
         (files.old, files.new) (input.old, input.new) (output.old, output.new) (faults.old, faults.new) }
 {
-    match task_of(alloc, words) {
-        Ok(Task::Play(play)) => play_log(&play, files, alloc, input, output, remarks, faults),
-        Ok(Task::Check { load, all, logs }) => {
+    let asked = match task_of(alloc, words) {
+        Ok(asked) => asked,
+        Err(error) => return answer_words(alloc, &error, output, faults),
+    };
+    let explains = asked.manner.explains(terminals.faults);
+    remarks.explains = explains;
+    let reporting = Reporting { alloc, explains };
+    match asked.task {
+        Task::Play(play) => play_log(&play, files, reporting, input, output, remarks, faults),
+        Task::Check { load, all, logs } => {
             check_logs(
-                files, alloc, load, all, &logs, input, output, remarks, faults,
+                files, reporting, load, all, &logs, input, output, remarks, faults,
             )
         }
         // Whether lines are whole is a matter of the output.
-        Ok(Task::Show { form, wide: _, log }) => show_log(
-            files, alloc, form, log, input, output, faults,
-        ),
-        Err(error) => explain(alloc, &error, output, faults),
+        Task::Show { form, wide: _, log } => {
+            let wording = wording_of(asked.manner.explains(terminals.output));
+            show_log(files, reporting, form, wording, log, input, output, faults)
+        }
     }
 }

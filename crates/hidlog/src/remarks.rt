@@ -3,19 +3,11 @@ ghost use Rattle.std.specs.Prelude.{◌<◌, ◌-◌, ◌^◌};
 
 use crate::process::tell;
 use crate::seen::Seen;
-use authn_core::Need;
 use session_log::{CAPACITY, Command, Target};
+use session_show::Awaited;
 use std::alloc::{AllocError, Global};
 use std::fmt::Write;
 use token_session::Session;
-
-/// What a key waits for.
-#[derive(Clone, Copy)]
-enum Awaited {
-    Presence,
-    Key,
-    Signature,
-}
 
 /// What a session holds and waits for at the end of a log.
 #[derive(Clone, Copy)]
@@ -29,12 +21,8 @@ pub struct Ending {
 impl Ending {
     /// Returns that of a session.
     pub fn of(session: &Session<CAPACITY>) -> Self {
-        let awaited = match session.need() {
-            Need::None => None,
-            Need::Presence => Some(Awaited::Presence),
-            Need::Key => Some(Awaited::Key),
-            Need::Sign { .. } => Some(Awaited::Signature),
-        };
+        let need = session.need();
+        let awaited = Awaited::of(&need);
         Ending {
             awaited,
             held: session.held(),
@@ -42,18 +30,20 @@ impl Ending {
     }
 }
 
-/// Returns what is waited for, in words.
-fn name_of(awaited: Awaited) -> &'static str {
-    match awaited {
-        Awaited::Presence => "the user's presence",
-        Awaited::Key => "a new key",
-        Awaited::Signature => "a signature",
-    }
+/// Which of the program's streams are terminals.
+#[derive(Clone, Copy)]
+pub struct Terminals {
+    /// Standard output.
+    pub output: bool,
+    /// Standard error.
+    pub faults: bool,
 }
 
 /// What is said beside a result, and where.
 #[derive(Clone, Copy)]
 pub struct Remarks {
+    /// Whether faults are explained, and notes are said.
+    pub explains: bool,
     /// The columns of the terminal that faults are written to; none where they go elsewhere.
     pub width: Option<usize>,
     /// How the log ended in which nothing differs and of which nothing was said yet.
@@ -84,7 +74,7 @@ fn notes(alloc: Global, name: &str, seen: &Seen, ending: &Ending) -> Result<Stri
         )?;
     }
     if let Some(awaited) = ending.awaited {
-        let awaited = name_of(awaited);
+        let awaited = awaited.name();
         writeln!(
             text,
             "{name}: note: the log ends while the key waits for {awaited}"

@@ -1,5 +1,5 @@
 //! A log that is shown at a terminal: lines that are cut at its width, and in colours.
-ghost use Rattle.std.specs.Prelude.{◌≡◌, None};
+ghost use Rattle.std.specs.Prelude.{◌≡◌, None, is_none, if◌then◌else◌};
 
 use session_log::{Failed, Target, put_all};
 use std::alloc::{AllocError, Global};
@@ -157,7 +157,8 @@ pub struct Screen<T> {
 impl<T: Target> Screen<T> {
     /// Returns the target, which took nothing yet.
     pub fn new(alloc: Global, inner: T, style: Option<Style>) -> Self
-        ensures { ⟦<Screen<T> as Target>⟧.failed result ≡ T.failed inner }
+        ensures taken { ⟦<Screen<T> as Target>⟧.taken result ≡ (if is_none style then T.taken inner else None) }
+        ensures counted { ⟦<Screen<T> as Target>⟧.failed result ≡ T.failed inner }
     {
         Screen {
             inner,
@@ -168,7 +169,8 @@ impl<T: Target> Screen<T> {
 }
 
 impl<T: Target> Target for Screen<T> {
-    ghost taken = { λ _. None };
+    // Without a style it hands on what it takes. What is written of a line with one, no clause says.
+    ghost taken = { λ s. if is_none s.style then T.taken s.inner else None };
 
     ghost failed = { λ s. T.failed s.inner };
 

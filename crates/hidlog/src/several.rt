@@ -1,12 +1,15 @@
 //! Several logs that are compared, one after the other.
-ghost use Rattle.std.specs.Prelude.{◌≡◌, ◌<◌, ◌-◌, ◌^◌, ◌⊎◌, IfErr, OnOk};
+ghost use Rattle.std.specs.Prelude.{◌≡◌, ◌<◌, ◌-◌, ◌^◌, ◌⊎◌, Some, IfErr, MatchOption, OnOk};
+ghost use Rattle.hidlog.specs.CommandLine.{named, path_of, texts_of};
+ghost use Rattle.hidlog.specs.Several.{AreSame, IsSameAt};
 
 use crate::commands::Play;
 use crate::differing::{Wish, tell_differences};
+use crate::escaped::Escaped;
 use crate::files::Files;
 use crate::logs::Logs;
 use crate::misfit::first_reason;
-use crate::process::tell;
+use crate::process::{Reporting, WRITING_FAILED, tell};
 use crate::program::play_log;
 use crate::remarks::{Remarks, note};
 use crate::streams::is_difference;
@@ -18,33 +21,40 @@ const FAULT: &[u8] = b"hidlog: line ";
 
 const OWN_NAME: &[u8] = b"hidlog: ";
 
-/// Writes what is said of a log, its path in front.
-fn put_about<T: Target>(target: &mut T, path: &str, text: &[u8]) -> Result<(), Failed>
+/// Writes what is said of a log, its name in front.
+fn put_about<T: Target>(target: &mut T, name: &str, text: &[u8]) -> Result<(), Failed>
     requires { T.failed target.old < 2 ^ 64 - 1 }
     ensures { OnOk result (T.failed target.new ≡ T.failed target.old) }
 {
-    put_all(target, path.as_bytes())?;
+    put_all(target, name.as_bytes())?;
     put_all(target, b": ")?;
     put_all(target, text)
 }
 
-/// Writes the fault of a log, and what more is known of it.
-fn tell_of<L: Logs, E: Target>(faults: &mut E, alloc: Global, path: &str, input: &L, text: &[u8])
+/// Writes the fault of a log of this name and, where it is explained, what more is known of it.
+fn tell_of<L: Logs, E: Target>(
+    faults: &mut E,
+    reporting: Reporting,
+    name: &str,
+    input: &L,
+    text: &[u8],
+)
     requires { E.failed faults.old < 2 ^ 64 - 1 }
 {
     if !text.starts_with(FAULT) {
         tell(faults, text);
         return;
     }
-    if put_about(faults, path, text.split_at(OWN_NAME.len()).1).is_err() {
+    let is_put = put_about(faults, name, text.split_at(OWN_NAME.len()).1).is_ok();
+    if !is_put || !reporting.explains {
         return;
     }
     let more = if text.ends_with(b": not a log line\n") {
-        first_reason(alloc, input.lines())
+        first_reason(reporting.alloc, input.lines())
     } else if is_difference(text) {
         None
     } else {
-        reading_failed(alloc, input)
+        reading_failed(reporting.alloc, input)
     };
     if let Some(more) = more {
         tell(faults, more.as_bytes());
@@ -57,10 +67,21 @@ fn reading_failed<L: Logs>(alloc: Global, input: &L) -> Option<String> {
     format!(in alloc; "  {error}\n").ok()
 }
 
+/// Begins with standard input, where the path names that. A file is opened later.
+fn begin_with<L: Logs>(input: &mut L, path: &str)
+    ensures kept { MatchOption (named (Some path.now)) (Unit {0}) (λ _. input.new ≡ input.old) }
+    ensures counted { L.failed input.new ≡ L.failed input.old }
+{
+    if path == "-" {
+        input.restart();
+    }
+}
+
 /// Compares one of several logs, and says what came of it with its path in front.
-fn check_one<D, L, O, E>(
+fn check_one<'a, D, L, O, E>(
     files: &mut D,
-    wish: &Wish<'_>,
+    wish: &Wish<'a>,
+    path: &'a str,
     input: &mut L,
     output: &mut O,
     remarks: &mut Remarks,
@@ -76,11 +97,11 @@ where
     requires tells { E.failed faults.old < 2 ^ 64 - 1 }
     ensures status { IfErr result (λ code. (code ≡ 1) ⊎ (code ≡ 2)) }
     ensures kept { files.new ≡ files.old }
+    ensures same { OnOk result (IsSameAt D.holds L.opened L.left L.ended (path_of wish.now.load) files.old path.now
+        (input.old, input.new)) }
 {
-    let (alloc, path) = (wish.alloc, wish.name);
-    if path == "-" {
-        input.restart();
-    }
+    let alloc = wish.reporting.alloc;
+    begin_with(input, path);
     let (mut same, mut told) = (Vec::new(alloc), Vec::new(alloc));
     let play = Play {
         command: Command::Check,
@@ -91,35 +112,39 @@ where
     let ended = play_log(
         &play,
         files,
-        alloc,
+        wish.reporting,
         input,
         &mut ToWrite::new(&mut same),
         remarks,
         &mut ToWrite::new(&mut told),
     );
     if ended.is_err() {
-        tell_of(faults, alloc, path, input, &told);
+        tell_of(faults, wish.reporting, wish.name, input, &told);
         if is_difference(&told) {
             tell_differences(files, wish, input.again(), &told, faults);
         }
-    } else if put_about(output, path, &same).is_err() {
+    } else if put_about(output, wish.name, &same).is_err() {
+        if faults.failures() < u64::MAX {
+            tell(faults, WRITING_FAILED);
+        }
         return Err(1);
     }
     ended
 }
 
-/// Writes what may be wrong with a log in which nothing differs.
+/// Writes what may be wrong with a log in which nothing differs, where that is explained.
 fn note_one<L: Logs, E: Target>(
-    alloc: Global,
+    reporting: Reporting,
     path: &str,
     input: &L,
     remarks: &mut Remarks,
     faults: &mut E,
 ) {
     if let Some(ending) = remarks.ending.take()
+        && reporting.explains
         && faults.failures() < u64::MAX
     {
-        note(faults, alloc, path, input.seen(), &ending);
+        note(faults, reporting.alloc, path, input.seen(), &ending);
     }
 }
 
@@ -127,7 +152,7 @@ fn note_one<L: Logs, E: Target>(
 /// differs or has a fault. After a snapshot that can't be loaded no further log is read.
 pub fn check_each<D, L, O, E>(
     files: &mut D,
-    alloc: Global,
+    reporting: Reporting,
     load: Option<&str>,
     is_all: bool,
     paths: &[&str],
@@ -143,6 +168,8 @@ where
     E: Target,
     ensures status { IfErr result (λ code. (code ≡ 1) ⊎ (code ≡ 2)) }
     ensures kept { files.new ≡ files.old }
+    ensures same { OnOk result (AreSame D.holds L.opened L.left L.ended (path_of load.entry) files.old (texts_of paths.now)
+        (input.old, input.new)) }
 {
     let mut has_failed = false;
     for path in paths {
@@ -150,15 +177,17 @@ where
         if is_spent || output.failures() > 0 {
             return Err(1);
         }
+        let shown = format!(in reporting.alloc; "{}", Escaped(path)).ok();
+        let name = shown.as_ref().map_or("a log", |text| text.as_str());
         let wish = Wish {
-            alloc,
-            name: path,
+            reporting,
+            name,
             load,
             is_all,
             width: remarks.width,
         };
-        let one = check_one(files, &wish, input, output, remarks, faults);
-        note_one(alloc, path, input, remarks, faults);
+        let one = check_one(files, &wish, path, input, output, remarks, faults);
+        note_one(reporting, name, input, remarks, faults);
         has_failed = has_failed || one.is_err();
         if one == Err(2) {
             return Err(2);

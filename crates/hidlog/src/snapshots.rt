@@ -8,12 +8,14 @@ ghost use Rattle.hidlog.specs.Program.{IsTold, refused};
 ghost use Rattle.session_log.specs.Command.{start_with};
 ghost use Rattle.hidlog.specs.Saved.{FailsToOpen, FailsToSave, Opens, Saves};
 
-use crate::files::Files;
-use crate::process::{no_memory, tell_why};
+use crate::escaped::Escaped;
+use crate::files::{COPY, Files, Unwritten};
+use crate::process::{Reporting, no_memory, tell_why};
 use authn_core::Config;
 use cred_table::{SnapshotFault, save};
 use session_log::{CAPACITY, Target};
 use std::alloc::{AllocError, Global};
+use std::fmt::{self, Display, Formatter};
 use std::io::ErrorKind;
 use token_session::Session;
 
@@ -29,7 +31,7 @@ fn refusal(fault: SnapshotFault) -> &'static [u8]
     }
 }
 
-/// Says why a snapshot of these bytes is refused, in words.
+/// Returns why a snapshot of these bytes is refused, in words.
 fn reason(alloc: Global, fault: SnapshotFault, bytes: &[u8]) -> Result<String, AllocError> {
     match (fault, bytes) {
         (SnapshotFault::TooMany, _) => format!(in alloc; "it has more than {CAPACITY} credentials"),
@@ -49,18 +51,84 @@ fn reason(alloc: Global, fault: SnapshotFault, bytes: &[u8]) -> Result<String, A
 }
 
 /// Writes that a snapshot is refused, and why.
-fn refuse<E: Target>(faults: &mut E, alloc: Global, path: &str, fault: SnapshotFault, bytes: &[u8])
+fn refuse<E: Target>(
+    faults: &mut E,
+    reporting: Reporting,
+    path: &str,
+    copy: Option<&str>,
+    fault: SnapshotFault,
+    bytes: &[u8],
+)
     requires { E.failed faults.old < 2 ^ 64 - 1 }
-    ensures { IsTold E.taken E.failed (faults.old, faults.new) (refused fault) }
+    ensures { IsTold reporting.explains E.taken E.failed (faults.old, faults.new) (refused fault) }
 {
-    let why = reason(alloc, fault, bytes).unwrap_or(String::new(alloc));
-    tell_why(faults, alloc, refusal(fault), path, &why);
+    let alloc = reporting.alloc;
+    let why = Refused {
+        reason: reason(alloc, fault, bytes).unwrap_or(String::new(alloc)),
+        copy,
+    };
+    tell_why(faults, reporting, refusal(fault), path, &why);
+}
+
+/// Why a snapshot is refused or can't be read, and the path of the file that a copy of it may be beside.
+#[derive(Drop)]
+struct Refused<'a, W> {
+    reason: W,
+    copy: Option<&'a str>,
+}
+
+impl<W: Display> Display for Refused<'_, W> {
+    fn fmt<T: fmt::Write>(&self, f: &mut Formatter<T>) -> fmt::Result {
+        self.reason.fmt(f)?;
+        match self.copy {
+            Some(path) => write!(
+                f,
+                "; what a --save that was cut off had to write is in {}{COPY}",
+                Escaped(path)
+            ),
+            None => Ok(()),
+        }
+    }
+}
+
+/// Returns a path where the copy of a --save that was cut off is beside it.
+fn copied<'a, D: Files>(files: &D, reporting: Reporting, path: &'a str) -> Option<&'a str> {
+    if reporting.explains && files.has_copy(path) {
+        Some(path)
+    } else {
+        None
+    }
+}
+
+/// Why a snapshot wasn't saved at a path, and what is left there.
+#[derive(Drop)]
+struct Unsaved<'a> {
+    path: &'a str,
+    unwritten: Unwritten,
+}
+
+impl Display for Unsaved<'_> {
+    fn fmt<T: fmt::Write>(&self, f: &mut Formatter<T>) -> fmt::Result {
+        let path = Escaped(self.path);
+        match &self.unwritten {
+            Unwritten::Kept(error) => write!(f, "{error}"),
+            Unwritten::Copied(error) => write!(
+                f,
+                "{error}; it may be broken now, and the new snapshot is whole in {path}{COPY}"
+            ),
+            Unwritten::Broken(error) => write!(f, "{error}; it may be broken now"),
+            Unwritten::Left(error) => write!(
+                f,
+                "it is saved, but its copy {path}{COPY} couldn't be removed: {error}"
+            ),
+        }
+    }
 }
 
 /// Reads the file of a snapshot. Where it can't be read, that is written, and an error holds the exit status, 2.
 fn read_file<D: Files, E: Target>(
     files: &D,
-    alloc: Global,
+    reporting: Reporting,
     path: &str,
     faults: &mut E,
 ) -> Result<Vec<u8>, u8>
@@ -69,18 +137,22 @@ fn read_file<D: Files, E: Target>(
     ensures silent { OnOk result (faults.new ≡ faults.old) }
     ensures status { IfErr result (λ code. code ≡ 2) }
     ensures told { OnErr result (FailsToOpen D.holds D.unreadable files.now (Some path.now) E.taken E.failed
-        (faults.old, faults.new)) }
+        reporting.explains (faults.old, faults.new)) }
 {
     match files.read(path) {
         Ok(bytes) => Ok(bytes),
         Err(error) if error.kind() == ErrorKind::OutOfMemory => Err(no_memory(faults)),
         Err(error) => {
+            let why = Refused {
+                reason: error,
+                copy: copied(files, reporting, path),
+            };
             tell_why(
                 faults,
-                alloc,
+                reporting,
                 b"hidlog: cannot read snapshot\n",
                 path,
-                &error,
+                &why,
             );
             Err(2)
         }
@@ -105,7 +177,7 @@ fn put_rows(session: &mut Session<CAPACITY>, bytes: &[u8]) -> Result<(), Snapsho
 fn load<D: Files, E: Target>(
     session: &mut Session<CAPACITY>,
     files: &D,
-    alloc: Global,
+    reporting: Reporting,
     path: &str,
     faults: &mut E,
 ) -> Result<(), u8>
@@ -115,13 +187,14 @@ fn load<D: Files, E: Target>(
     ensures silent { OnOk result (faults.new ≡ faults.old) }
     ensures status { IfErr result (λ code. code ≡ 2) }
     ensures told { OnErr result (FailsToOpen D.holds D.unreadable files.now (Some path.now) E.taken E.failed
-        (faults.old, faults.new)) }
+        reporting.explains (faults.old, faults.new)) }
 {
-    let bytes = read_file(files, alloc, path, faults)?;
+    let bytes = read_file(files, reporting, path, faults)?;
     match put_rows(session, &bytes) {
         Ok(()) => Ok(()),
         Err(fault) => {
-            refuse(faults, alloc, path, fault, &bytes);
+            let copy = copied(files, reporting, path);
+            refuse(faults, reporting, path, copy, fault, &bytes);
             Err(2)
         }
     }
@@ -132,7 +205,7 @@ fn load<D: Files, E: Target>(
 pub fn begin<'a, D: Files, E: Target>(
     session: &'a mut Session<CAPACITY>,
     files: &D,
-    alloc: Global,
+    reporting: Reporting,
     path: Option<&str>,
     faults: &mut E,
 ) -> Result<&'a mut Session<CAPACITY>, u8>
@@ -143,12 +216,12 @@ pub fn begin<'a, D: Files, E: Target>(
     ensures silent { OnOk result (faults.new ≡ faults.old) }
     ensures status { IfErr result (λ code. code ≡ 2) }
     ensures told { OnErr result (FailsToOpen D.holds D.unreadable files.now (path_of path.entry) E.taken E.failed
-        (faults.old, faults.new)) }
+        reporting.explains (faults.old, faults.new)) }
 {
     match path {
         None => Ok(session),
         Some(path) => {
-            load(session, files, alloc, path, faults)?;
+            load(session, files, reporting, path, faults)?;
             Ok(session)
         }
     }
@@ -158,7 +231,7 @@ pub fn begin<'a, D: Files, E: Target>(
 /// status, 2.
 pub fn look<D: Files, E: Target>(
     files: &D,
-    alloc: Global,
+    reporting: Reporting,
     path: Option<&str>,
     log: Option<&str>,
     faults: &mut E,
@@ -167,7 +240,7 @@ pub fn look<D: Files, E: Target>(
     ensures silent { OnOk result (faults.new ≡ faults.old) }
     ensures status { IfErr result (λ code. code ≡ 2) }
     ensures told { OnErr result (FailsToSave D.unwritable files.now (path_of path.entry) E.taken E.failed
-        (faults.old, faults.new)) }
+        reporting.explains (faults.old, faults.new)) }
 {
     let Some(path) = path else {
         return Ok(());
@@ -177,7 +250,7 @@ pub fn look<D: Files, E: Target>(
         Err(error) => {
             tell_why(
                 faults,
-                alloc,
+                reporting,
                 b"hidlog: cannot write snapshot\n",
                 path,
                 &error,
@@ -191,29 +264,29 @@ pub fn look<D: Files, E: Target>(
 /// error holds the exit status, 2.
 pub fn save_rows<D: Files, E: Target>(
     files: &mut D,
-    alloc: Global,
+    reporting: Reporting,
     path: &str,
     log: Option<&str>,
     session: &Session<CAPACITY>,
     faults: &mut E,
 ) -> Result<(), u8>
     requires { E.failed faults.old < 2 ^ 64 - 1 }
-    ensures { Saves D.written D.unwritten (Some path.now) session.now E.taken E.failed result (files.old, files.new)
+    ensures { Saves D.written D.unwritten (Some path.now) session.now E.taken E.failed reporting.explains result (files.old, files.new)
         (faults.old, faults.new) }
 {
-    let mut bytes = Vec::new(alloc);
+    let mut bytes = Vec::new(reporting.alloc);
     if save(session.table(), &mut bytes).is_err() {
         return Err(no_memory(faults));
     }
     match files.write(path, bytes.as_slice(), log) {
         Ok(()) => Ok(()),
-        Err(error) => {
+        Err(unwritten) => {
             tell_why(
                 faults,
-                alloc,
+                reporting,
                 b"hidlog: cannot write snapshot\n",
                 path,
-                &error,
+                &Unsaved { path, unwritten },
             );
             Err(2)
         }

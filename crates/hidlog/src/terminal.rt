@@ -1,5 +1,7 @@
 //! The terminal of the program's process.
-use crate::command_line::{Form, Task, task_of};
+use crate::command_line::{Asked, Form, Manner, Task, task_of};
+use crate::logs::Audience;
+use crate::remarks::Terminals;
 use crate::screen::Style;
 use std::env;
 use std::io::IsTerminal;
@@ -32,17 +34,28 @@ fn has_colours(rt: &HostRuntime) -> bool {
     }
 }
 
-/// Returns how the lines of a log are shown, where standard output is a terminal.
-pub fn style_of(rt: &HostRuntime, words: &[&str]) -> Option<Style> {
-    if !rt.stdout().is_terminal() {
+/// Returns which of the program's streams are terminals.
+pub fn terminals_of(rt: &HostRuntime) -> Terminals {
+    Terminals {
+        output: rt.stdout().is_terminal(),
+        faults: rt.stderr().is_terminal(),
+    }
+}
+
+/// Returns how the lines of a log are shown, where standard output is a terminal and a person reads them.
+pub fn style_of(rt: &HostRuntime, words: &[&str], terminals: Terminals) -> Option<Style> {
+    if !terminals.output {
         return None;
     }
     match task_of(rt.alloc(), words) {
         Ok(
-            Task::Show {
-                form: Form::Lines | Form::Summary,
-                wide,
-                ..
+            Asked {
+                task: Task::Show {
+                    form: Form::Lines | Form::Summary,
+                    wide,
+                    ..
+                },
+                manner: Manner::Explained | Manner::ByTerminal,
             },
         ) => Some(Style {
             width: if wide { None } else { Some(columns(rt)) },
@@ -53,15 +66,37 @@ pub fn style_of(rt: &HostRuntime, words: &[&str]) -> Option<Style> {
 }
 
 /// Returns the columns of standard error, where that is a terminal.
-pub fn width_of_faults(rt: &HostRuntime) -> Option<usize> {
-    if rt.stderr().is_terminal() {
+pub fn width_of_faults(rt: &HostRuntime, terminals: Terminals) -> Option<usize> {
+    if terminals.faults {
         Some(columns(rt))
     } else {
         None
     }
 }
 
-/// Returns whether it is said how much of a long log was read: at a terminal to which nothing else is written meanwhile.
-pub fn says_progress(rt: &HostRuntime, is_check: bool) -> bool {
-    rt.stderr().is_terminal() && (is_check || !rt.stdout().is_terminal())
+/// Returns whether something is said meanwhile: where faults are explained.
+fn is_told(rt: &HostRuntime, words: &[&str], terminals: Terminals) -> bool {
+    // Else nothing is said meanwhile, and the words need not be understood.
+    if !terminals.faults && !rt.stdin().is_terminal() {
+        return false;
+    }
+    match task_of(rt.alloc(), words) {
+        Ok(asked) => asked.manner.explains(terminals.faults),
+        Err(_) => false,
+    }
+}
+
+/// Returns what is said of a log while it is read: what is awaited and, at a terminal to which nothing else is written
+/// meanwhile, how much of a long one was read.
+pub fn audience_of(
+    rt: &HostRuntime,
+    words: &[&str],
+    terminals: Terminals,
+    is_check: bool,
+) -> Audience {
+    let is_told = is_told(rt, words, terminals);
+    Audience {
+        is_told,
+        sees_progress: is_told && terminals.faults && (is_check || !terminals.output),
+    }
 }

@@ -21,10 +21,10 @@ HasRows d rows = rows ≡ d.session.machine.core.state.rows
 abbrev pub IsIdle : DeviceState → Type 0
 IsIdle d = (d.waiting ≡ []) × (needs d.session.machine.core.state.work ≡ nothing)
 
--- What keeps a key from starting anew.
+-- What keeps a key from starting anew: packets before work.
 abbrev pub IsBusy : DeviceState → ℤ → Type 0
 IsBusy d result = ((d.waiting ≢ []) × (result ≡ PACKETS_WAIT))
-    ⊎ ((needs d.session.machine.core.state.work ≢ nothing) × (result ≡ WORK_WAITS))
+    ⊎ ((d.waiting ≡ []) × (needs d.session.machine.core.state.work ≢ nothing) × (result ≡ WORK_WAITS))
 
 -- A new session began at a moment, with these credentials in place of those before.
 abbrev pub StartsWith : DeviceState → Option DeviceState → (at : ℕ) → List Row → Type 0
@@ -55,13 +55,13 @@ abbrev pub IsAdded : DeviceState → Option DeviceState → (at : ℕ) → Crede
 IsAdded d after at c = (row : Row) × (rows : List Row) × IsIdle d × Says c row × HasRows d rows
     × StartsWith d after at (with_row row rows)
 
--- Why a credential isn't put: the key is busy; the struct says none; the key is full; another one is discoverable with
--- the same RP and user handle.
+-- Why a credential isn't put, the first of these: the key is busy; the struct says none; the key is full; another one is
+-- discoverable with the same RP and user handle.
 abbrev pub IsNotAdded : DeviceState → Credential → ℤ → Type 0
-IsNotAdded d c result = IsBusy d result ⊎ ((SaysNone c × (result ≡ BAD_ARGUMENT))
+IsNotAdded d c result = IsBusy d result ⊎ (IsIdle d × ((SaysNone c × (result ≡ BAD_ARGUMENT))
     ⊎ ((row : Row) × (rows : List Row) × Says c row × HasRows d rows
     × (((64 ≤ length (without row.id rows)) × (result ≡ TOO_MANY_ROWS))
-    ⊎ ((clashes row (without row.id rows) ≡ true) × (result ≡ CLASHES)))))
+    ⊎ ((length (without row.id rows) < 64) × (clashes row (without row.id rows) ≡ true) × (result ≡ CLASHES))))))
 
 abbrev pub Adds : (before after : Option DeviceState) → (at : ℕ) → Credential → ℤ → Type 0
 Adds None after at c result = (after ≡ None) × (result ≡ NOT_MADE)
@@ -75,7 +75,7 @@ IsRemoved d after at id = (rows : List Row) × IsIdle d × HasRows d rows × (is
 
 abbrev pub IsNotRemoved : DeviceState → (id : List ℕ) → ℤ → Type 0
 IsNotRemoved d id result = IsBusy d result
-    ⊎ ((rows : List Row) × HasRows d rows × (find (has_id id) rows ≡ None) × (result ≡ BAD_ARGUMENT))
+    ⊎ (IsIdle d × (rows : List Row) × HasRows d rows × (find (has_id id) rows ≡ None) × (result ≡ BAD_ARGUMENT))
 
 abbrev pub Removes : (before after : Option DeviceState) → (at : ℕ) → (id : List ℕ) → ℤ → Type 0
 Removes None after at id result = (after ≡ None) × (result ≡ NOT_MADE)

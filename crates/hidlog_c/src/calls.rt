@@ -2,6 +2,9 @@
 //! the key as it was (fault.rt).
 ghost use Rattle.std.specs.Prelude.{◌≡◌, None, Some, option_map};
 ghost use Rattle.token_session.specs.declared.input.Input.TheVariants as inputs;
+ghost use prog.Memory.{capped, size};
+ghost use denote.Param.{layout};
+ghost use Rattle.hidlog_c.specs.contracts.device.Device.{the_row as device_row};
 ghost use Rattle.hidlog_c.specs.Held.{held};
 ghost use Rattle.hidlog_c.specs.Changed.{Adds, Clears, Removes, SavesKey};
 ghost use Rattle.hidlog_c.specs.Key.{Answers, Sends};
@@ -35,7 +38,9 @@ fn presence_of(presence: u32) -> Option<Presence>
 
 /// Returns how many bytes a key takes.
 #[unsafe(no_mangle)]
-pub extern "C" fn hidlog_key_size() -> usize {
+pub extern "C" fn hidlog_key_size() -> usize
+    ensures { result ≡ capped (size (layout device_row)) }
+{
     std::mem::size_of::<Device>()
 }
 

@@ -21,12 +21,14 @@ mod started;
 
 ghost use Rattle.session_log.specs.declared.command.Command.TheVariants as commands;
 ghost use Rattle.hidlog_c.specs.Commands.{Answers};
-ghost use Rattle.hidlog_c.specs.Shown.{IsShown};
+ghost use Rattle.hidlog_c.specs.Shown.{IsShown, wording_for};
+ghost use Rattle.std.specs.Prelude.{◌≡◌, ◌==◌, not};
 
 use crate::commands::run;
 use crate::outcome::Outcome;
 use crate::showing::show_log;
 use session_log::Command;
+use session_show::Wording;
 
 /// Replays the log on a session with the credentials of the snapshot, or with none where the snapshot is empty.
 /// What a replay writes goes to the front of `out`.
@@ -62,10 +64,22 @@ pub extern "C" fn hidlog_quiet(log: &[u8], snapshot: &[u8], out: &mut [u8], outc
     *outcome = run(Command::Quiet, log, snapshot, out);
 }
 
-/// Shows the log to a person. What is shown goes to the front of `out`.
-#[unsafe(no_mangle)]
-pub extern "C" fn hidlog_show(log: &[u8], out: &mut [u8], outcome: &mut Outcome)
-    ensures { IsShown log.now out.new outcome.new }
+/// Returns how lines are worded for a number of C, which is 0 where nothing is explained.
+fn wording_for(explain: u32) -> Wording
+    ensures { result ≡ wording_for (not (explain == 0)) }
 {
-    *outcome = show_log(log, out);
+    if explain == 0 {
+        Wording::Fixed
+    } else {
+        Wording::Explained
+    }
+}
+
+/// Shows the log in its fixed text, or explained to a person where `explain` isn't 0. What is shown goes to the front of
+/// `out`.
+#[unsafe(no_mangle)]
+pub extern "C" fn hidlog_show(log: &[u8], explain: u32, out: &mut [u8], outcome: &mut Outcome)
+    ensures { IsShown (wording_for (not (explain == 0))) log.now out.new outcome.new }
+{
+    *outcome = show_log(wording_for(explain), log, out);
 }

@@ -6,7 +6,7 @@
 ghost use Rattle.std.specs.Prelude.{◌<◌, ◌-◌, ◌^◌};
 
 use session_log::{LogFault, Source, Target, check, live, quiet, replay};
-use session_show::{Summary, show, show_json, summarize};
+use session_show::{Objects, Summary, show, show_json, summarize};
 use std::alloc::{AllocError, Global};
 use token_session::Session;
 
@@ -19,6 +19,21 @@ fn summarized<S: Source, T: Target>(reader: &mut S, writer: &mut T) -> Result<()
     match summarize(reader, writer, &mut summary) {
         Err(LogFault::Write) => Err(LogFault::Write),
         result => match summary.put(writer) {
+            Ok(()) => result,
+            Err(_) => Err(LogFault::Write),
+        },
+    }
+}
+
+/// Writes a log as JSON, also one with a fault.
+fn in_objects<S: Source, T: Target>(reader: &mut S, writer: &mut T) -> Result<(), LogFault>
+    requires read { S.failed reader.old < 2 ^ 64 - 1 }
+    requires write { T.failed writer.old < 2 ^ 64 - 1 }
+{
+    let mut objects = Objects::new();
+    match show_json(reader, writer, &mut objects) {
+        Err(LogFault::Write) => Err(LogFault::Write),
+        result => match objects.put(writer) {
             Ok(()) => result,
             Err(_) => Err(LogFault::Write),
         },
@@ -41,7 +56,7 @@ pub fn play<S: Source, T: Target>(
         "check" => check(reader, writer, &mut session),
         "quiet" => quiet(reader, writer, &mut session),
         "summary" => summarized(reader, writer),
-        "json" => show_json(reader, writer),
+        "json" => in_objects(reader, writer),
         _ => show(reader, writer),
     }
 }

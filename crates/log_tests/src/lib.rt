@@ -11,7 +11,6 @@ mod faults;
 #[cfg(test)]
 mod page;
 #[cfg(test)]
-mod reading;
 #[cfg(test)]
 mod showing;
 #[cfg(test)]

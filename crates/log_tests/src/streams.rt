@@ -77,6 +77,38 @@ impl Write for Narrow {
     }
 }
 
+/// A reader and a writer whose first call fails. The others yield and take a byte.
+#[derive(Drop)]
+struct Hiccup {
+    calls: usize,
+}
+
+impl Hiccup {
+    fn call(&mut self) -> io::Result<usize> {
+        self.calls = self.calls.saturating_add(1);
+        if self.calls == 1 {
+            return Err(io::Error::from(ErrorKind::BrokenPipe));
+        }
+        Ok(1)
+    }
+}
+
+impl Read for Hiccup {
+    fn read(&mut self, out: &mut [u8]) -> io::Result<usize> {
+        Ok(self.call()?.min(out.len()))
+    }
+}
+
+impl Write for Hiccup {
+    fn write(&mut self, piece: &[u8]) -> io::Result<usize> {
+        Ok(self.call()?.min(piece.len()))
+    }
+
+    fn flush(&mut self) -> io::Result<()> {
+        Ok(())
+    }
+}
+
 /// A reader that yields a piece a call, and notes how much a writer had taken by then.
 #[derive(Drop)]
 struct Watching<'a> {
@@ -267,4 +299,14 @@ fn failed_reads_are_counted(rt: HostRuntime) {
     let (two, failed) = (slice.get(&mut out).ok(), slice.failures());
     let told = (one, none, drip.failures(), two, failed, out);
     assert!(rt; told == (Some(1), None, 1, Some(2), 0, *b"ab"));
+}
+
+#[test]
+fn a_failed_call_is_not_made_again(rt: HostRuntime) {
+    let (mut reads, mut writes) = (Hiccup { calls: 0 }, Hiccup { calls: 0 });
+    let (mut source, mut target) = (FromRead::new(&mut reads), ToWrite::new(&mut writes));
+    let got = (source.get(&mut [0; 2]).ok(), source.failures());
+    let put = (target.put(b"ab").ok(), target.failures());
+    assert!(rt; got == (None, 1) && put == (None, 1));
+    assert!(rt; reads.calls == 1 && writes.calls == 1);
 }

@@ -17,6 +17,7 @@
 
 mod checking;
 mod command;
+mod counted;
 mod fault;
 mod hexadecimal;
 pub mod laws;

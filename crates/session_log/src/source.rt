@@ -3,6 +3,7 @@ ghost use Rattle.std.specs.Prelude.{◌≡◌, ◌<◌, ◌≤◌, ◌+◌, ◌-
 ghost use Rattle.std.specs.Io.KnownBytes.{ReadConsumes};
 ghost use Rattle.session_log.specs.Streams.{gave_nothing};
 
+use crate::counted::Counted;
 use crate::fault::Failed;
 use std::io::Read;
 
@@ -85,9 +86,8 @@ impl Source for SliceIn<'_> {
 /// A source over any reader. Each `get` is one read.
 #[derive(Drop)]
 pub struct FromRead<R> {
-    inner: R,
+    inner: Counted<R>,
     ended: bool,
-    failures: u64,
 }
 
 impl<R: Read> FromRead<R> {
@@ -98,34 +98,26 @@ impl<R: Read> FromRead<R> {
         ensures none { ⟦<FromRead<R> as Source>⟧.failed result ≡ 0 }
     {
         FromRead {
-            inner,
+            inner: Counted::new(inner),
             ended: false,
-            failures: 0,
         }
     }
 }
 
 impl<R: Read> Source for FromRead<R> {
-    ghost left = { λ s. R.remaining s.inner };
+    ghost left = { λ s. R.remaining s.inner.inner };
 
     ghost ended = { λ s. s.ended };
 
-    ghost failed = { λ s. s.failures };
+    ghost failed = { λ s. s.inner.failures };
 
     fn get(&mut self, out: &mut [u8]) -> Result<usize, Failed> {
-        match self.inner.read(out) {
-            Ok(n) => {
-                self.ended = self.ended || n == 0 && !out.is_empty();
-                Ok(n)
-            }
-            Err(_) => {
-                self.failures += 1;
-                Err(Failed)
-            }
-        }
+        let n = self.inner.read(out)?;
+        self.ended = self.ended || n == 0 && !out.is_empty();
+        Ok(n)
     }
 
     fn failures(&self) -> u64 {
-        self.failures
+        self.inner.failures()
     }
 }

@@ -3,6 +3,7 @@ ghost use Rattle.std.specs.Prelude.{◌≡◌, ◌<◌, ◌≤◌, ◌+◌, ◌-
 ghost use Rattle.std.specs.Io.KnownBytes.{Appends, WriteAppends};
 ghost use Rattle.session_log.specs.Streams.{IsBroken, IsTaken, Puts};
 
+use crate::counted::Counted;
 use crate::fault::Failed;
 use std::io::Write;
 
@@ -119,8 +120,7 @@ impl Target for SliceOut<'_> {
 /// empty is a failure.
 #[derive(Drop)]
 pub struct ToWrite<W> {
-    inner: W,
-    failures: u64,
+    inner: Counted<W>,
 }
 
 impl<W: Write> ToWrite<W> {
@@ -129,26 +129,22 @@ impl<W: Write> ToWrite<W> {
         ensures taken { ⟦<ToWrite<W> as Target>⟧.taken result ≡ W.contents inner }
         ensures none { ⟦<ToWrite<W> as Target>⟧.failed result ≡ 0 }
     {
-        ToWrite { inner, failures: 0 }
+        ToWrite {
+            inner: Counted::new(inner),
+        }
     }
 }
 
 impl<W: Write> Target for ToWrite<W> {
-    ghost taken = { λ s. W.contents s.inner };
+    ghost taken = { λ s. W.contents s.inner.inner };
 
-    ghost failed = { λ s. s.failures };
+    ghost failed = { λ s. s.inner.failures };
 
     fn put(&mut self, piece: &[u8]) -> Result<usize, Failed> {
-        match self.inner.write(piece) {
-            Ok(n) if n > 0 || piece.is_empty() => Ok(n),
-            _ => {
-                self.failures += 1;
-                Err(Failed)
-            }
-        }
+        self.inner.write(piece)
     }
 
     fn failures(&self) -> u64 {
-        self.failures
+        self.inner.failures()
     }
 }

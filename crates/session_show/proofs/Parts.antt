@@ -1,11 +1,11 @@
 -- A text that is handed over part by part.
-use Rattle.std.proofs.Common.{◌≡◌, ℕ, ◌+◌, List, ◌++◌, Option, Result, Ok, Err, ap, ◌∙◌}
+use Rattle.std.proofs.Common.{◌≡◌, ℕ, ◌+◌, List, ◌∷◌, ◌++◌, Option, Result, Ok, Err, ap, ◌∙◌, subst, append_assoc, decimal}
 use Rattle.std.specs.Io.KnownBytes.{Appends}
 use Rattle.std.proofs.KnownBytes.{Appends-trans}
-use Rattle.session_log.specs.Streams.{Puts}
+use Rattle.session_log.specs.Streams.{IsTaken, Puts}
 use Rattle.session_log.specs.declared.fault.Failed.{Failed}
 use Rattle.session_log.specs.Streams.{Grows}
-use Rattle.session_show.specs.Written.{Writes}
+use Rattle.session_show.specs.Written.{Writes, WritesNumbered}
 
 -- after the parts so far a part was appended, or broke off
 pub puts_on : {F : Type 0} (taken : F → Option (List ℕ)) (failed : F → ℕ) (a b c : F) (part : List ℕ) (r : Result (Unit {0}) Failed) → ((text : List ℕ) × Appends (taken a) (taken b) text) → failed b ≡ failed a → Puts taken failed (b, c) part r → Writes taken failed (a, c) r
@@ -16,3 +16,17 @@ puts_on taken failed a b c part (Err e) before same h =
 
 pub grows_on : (a b c : Option (List ℕ)) → Grows a b → Grows b c → Grows a c
 grows_on a b c first then = (first.0 ++ then.0, Appends-trans a b c first.0 then.0 first.1 then.1)
+
+-- a number, a space and a part were written, and then a text
+pub numbered_on : {F : Type 0} (taken : F → Option (List ℕ)) (failed : F → ℕ) (a b c : F) (number : ℕ) (part : List ℕ) (r : Result (Unit {0}) Failed) → IsTaken taken failed (a, b) (decimal number ++ 32 ∷ part)
+    → Writes taken failed (b, c) r → WritesNumbered taken failed number (a, c) r
+numbered_on taken failed a b c number part (Ok x) first then = (
+  part ++ then.0.0,
+  (
+    subst (Appends (taken a) (taken c)) (append_assoc (decimal number) (32 ∷ part) then.0.0)
+        (Appends-trans (taken a) (taken b) (taken c) (decimal number ++ 32 ∷ part) then.0.0 first.0 then.0.1),
+    then.1 ∙ first.1,
+  ),
+)
+numbered_on taken failed a b c number part (Err e) first then =
+    (grows_on (taken a) (taken b) (taken c) (decimal number ++ 32 ∷ part, first.0) then.0, then.1 ∙ ap (λ (n : ℕ). n + 1) first.1)

@@ -17,10 +17,13 @@ pub fn write_authenticator_data(pen: &mut Pen, number: u64, bytes: &[u8], rp_id:
     if let Some(hash) = bytes.get(..32) {
         write_hash(pen, number, hash, rp_id);
     }
-    let Some([flags, first, second, third, fourth]) = bytes.get(32..37) else {
+    let Some(flags) = bytes.get(32) else {
         return;
     };
     write_flags(pen, number, *flags);
+    let Some([first, second, third, fourth]) = bytes.get(33..37) else {
+        return;
+    };
     write_front(pen, number, "signCount ");
     pen.decimal(u64::from(u32::from_be_bytes([*first, *second, *third, *fourth])));
     pen.text("\n");

@@ -4,8 +4,12 @@ use crate::diagnostic::{Diagnostic, write_scalar};
 use crate::members::next_value;
 use crate::pen::Pen;
 use crate::putting::Written;
+use crate::rp_id::value_at;
 use crate::words::write_name;
 use ctap_cbor::{Cursor, Item};
+
+/// The type of an RSA key.
+const RSA: i128 = 3;
 
 /// Writes a line for each member of a key, where the bytes are a map.
 pub fn write_key(pen: &mut Pen, number: u64, item: &[u8]) {
@@ -13,6 +17,7 @@ pub fn write_key(pen: &mut Pen, number: u64, item: &[u8]) {
     let Ok(Item::Map(count)) = cursor.item(1) else {
         return;
     };
+    let is_rsa = is_rsa(item);
     for done in 0..count {
         if pen.is_full() {
             return;
@@ -25,15 +30,23 @@ pub fn write_key(pen: &mut Pen, number: u64, item: &[u8]) {
         };
         pen.decimal(number);
         pen.text("         ");
-        write_member(pen, key, value);
+        write_member(pen, key, value, is_rsa);
+    }
+}
+
+/// Returns whether a key is one of RSA (RFC 8230, section 4), by its type.
+fn is_rsa(item: &[u8]) -> bool {
+    match value_at(item, Item::Int(1)).map(|value| Cursor::new(value).item(1)) {
+        Some(Ok(Item::Int(kind))) => kind == RSA,
+        _ => false,
     }
 }
 
 /// Writes a member: its key, its name where it has one, and its value, with what that means.
-fn write_member(pen: &mut Pen, key: Item<'_>, value: &[u8]) {
+fn write_member(pen: &mut Pen, key: Item<'_>, value: &[u8], is_rsa: bool) {
     write_scalar(pen, key);
     if let Item::Int(number) = key
-        && let Some(name) = member_name(number)
+        && let Some(name) = member_name(number, is_rsa)
     {
         pen.text(" ");
         pen.text(name);
@@ -47,15 +60,17 @@ fn write_member(pen: &mut Pen, key: Item<'_>, value: &[u8]) {
 }
 
 /// Returns the name of the member with this key.
-fn member_name(key: i128) -> Option<&'static str> {
+fn member_name(key: i128, is_rsa: bool) -> Option<&'static str> {
     match key {
         1 => Some("kty"),
         2 => Some("kid"),
         3 => Some("alg"),
         4 => Some("key_ops"),
+        -1 if is_rsa => Some("n"),
+        -2 if is_rsa => Some("e"),
         -1 => Some("crv"),
         -2 => Some("x"),
-        -3 => Some("y"),
+        -3 if !is_rsa => Some("y"),
         _ => None,
     }
 }
@@ -86,7 +101,14 @@ pub fn algorithm_name(value: i128) -> Option<&'static str> {
         -8 => Some("EdDSA"),
         -35 => Some("ES384"),
         -36 => Some("ES512"),
+        -37 => Some("PS256"),
+        -38 => Some("PS384"),
+        -39 => Some("PS512"),
+        -47 => Some("ES256K"),
         -257 => Some("RS256"),
+        -258 => Some("RS384"),
+        -259 => Some("RS512"),
+        -65535 => Some("RS1"),
         _ => None,
     }
 }
@@ -96,7 +118,11 @@ fn curve_name(value: i128) -> Option<&'static str> {
         1 => Some("P-256"),
         2 => Some("P-384"),
         3 => Some("P-521"),
+        4 => Some("X25519"),
+        5 => Some("X448"),
         6 => Some("Ed25519"),
+        7 => Some("Ed448"),
+        8 => Some("secp256k1"),
         _ => None,
     }
 }

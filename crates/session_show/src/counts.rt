@@ -1,7 +1,8 @@
 //! What a session comes to in numbers.
 
+use crate::exchange::{End, Ended};
 use crate::pen::Pen;
-use crate::transactions::{End, Stray, Work};
+use crate::walk::{Part, Walk};
 use crate::words::{error_name, status_name};
 
 /// The credential of a request is on the key already.
@@ -107,10 +108,21 @@ impl Counts {
         }
     }
 
+    /// Counts what the last line of a walk is, and ends.
+    pub fn add_line(&mut self, walk: &Walk) {
+        if walk.decided().is_some_and(|decided| decided.of.is_none()) {
+            self.add_part(Part::Stray);
+        }
+        self.add_part(walk.part());
+        for ended in walk.ended() {
+            self.add(ended);
+        }
+    }
+
     /// Counts a transaction that ended.
-    pub fn add(&mut self, work: &Work, end: End) {
-        match end {
-            End::Status(0) => self.add_answer(work.transaction.command()),
+    fn add(&mut self, ended: &Ended) {
+        match ended.end {
+            End::Status(0) => self.add_answer(ended.exchange.transaction.command),
             End::Status(status) => {
                 if status == EXCLUDED {
                     self.excluded = self.excluded.saturating_add(1);
@@ -118,7 +130,12 @@ impl Counts {
                 self.refused.add(status);
             }
             End::Refused(code) => self.errors.add(code),
-            End::Answered | End::Dropped => {}
+            End::Answered
+            | End::Cut { .. }
+            | End::Dropped(_)
+            | End::Replaced(_)
+            | End::Forgotten
+            | End::Open => {}
         }
     }
 
@@ -132,12 +149,13 @@ impl Counts {
     }
 
     /// Counts what belongs to no transaction.
-    pub fn add_stray(&mut self, stray: Stray) {
-        match stray {
-            Stray::Continuation => self.continuations = self.continuations.saturating_add(1),
-            Stray::Cancel => self.cancels = self.cancels.saturating_add(1),
-            Stray::Error(code) => self.errors.add(code),
-            Stray::Reply => self.replies = self.replies.saturating_add(1),
+    fn add_part(&mut self, part: Part) {
+        match part {
+            Part::Own => {}
+            Part::Stray => self.continuations = self.continuations.saturating_add(1),
+            Part::Cancel => self.cancels = self.cancels.saturating_add(1),
+            Part::Error(code) => self.errors.add(code),
+            Part::Reply => self.replies = self.replies.saturating_add(1),
         }
     }
 

@@ -5,6 +5,7 @@ ghost use Rattle.session_show.specs.Written.{Writes};
 use crate::escape::write_char;
 use crate::pen::Pen;
 use crate::putting::{Written, put_written};
+use crate::wording::Wording;
 use ctap_cbor::{Cursor, Fault, Item, check};
 use session_log::{Failed, Target};
 
@@ -35,7 +36,7 @@ pub fn show_item<T: Target>(writer: &mut T, item: &[u8]) -> Result<(), Failed>
     requires { T.failed writer.old < 2 ^ 64 - 1 }
     ensures { Writes T.taken T.failed (writer.old, writer.new) result }
 {
-    put_written(writer, &mut Pen::new(), &Diagnostic(item))
+    put_written(writer, &mut Pen::new(Wording::Explained), &Diagnostic(item))
 }
 
 fn write_fault(pen: &mut Pen, fault: &Fault) {

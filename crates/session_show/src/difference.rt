@@ -1,11 +1,13 @@
 //! The packets in which a log isn't what a session sends.
 ghost use Rattle.std.specs.Prelude.{◌<◌, ◌-◌, ◌^◌};
 
-use crate::entry::{Entry, MessageLines, PacketLine};
+use crate::entry::{MessageLines, PacketLine};
+use crate::exchange::Transaction;
 use crate::pen::Pen;
 use crate::putting::put_written;
-use crate::transactions::{Transaction, Transactions};
-use crate::transcript::Transcript;
+use crate::reason::{Awaited, Reason};
+use crate::walk::{Walk, channel_of};
+use crate::wording::Wording;
 use hid_packet::{Outbox, Packet};
 use session_log::{Failed, Line, LogFault, Source, Target, Window, next_line, read_line};
 use token_session::{Session, Timed};
@@ -29,6 +31,10 @@ pub struct Difference {
     pub logged: Option<Packet>,
     /// The packet that the session sends.
     pub sent: Option<Packet>,
+    /// What the session waits for then.
+    pub awaited: Option<Awaited>,
+    /// What the input is, where it is a reply.
+    pub reply: Option<Awaited>,
 }
 
 impl Difference {
@@ -65,8 +71,7 @@ enum Stop {
 /// What the lines so far led to.
 #[derive(Drop)]
 struct Played {
-    transcript: Transcript,
-    transactions: Transactions,
+    walk: Walk,
     /// The packets that the session sent and the log has yet to have.
     outbox: Outbox,
     /// The line of the last input, 0 before any.
@@ -75,24 +80,29 @@ struct Played {
     compared: u64,
     /// Whether one of them differed, so that the others aren't compared.
     has_differed: bool,
-    /// The packet that differed, and its line, until the transcript has it.
+    /// The packet that differed, and its line, until the walk has it.
     last: Option<(u64, Packet)>,
     /// Whether the log has a packet of the key.
     has_sent: bool,
+    /// What the session waits for.
+    awaited: Option<Awaited>,
+    /// What the last input is, where it is a reply.
+    reply: Option<Awaited>,
 }
 
 impl Played {
     /// Returns that of no lines.
     fn new() -> Self {
         Played {
-            transcript: Transcript::new(),
-            transactions: Transactions::new(),
+            walk: Walk::new(),
             outbox: Outbox::new(),
             input: 0,
             compared: 0,
             has_differed: false,
             last: None,
             has_sent: false,
+            awaited: None,
+            reply: None,
         }
     }
 
@@ -111,8 +121,7 @@ impl Played {
             Line::Input(timed) => self.play(number, timed, session)?,
             Line::Comment | Line::Count => {}
         }
-        self.transactions
-            .follow(&mut self.transcript, number, line, said);
+        self.walk.take(number, &said);
         Ok(())
     }
 
@@ -145,6 +154,8 @@ impl Played {
             return Err(Stop::Missing(self.differ(number, None, Some(sent))));
         }
         session.step(timed.at, timed.input, &mut self.outbox);
+        self.awaited = Awaited::of(&session.need());
+        self.reply = Awaited::in_input(&timed.input);
         self.input = number;
         self.compared = 0;
         self.has_differed = false;
@@ -169,14 +180,15 @@ impl Played {
             line,
             logged,
             sent,
+            awaited: self.awaited,
+            reply: self.reply,
         }
     }
 
     /// Follows the packet of the log that differed.
     fn follow_last(&mut self) {
         if let Some((number, packet)) = self.last.take() {
-            self.transactions
-                .follow(&mut self.transcript, number, b"", Line::Sent(packet));
+            self.walk.take(number, &Line::Sent(packet));
         }
     }
 }
@@ -190,6 +202,8 @@ fn front(bytes: &[u8], len: usize) -> &[u8] {
 #[derive(Drop)]
 pub struct Comparison {
     played: Played,
+    /// A walk that goes on from the played one with packets that the log lacks.
+    aside: Walk,
     window: Window,
     /// How many lines were taken.
     lines: u64,
@@ -201,9 +215,10 @@ impl Comparison {
     pub fn new() -> Self {
         Comparison {
             played: Played::new(),
+            aside: Walk::new(),
             window: Window::new(),
             lines: 0,
-            pen: Pen::new(),
+            pen: Pen::new(Wording::Explained),
         }
     }
 
@@ -255,17 +270,39 @@ impl Comparison {
         self.lines = self.lines.saturating_add(1);
     }
 
-    /// Returns the transaction that the packet belongs to.
-    pub fn transaction(&self, difference: &Difference) -> Option<Transaction> {
+    /// Returns the transaction that the packet belongs to; of one that belongs to none, the one that holds its channel or
+    /// was answered last there.
+    pub fn transaction(&mut self, difference: &Difference) -> Option<Transaction> {
         let packet = difference.sent.or(difference.logged)?;
-        let mut transactions = self.played.transactions.copy();
-        transactions.take(&Entry {
-            number: difference.line,
-            line: b"",
-            said: Line::Sent(packet),
-            message: None,
-        });
-        transactions.last()
+        self.aside.copy_from(&self.played.walk);
+        self.aside.take(difference.line, &Line::Sent(packet));
+        if self.aside.transaction().is_some() {
+            return self.aside.transaction();
+        }
+        let channel = channel_of(&packet);
+        let walk = &self.played.walk;
+        if let Some(held) = walk.held_on(channel) {
+            return Some(held.transaction);
+        }
+        let answered = walk.told_on(channel)?.exchange.as_ref()?;
+        Some(answered.transaction)
+    }
+
+    /// Writes why the key doesn't send what the log has, `  it needs a new key; line 9 is a signature`, where that is seen
+    /// from the lines before. It has to be asked before [`Comparison::put`], which reads on.
+    pub fn put_reason<T: Target>(
+        &mut self,
+        difference: &Difference,
+        writer: &mut T,
+    ) -> Result<(), Failed> {
+        if writer.failures() == u64::MAX {
+            return Err(Failed);
+        }
+        let reason = Reason {
+            walk: &self.played.walk,
+            difference,
+        };
+        put_written(writer, &mut self.pen, &reason)
     }
 
     /// Returns whether the log has a packet of the key. It is read on up to the first one, and not compared.
@@ -305,10 +342,10 @@ impl Comparison {
         let Some(packet) = difference.sent else {
             return Ok(());
         };
-        let mut transcript = self.played.transcript.copy();
+        self.aside.copy_from(&self.played.walk);
         put_packet(&mut self.pen, &packet, writer)?;
         let line = difference.line;
-        let mut is_open = put_message(&mut transcript, &mut self.pen, line, &packet, writer)?;
+        let mut is_open = put_message(&mut self.aside, &mut self.pen, line, &packet, writer)?;
         for _ in 0..PACKETS {
             if !is_open {
                 break;
@@ -316,7 +353,7 @@ impl Comparison {
             let Some(next) = self.played.outbox.pop() else {
                 break;
             };
-            is_open = put_message(&mut transcript, &mut self.pen, line, &next, writer)?;
+            is_open = put_message(&mut self.aside, &mut self.pen, line, &next, writer)?;
         }
         Ok(())
     }
@@ -334,7 +371,8 @@ impl Comparison {
         self.played.last = None;
         put_packet(&mut self.pen, &packet, writer)?;
         let line = difference.line;
-        let mut is_open = self.put_next(line, &packet, writer)?;
+        let walk = &mut self.played.walk;
+        let mut is_open = put_message(walk, &mut self.pen, line, &packet, writer)?;
         for _ in 0..PACKETS {
             if !is_open {
                 break;
@@ -342,28 +380,10 @@ impl Comparison {
             let Some(next) = self.next_logged(reader) else {
                 break;
             };
-            is_open = self.put_next(line, &next, writer)?;
+            let walk = &mut self.played.walk;
+            is_open = put_message(walk, &mut self.pen, line, &next, writer)?;
         }
         Ok(())
-    }
-
-    /// Takes a packet of the log, and writes the message that it completes. Returns whether the message has further
-    /// packets.
-    fn put_next<T: Target>(
-        &mut self,
-        line: u64,
-        packet: &Packet,
-        writer: &mut T,
-    ) -> Result<bool, Failed> {
-        let said = Line::Sent(*packet);
-        self.played.transactions.take(&Entry {
-            number: line,
-            line: b"",
-            said,
-            message: None,
-        });
-        let transcript = &mut self.played.transcript;
-        put_message(transcript, &mut self.pen, line, packet, writer)
     }
 
     /// Returns the packet that the log has next, before any further input.
@@ -393,7 +413,7 @@ fn put_packet<T: Target>(pen: &mut Pen, packet: &Packet, writer: &mut T) -> Resu
 
 /// Takes a packet of the key, and writes the message that it completes. Returns whether the message has further packets.
 fn put_message<T: Target>(
-    transcript: &mut Transcript,
+    walk: &mut Walk,
     pen: &mut Pen,
     line: u64,
     packet: &Packet,
@@ -402,9 +422,9 @@ fn put_message<T: Target>(
     if writer.failures() == u64::MAX {
         return Err(Failed);
     }
-    let entry = transcript.take(line, b"", Line::Sent(*packet));
-    if let Some(message) = entry.message {
+    walk.take(line, &Line::Sent(*packet));
+    if let Some(message) = walk.message() {
         put_written(writer, pen, &MessageLines(line, message))?;
     }
-    Ok(transcript.awaits_answer())
+    Ok(walk.is_answering(channel_of(packet)))
 }

@@ -1,8 +1,8 @@
 //! The text for a line of a log.
 
-use crate::asked::Asked;
 use crate::diagnostic::write_checked;
 use crate::escape::write_line;
+use crate::exchange::{End, Ended, Exchange};
 use crate::member_names::Map;
 use crate::members::write_members;
 use crate::packet_line::write_packet;
@@ -21,11 +21,13 @@ use token_session::{Input, Timed};
 pub enum Message<'a> {
     /// What a host asked.
     Request(&'a [u8]),
-    /// What the key answered, to this request where it is known.
-    Answer(Option<&'a Asked>, &'a [u8]),
+    /// What the key answered, in this transaction where it is known.
+    Answer(Option<&'a Exchange>, &'a [u8]),
+    /// One whose bytes aren't kept, since too many are under way.
+    Lost,
 }
 
-/// A line of a log, and the message whose last packet it has.
+/// A line of a log, the message whose last packet it has, and what it shows of lines before it.
 #[derive(Clone, Copy)]
 pub struct Entry<'a> {
     /// The line's number.
@@ -34,6 +36,16 @@ pub struct Entry<'a> {
     /// What the line says.
     pub said: Line,
     pub message: Option<Message<'a>>,
+    /// The number of an earlier line and the message that ended there, as is known only now.
+    pub late: Option<(u64, Message<'a>)>,
+    /// The transactions that it ends.
+    pub ended: &'a [Ended],
+}
+
+/// What follows the lines of a log.
+pub trait Follows {
+    /// Takes the next line, which has this number and says this, and returns what is shown for it.
+    fn next_entry<'a>(&'a mut self, number: u64, line: &'a [u8], said: Line) -> Entry<'a>;
 }
 
 /// A packet alone.
@@ -61,23 +73,78 @@ impl Written for MessageLines<'_> {
 }
 
 impl Written for Entry<'_> {
-    /// Writes lines that end with a line feed, or nothing.
+    /// Writes what comes after the number and a space: lines that end with a line feed.
     fn write(&self, pen: &mut Pen) {
         match &self.said {
-            Line::Input(timed) => write_input(pen, self.number, timed),
+            Line::Input(timed) => write_input(pen, timed),
             Line::Sent(packet) => {
-                pen.decimal(self.number);
-                pen.text(" < ");
+                pen.text("< ");
                 write_packet(pen, packet);
-                pen.text("\n");
             }
-            Line::Comment => write_comment(pen, self.number, self.line),
+            Line::Comment => write_line(pen, self.line),
             Line::Count => {}
+        }
+        pen.text("\n");
+        if let Some((number, message)) = self.late {
+            write_message(pen, number, message);
         }
         if let Some(message) = self.message {
             write_message(pen, self.number, message);
         }
+        for ended in self.ended {
+            write_end_of(pen, self.number, ended);
+        }
     }
+}
+
+/// Writes a line for a transaction that ended, where that isn't by an answer or an ERROR to a whole message: those say it
+/// themselves.
+fn write_end_of(pen: &mut Pen, number: u64, ended: &Ended) {
+    let exchange = &ended.exchange;
+    let is_said = match ended.end {
+        End::Status(_) | End::Answered | End::Open => true,
+        End::Refused(_) => exchange.is_whole(),
+        End::Cut { .. } | End::Dropped(_) | End::Replaced(_) | End::Forgotten => false,
+    };
+    if is_said {
+        return;
+    }
+    pen.decimal(number);
+    pen.text("   line ");
+    pen.decimal(exchange.transaction.line);
+    pen.text(":");
+    let is_whole = exchange.is_whole();
+    if !is_whole {
+        write_part(pen, exchange.came(), exchange.length, " bytes came");
+    }
+    let joint = if is_whole { "" } else { "," };
+    match ended.end {
+        End::Cut { came, length } => write_part(pen, came, length, " bytes of its answer came"),
+        End::Dropped(line) => write_by(pen, joint, " dropped by line ", line),
+        End::Replaced(line) => write_by(pen, joint, " replaced by line ", line),
+        End::Forgotten => {
+            pen.text(joint);
+            pen.text(" not followed any longer, since too many channels are in use");
+        }
+        End::Status(_) | End::Answered | End::Refused(_) | End::Open => {}
+    }
+    pen.text("\n");
+}
+
+/// Writes how much of a message came.
+fn write_part(pen: &mut Pen, came: usize, length: u16, what: &str) {
+    pen.text(" ");
+    pen.decimal(came as u64);
+    pen.text(" of ");
+    pen.decimal(u64::from(length));
+    pen.text(what);
+}
+
+/// Writes which line ended a transaction.
+fn write_by(pen: &mut Pen, joint: &str, how: &str, line: u64) {
+    pen.text(joint);
+    pen.text(how);
+    pen.decimal(line);
 }
 
 /// Returns what is after the letter and the moment of a reply.
@@ -93,53 +160,46 @@ fn yes_or_no(flag: bool) -> &'static str {
     if flag { " yes" } else { " no" }
 }
 
-fn write_input(pen: &mut Pen, number: u64, timed: &Timed) {
+/// Writes an input: its letter, its moment and what it is.
+fn write_input(pen: &mut Pen, timed: &Timed) {
     match &timed.input {
         Input::Packet(packet) => {
-            write_moment(pen, number, " > ", timed.at);
+            write_moment(pen, "> ", timed.at);
             pen.text(" ");
             write_packet(pen, packet);
         }
-        Input::Tick => write_moment(pen, number, " t ", timed.at),
+        Input::Tick => write_moment(pen, "t ", timed.at),
         Input::Presence(presence) => {
-            write_moment(pen, number, " p ", timed.at);
+            write_moment(pen, "p ", timed.at);
             pen.text(presence_word(*presence));
         }
         Input::Key(key) => {
-            write_moment(pen, number, " k ", timed.at);
+            write_moment(pen, "k ", timed.at);
             pen.text(yes_or_no(key.is_some()));
         }
         Input::Signature(signature) => {
-            write_moment(pen, number, " s ", timed.at);
+            write_moment(pen, "s ", timed.at);
             pen.text(yes_or_no(signature.is_some()));
         }
     }
-    pen.text("\n");
 }
 
-/// Writes the front of an input's line.
-fn write_moment(pen: &mut Pen, number: u64, letter: &str, at: u64) {
-    pen.decimal(number);
+/// Writes the front of an input.
+fn write_moment(pen: &mut Pen, letter: &str, at: u64) {
     pen.text(letter);
     pen.decimal(at);
 }
 
-/// Writes a comment, after its line's number.
-fn write_comment(pen: &mut Pen, number: u64, line: &[u8]) {
-    if !line.is_empty() {
-        pen.decimal(number);
-        pen.text(" ");
-        write_line(pen, line);
-        pen.text("\n");
-    }
-}
-
-/// Writes the lines of a whole message: its command or status, the item after it, and the name of the first; and then
-/// a line for each member.
+/// Writes the lines of a whole message: its command or status and the item after it; explained, also the name of the
+/// first, and then a line for each member.
 fn write_message(pen: &mut Pen, number: u64, message: Message<'_>) {
     match message {
         Message::Request(bytes) => write_request(pen, number, bytes),
-        Message::Answer(asked, bytes) => write_answer(pen, number, asked, bytes),
+        Message::Answer(exchange, bytes) => write_answer(pen, number, exchange, bytes),
+        Message::Lost => {
+            pen.decimal(number);
+            pen.text("   message not shown: too many are under way\n");
+        }
     }
 }
 
@@ -150,22 +210,24 @@ fn write_request(pen: &mut Pen, number: u64, message: &[u8]) {
     let checked = checked(item);
     write_front(pen, number, "   request ", *command, (item, &checked));
     write_end(pen, command_name(*command), &checked);
-    if checked.is_ok() {
+    if pen.explains() && checked.is_ok() {
         write_members(pen, number, Map::Request(*command), item, &RpId::none());
     }
 }
 
-fn write_answer(pen: &mut Pen, number: u64, asked: Option<&Asked>, message: &[u8]) {
+fn write_answer(pen: &mut Pen, number: u64, exchange: Option<&Exchange>, message: &[u8]) {
     let Some((status, item)) = message.split_first() else {
         return;
     };
     let checked = checked(item);
     write_front(pen, number, "   answer ", *status, (item, &checked));
     write_end(pen, status_name(*status), &checked);
-    if let Some(asked) = asked
+    if let Some(exchange) = exchange
+        && let Some(command) = exchange.transaction.command
+        && pen.explains()
         && checked.is_ok()
     {
-        write_members(pen, number, Map::Answer(asked.command), item, &asked.rp_id);
+        write_members(pen, number, Map::Answer(command), item, &exchange.rp_id);
     }
 }
 
@@ -200,7 +262,8 @@ fn write_front(
     }
 }
 
-/// Writes the end of a message's line: the name of its command or status, and what the item's fault means.
+/// Writes the end of a message's line; explained, with the name of its command or status, and what the item's fault
+/// means.
 fn write_end(pen: &mut Pen, name: Option<&str>, checked: &Result<(), Fault>) {
     write_name(pen, name);
     if let Err(fault) = checked {

@@ -20,9 +20,18 @@ pub fn is_hidden(c: char) -> bool {
     )
 }
 
+/// Returns whether a character is written by its number: in the fixed text those below U+0020 and U+007F alone.
+fn is_escaped(pen: &Pen, c: char) -> bool {
+    if pen.explains() {
+        is_hidden(c)
+    } else {
+        matches!(c, '\0'..='\u{1f}' | '\u{7f}')
+    }
+}
+
 /// Writes a character: one that is hidden as `\u` and four digits, or in braces where it has more.
 pub fn write_char(pen: &mut Pen, c: char) {
-    if !is_hidden(c) {
+    if !is_escaped(pen, c) {
         pen.text(c.encode_utf8(&mut [0; 4]));
         return;
     }

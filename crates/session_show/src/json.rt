@@ -5,7 +5,7 @@ use crate::pen::Pen;
 use crate::putting::Written;
 
 /// Writes the front of a member that isn't an object's first one.
-fn write_name(pen: &mut Pen, name: &str) {
+pub fn write_name(pen: &mut Pen, name: &str) {
     pen.text(",\"");
     pen.text(name);
     pen.text("\":");
@@ -59,6 +59,11 @@ pub fn write_quoted<W: Written>(pen: &mut Pen, name: &str, written: &W) {
 /// Writes a member that is a text of other people.
 pub fn write_text(pen: &mut Pen, name: &str, text: &str) {
     write_name(pen, name);
+    write_string(pen, text);
+}
+
+/// Writes a text of other people.
+pub fn write_string(pen: &mut Pen, text: &str) {
     pen.text("\"");
     for c in text.chars() {
         // What comes after a whole part is dropped.

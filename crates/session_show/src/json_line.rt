@@ -1,16 +1,19 @@
 //! The JSON objects for a line of a log.
 
-use crate::asked::Asked;
 use crate::diagnostic::Diagnostic;
-use crate::entry::{Entry, Message};
+use crate::entry::Message;
+use crate::exchange::{End, Ended, Exchange, Transaction};
 use crate::json::{
-    write_flag, write_hex, write_number, write_quoted, write_some_word, write_text, write_word,
+    write_flag, write_hex, write_name, write_number, write_quoted, write_some_word, write_text,
+    write_word,
 };
+use crate::json_item::write_item_json;
+use crate::member_names::Map;
 use crate::packet_line::name_of;
 use crate::pen::Pen;
 use crate::putting::Written;
 use crate::rp_id::RpId;
-use crate::transactions::{End, Transaction, Work, channel_of};
+use crate::walk::{Walk, channel_of};
 use crate::words::{command_name, error_name, keepalive_name, status_name};
 use authn_core::Presence;
 use ctap_cbor::check;
@@ -19,25 +22,77 @@ use hid_packet::{Packet, View};
 use session_log::Line;
 use token_session::{Input, Timed};
 
-/// A line of a log, the transaction that it belongs to, and the one that it ends.
+/// A line of a log, the transaction that it belongs to, and the message that ends at it.
 #[derive(Clone, Copy)]
-pub struct JsonLine<'a> {
-    pub entry: Entry<'a>,
-    pub transaction: Option<Transaction>,
-    pub ended: &'a Option<(Work, End)>,
+struct JsonLine<'a> {
+    number: u64,
+    line: &'a [u8],
+    said: &'a Line,
+    transaction: Option<Transaction>,
+    message: Option<Message<'a>>,
 }
 
-impl Written for JsonLine<'_> {
+impl JsonLine<'_> {
     fn write(&self, pen: &mut Pen) {
-        let number = self.entry.number;
-        match &self.entry.said {
+        match self.said {
             Line::Input(timed) => self.write_input(pen, timed),
             Line::Sent(packet) => self.write_packet(pen, "key", None, packet),
-            Line::Comment => write_comment(pen, number, self.entry.line),
+            Line::Comment => write_comment(pen, self.number, self.line),
             Line::Count => {}
         }
-        if let Some((work, end)) = self.ended {
-            write_transaction(pen, number, work, *end);
+    }
+}
+
+/// A packet of a host of which only a later line showed what it belongs to.
+#[derive(Clone, Copy)]
+pub struct Pending {
+    pub number: u64,
+    pub said: Line,
+}
+
+impl Pending {
+    /// Writes its object, where the walk's last line shows what it belongs to.
+    pub fn write(&self, pen: &mut Pen, walk: &Walk) {
+        if let Some(decided) = walk.decided() {
+            let line = JsonLine {
+                number: self.number,
+                line: b"",
+                said: &self.said,
+                transaction: decided.of,
+                message: walk.late().map(|(_, message)| message),
+            };
+            line.write(pen);
+        }
+    }
+}
+
+/// What is written for the last line of a walk: the packet that it decides on, itself, and what it ends.
+#[derive(Clone, Copy)]
+pub struct JsonLines<'a> {
+    pub walk: &'a Walk,
+    pub pending: Option<&'a Pending>,
+    pub number: u64,
+    pub line: &'a [u8],
+    pub said: &'a Line,
+}
+
+impl Written for JsonLines<'_> {
+    fn write(&self, pen: &mut Pen) {
+        if let Some(pending) = self.pending {
+            pending.write(pen, self.walk);
+        }
+        if !self.walk.is_doubtful(self.number) {
+            let line = JsonLine {
+                number: self.number,
+                line: self.line,
+                said: self.said,
+                transaction: self.walk.transaction(),
+                message: self.walk.message(),
+            };
+            line.write(pen);
+        }
+        for ended in self.walk.ended() {
+            write_transaction(pen, self.number, ended);
         }
     }
 }
@@ -102,7 +157,7 @@ impl JsonLine<'_> {
 
     /// Writes the front of the object of a tick or a reply.
     fn write_reply(&self, pen: &mut Pen, kind: &str, at: u64) {
-        write_front(pen, self.entry.number, kind);
+        write_front(pen, self.number, kind);
         write_number(pen, "moment", at);
         self.write_began(pen);
     }
@@ -116,7 +171,7 @@ impl JsonLine<'_> {
 
     /// Writes the object of a packet, and that of the message that it ends.
     fn write_packet(&self, pen: &mut Pen, from: &str, at: Option<u64>, packet: &Packet) {
-        write_front(pen, self.entry.number, "packet");
+        write_front(pen, self.number, "packet");
         write_word(pen, "from", from);
         if let Some(at) = at {
             write_number(pen, "moment", at);
@@ -131,7 +186,7 @@ impl JsonLine<'_> {
             }
         }
         pen.text("}\n");
-        if let Some(message) = self.entry.message {
+        if let Some(message) = self.message {
             self.write_message(pen, packet, message);
         }
     }
@@ -141,18 +196,30 @@ impl JsonLine<'_> {
         let (kind, bytes) = match message {
             Message::Request(bytes) => ("request", bytes),
             Message::Answer(_, bytes) => ("answer", bytes),
+            Message::Lost => {
+                write_front(pen, self.number, "lost");
+                pen.text("}\n");
+                return;
+            }
         };
         let Some((first, item)) = bytes.split_first() else {
             return;
         };
-        write_front(pen, self.entry.number, kind);
+        write_front(pen, self.number, kind);
         self.write_began(pen);
         write_hex(pen, "channel", &channel_of(packet).to_be_bytes());
-        match message {
-            Message::Request(_) => write_asked(pen, *first, item),
-            Message::Answer(asked, _) => write_answered(pen, *first, asked),
-        }
-        write_item(pen, item);
+        let map = match message {
+            Message::Request(_) => {
+                write_asked(pen, *first, item);
+                Map::Request(*first)
+            }
+            Message::Answer(exchange, _) => {
+                write_answered(pen, *first, exchange);
+                Map::Answer(command_of(exchange))
+            }
+            Message::Lost => return,
+        };
+        write_item(pen, map, item);
         pen.text("}\n");
     }
 }
@@ -183,27 +250,42 @@ fn write_code(pen: &mut Pen, code: u8, name: Option<&str>) {
 fn write_asked(pen: &mut Pen, command: u8, item: &[u8]) {
     write_number(pen, "command", u64::from(command));
     write_some_word(pen, "name", command_name(command));
-    write_rp_id(pen, &RpId::of_request(command, item));
-}
-
-/// Writes an answer's status, and the command that it is for, where that is known.
-fn write_answered(pen: &mut Pen, status: u8, asked: Option<&Asked>) {
-    write_number(pen, "status", u64::from(status));
-    write_some_word(pen, "statusName", status_name(status));
-    if let Some(asked) = asked {
-        write_number(pen, "command", u64::from(asked.command));
-        write_some_word(pen, "name", command_name(asked.command));
-        write_rp_id(pen, &asked.rp_id);
+    if check(item).result.is_ok() {
+        write_rp_id(pen, &RpId::of_request(command, item));
     }
 }
 
-/// Writes the data item after a message's first byte: as text or as why it is none, and its bytes.
-fn write_item(pen: &mut Pen, item: &[u8]) {
+/// Writes an answer's status, and the command that it is for, where that is known.
+fn write_answered(pen: &mut Pen, status: u8, exchange: Option<&Exchange>) {
+    write_number(pen, "status", u64::from(status));
+    write_some_word(pen, "statusName", status_name(status));
+    if let Some(exchange) = exchange
+        && let Some(command) = exchange.transaction.command
+    {
+        write_number(pen, "command", u64::from(command));
+        write_some_word(pen, "name", command_name(command));
+        write_rp_id(pen, &exchange.rp_id);
+    }
+}
+
+/// Returns the command that an answer is for; 0, which is none, where it isn't known.
+fn command_of(exchange: Option<&Exchange>) -> u8 {
+    exchange
+        .and_then(|exchange| exchange.transaction.command)
+        .unwrap_or(0)
+}
+
+/// Writes the data item after a message's first byte: as text and as JSON, or as why it is none, and its bytes.
+fn write_item(pen: &mut Pen, map: Map, item: &[u8]) {
     if item.is_empty() {
         return;
     }
     match check(item).result {
-        Ok(()) => write_quoted(pen, "item", &Diagnostic(item)),
+        Ok(()) => {
+            write_quoted(pen, "item", &Diagnostic(item));
+            write_name(pen, "value");
+            write_item_json(pen, map, item);
+        }
         Err(fault) => {
             write_number(pen, "fault", u64::from(fault.kind.number()));
             write_number(pen, "at", fault.at as u64);
@@ -221,34 +303,56 @@ fn write_rp_id(pen: &mut Pen, rp_id: &RpId) {
     }
 }
 
-/// Writes the object of a transaction that ended.
-fn write_transaction(pen: &mut Pen, number: u64, work: &Work, end: End) {
+/// Writes the object of a transaction that ended, or is open at the log's end.
+pub fn write_transaction(pen: &mut Pen, number: u64, ended: &Ended) {
+    let exchange = &ended.exchange;
     write_front(pen, number, "transaction");
-    write_number(pen, "transaction", work.transaction.line);
-    write_hex(pen, "channel", &work.transaction.channel.to_be_bytes());
-    write_word(pen, "name", work.transaction.name());
-    write_rp_id(pen, &work.rp_id);
-    write_end(pen, end);
-    if let Some(took) = work.took {
+    write_number(pen, "transaction", exchange.transaction.line);
+    write_hex(pen, "channel", &exchange.transaction.channel.to_be_bytes());
+    write_word(pen, "name", exchange.transaction.name());
+    write_rp_id(pen, &exchange.rp_id);
+    write_end(pen, &ended.end);
+    if !exchange.is_whole() {
+        write_number(pen, "came", exchange.came() as u64);
+        write_number(pen, "length", u64::from(exchange.length));
+    }
+    if let Some(line) = exchange.cancelled {
+        write_number(pen, "cancelled", line);
+    }
+    if let Some(took) = exchange.took {
         write_number(pen, "userTook", took);
     }
-    write_number(pen, "keepalives", work.keepalives);
+    write_number(pen, "keepalives", exchange.keepalives);
     pen.text("}\n");
 }
 
 /// Writes how a transaction ended.
-fn write_end(pen: &mut Pen, end: End) {
+fn write_end(pen: &mut Pen, end: &End) {
     match end {
         End::Status(status) => {
             write_word(pen, "end", "status");
-            write_number(pen, "status", u64::from(status));
-            write_some_word(pen, "statusName", status_name(status));
+            write_number(pen, "status", u64::from(*status));
+            write_some_word(pen, "statusName", status_name(*status));
         }
         End::Refused(code) => {
             write_word(pen, "end", "error");
-            write_code(pen, code, error_name(code));
+            write_code(pen, *code, error_name(*code));
         }
+        End::Cut { came, length } => {
+            write_word(pen, "end", "cut");
+            write_number(pen, "answerCame", *came as u64);
+            write_number(pen, "answerLength", u64::from(*length));
+        }
+        End::Dropped(line) => write_ended_by(pen, "dropped", *line),
+        End::Replaced(line) => write_ended_by(pen, "replaced", *line),
         End::Answered => write_word(pen, "end", "answer"),
-        End::Dropped => write_word(pen, "end", "dropped"),
+        End::Forgotten => write_word(pen, "end", "forgotten"),
+        End::Open => write_word(pen, "end", "open"),
     }
+}
+
+/// Writes which line ended a transaction.
+fn write_ended_by(pen: &mut Pen, end: &str, line: u64) {
+    write_word(pen, "end", end);
+    write_number(pen, "by", line);
 }

@@ -41,21 +41,6 @@ impl Collector {
         }
     }
 
-    /// Returns one that has collected the same.
-    pub fn copy(&self) -> Self {
-        let mut bytes = ArrayVec::new();
-        append(&mut bytes, self.bytes.as_slice());
-        Collector {
-            bytes,
-            unfinished: self.unfinished,
-        }
-    }
-
-    /// Returns whether a message is collected whose last packet has yet to come.
-    pub fn is_open(&self) -> bool {
-        self.unfinished.is_some()
-    }
-
     /// Adds a packet, and returns the message whose last packet it is, if that is a CBOR message that isn't empty.
     ///
     /// An initialization packet begins anew. The continuation packet that comes next on the message's channel

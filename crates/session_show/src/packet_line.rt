@@ -33,7 +33,7 @@ fn write_command(pen: &mut Pen, command: u8) {
 }
 
 /// Writes an initialization packet's command and the length of its message. Of ERROR and KEEPALIVE the first data
-/// byte follows, which is the code or the status. Then comes what the data says, in words.
+/// byte follows, which is the code or the status. Explained, then comes what the data says, in words.
 fn write_start(pen: &mut Pen, command: u8, len: u16, part: &[u8]) {
     write_command(pen, command);
     pen.text(" ");
@@ -41,7 +41,7 @@ fn write_start(pen: &mut Pen, command: u8, len: u16, part: &[u8]) {
     match (command, part) {
         (ERROR, [code, ..]) => write_code(pen, *code, error_name(*code)),
         (KEEPALIVE, [status, ..]) => write_code(pen, *status, keepalive_name(*status)),
-        (INIT, _) => write_init(pen, len, part),
+        (INIT, _) if pen.explains() => write_init(pen, len, part),
         _ => {}
     }
 }

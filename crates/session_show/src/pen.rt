@@ -1,6 +1,7 @@
 //! A part of a text.
-ghost use Rattle.std.specs.Prelude.{◌<◌};
+ghost use Rattle.std.specs.Prelude.{◌<◌, ◌≤◌, length};
 
+use crate::wording::Wording;
 use arrayvec::ArrayVec;
 use itoa::Buffer;
 
@@ -11,6 +12,7 @@ pub const PART: usize = 8192;
 /// dropped. So a text of any length is written in parts of a fixed size, by writing it once for each part.
 #[derive(Drop)]
 pub struct Pen {
+    wording: Wording,
     /// How many bytes are still to pass over.
     before: usize,
     part: ArrayVec<u8, PART>,
@@ -34,13 +36,19 @@ fn digits(byte: u8) -> [u8; 2] {
 
 impl Pen {
     /// Returns a pen for a text's first part.
-    pub fn new() -> Self {
+    pub fn new(wording: Wording) -> Self {
         Pen {
+            wording,
             before: 0,
             part: ArrayVec::new(),
             is_quoted: false,
             known: None,
         }
+    }
+
+    /// Returns whether it writes names, members and comments for people.
+    pub fn explains(&self) -> bool {
+        matches!(self.wording, Wording::Explained)
     }
 
     /// Begins the part that comes after so many bytes.
@@ -77,7 +85,9 @@ impl Pen {
     }
 
     /// The part of the text so far.
-    pub fn part(&self) -> &[u8] {
+    pub fn part(&self) -> &[u8]
+        ensures { length result.now ≤ 8192 }
+    {
         self.part.as_slice()
     }
 

@@ -1,9 +1,9 @@
 //! A line of the table of transactions.
 
 use crate::escape::write_line;
+use crate::exchange::{End, Ended};
 use crate::pen::Pen;
 use crate::putting::Written;
-use crate::transactions::{End, Work};
 use crate::words::{error_name, status_name};
 use itoa::Buffer;
 
@@ -15,19 +15,19 @@ const HEAD: &str =
     "  line  channel   command                        status                            \
     user ms  KEEPALIVEs  RP id\n";
 
-/// What a line of the log comes to in the table: the line of the transaction that it ended, where it did.
+/// What a line of the log comes to in the table: the rows of the transactions that it ends.
 #[derive(Clone, Copy)]
-pub struct Row<'a> {
-    /// Whether it is the table's first one.
-    pub is_first: bool,
-    pub ended: &'a Option<(Work, End)>,
+pub struct Rows<'a> {
+    /// Whether the head was written before.
+    pub has_head: bool,
+    pub ended: &'a [Ended],
 }
 
-impl Written for Row<'_> {
+impl Written for Rows<'_> {
     fn write(&self, pen: &mut Pen) {
-        if let Some((work, end)) = self.ended {
-            write_head(pen, self.is_first);
-            write_row(pen, work, Some(*end));
+        write_head(pen, !self.has_head && !self.ended.is_empty());
+        for ended in self.ended {
+            write_row(pen, ended);
         }
     }
 }
@@ -41,34 +41,69 @@ pub fn write_head(pen: &mut Pen, is_first: bool) {
 
 /// Writes a transaction: its line, channel, command, status, the milliseconds that the user took, the number of
 /// KEEPALIVEs, and the RP id.
-pub fn write_row(pen: &mut Pen, work: &Work, end: Option<End>) {
-    write_number(pen, work.transaction.line, 6);
+pub fn write_row(pen: &mut Pen, ended: &Ended) {
+    let exchange = &ended.exchange;
+    write_number(pen, exchange.transaction.line, 6);
     pen.text("  ");
-    pen.hex(&work.transaction.channel.to_be_bytes());
+    pen.hex(&exchange.transaction.channel.to_be_bytes());
     pen.text("  ");
-    write_padded(pen, work.transaction.name(), 29);
+    write_padded(pen, exchange.transaction.name(), 29);
     pen.text("  ");
-    write_end(pen, end);
-    match work.took {
+    write_end(pen, ended);
+    match exchange.took {
         Some(took) => write_number(pen, took, 9),
         None => write_padded(pen, "        -", 9),
     }
-    write_number(pen, work.keepalives, 12);
-    if !work.rp_id.bytes().is_empty() {
+    write_number(pen, exchange.keepalives, 12);
+    if !exchange.rp_id.bytes().is_empty() {
         pen.text("  ");
-        write_line(pen, work.rp_id.bytes());
+        write_line(pen, exchange.rp_id.bytes());
     }
     pen.text("\n");
 }
 
-/// Writes how a transaction ended: a status or an ERROR's code, with its name.
-fn write_end(pen: &mut Pen, end: Option<End>) {
-    match end {
-        Some(End::Status(status)) => write_code(pen, status, status_name(status), "status"),
-        Some(End::Refused(code)) => write_code(pen, code, error_name(code), "ERROR"),
-        Some(End::Answered) => write_padded(pen, "answered", 32),
-        Some(End::Dropped) | None => write_padded(pen, "no answer", 32),
+/// Writes how a transaction ended: a status or an ERROR's code, with its name; or why it has neither.
+fn write_end(pen: &mut Pen, ended: &Ended) {
+    match ended.end {
+        End::Status(status) => write_code(pen, status, status_name(status), "status"),
+        End::Refused(code) => write_code(pen, code, error_name(code), "ERROR"),
+        End::Answered => write_padded(pen, "answered", 32),
+        End::Cut { came, length } => write_part(pen, "answer not whole, ", came, length),
+        End::Dropped(line) => write_line_number(pen, "dropped by line ", line),
+        End::Replaced(line) => write_line_number(pen, "replaced by line ", line),
+        End::Forgotten => write_padded(pen, "not followed any longer", 32),
+        End::Open if ended.exchange.is_whole() => write_padded(pen, "no answer", 32),
+        End::Open => write_part(
+            pen,
+            "not whole, ",
+            ended.exchange.came(),
+            ended.exchange.length,
+        ),
     }
+}
+
+/// Writes how many of a message's bytes came, in 32 characters.
+fn write_part(pen: &mut Pen, front: &str, came: usize, length: u16) {
+    let (mut first, mut second) = (Buffer::new(), Buffer::new());
+    let (came, length) = (first.format(came), second.format(length));
+    pen.text(front);
+    pen.text(came);
+    pen.text(" of ");
+    pen.text(length);
+    let written = front
+        .len()
+        .saturating_add(came.len())
+        .saturating_add(length.len());
+    write_spaces(pen, 28, written);
+}
+
+/// Writes a line's number after a text, in 32 characters.
+fn write_line_number(pen: &mut Pen, front: &str, line: u64) {
+    let mut buffer = Buffer::new();
+    let digits = buffer.format(line);
+    pen.text(front);
+    pen.text(digits);
+    write_spaces(pen, 32, front.len().saturating_add(digits.len()));
 }
 
 /// Writes a number's name, or what it is, and the number, in 32 characters.

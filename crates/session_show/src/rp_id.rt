@@ -58,7 +58,7 @@ impl RpId {
 }
 
 /// Returns the bytes of the value at this key of a map, where the bytes are one.
-fn value_at<'a>(item: &'a [u8], wanted: Item<'_>) -> Option<&'a [u8]> {
+pub fn value_at<'a>(item: &'a [u8], wanted: Item<'_>) -> Option<&'a [u8]> {
     let mut cursor = Cursor::new(item);
     let Ok(Item::Map(count)) = cursor.item(1) else {
         return None;

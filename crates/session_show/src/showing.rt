@@ -1,54 +1,102 @@
-//! A log as a person reads it.
-ghost use Rattle.std.specs.Prelude.{◌<◌, ◌-◌, ◌^◌, OnOk};
+//! A log as text, line by line.
+ghost use Rattle.std.specs.Prelude.{◌<◌, ◌-◌, ◌^◌, OnOk, IfErr};
 ghost use Rattle.session_log.specs.Ending.{ending_of, read_fails, write_fails};
-ghost use Rattle.session_log.specs.Replay.{ReadsTo};
+ghost use Rattle.session_log.specs.Replay.{IsOfLine, ReadsTo};
 ghost use Rattle.session_log.specs.Streams.{Counts, IsAllRead};
-ghost use Rattle.session_show.specs.Shown.{Shows, reading};
-ghost use Rattle.session_log.specs.Streams.{Grows};
+ghost use Rattle.session_show.specs.Shown.{IsLineText, Shows, ShowsLine, TellsLine, reading};
+ghost use Rattle.session_show.specs.declared.wording.Wording.TheVariants.{Explained as explained, Fixed as fixed};
 
+use crate::entry::Follows;
 use crate::pen::Pen;
-use crate::putting::put_written;
+use crate::putting::{Numbered, put_numbered};
 use crate::telling::{Telling, tell_all};
 use crate::transcript::Transcript;
+use crate::walk::Walk;
+use crate::wording::Wording;
 use session_log::{LogFault, Source, Target, read_line};
 
 /// What is kept from line to line.
 #[derive(Drop)]
-struct Showing {
-    transcript: Transcript,
+struct Showing<F> {
+    followed: F,
     pen: Pen,
+    numbered: Numbered,
 }
 
-impl Showing {
-    fn new() -> Self {
+impl<F: Follows> Showing<F> {
+    fn new(followed: F, wording: Wording) -> Self {
         Showing {
-            transcript: Transcript::new(),
-            pen: Pen::new(),
+            followed,
+            pen: Pen::new(wording),
+            numbered: Numbered::new(),
         }
     }
-}
 
-impl Telling for Showing {
-    fn tell<T: Target>(
+    /// Writes what is shown for the next line.
+    fn put<T: Target>(
         &mut self,
+        wording: Wording,
         number: u64,
         line: &[u8],
         writer: &mut T,
-    ) -> Result<(), LogFault> {
+    ) -> Result<(), LogFault>
+        requires { T.failed writer.old < 2 ^ 64 - 1 }
+        ensures shown { ShowsLine number line.now (T.failed writer.old, T.failed writer.new) (ending_of result) }
+        ensures own { IfErr result (IsOfLine number) }
+        ensures text { TellsLine (IsLineText wording) number line.now (T.taken writer.old, T.taken writer.new)
+            (ending_of result) }
+    {
         let Some(said) = read_line(line) else {
             return Err(LogFault::BadLine(number));
         };
-        let entry = self.transcript.take(number, line, said);
-        match put_written(writer, &mut self.pen, &entry) {
+        let entry = self.followed.next_entry(number, line, said);
+        if !wording.has_text(line, &said) {
+            return Ok(());
+        }
+        match put_numbered(writer, &mut self.pen, &mut self.numbered, number, &entry) {
             Ok(()) => Ok(()),
             Err(_) => Err(LogFault::Write),
         }
     }
 }
 
-/// Shows a log to a person (docs/LOG_FORMAT.md, "Shown to a person"): writes a line for each packet, tick, reply and
-/// comment, and after the last packet of a CBOR message a line with its item in diagnostic notation. Counts are left
-/// out. The text for a line is handed to the target before more is asked of the source.
+/// The fixed text.
+#[derive(Drop)]
+struct Fixed(Showing<Transcript>);
+
+impl Telling for Fixed {
+    ghost shows = { IsLineText fixed };
+
+    fn tell<T: Target>(
+        &mut self,
+        number: u64,
+        line: &[u8],
+        writer: &mut T,
+    ) -> Result<(), LogFault> {
+        self.0.put(Wording::Fixed, number, line, writer)
+    }
+}
+
+/// The text for people.
+#[derive(Drop)]
+struct Explained(Showing<Walk>);
+
+impl Telling for Explained {
+    ghost shows = { IsLineText explained };
+
+    fn tell<T: Target>(
+        &mut self,
+        number: u64,
+        line: &[u8],
+        writer: &mut T,
+    ) -> Result<(), LogFault> {
+        self.0.put(Wording::Explained, number, line, writer)
+    }
+}
+
+/// Shows a log in its fixed text (docs/LOG_FORMAT.md): writes a line for each packet, tick and reply, and after the last
+/// packet of a CBOR message a line with its item in diagnostic notation. Comments and counts are left out. The text for
+/// a line is handed to the target before more is asked of the source.
 ///
 /// It allocates nothing, and what it takes doesn't grow with the log.
 ///
@@ -58,20 +106,44 @@ impl Telling for Showing {
 pub fn show<S: Source, T: Target>(reader: &mut S, writer: &mut T) -> Result<(), LogFault>
     requires read { S.failed reader.old < 2 ^ 64 - 1 }
     requires write { T.failed writer.old < 2 ^ 64 - 1 }
-    // At Ok every line is a log line, and all of them were shown. A line fault is that of the first faulty line, and
-    // the lines before it were shown. A read that failed names its line, and the lines before it were shown. At a write
-    // that failed the text of a line broke off.
-    ensures shown { Shows (S.left reader.old) (S.left reader.new) (ending_of result) }
+    // At Ok every line is a log line, and all of them were shown: each packet, tick and reply by its number, a space and
+    // more, and nothing else. A line fault is that of the first faulty line, and the lines before it were shown. A read
+    // that failed names its line, and the lines before it were shown. At a write that failed the text of a line broke
+    // off.
+    ensures shown { Shows (IsLineText fixed) (S.left reader.old, S.left reader.new) (T.taken writer.old, T.taken writer.new)
+        (ending_of result) }
     // At a line fault at most 256 bytes were read after the lines before the faulty one.
     ensures reach { ReadsTo reading tt (S.left reader.old) (S.left reader.new)
         (IsAllRead S.left S.ended reader.new) (ending_of result) }
-    // What the target had taken stays, and a text came after it.
-    ensures grown { Grows (T.taken writer.old) (T.taken writer.new) }
     // At Ok it was all that the reader held.
     ensures end { OnOk result (IsAllRead S.left S.ended reader.new) }
     // A failure was counted exactly at Read, and exactly at Write.
     ensures reads { Counts S.failed (reader.old, reader.new) (read_fails (ending_of result)) }
     ensures writes { Counts T.failed (writer.old, writer.new) (write_fails (ending_of result)) }
 {
-    tell_all(&mut Showing::new(), reader, writer)
+    tell_all(
+        &mut Fixed(Showing::new(Transcript::new(), Wording::Fixed)),
+        reader,
+        writer,
+    )
+}
+
+/// Explains a log to a person (docs/LOG_FORMAT.md): writes what [`show`] writes with the standard's names behind its
+/// numbers, comments, and after a message a line for each of its members. All else is as there.
+pub fn explain<S: Source, T: Target>(reader: &mut S, writer: &mut T) -> Result<(), LogFault>
+    requires read { S.failed reader.old < 2 ^ 64 - 1 }
+    requires write { T.failed writer.old < 2 ^ 64 - 1 }
+    ensures shown { Shows (IsLineText explained) (S.left reader.old, S.left reader.new) (T.taken writer.old, T.taken writer.new)
+        (ending_of result) }
+    ensures reach { ReadsTo reading tt (S.left reader.old) (S.left reader.new)
+        (IsAllRead S.left S.ended reader.new) (ending_of result) }
+    ensures end { OnOk result (IsAllRead S.left S.ended reader.new) }
+    ensures reads { Counts S.failed (reader.old, reader.new) (read_fails (ending_of result)) }
+    ensures writes { Counts T.failed (writer.old, writer.new) (write_fails (ending_of result)) }
+{
+    tell_all(
+        &mut Explained(Showing::new(Walk::new(), Wording::Explained)),
+        reader,
+        writer,
+    )
 }

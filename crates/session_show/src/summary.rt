@@ -3,24 +3,22 @@ ghost use Rattle.std.specs.Prelude.{◌<◌, ◌-◌, ◌^◌, OnOk};
 ghost use Rattle.session_log.specs.Ending.{ending_of, read_fails, write_fails};
 ghost use Rattle.session_log.specs.Replay.{ReadsTo};
 ghost use Rattle.session_log.specs.Streams.{Counts as CountsFailures, IsAllRead};
-ghost use Rattle.session_show.specs.Shown.{Shows, reading};
-ghost use Rattle.session_log.specs.Streams.{Grows};
+ghost use Rattle.session_show.specs.Shown.{Shows, reading, unsaid};
 ghost use Rattle.session_show.specs.Written.{Writes};
 
 use crate::counts::Counts;
 use crate::pen::Pen;
 use crate::putting::{Written, put_written};
-use crate::row::{Row, write_head, write_row};
+use crate::row::{Rows, write_head, write_row};
 use crate::telling::{Telling, tell_all};
-use crate::transactions::Transactions;
-use crate::transcript::Transcript;
+use crate::walk::{OPEN, Walk};
+use crate::wording::Wording;
 use session_log::{Failed, LogFault, Source, Target, read_line};
 
 /// What the lines of a log come to.
 #[derive(Drop)]
 pub struct Summary {
-    transcript: Transcript,
-    transactions: Transactions,
+    walk: Walk,
     counts: Counts,
     /// Whether the table has a row.
     is_begun: bool,
@@ -31,38 +29,56 @@ impl Summary {
     /// Returns that of no lines.
     pub fn new() -> Self {
         Summary {
-            transcript: Transcript::new(),
-            transactions: Transactions::new(),
+            walk: Walk::new(),
             counts: Counts::new(),
             is_begun: false,
-            pen: Pen::new(),
+            pen: Pen::new(Wording::Explained),
         }
     }
 
-    /// Writes the transactions that aren't over, and then the counts.
-    pub fn put<T: Target>(&self, writer: &mut T) -> Result<(), Failed>
+    /// Writes the transactions that are open, and then the counts.
+    pub fn put<T: Target>(&mut self, writer: &mut T) -> Result<(), Failed>
         requires { T.failed writer.old < 2 ^ 64 - 1 }
         ensures { Writes T.taken T.failed (writer.old, writer.new) result }
     {
-        put_written(writer, &mut Pen::new(), self)
+        let left = Left {
+            walk: &self.walk,
+            counts: &self.counts,
+            is_begun: self.is_begun,
+        };
+        put_written(writer, &mut self.pen, &left)
     }
 }
 
-impl Written for Summary {
+/// What is left to write at the log's end.
+#[derive(Clone, Copy)]
+struct Left<'a> {
+    walk: &'a Walk,
+    counts: &'a Counts,
+    /// Whether the table has a row.
+    is_begun: bool,
+}
+
+impl Written for Left<'_> {
     fn write(&self, pen: &mut Pen) {
         let mut is_begun = self.is_begun;
-        for work in self.transactions.works() {
-            if !work.is_over() {
-                write_head(pen, !is_begun);
-                write_row(pen, work, None);
-                is_begun = true;
-            }
+        let mut line = 0;
+        for _ in 0..OPEN {
+            let Some(open) = self.walk.open_after(line) else {
+                break;
+            };
+            write_head(pen, !is_begun);
+            write_row(pen, &open);
+            is_begun = true;
+            line = open.exchange.transaction.line;
         }
         self.counts.write(pen);
     }
 }
 
 impl Telling for Summary {
+    ghost shows = { unsaid };
+
     fn tell<T: Target>(
         &mut self,
         number: u64,
@@ -72,20 +88,14 @@ impl Telling for Summary {
         let Some(said) = read_line(line) else {
             return Err(LogFault::BadLine(number));
         };
-        let entry = self.transcript.take(number, line, said);
-        let ended = self.transactions.take(&entry);
-        if let Some(stray) = self.transactions.stray() {
-            self.counts.add_stray(stray);
-        }
-        let row = Row {
-            is_first: !self.is_begun,
-            ended: &ended,
+        self.walk.take(number, &said);
+        self.counts.add_line(&self.walk);
+        let rows = Rows {
+            has_head: self.is_begun,
+            ended: self.walk.ended(),
         };
-        if let Some((work, end)) = &ended {
-            self.counts.add(work, *end);
-            self.is_begun = true;
-        }
-        match put_written(writer, &mut self.pen, &row) {
+        self.is_begun = self.is_begun || !rows.ended.is_empty();
+        match put_written(writer, &mut self.pen, &rows) {
             Ok(()) => Ok(()),
             Err(_) => Err(LogFault::Write),
         }
@@ -106,12 +116,11 @@ pub fn summarize<S: Source, T: Target>(
     // At Ok every line is a log line, and all of them were shown. A line fault is that of the first faulty line, and
     // the lines before it were shown. A read that failed names its line, and the lines before it were shown. At a write
     // that failed the text of a line broke off.
-    ensures shown { Shows (S.left reader.old) (S.left reader.new) (ending_of result) }
+    ensures shown { Shows unsaid (S.left reader.old, S.left reader.new) (T.taken writer.old, T.taken writer.new)
+        (ending_of result) }
     // At a line fault at most 256 bytes were read after the lines before the faulty one.
     ensures reach { ReadsTo reading tt (S.left reader.old) (S.left reader.new)
         (IsAllRead S.left S.ended reader.new) (ending_of result) }
-    // What the target had taken stays, and a text came after it.
-    ensures grown { Grows (T.taken writer.old) (T.taken writer.new) }
     // At Ok it was all that the reader held.
     ensures end { OnOk result (IsAllRead S.left S.ended reader.new) }
     // A failure was counted exactly at Read, and exactly at Write.

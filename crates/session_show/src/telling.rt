@@ -4,24 +4,25 @@ ghost use Rattle.session_log.specs.Ending.{ending_of, read_fails, write_fails};
 ghost use Rattle.session_log.specs.Replay.{ReadsTo};
 ghost use Rattle.session_log.specs.Streams.{Counts, IsAllRead};
 ghost use Rattle.session_show.specs.Shown.{Shows, reading};
-ghost use Rattle.session_log.specs.Streams.{Grows};
 
 use session_log::{LogFault, Source, Target, Window, next_line};
 
 /// What is written of a log, line by line.
 pub trait Telling {
-    ghost use Rattle.std.specs.Prelude.{◌<◌, ◌-◌, ◌^◌, IfErr};
+    ghost use Rattle.std.specs.Prelude.{◌<◌, ◌-◌, ◌^◌, ℕ, List, IfErr};
     ghost use Rattle.session_log.specs.Ending.{ending_of};
     ghost use Rattle.session_log.specs.Replay.{IsOfLine};
-    ghost use Rattle.session_show.specs.Shown.{ShowsLine};
-    ghost use Rattle.session_log.specs.Streams.{Grows};
+    ghost use Rattle.session_show.specs.Shown.{ShowsLine, TellsLine};
+
+    /// What is said of the text that is written for a line, by its number.
+    ghost shows: { ℕ → List ℕ → List ℕ → Type 0 };
 
     /// Writes what is written for the next line.
     fn tell<T: Target>(&mut self, number: u64, line: &[u8], writer: &mut T) -> Result<(), LogFault>
         requires { T.failed writer.old < 2 ^ 64 - 1 }
         ensures shown { ShowsLine number line.now (T.failed writer.old, T.failed writer.new) (ending_of result) }
         ensures own { IfErr result (IsOfLine number) }
-        ensures grown { Grows (T.taken writer.old) (T.taken writer.new) };
+        ensures text { TellsLine shows number line.now (T.taken writer.old, T.taken writer.new) (ending_of result) };
 }
 
 /// Says all lines that a reader holds. The text for a line is handed to the target before more is asked of the source.
@@ -32,10 +33,10 @@ pub fn tell_all<L: Telling, S: Source, T: Target>(
 ) -> Result<(), LogFault>
     requires read { S.failed reader.old < 2 ^ 64 - 1 }
     requires write { T.failed writer.old < 2 ^ 64 - 1 }
-    ensures shown { Shows (S.left reader.old) (S.left reader.new) (ending_of result) }
+    ensures shown { Shows L.shows (S.left reader.old, S.left reader.new) (T.taken writer.old, T.taken writer.new)
+        (ending_of result) }
     ensures reach { ReadsTo reading tt (S.left reader.old) (S.left reader.new)
         (IsAllRead S.left S.ended reader.new) (ending_of result) }
-    ensures grown { Grows (T.taken writer.old) (T.taken writer.new) }
     ensures end { OnOk result (IsAllRead S.left S.ended reader.new) }
     ensures reads { Counts S.failed (reader.old, reader.new) (read_fails (ending_of result)) }
     ensures writes { Counts T.failed (writer.old, writer.new) (write_fails (ending_of result)) }

@@ -3,9 +3,11 @@
 use crate::pen::Pen;
 use ctap_cbor::Kind;
 
-/// Writes two spaces and a name, where there is one.
+/// Writes two spaces and a name, where there is one and the text is explained.
 pub fn write_name(pen: &mut Pen, name: Option<&str>) {
-    if let Some(name) = name {
+    if let Some(name) = name
+        && pen.explains()
+    {
         pen.text("  ");
         pen.text(name);
     }
@@ -76,7 +78,20 @@ pub fn status_name(status: u8) -> Option<&'static str> {
         0x00..=0x10 | 0x7f => first_status_name(status),
         0x11..=0x2a => request_status_name(status),
         0x2b..=0x30 | 0x39..=0x3b => user_status_name(status),
+        0xdf.. => bound_name(status),
         _ => verification_status_name(status),
+    }
+}
+
+/// Returns the name of a status that bounds those of a kind.
+fn bound_name(status: u8) -> Option<&'static str> {
+    match status {
+        0xdf => Some("CTAP2_ERR_SPEC_LAST"),
+        0xe0 => Some("CTAP2_ERR_EXTENSION_FIRST"),
+        0xef => Some("CTAP2_ERR_EXTENSION_LAST"),
+        0xf0 => Some("CTAP2_ERR_VENDOR_FIRST"),
+        0xff => Some("CTAP2_ERR_VENDOR_LAST"),
+        _ => None,
     }
 }
 

@@ -1,7 +1,7 @@
 use Rattle.std.proofs.Common.{◌≡◌, [], ◌∙◌, is_some, option_and_then, option_map, ap, sym, true, false}
 use Rattle.clap.specs.Words.{HasKind, app_of, subcommand_rows_of}
 use Rattle.clap.proofs.TakesLemmas.{passed_up}
-use Rattle.hidlog.specs.CommandLine.{answers_to, ask_of, asks, texts_of}
+use Rattle.hidlog.specs.CommandLine.{answers_to, ask_of, asked_as, texts_of}
 use Rattle.hidlog.proofs.CommandLine.{asked_is, asked_some, faults_are}
 use Rattle.hidlog.proofs.command_line.task_by.Goals as goal
 
@@ -14,12 +14,12 @@ pub returns-in-Some-clause-task : goal.returns-in-Some-clause-task
 returns-in-Some-clause-task c =
     let none = faults_are (app_of c.args.program.now) (texts_of c.args.words.now) (λ kinds. kinds ≡ []) c.requires c.in_ok-matches.ensures.kinds in
     asked_is (app_of c.args.program.now) (texts_of c.args.words.now) c.in_ok-matches.matches c.requires c.in_ok-matches.ensures.ok.2 none
-    ∙ (sym c.in_ok-task.ensures ∙ ap (option_map asks) c.in-Some.is)
+    ∙ (sym c.in_ok-asked.ensures ∙ ap (option_map asked_as) c.in-Some.is)
 
 pub returns-clause-answer : goal.returns-clause-answer
 returns-clause-answer c =
     let none = faults_are (app_of c.args.program.now) (texts_of c.args.words.now) (λ kinds. kinds ≡ []) c.requires c.in_ok-matches.ensures.kinds in
     let some : is_some (option_and_then ask_of (subcommand_rows_of c.in_ok-matches.matches)) ≡ true =
     asked_some (app_of c.args.program.now) (texts_of c.args.words.now) c.in_ok-matches.matches c.requires c.in_ok-matches.ensures.ok.2 none in
-    let no : false ≡ is_some (option_and_then ask_of (subcommand_rows_of c.in_ok-matches.matches)) = ap is_some (sym (ap (option_map asks) c.in-None.is) ∙ c.in_ok-task.ensures) in
+    let no : false ≡ is_some (option_and_then ask_of (subcommand_rows_of c.in_ok-matches.matches)) = ap is_some (sym (ap (option_map asked_as) c.in-None.is) ∙ c.in_ok-asked.ensures) in
     let bad : false ≡ true = no ∙ some in cc

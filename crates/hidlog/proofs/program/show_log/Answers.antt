@@ -3,7 +3,7 @@ use Rattle.hidlog.proofs.Statuses.{both_ok, is_status}
 use Rattle.hidlog.proofs.program.show_log.Goals as goal
 
 pub returns-in-Lines-clause-status : goal.returns-in-Lines-clause-status
-returns-in-Lines-clause-status g c = is_status c.show-answer.result c.shown_to.result c.shown_to.ensures.status
+returns-in-Lines-clause-status g c = is_status c.show_lines-answer.result c.shown_to.result c.shown_to.ensures.status
 
 pub returns-in-Lines-clause-does : goal.returns-in-Lines-clause-does
 returns-in-Lines-clause-does g c =
@@ -11,7 +11,7 @@ returns-in-Lines-clause-does g c =
       c.open_log.new.input,
       c.in_ok-open_log.ensures.opened,
       rw c.in-Lines.is (
-        (c.show-answer.result, c.shown_to.ensures.status, (c.show-answer.ensures.reads, c.show-answer.ensures.writes, c.show-answer.ensures.end)),
+        (c.show_lines-answer.result, c.shown_to.ensures.status, c.show_lines-answer.ensures.shown, c.show_lines-answer.ensures.reach, c.show_lines-answer.ensures.counted),
         refl,
         rw (sym c.in_ok-open_log.ensures.silent) c.shown_to.ensures.silent,
       ),

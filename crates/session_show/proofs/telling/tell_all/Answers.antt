@@ -1,18 +1,21 @@
-use Rattle.std.proofs.Common.{◌≡◌, ◌<◌, ℕ, List, [], ◌++◌, length, take, None, Err, refl, sym, ap, ◌∙◌, subst, arith}
+use Rattle.std.proofs.Common.{◌≡◌, ◌<◌, ◌+◌, ℕ, List, [], ◌∷◌, ◌++◌, length, take, drop, Err, refl, sym, ap, ◌∙◌, subst, arith}
 use Rattle.std.specs.Io.KnownBytes.{Consumes}
-use Rattle.std.proofs.KnownBytes.{Consumes-nil, Appends-nil}
+use Rattle.std.proofs.KnownBytes.{Consumes-nil, Appends-nil, Appends-trans}
 use Rattle.std.proofs.lemmas.Result.{err_from_is_err_and}
 use Rattle.session_log.specs.Ending.{Ending, ended_by, ending_of, read_fails, write_fails}
 use Rattle.session_log.specs.Replay.{ReadsTo}
+use Rattle.session_log.specs.Lines.{lines}
+use Rattle.session_log.specs.Log.{text_of}
 use Rattle.session_log.specs.Streams.{Counts, IsAllRead}
 use Rattle.session_log.specs.Window.{IsUnfinished}
 use Rattle.session_log.specs.declared.fault.LogFault.{LogFault}
 use Rattle.session_log.proofs.Through.{through_none, played_none}
-use Rattle.session_log.proofs.Exits.{as_err, read_on, goes_on, stops_reading, stops_in_front, ends, is_nil, some_left}
+use Rattle.session_log.proofs.Cutting.{line_in_front}
+use Rattle.session_log.proofs.Exits.{as_err, read_on, is_nil, short_in_front, some_left}
 use Rattle.session_log.proofs.Failures.{on_any, on_err, counts_none, counts_on, plays_counts, plays_unread, stops_unwritten}
 use Rattle.session_log.proofs.Lasts.{faulty_in_front, faulty_last, none_bad}
 use Rattle.session_show.specs.Shown.{Shows, reading, unknown, failures_of}
-use Rattle.session_show.proofs.Parts.{grows_on}
+use Rattle.session_show.proofs.Told.{shown_on, told_line, told_none, told_to_end, told_to_line, told_to_read}
 use Rattle.session_show.proofs.telling.tell_all.Goals as goal
 
 pub lines-init : goal.lines-init
@@ -22,12 +25,12 @@ lines-init g c =
       reads = refl;
       writes = refl;
       counted = omega arith;
-      grown = ([], Appends-nil (g.T.Target.taken c.args.writer.now));
       done = (
         [],
         [],
         subst (Consumes (left c.args.reader.now) (left c.args.reader.now)) (sym c.new-window.ensures) (Consumes-nil (left c.args.reader.now)),
         through_none reading tt,
+        ([], Appends-nil (g.T.Target.taken c.args.writer.now), told_none g.L.Telling.shows),
       );
     }
 
@@ -42,15 +45,24 @@ lines-preserved g c =
     let line = c.split_at.result.0.now in
     let is_line : line ≡ take c.in-Some.end w = c.split_at.ensures.front ∙ ap (take c.in-Some.end) c.as_slice.ensures.value in
     let shown = c.in_ok-tell.ensures.shown in
+    let text = c.in_ok-tell.ensures.text in
     let read = read_on (left c.args.reader.now) (left c.lines.reader) (left c.next_line.new.reader) before.0 c.lines.window w before.2 c.in_ok-end.ensures.bytes in
-    let next = goes_on reading unknown failures_of (left c.args.reader.now) (left c.next_line.new.reader) None (failed c.lines.writer, failed c.tell.new.writer)
-    tt tt tt before.0 before.1 w c.drop_front.new.self line c.lines.number c.in-Some.end read tt before.3 has is_line c.drop_front.ensures shown in
+    let next = shown_on (left c.args.reader.now) (left c.next_line.new.reader) before.0 before.1 w c.drop_front.new.self line c.lines.number c.in-Some.end read before.3 has is_line c.drop_front.ensures shown.0 shown.2 in
     record {
       reads = ◌∙◌ {b = g.S.Source.failed c.lines.reader} c.in_ok-end.ensures.reads c.lines.invariant.reads;
       writes = shown.3.1 ∙ c.lines.invariant.writes;
       counted = omega (arith, has.counted);
-      grown = grows_on (taken c.args.writer.now) (taken c.lines.writer) (taken c.tell.new.writer) c.lines.invariant.grown c.in_ok-tell.ensures.grown;
-      done = (next.0, next.1, next.2, next.4);
+      done = (
+        before.0 ++ take (c.in-Some.end + 1) w,
+        before.1 ++ text_of reading tt line,
+        next.0,
+        next.1,
+        (
+          before.4.0 ++ text.0,
+          Appends-trans (taken c.args.writer.now) (taken c.lines.writer) (taken c.tell.new.writer) before.4.0 text.0 before.4.1 text.1,
+          told_line g.L.Telling.shows before.1 before.4.0 line text.0 c.lines.number before.4.2.0 before.4.2.1 shown.0 text.2,
+        ),
+      );
     }
 
 pub returns-in_err-end : goal.returns-in_err-end
@@ -66,11 +78,11 @@ returns-in_err-end g c =
     let is : r ≡ Err e = from.1 ∙ ap (λ (f : LogFault). Err f) from.2 in
     let read = read_on (left c.args.reader.now) (left c.lines.reader) (left c.next_line.new.reader) before.0 c.lines.window w before.2 c.in_err-end.ensures.bytes in
     record {
-      shown = as_err r e (λ (q : Ending). Shows (left c.args.reader.now) (left c.next_line.new.reader) q) is
-          (stops_reading reading (left c.args.reader.now) (left c.next_line.new.reader) None None tt tt before.0 before.1 w c.lines.number e read tt before.3 stopped);
+      shown = as_err r e (λ (q : Ending). Shows g.L.Telling.shows (left c.args.reader.now, left c.next_line.new.reader) (g.T.Target.taken c.args.writer.now, g.T.Target.taken c.lines.writer) q) is
+          (told_to_read g.L.Telling.shows (left c.args.reader.now) (left c.next_line.new.reader) (g.T.Target.taken c.args.writer.now) (g.T.Target.taken c.lines.writer)
+          before.0 before.1 before.4.0 w c.lines.number e read before.3 before.4.1 before.4.2.0 stopped);
       reach = as_err r e (λ (q : Ending). ReadsTo reading tt (left c.args.reader.now) (left c.next_line.new.reader) all q) is
           (none_bad reading (left c.args.reader.now) (left c.next_line.new.reader) tt tt before.0 before.1 w c.lines.number all e c.lines.invariant.counted read before.3 stopped);
-      grown = c.lines.invariant.grown;
       end = on_err all r e is;
       reads = as_err r e (λ (q : Ending). Counts g.S.Source.failed (c.args.reader.now, c.next_line.new.reader) (read_fails q)) is
           (counts_on (g.S.Source.failed c.lines.reader) (g.S.Source.failed c.args.reader.now) (g.S.Source.failed c.next_line.new.reader) (read_fails (ended_by e)) c.lines.invariant.reads c.in_err-end.ensures.reads);
@@ -96,13 +108,14 @@ returns-in_err-tell g c =
     let is : r ≡ Err e = from.1 ∙ ap (λ (f : LogFault). Err f) from.2 in
     let read = read_on (left c.args.reader.now) (left c.lines.reader) (left c.next_line.new.reader) before.0 c.lines.window w before.2 c.in_ok-end.ensures.bytes in
     record {
-      shown = as_err r e (λ (q : Ending). Shows (left c.args.reader.now) (left c.next_line.new.reader) q) is
-          (stops_in_front reading unknown failures_of (left c.args.reader.now) (left c.next_line.new.reader) None (failed c.lines.writer, failed c.tell.new.writer)
-          tt tt tt before.0 before.1 w line c.lines.number c.in-Some.end e read tt before.3 has is_line shown);
+      shown = as_err r e (λ (q : Ending). Shows g.L.Telling.shows (left c.args.reader.now, left c.next_line.new.reader) (taken c.args.writer.now, taken c.tell.new.writer) q) is
+          (told_to_line g.L.Telling.shows (left c.args.reader.now) (left c.next_line.new.reader) (taken c.args.writer.now) (taken c.lines.writer) (taken c.tell.new.writer)
+          (failed c.lines.writer, failed c.tell.new.writer) before.0 before.1 before.4.0 w line (lines (drop (c.in-Some.end + 1) w)) c.lines.number e read before.3 before.4.1 before.4.2.0
+          (line_in_front w c.in-Some.end has.feed ∙ ap (λ (l : List ℕ). l ∷ lines (drop (c.in-Some.end + 1) w)) (sym is_line))
+          (short_in_front w line c.lines.number c.in-Some.end has is_line) has.counted shown c.in_err-tell.ensures.text);
       reach = as_err r e (λ (q : Ending). ReadsTo reading tt (left c.args.reader.now) (left c.next_line.new.reader) all q) is
           (faulty_in_front reading unknown failures_of (left c.args.reader.now) (left c.next_line.new.reader) (failed c.lines.writer, failed c.tell.new.writer)
           tt tt tt before.0 before.1 w line c.lines.number c.in-Some.end all e c.in_err-tell.ensures.own read before.3 has is_line shown);
-      grown = grows_on (taken c.args.writer.now) (taken c.lines.writer) (taken c.tell.new.writer) c.lines.invariant.grown c.in_err-tell.ensures.grown;
       end = on_err all r e is;
       reads = as_err r e (λ (q : Ending). Counts g.S.Source.failed (c.args.reader.now, c.next_line.new.reader) (read_fails q)) is
           (counts_none _ _ _ (plays_unread reading unknown failures_of c.lines.number tt tt line (failed c.lines.writer, failed c.tell.new.writer) (ended_by e) shown)
@@ -122,14 +135,13 @@ returns-then-is_empty g c =
     record {
       shown = (
         before.0 ++ [],
-        before.1,
+        before.4.0,
         subst (λ (l : List ℕ). Consumes (left c.args.reader.now) (left c.next_line.new.reader) (before.0 ++ l)) none
             (read_on (left c.args.reader.now) (left c.lines.reader) (left c.next_line.new.reader) before.0 c.lines.window w before.2 c.in_ok-end.ensures.bytes),
-        tt,
-        played_none reading tt before.0 before.1 tt c.lines.number before.3,
+        before.4.1,
+        (before.1, played_none reading tt before.0 before.1 tt c.lines.number before.3, before.4.2.0),
       );
       reach = tt;
-      grown = c.lines.invariant.grown;
       end = at.1;
       reads = ◌∙◌ {b = g.S.Source.failed c.lines.reader} c.in_ok-end.ensures.reads c.lines.invariant.reads;
       writes = c.lines.invariant.writes;
@@ -153,13 +165,12 @@ returns g c =
     let last = subst (IsUnfinished c.lines.number) (sym is) at.0 in
     let shown = c.tell-2.ensures.shown in
     record {
-      shown = ends reading unknown failures_of r (left c.args.reader.now) (left c.next_line.new.reader) None (failed c.lines.writer, failed c.tell-2.new.writer)
-          tt tt tt before.0 before.1 w c.lines.number
+      shown = told_to_end g.L.Telling.shows r (left c.args.reader.now) (left c.next_line.new.reader) (taken c.args.writer.now) (taken c.lines.writer) (taken c.tell-2.new.writer)
+          (failed c.lines.writer, failed c.tell-2.new.writer) before.0 before.1 before.4.0 w c.lines.number
           (subst (λ (l : List ℕ). Consumes (left c.args.reader.now) (left c.next_line.new.reader) (before.0 ++ l)) (sym is) read)
-          tt before.3 last some shown;
+          before.3 before.4.1 before.4.2.0 before.4.2.1 last some shown c.tell-2.ensures.text;
       reach = faulty_last reading r (left c.args.reader.now) (left c.next_line.new.reader) tt tt before.0 before.1 window c.lines.number all c.tell-2.ensures.own
           read before.3 (omega (arith, small)) at.1;
-      grown = grows_on (taken c.args.writer.now) (taken c.lines.writer) (taken c.tell-2.new.writer) c.lines.invariant.grown c.tell-2.ensures.grown;
       end = on_any r at.1;
       reads = counts_none _ _ _ (plays_unread reading unknown failures_of c.lines.number tt tt w (failed c.lines.writer, failed c.tell-2.new.writer) (ending_of r) shown)
           (◌∙◌ {b = g.S.Source.failed c.lines.reader} c.in_ok-end.ensures.reads c.lines.invariant.reads);

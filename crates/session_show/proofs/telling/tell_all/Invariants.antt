@@ -1,8 +1,7 @@
-use Rattle.std.proofs.Common.{◌≡◌, ◌-◌, ◌^◌, ◌≤◌, List, ℕ, ◌++◌}
-use Rattle.std.specs.Io.KnownBytes.{Consumes}
+use Rattle.std.proofs.Common.{◌≡◌, ◌-◌, ◌+◌, ◌^◌, ◌≤◌, List, ℕ, ◌++◌, length}
+use Rattle.std.specs.Io.KnownBytes.{Appends, Consumes}
 use Rattle.session_log.proofs.Through.{Through}
-use Rattle.session_show.specs.Shown.{reading}
-use Rattle.session_log.specs.Streams.{Grows}
+use Rattle.session_show.specs.Shown.{IsTextOf, reading}
 use Rattle.session_show.proofs.telling.tell_all.Given as goal
 
 -- whole lines were read and shown, and what was read after them stands in the window
@@ -12,9 +11,10 @@ invariant-lines g l =
       reads : g.S.Source.failed l.reader ≡ g.S.Source.failed l.fn.reader;
       writes : g.T.Target.failed l.writer ≡ g.T.Target.failed l.fn.writer;
       counted : l.number ≤ 2 ^ 32;
-      grown : Grows (g.T.Target.taken l.fn.writer) (g.T.Target.taken l.writer);
       done : (read : List ℕ) × (shown : List ℕ) × Consumes (g.S.Source.left l.fn.reader) (g.S.Source.left l.reader) (read ++ l.window)
-          × Through reading tt read shown tt l.number;
+          × Through reading tt read shown tt l.number
+          × ((text : List ℕ) × Appends (g.T.Target.taken l.fn.writer) (g.T.Target.taken l.writer) text
+          × ((t : IsTextOf g.L.Telling.shows shown text) × (l.number ≡ length t.told + 1)));
     }
 
 abbrev pub decreases-lines : goal.decreases-lines

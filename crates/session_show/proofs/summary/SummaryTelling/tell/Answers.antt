@@ -12,12 +12,12 @@ pub returns-in-Ok : goal.returns-in-Ok
 returns-in-Ok g c = record {
   shown = shown_line c.args.number c.args.line.now _ _ c.in-Some.said (sym c.read_line.ensures ∙ c.in-Some.is) c.in-Ok.ensures.1;
   own = tt;
-  grown = c.in-Ok.ensures.0;
+  text = (c.in-Ok.ensures.0.0, c.in-Ok.ensures.0.1, tt);
 }
 
 pub returns-in-Err : goal.returns-in-Err
 returns-in-Err g c = record {
   shown = broken_line c.args.number c.args.line.now _ _ c.in-Some.said (sym c.read_line.ensures ∙ c.in-Some.is) c.in-Err.ensures.1;
   own = tt;
-  grown = c.in-Err.ensures.0;
+  text = c.in-Err.ensures.0;
 }

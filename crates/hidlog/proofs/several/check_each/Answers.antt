@@ -1,0 +1,17 @@
+use Rattle.std.proofs.Common.{◌∙◌, sym}
+use Rattle.hidlog.specs.CommandLine.{path_of}
+use Rattle.hidlog.proofs.Compared.{next_same}
+use Rattle.hidlog.proofs.several.check_each.Goals.{then-has_failed, else-has_failed}
+use Rattle.hidlog.proofs.several.check_each.Goals as goal
+
+pub loop-path-preserved : goal.loop-path-preserved
+loop-path-preserved g c = (
+  c.check_one-one.ensures.kept ∙ c.loop-path.invariant.0,
+  λ none. elim c.if-has_failed.branch [
+    | then-has_failed w ↦ cc
+    | else-has_failed w ↦
+        next_same g.D.Files.holds g.L.Logs.opened g.L.Source.left g.L.Source.ended (path_of c.args.load) c.args.files.now c.loop-path.files c.args.paths.now c.loop-path.path-index _
+        c.check_one-one.result c.args.input.now c.loop-path.input c.check_one-one.new.input c.loop-path-test.true c.loop-path.invariant.0 (c.loop-path.invariant.1 w.if-has_failed.false)
+        (sym w.is_err-has_failed.ensures.value ∙ (sym w.has_failed-is ∙ none)) c.check_one-one.ensures.same
+  ],
+)

@@ -1,0 +1,133 @@
+//! The bytes of a stream that were read last.
+ghost use Rattle.std.specs.Prelude.{◌≡◌, ◌<◌, ◌≤◌, ◌+◌, ◌↔◌, [], ◌++◌, length, take, drop, min, vec_len, IfOk, OnOk, OnErr, IsTrue};
+ghost use Rattle.std.specs.Io.KnownBytes.{Consumes, Keeps, IsAtEnd, prepend_known};
+ghost use Rattle.hidlog.specs.Streams.{unread};
+
+use std::alloc::{AllocError, Global};
+use std::io::{self, Read};
+
+/// How many bytes are held, of those that were read last.
+const HELD: usize = 8192;
+
+/// How many of them stay where there are more. A line that is refused begins in the last 256 that were read.
+const KEPT: usize = 4096;
+
+/// The bytes of a stream that were read last: some that were handed on, and the others after them.
+#[derive(Drop)]
+pub struct Recent {
+    held: Vec<u8>,
+    at: usize,
+    end: usize,
+    forgot: bool,
+    ghost size: { vec_len held ≡ 8192 },
+    ghost order: { at ≤ end },
+    ghost fits: { end ≤ 8192 },
+}
+
+/// Reads once, behind so many bytes.
+fn read_behind<R: Read>(stream: &mut R, held: &mut Vec<u8>, end: usize) -> io::Result<usize>
+    requires { end ≤ vec_len held.old }
+    ensures len { vec_len held.new ≡ vec_len held.old }
+    ensures bound { IfOk result (λ n. end + n ≤ vec_len held.new) }
+    ensures bytes { IfOk result (λ n. Consumes (R.remaining stream.old) (R.remaining stream.new) (take n (drop end held.new.items))) }
+    ensures end { IfOk result (λ n. n ≡ 0 → end < vec_len held.old → IsAtEnd (R.remaining stream.new)) }
+    ensures err { OnErr result (Keeps (R.remaining stream.old) (R.remaining stream.new)) }
+{
+    stream.read(held.as_mut_slice().split_at_mut(end).1)
+}
+
+impl Recent {
+    /// Returns none, with capacity for some.
+    pub fn new(alloc: Global) -> Result<Self, AllocError>
+        ensures { IfOk result (λ recent. unread recent.held.items recent.at recent.end ≡ []) }
+    {
+        Ok(Recent {
+            held: vec![in alloc; 0; HELD]?,
+            at: 0,
+            end: 0,
+            forgot: false,
+        })
+    }
+
+    /// Forgets all.
+    pub fn clear(&mut self)
+        ensures { unread self.new.held.items self.new.at self.new.end ≡ [] }
+    {
+        self.at = 0;
+        self.end = 0;
+        self.forgot = false;
+    }
+
+    /// Returns those that weren't handed on yet.
+    pub fn unread(&self) -> &[u8]
+        ensures { result.now ≡ unread self.now.held.items self.now.at self.now.end }
+    {
+        self.held
+            .as_slice()
+            .split_at(self.end)
+            .0
+            .split_at(self.at)
+            .1
+    }
+
+    /// Returns whether all were handed on.
+    pub fn is_read(&self) -> bool
+        ensures { IsTrue result ↔ (unread self.now.held.items self.now.at self.now.end ≡ []) }
+    {
+        self.unread().is_empty()
+    }
+
+    /// Reads once, where all were handed on, after what was read before. Returns how many bytes came.
+    pub fn fill<R: Read>(&mut self, stream: &mut R) -> io::Result<usize>
+        requires { unread self.old.held.items self.old.at self.old.end ≡ [] }
+        ensures bytes { Keeps (R.remaining stream.old)
+            (prepend_known (unread self.new.held.items self.new.at self.new.end) (R.remaining stream.new)) }
+        ensures end { OnOk result (unread self.new.held.items self.new.at self.new.end ≡ [] → IsAtEnd (R.remaining stream.new)) }
+    {
+        self.forget();
+        let n = read_behind(stream, &mut self.held, self.end)?;
+        self.end += n;
+        Ok(n)
+    }
+
+    /// Moves the front of those that weren't handed on to `out`. Returns how many.
+    pub fn take(&mut self, out: &mut [u8]) -> usize
+        ensures count { result ≡ min (length (unread self.old.held.items self.old.at self.old.end)) (length out.old) }
+        ensures len { length out.new ≡ length out.old }
+        ensures bytes { unread self.old.held.items self.old.at self.old.end
+            ≡ take result out.new ++ unread self.new.held.items self.new.at self.new.end }
+    {
+        let new = self.unread();
+        let n = new.len().min(out.len());
+        out[..n].copy_from_slice(&new[..n]);
+        self.at += n;
+        n
+    }
+
+    /// Returns the lines of those that are held, without the front of one that is remembered in part.
+    pub fn lines(&self) -> &[u8] {
+        let read = self.held.as_slice().split_at(self.end).0;
+        if !self.forgot {
+            return read;
+        }
+        match read.iter().position(|byte| *byte == b'\n') {
+            Some(end) => read.split_at(end).1,
+            None => &[],
+        }
+    }
+
+    /// Keeps the last of those that are held, where there are many. All were handed on then.
+    fn forget(&mut self)
+        ensures at { self.new.at ≡ self.new.end }
+        ensures space { self.new.end ≤ 4096 }
+    {
+        if self.end > KEPT {
+            self.held
+                .as_mut_slice()
+                .copy_within(self.end - KEPT..self.end, 0);
+            self.end = KEPT;
+            self.forgot = true;
+        }
+        self.at = self.end;
+    }
+}

@@ -1,0 +1,279 @@
+//! What a device sends on a channel: which transaction it is for, and what it ends.
+
+use crate::channel::{Channel, Told};
+use crate::exchange::{End, Ends, Exchange, Transaction};
+use crate::walk::Doubtful;
+use hid_packet::BROADCAST;
+use hid_packet::command::{CBOR, INIT};
+
+/// The codes of ERROR (CTAP 2.1, section 11.2.9.1.6).
+const INVALID_COMMAND: u8 = 0x01;
+
+const INVALID_LENGTH: u8 = 0x03;
+
+const INVALID_SEQUENCE: u8 = 0x04;
+
+pub const TIMED_OUT: u8 = 0x05;
+
+const CHANNEL_BUSY: u8 = 0x06;
+
+const INVALID_CHANNEL: u8 = 0x0B;
+
+/// The status of a request that was cancelled.
+const CANCELLED: u8 = 0x2D;
+
+/// authenticatorGetAssertion.
+const ASSERT: u8 = 0x02;
+
+/// The milliseconds within which no device drops a message.
+pub const NO_TIME_OUT: u64 = 100;
+
+/// A packet of a device that begins an answer.
+#[derive(Clone, Copy)]
+pub struct Answer<'a> {
+    pub line: u64,
+    pub command: u8,
+    pub length: u16,
+    pub part: &'a [u8],
+}
+
+/// An answer that a packet goes on with.
+#[derive(Clone, Copy)]
+pub struct Answered {
+    /// The line that the answer began at.
+    pub line: u64,
+    /// The transaction that it is for.
+    pub of: Option<Transaction>,
+    pub is_whole: bool,
+}
+
+impl Channel {
+    /// Takes a KEEPALIVE, and returns the transaction that is worked on.
+    pub fn keep_alive(&mut self, ends: &mut Ends) -> Option<Transaction> {
+        let is_held = self.held.is_some_and(|held| held.is_served());
+        let is_asked = self.asked.is_some_and(|asked| asked.is_served());
+        if is_asked && !is_held {
+            self.settle(ends);
+        }
+        let held = self.held.as_mut()?;
+        if !held.is_served() {
+            return None;
+        }
+        held.keepalives = held.keepalives.saturating_add(1);
+        self.since = self.since.saturating_add(1);
+        Some(held.transaction)
+    }
+
+    /// Takes an ERROR with this code, and returns the transaction that it is for, and whether it shows that the packet
+    /// before it came too late for its message.
+    pub fn refuse(
+        &mut self,
+        code: u8,
+        doubtful: Option<&Doubtful>,
+        ends: &mut Ends,
+    ) -> (Option<Transaction>, bool) {
+        if code != TIMED_OUT {
+            return (self.refuse_one(code, ends), false);
+        }
+        if self.is_asked_open() {
+            self.settle(ends);
+        }
+        let is_late = self.leave_out(doubtful);
+        let is_open = self.held.is_some_and(|held| !held.is_whole());
+        if is_open && let Some(held) = self.free(ends) {
+            ends.add(held, End::Refused(code));
+            return (Some(held.transaction), is_late);
+        }
+        (self.refuse_one(code, ends), is_late)
+    }
+
+    /// Returns whether a time-out is that of the message that was asked, so that it has the channel.
+    fn is_asked_open(&self) -> bool {
+        match (&self.held, &self.asked) {
+            (Some(held), Some(asked)) => !asked.is_whole()
+                && (held.is_whole() || asked.after < NO_TIME_OUT),
+            _ => false,
+        }
+    }
+
+    /// Leaves out of the open message the packet that may have come too late for it. Returns whether there is one.
+    fn leave_out(&mut self, doubtful: Option<&Doubtful>) -> bool {
+        let (Some(held), Some(doubtful)) = (&mut self.held, doubtful) else {
+            return false;
+        };
+        if held.transaction.line != doubtful.of.line {
+            return false;
+        }
+        if doubtful.is_next {
+            held.continuations = held.continuations.saturating_sub(1);
+        }
+        true
+    }
+
+    /// Takes an ERROR that is no time-out of an open message.
+    fn refuse_one(&mut self, code: u8, ends: &mut Ends) -> Option<Transaction> {
+        if let Some(refused) = self.refused_start(code) {
+            let is_init = refused.transaction.message == INIT;
+            let line = refused.transaction.line;
+            ends.add(refused, End::Refused(code));
+            let by = if is_init {
+                End::Dropped(line)
+            } else {
+                End::Replaced(line)
+            };
+            let cause = if is_init {
+                INVALID_LENGTH
+            } else {
+                INVALID_SEQUENCE
+            };
+            let ends_held = self.held.is_some_and(|held| !held.is_whole()
+                && held.transaction.line < line
+                && code == cause);
+            if ends_held && let Some(held) = self.free(ends) {
+                ends.add(held, by);
+            }
+            return Some(refused.transaction);
+        }
+        let is_of_stray = match &self.held {
+            None => true,
+            Some(held) => {
+                held.keepalives > 0
+                    && matches!(
+                        code,
+                        INVALID_COMMAND | INVALID_SEQUENCE | CHANNEL_BUSY | INVALID_CHANNEL
+                    )
+            }
+        };
+        if self.is_stray && is_of_stray {
+            return None;
+        }
+        let ended = match self.free(ends) {
+            Some(held) => held,
+            None => {
+                let last = self.greetings.len().checked_sub(1)?;
+                self.take_greeting(last)?
+            }
+        };
+        ends.add(ended, End::Refused(code));
+        Some(ended.transaction)
+    }
+
+    /// Takes the message that began last and isn't known to have the channel, if an ERROR can be for it: an INIT of a
+    /// wrong length first.
+    fn refused_start(&mut self, code: u8) -> Option<Exchange> {
+        if code == INVALID_LENGTH {
+            let wrong = self
+                .greetings
+                .iter()
+                .position(|greeting| greeting.length != 8);
+            if let Some(place) = wrong {
+                return self.take_greeting(place);
+            }
+        }
+        if self.is_greeted {
+            let last = self.greetings.len().checked_sub(1)?;
+            let is_busy = code == CHANNEL_BUSY && self.number != BROADCAST;
+            // INIT is taken at any time on its own channel.
+            if matches!(code, INVALID_SEQUENCE | TIMED_OUT) || is_busy {
+                return None;
+            }
+            return self.take_greeting(last);
+        }
+        self.asked.take()
+    }
+
+    /// Takes the first packet of an answer, and returns the transaction that it is for.
+    pub fn answer(&mut self, answer: &Answer<'_>, ends: &mut Ends) -> Option<Transaction> {
+        let exchange = if answer.command == INIT {
+            self.answer_greeting(answer, ends)
+        } else {
+            self.answer_message(answer, ends)
+        };
+        if let Some(exchange) = &exchange
+            && exchange.transaction.command == Some(ASSERT)
+        {
+            self.asserted = exchange.rp_id;
+        }
+        self.told = Some(Told {
+            line: answer.line,
+            length: answer.length,
+            continuations: 0,
+            status: status_in(answer),
+            exchange,
+        });
+        self.end_told(ends);
+        exchange.map(|exchange| exchange.transaction)
+    }
+
+    /// Takes the INIT with the nonce of an answer. On a channel of its own it drops what began before it (section
+    /// 11.2.5.3).
+    fn answer_greeting(&mut self, answer: &Answer<'_>, ends: &mut Ends) -> Option<Exchange> {
+        let nonce = answer.part.get(..8)?;
+        let place = self.greetings.iter().position(|greeting| greeting.length == 8
+            && greeting.nonce.as_slice() == nonce)?;
+        let exchange = self.take_greeting(place)?;
+        let line = exchange.transaction.line;
+        let is_before = self.held.is_some_and(|held| held.transaction.line < line);
+        if self.number != BROADCAST
+            && is_before
+            && let Some(held) = self.free(ends)
+        {
+            ends.add(held, End::Dropped(line));
+        }
+        Some(exchange)
+    }
+
+    /// Takes the message that an answer is for: the newest whole one of its command.
+    fn answer_message(&mut self, answer: &Answer<'_>, ends: &mut Ends) -> Option<Exchange> {
+        let is_of_asked = self.asked.is_some_and(|asked| asked.is_whole()
+            && asked.transaction.message == answer.command);
+        let is_of_cancelled = status_in(answer) == Some(CANCELLED)
+            && self
+                .held
+                .is_some_and(|held| held.waits() && held.cancelled.is_some());
+        if is_of_asked && !is_of_cancelled {
+            self.settle(ends);
+        }
+        let is_its = self.held.is_some_and(|held| held.is_whole()
+            && held.transaction.message == answer.command);
+        if is_its { self.free(ends) } else { None }
+    }
+
+    /// Takes a continuation packet of the device's last message, if it is the next one.
+    pub fn answer_on(&mut self, number: u8, ends: &mut Ends) -> Option<Answered> {
+        let told = self.told.as_mut()?;
+        if told.is_whole() || told.continuations != number {
+            return None;
+        }
+        told.continuations = told.continuations.saturating_add(1);
+        let answered = Answered {
+            line: told.line,
+            of: told.exchange.map(|exchange| exchange.transaction),
+            is_whole: told.is_whole(),
+        };
+        self.end_told(ends);
+        Some(answered)
+    }
+
+    /// Ends the transaction of the device's last message, if that is whole now.
+    fn end_told(&mut self, ends: &mut Ends) {
+        if let Some(told) = &self.told
+            && told.is_whole()
+            && let Some(exchange) = told.exchange
+        {
+            let end = match told.status {
+                Some(status) => End::Status(status),
+                None => End::Answered,
+            };
+            ends.add(exchange, end);
+        }
+    }
+}
+
+/// Returns the status of a CBOR answer.
+fn status_in(answer: &Answer<'_>) -> Option<u8> {
+    match answer.part {
+        [status, ..] if answer.command == CBOR && answer.length > 0 => Some(*status),
+        _ => None,
+    }
+}

@@ -1,0 +1,140 @@
+//! Why the key doesn't send what a log has, as far as the lines before it show that.
+
+use crate::difference::Difference;
+use crate::exchange::Exchange;
+use crate::pen::Pen;
+use crate::putting::Written;
+use crate::walk::{Walk, channel_of};
+use authn_core::Need;
+use hid_packet::command::ERROR;
+use hid_packet::{Packet, View};
+use token_session::Input;
+
+/// The code of an ERROR that refuses a message since another one is served.
+const CHANNEL_BUSY: u8 = 0x06;
+
+/// What a key waits for.
+#[derive(Clone, Copy, PartialEq, Eq)]
+pub enum Awaited {
+    Presence,
+    Key,
+    Signature,
+}
+
+impl Awaited {
+    /// Returns what is needed.
+    pub fn of(need: &Need<'_>) -> Option<Self> {
+        match need {
+            Need::None => None,
+            Need::Presence => Some(Awaited::Presence),
+            Need::Key => Some(Awaited::Key),
+            Need::Sign { .. } => Some(Awaited::Signature),
+        }
+    }
+
+    /// Returns what an input is, where it is a reply.
+    pub fn in_input(input: &Input) -> Option<Self> {
+        match input {
+            Input::Packet(_) | Input::Tick => None,
+            Input::Presence(_) => Some(Awaited::Presence),
+            Input::Key(_) => Some(Awaited::Key),
+            Input::Signature(_) => Some(Awaited::Signature),
+        }
+    }
+
+    /// Returns it in words.
+    pub fn name(self) -> &'static str {
+        match self {
+            Awaited::Presence => "the user's presence",
+            Awaited::Key => "a new key",
+            Awaited::Signature => "a signature",
+        }
+    }
+}
+
+/// Why a packet differs.
+#[derive(Clone, Copy)]
+pub struct Reason<'a> {
+    pub walk: &'a Walk,
+    pub difference: &'a Difference,
+}
+
+impl Written for Reason<'_> {
+    /// Writes a line, or nothing.
+    fn write(&self, pen: &mut Pen) {
+        match (&self.difference.logged, &self.difference.sent) {
+            (Some(logged), None) => self.write_waiting(pen, channel_of(logged)),
+            (_, Some(sent)) if is_busy(sent) => {
+                if let Some(other) = self.walk.held_beside(channel_of(sent)) {
+                    pen.text("  it serves ");
+                    other.transaction.write(pen);
+                    pen.text("\n");
+                }
+            }
+            _ => {}
+        }
+    }
+}
+
+impl Reason<'_> {
+    /// Writes what the key waits for before it answers on a channel.
+    fn write_waiting(&self, pen: &mut Pen, channel: u32) {
+        if let Some(open) = self.walk.held_on(channel)
+            && !open.is_whole()
+        {
+            write_missing(pen, open);
+            return;
+        }
+        let Some(awaited) = self.difference.awaited else {
+            self.write_answered(pen, channel);
+            return;
+        };
+        pen.text("  it needs ");
+        pen.text(awaited.name());
+        if let Some(reply) = self.difference.reply
+            && reply != awaited
+        {
+            pen.text("; line ");
+            pen.decimal(self.difference.input);
+            pen.text(" is ");
+            pen.text(reply.name());
+        }
+        pen.text("\n");
+    }
+
+    /// Writes where the key's last message on a channel is, where it answers one and nothing waits.
+    fn write_answered(&self, pen: &mut Pen, channel: u32) {
+        if let Some(told) = self.walk.told_on(channel)
+            && told.is_whole()
+        {
+            pen.text("  nothing waits: its last answer on this channel is that of line ");
+            pen.decimal(told.line);
+            pen.text("\n");
+        }
+    }
+}
+
+/// Writes which packet of a message is missing.
+fn write_missing(pen: &mut Pen, open: &Exchange) {
+    pen.text("  it still waits for packet +");
+    pen.decimal(u64::from(open.continuations));
+    pen.text(" of the message from line ");
+    pen.decimal(open.transaction.line);
+    pen.text(": ");
+    pen.decimal(open.came() as u64);
+    pen.text(" of ");
+    pen.decimal(u64::from(open.length));
+    pen.text(" bytes came\n");
+}
+
+/// Returns whether a packet says that another message is served.
+fn is_busy(packet: &Packet) -> bool {
+    match packet.view() {
+        View::Start {
+            cmd: ERROR,
+            part,
+            ..
+        } => part.first() == Some(&CHANNEL_BUSY),
+        _ => false,
+    }
+}

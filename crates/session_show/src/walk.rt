@@ -1,0 +1,615 @@
+//! One walk over a log: which transaction each line belongs to, which message ends at it, and which transactions end.
+ghost use Rattle.std.specs.Prelude.{◌<◌, IfSome};
+
+use crate::channel::{Channel, Continuation, Greeting, Told};
+use crate::device::{Answer, NO_TIME_OUT, TIMED_OUT};
+use crate::entry::{Entry, Follows, Message};
+use crate::exchange::{Ended, Ends, Exchange, Transaction, is_whole};
+use crate::pool::Pool;
+use crate::rp_id::RpId;
+use ctap_cbor::check;
+use hid_packet::command::{CANCEL, CBOR, ERROR, INIT, KEEPALIVE};
+use hid_packet::{LONGEST_MESSAGE, Packet, View};
+use session_log::Line;
+use token_session::{Input, Timed};
+
+/// authenticatorGetNextAssertion.
+const NEXT: u8 = 0x08;
+
+/// How many channels are followed at once.
+const CHANNELS: usize = 6;
+
+/// The most transactions that are open at once: on each channel four INITs, two other messages, and an answer.
+pub const OPEN: usize = 7 * CHANNELS;
+
+/// What a line is to the transactions.
+#[derive(Clone, Copy, PartialEq, Eq)]
+pub enum Part {
+    /// It is of a transaction, or is no packet and no reply.
+    Own,
+    /// A continuation packet of no message that is open.
+    Stray,
+    /// A CANCEL for which nothing waited.
+    Cancel,
+    /// A reply for which nothing waited.
+    Reply,
+    /// An ERROR of no transaction, with this code.
+    Error(u8),
+}
+
+/// A continuation packet of a host of which it isn't known yet whether it came too late for its message. The next line
+/// that isn't a comment shows it: a device that dropped the message says so first.
+#[derive(Clone, Copy)]
+pub struct Doubtful {
+    pub line: u64,
+    pub of: Transaction,
+    /// Whether it is the next one of the message.
+    pub is_next: bool,
+    /// Whether the message is whole with it.
+    is_whole: bool,
+}
+
+/// A message that ends at a line.
+#[derive(Clone, Copy)]
+enum Shown {
+    /// That of the transaction that began at a line.
+    Request(u64),
+    /// One of the device that began at a line, on the channel at a place.
+    Answer(u64, usize),
+}
+
+/// What became of a doubtful packet.
+#[derive(Clone, Copy)]
+pub struct Decided {
+    pub line: u64,
+    /// The transaction that it belongs to.
+    pub of: Option<Transaction>,
+    shown: Option<Shown>,
+}
+
+/// What the lines of a log so far began.
+#[derive(Drop)]
+pub struct Walk {
+    channels: [Channel; CHANNELS],
+    pool: Pool,
+    /// The latest moment.
+    now: u64,
+    doubtful: Option<Doubtful>,
+    /// Of the last line: the transactions that it ends, ..
+    ends: Ends,
+    /// .. the one that it belongs to, ..
+    of: Option<Transaction>,
+    part: Part,
+    /// .. the message that ends at it, ..
+    shown: Option<Shown>,
+    /// .. and what it shows of a doubtful one before it.
+    decided: Option<Decided>,
+}
+
+/// Returns a packet's channel.
+pub fn channel_of(packet: &Packet) -> u32 {
+    match packet.view() {
+        View::Start { cid, .. } | View::More { cid, .. } => cid,
+    }
+}
+
+impl Walk {
+    /// Returns that of no lines.
+    pub fn new() -> Self {
+        Walk {
+            channels: [
+                Channel::unused(),
+                Channel::unused(),
+                Channel::unused(),
+                Channel::unused(),
+                Channel::unused(),
+                Channel::unused(),
+            ],
+            pool: Pool::new(),
+            now: 0,
+            doubtful: None,
+            ends: Ends::new(),
+            of: None,
+            part: Part::Own,
+            shown: None,
+            decided: None,
+        }
+    }
+
+    /// Becomes one that took the same lines as another one.
+    pub fn copy_from(&mut self, other: &Walk) {
+        self.clear();
+        for place in 0..CHANNELS {
+            self.channels[place].copy_from(&other.channels[place]);
+        }
+        self.pool.copy_from(&other.pool);
+        self.now = other.now;
+        self.doubtful = other.doubtful;
+    }
+
+    /// Takes the log's next line, which has this number and says this.
+    pub fn take(&mut self, number: u64, said: &Line) {
+        self.clear();
+        match said {
+            Line::Input(timed) => self.take_input(number, timed),
+            Line::Sent(packet) => self.take_sent(number, packet),
+            Line::Comment | Line::Count => {}
+        }
+    }
+
+    /// Forgets what was of the line before alone.
+    fn clear(&mut self) {
+        for ended in self.ends.as_slice() {
+            self.pool.release(ended.exchange.transaction.line);
+        }
+        self.ends.clear();
+        let decided = self.decided.and_then(|decided| decided.shown);
+        self.release(decided);
+        self.release(self.shown);
+        self.of = None;
+        self.part = Part::Own;
+        self.shown = None;
+        self.decided = None;
+    }
+
+    /// Keeps the bytes of a message no longer.
+    fn release(&mut self, shown: Option<Shown>) {
+        if let Some(Shown::Request(line) | Shown::Answer(line, _)) = shown {
+            self.pool.release(line);
+        }
+    }
+
+    // ---- what the last line is
+
+    /// Returns the transaction that it belongs to.
+    pub fn transaction(&self) -> Option<Transaction> {
+        self.of
+    }
+
+    /// Returns what it is, where it belongs to no transaction.
+    pub fn part(&self) -> Part {
+        self.part
+    }
+
+    /// Returns the transactions that it ends.
+    pub fn ended(&self) -> &[Ended] {
+        self.ends.as_slice()
+    }
+
+    /// Returns whether a line has a packet of which a later line shows what it belongs to.
+    pub fn is_doubtful(&self, line: u64) -> bool {
+        self.doubtful.is_some_and(|doubtful| doubtful.line == line)
+    }
+
+    /// Returns what it shows of such a packet before it.
+    pub fn decided(&self) -> Option<&Decided> {
+        self.decided.as_ref()
+    }
+
+    /// Returns the message of a doubtful packet.
+    pub fn late(&self) -> Option<(u64, Message<'_>)> {
+        let decided = self.decided.as_ref()?;
+        let message = self.message_of(decided.shown)?;
+        Some((decided.line, message))
+    }
+
+    /// Returns the message that ends at it.
+    pub fn message(&self) -> Option<Message<'_>> {
+        self.message_of(self.shown)
+    }
+
+    fn message_of(&self, shown: Option<Shown>) -> Option<Message<'_>> {
+        match shown? {
+            Shown::Request(line) => Some(match self.pool.bytes(line) {
+                Some(bytes) => Message::Request(bytes),
+                None => Message::Lost,
+            }),
+            Shown::Answer(line, place) => {
+                let told = self
+                    .channels
+                    .get(place)
+                    .and_then(|channel| channel.told.as_ref());
+                let exchange = told.and_then(|told| told.exchange.as_ref());
+                Some(match self.pool.bytes(line) {
+                    Some(bytes) => Message::Answer(exchange, bytes),
+                    None => Message::Lost,
+                })
+            }
+        }
+    }
+
+    /// Returns the first transaction that is open of those that began after a line.
+    pub fn open_after(&self, line: u64) -> Option<Ended> {
+        let mut first: Option<Ended> = None;
+        for channel in self.channels.as_slice() {
+            if let Some(found) = channel.open_after(line) {
+                let began = found.exchange.transaction.line;
+                if first.is_none_or(|first| began < first.exchange.transaction.line) {
+                    first = Some(found);
+                }
+            }
+        }
+        first
+    }
+
+    /// Returns the message that holds a channel.
+    pub fn held_on(&self, number: u32) -> Option<&Exchange> {
+        let place = self.find(number)?;
+        self.channels[place].held.as_ref()
+    }
+
+    /// Returns the device's last message on a channel.
+    pub fn told_on(&self, number: u32) -> Option<&Told> {
+        let place = self.find(number)?;
+        self.channels[place].told.as_ref()
+    }
+
+    /// Returns a message that holds another channel than this one.
+    pub fn held_beside(&self, number: u32) -> Option<&Exchange> {
+        for channel in self.channels.as_slice() {
+            if channel.number != number && channel.held.is_some() {
+                return channel.held.as_ref();
+            }
+        }
+        self.held_on(number)
+    }
+
+    /// Returns whether further packets of the device's last message on a channel are to come.
+    pub fn is_answering(&self, number: u32) -> bool {
+        match self.find(number) {
+            Some(place) => self.channels[place]
+                .told
+                .is_some_and(|told| !told.is_whole()),
+            None => false,
+        }
+    }
+
+    /// Takes the log's end: what is doubtful belongs to its message.
+    pub fn finish(&mut self) {
+        self.clear();
+        if let Some(doubtful) = self.doubtful.take() {
+            self.decide(&doubtful, false);
+        }
+    }
+
+    // ---- inputs
+
+    fn take_input(&mut self, number: u64, timed: &Timed) {
+        if let Some(doubtful) = self.doubtful.take() {
+            self.decide(&doubtful, false);
+        }
+        self.now = self.now.max(timed.at);
+        match &timed.input {
+            Input::Packet(packet) => self.take_packet(number, packet),
+            Input::Tick => {}
+            Input::Presence(_) => self.take_reply(Some(self.now)),
+            Input::Key(_) | Input::Signature(_) => self.take_reply(None),
+        }
+    }
+
+    /// Takes a reply: of the one request that waits for its answer, if exactly one does.
+    fn take_reply(&mut self, presence: Option<u64>) {
+        let mut waiting = None;
+        let mut count = 0_usize;
+        for place in 0..CHANNELS {
+            if self.channels[place].held.is_some_and(|held| held.waits()) {
+                waiting = Some(place);
+                count = count.saturating_add(1);
+            }
+        }
+        if count == 1
+            && let Some(place) = waiting
+            && place < CHANNELS
+        {
+            self.of = self.channels[place].reply(presence);
+        }
+        if self.of.is_none() {
+            self.part = Part::Reply;
+        }
+    }
+
+    /// Takes a packet of a host.
+    fn take_packet(&mut self, number: u64, packet: &Packet) {
+        let place = self.place(channel_of(packet), number);
+        match packet.view() {
+            View::Start { cmd: CANCEL, .. } => {
+                self.of = self.channels[place].cancel(number);
+                if self.of.is_none() {
+                    self.part = Part::Cancel;
+                }
+            }
+            View::Start {
+                cmd: INIT,
+                len,
+                part,
+                ..
+            } => {
+                let greeting = Greeting {
+                    line: number,
+                    at: self.now,
+                    length: len,
+                    nonce: nonce_in(part),
+                };
+                self.of = Some(self.channels[place].greet(greeting, &mut self.ends));
+            }
+            View::Start {
+                cid,
+                cmd,
+                len,
+                part,
+            } => {
+                let transaction = Transaction {
+                    channel: cid,
+                    line: number,
+                    message: cmd,
+                    command: command_in(cmd, len, part),
+                };
+                self.begin(place, transaction, len, part);
+            }
+            View::More { seq, part, .. } => self.go_on(place, number, seq, part),
+        }
+    }
+
+    /// Takes the first packet of a host's message.
+    fn begin(&mut self, place: usize, transaction: Transaction, length: u16, part: &[u8])
+        requires { place < 6 }
+    {
+        let begun = Exchange {
+            transaction,
+            length,
+            at: self.now,
+            ..Exchange::default()
+        };
+        self.channels[place].begin(begun, &mut self.ends);
+        self.of = Some(transaction);
+        if transaction.command.is_some() && length <= LONGEST_MESSAGE {
+            self.pool.begin(transaction.line, length, part);
+            if is_whole(length, 0) {
+                self.shown = self.complete(place, &transaction);
+            }
+        }
+    }
+
+    /// Takes a continuation packet of a host.
+    fn go_on(&mut self, place: usize, number: u64, sequence: u8, part: &[u8])
+        requires { place < 6 }
+    {
+        let (of, gap, is_next) = match self.channels[place].go_on(sequence, self.now) {
+            Continuation::Stray => {
+                self.part = Part::Stray;
+                return;
+            }
+            Continuation::Misnumbered(of, gap) => (of, gap, false),
+            Continuation::Next(of, gap) => (of, gap, true),
+        };
+        self.of = Some(of);
+        let mut is_whole = false;
+        if is_next {
+            self.pool.add(of.line, part);
+            is_whole = self.channels[place].has_whole(of.line) && of.command.is_some();
+        }
+        if gap >= NO_TIME_OUT {
+            self.doubtful = Some(Doubtful {
+                line: number,
+                of,
+                is_next,
+                is_whole,
+            });
+        } else if is_whole {
+            self.shown = self.complete(place, &of);
+        }
+    }
+
+    /// Keeps the RP id that a whole request names, and returns the request as one that is shown.
+    fn complete(&mut self, place: usize, of: &Transaction) -> Option<Shown>
+        requires { place < 6 }
+    {
+        let rp_id = self.rp_id_of(place, of);
+        self.channels[place].name(of.line, &rp_id);
+        Some(Shown::Request(of.line))
+    }
+
+    /// Returns the RP id that a whole request is about, if its item is canonical: authenticatorGetNextAssertion asks for
+    /// what authenticatorGetAssertion did.
+    fn rp_id_of(&self, place: usize, of: &Transaction) -> RpId
+        requires { place < 6 }
+    {
+        match (of.command, self.pool.bytes(of.line)) {
+            (Some(NEXT), _) => self.channels[place].asserted,
+            (Some(command), Some([_, item @ ..])) if check(item).result.is_ok() => {
+                RpId::of_request(command, item)
+            }
+            _ => RpId::none(),
+        }
+    }
+
+    /// Decides on a doubtful packet: whether it came too late.
+    fn decide(&mut self, doubtful: &Doubtful, is_late: bool) {
+        let mut shown = None;
+        if doubtful.is_whole
+            && !is_late
+            && let Some(place) = self.find(doubtful.of.channel)
+        {
+            shown = self.complete(place, &doubtful.of);
+        }
+        let of = if is_late { None } else { Some(doubtful.of) };
+        self.decided = Some(Decided {
+            line: doubtful.line,
+            of,
+            shown,
+        });
+    }
+
+    // ---- packets of the device
+
+    fn take_sent(&mut self, number: u64, packet: &Packet) {
+        let place = self.place(channel_of(packet), number);
+        let doubtful = self.doubtful.take();
+        if let View::Start {
+            cmd: ERROR,
+            part: [code, ..],
+            ..
+        } = packet.view()
+        {
+            self.take_error(place, *code, doubtful);
+            return;
+        }
+        if let Some(doubtful) = &doubtful {
+            self.decide(doubtful, false);
+        }
+        match packet.view() {
+            View::Start { cmd: KEEPALIVE, .. } => {
+                self.cut(place);
+                self.of = self.channels[place].keep_alive(&mut self.ends);
+            }
+            View::Start { cmd, len, part, .. } => {
+                self.cut(place);
+                let answer = Answer {
+                    line: number,
+                    command: cmd,
+                    length: len,
+                    part,
+                };
+                self.take_answer(place, &answer);
+            }
+            View::More { seq, part, .. } => self.answer_on(place, seq, part),
+        }
+    }
+
+    /// Forgets the device's last message on a channel.
+    fn cut(&mut self, place: usize)
+        requires { place < 6 }
+    {
+        if let Some(line) = self.channels[place].cut(&mut self.ends) {
+            self.pool.release(line);
+        }
+    }
+
+    fn take_error(&mut self, place: usize, code: u8, doubtful: Option<Doubtful>)
+        requires { place < 6 }
+    {
+        self.cut(place);
+        if let Some(doubtful) = &doubtful
+            && code != TIMED_OUT
+        {
+            self.decide(doubtful, false);
+        }
+        let (of, is_late) = self.channels[place].refuse(code, doubtful.as_ref(), &mut self.ends);
+        if let Some(doubtful) = &doubtful
+            && code == TIMED_OUT
+        {
+            self.decide(doubtful, is_late);
+        }
+        self.of = of;
+        if of.is_none() {
+            self.part = Part::Error(code);
+        }
+    }
+
+    fn take_answer(&mut self, place: usize, answer: &Answer<'_>)
+        requires { place < 6 }
+    {
+        self.of = self.channels[place].answer(answer, &mut self.ends);
+        let is_kept = answer.command == CBOR
+            && answer.length > 0
+            && answer.length <= LONGEST_MESSAGE;
+        if is_kept {
+            self.pool.begin(answer.line, answer.length, answer.part);
+            if is_whole(answer.length, 0) {
+                self.shown = Some(Shown::Answer(answer.line, place));
+            }
+        }
+    }
+
+    /// Takes a continuation packet of the device.
+    fn answer_on(&mut self, place: usize, sequence: u8, part: &[u8])
+        requires { place < 6 }
+    {
+        let Some(answered) = self.channels[place].answer_on(sequence, &mut self.ends) else {
+            return;
+        };
+        self.of = answered.of;
+        self.pool.add(answered.line, part);
+        if answered.is_whole && self.pool.bytes(answered.line).is_some() {
+            self.shown = Some(Shown::Answer(answered.line, place));
+        }
+    }
+
+    // ---- channels
+
+    /// Returns where a channel is, which is used on this line. Where there are too many, the one that was used least
+    /// lately makes way, one on which nothing is open first.
+    fn place(&mut self, number: u32, line: u64) -> usize
+        ensures { result < 6 }
+    {
+        if let Some(place) = self.find(number) {
+            self.channels[place].used = line;
+            return place;
+        }
+        let place = self.oldest();
+        self.channels[place].forget(&mut self.ends);
+        self.channels[place].reset(number);
+        self.channels[place].used = line;
+        place
+    }
+
+    /// Returns where a channel is that is in use.
+    fn find(&self, number: u32) -> Option<usize>
+        ensures { IfSome result (λ place. place < 6) }
+    {
+        for place in 0..CHANNELS {
+            if self.channels[place].used > 0 && self.channels[place].number == number {
+                return Some(place);
+            }
+        }
+        None
+    }
+
+    /// Returns the place of the channel that makes way.
+    fn oldest(&self) -> usize
+        ensures { result < 6 }
+    {
+        let mut oldest = 0;
+        for place in 0..CHANNELS {
+            let (other, found) = (&self.channels[place], &self.channels[oldest]);
+            let is_idle = other.is_idle();
+            if is_idle == found.is_idle() && other.used < found.used
+                || is_idle && !found.is_idle()
+            {
+                oldest = place;
+            }
+        }
+        oldest
+    }
+}
+
+impl Follows for Walk {
+    fn next_entry<'a>(&'a mut self, number: u64, line: &'a [u8], said: Line) -> Entry<'a> {
+        self.take(number, &said);
+        Entry {
+            number,
+            line,
+            said,
+            message: self.message(),
+            late: self.late(),
+            ended: self.ended(),
+        }
+    }
+}
+
+/// Returns the authenticator's command that a message has, by its first packet.
+fn command_in(message: u8, length: u16, part: &[u8]) -> Option<u8> {
+    match part {
+        [first, ..] if message == CBOR && length > 0 => Some(*first),
+        _ => None,
+    }
+}
+
+/// Returns the nonce of an INIT.
+fn nonce_in(part: &[u8]) -> [u8; 8] {
+    let mut nonce = [0; 8];
+    if let Some(front) = part.get(..8) {
+        nonce.copy_from_slice(front);
+    }
+    nonce
+}

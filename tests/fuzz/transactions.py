@@ -1,0 +1,355 @@
+#!/usr/bin/env python3
+"""Plays hostile logs of up to four hosts, and judges what `show` says of their transactions.
+
+    tests/fuzz/transactions.py [--seed N] [--count N] [--program FILE] [--only NUMBER]
+
+What each packet belongs to comes from a machine of the transport's rules (CTAP 2.1, section 11.2): it steps the inputs, and
+says as it goes for which message the key sends each packet. It knows nothing of the program's own walk over a log, and
+stops where the log has a packet that the rules don't have. `show --json`, `--summary` and `--explain` have to say the same.
+"""
+
+from __future__ import annotations
+
+import argparse
+import collections
+import dataclasses
+import json
+import os
+import re
+import subprocess
+import sys
+from multiprocessing import Pool
+from typing import Optional
+
+sys.dont_write_bytecode = True
+
+from hostile import Maker
+
+TOP = os.path.realpath(os.path.join(os.path.dirname(os.path.abspath(__file__)), "..", ".."))
+PING, INIT, CBOR, CANCEL, KEEPALIVE, ERROR = 0x01, 0x06, 0x10, 0x11, 0x3B, 0x3F
+BROADCAST, LONGEST = 0xFFFFFFFF, 7609
+FIRST_MEMBERS = {0x01: "fmt", 0x02: "credential", 0x04: "versions", 0x08: "credential"}
+
+
+class Finding(Exception):
+    """What the program says and the machine doesn't."""
+
+
+@dataclasses.dataclass
+class Transaction:
+    """A message of a host, and what came of it."""
+
+    line: int
+    channel: int
+    command: int
+    length: int
+    data: bytes
+    last: int
+    next: int = 0
+    end: tuple = ("open",)
+    keepalives: int = 0
+
+    @property
+    def is_whole(self) -> bool:
+        return self.length <= LONGEST and len(self.data) >= self.length
+
+    @property
+    def request(self) -> Optional[int]:
+        return self.data[0] if self.command == CBOR and self.length else None
+
+
+class Machine:
+    """The transport, stepped by the lines of a log that the key wrote itself."""
+
+    def __init__(self, lines: list[bytes]) -> None:
+        self.owners: dict[int, Optional[int]] = {}
+        self.transactions: dict[int, Transaction] = {}
+        self.given = 0
+        self.now = 0
+        self.open: Optional[Transaction] = None
+        self.work: Optional[Transaction] = None
+        self.alive = 0
+        self.sent: collections.deque[tuple[int, bytes]] = collections.deque()
+        self.strays: collections.Counter[str] = collections.Counter()
+        self.answers: dict[int, Optional[Transaction]] = {}
+        inputs = []
+        for number, line in enumerate(lines, 1):
+            if line[:2] == b"< ":
+                inputs[-1][2].append((number, bytes.fromhex(line[2:].decode())))
+            elif line[:1] in (b">", b"t", b"p", b"k", b"s"):
+                inputs.append((number, line.split(b" "), []))
+        for number, words, sent in inputs:
+            self.step(number, words, collections.deque(sent))
+
+    def step(self, number: int, words: list[bytes], sent: collections.deque[tuple[int, bytes]]) -> None:
+        self.now = max(self.now, int(words[1]))
+        self.sent = sent
+        self.owners[number] = None
+        self.pass_time()
+        if words[0] == b">":
+            self.serve(number, bytes.fromhex(words[2].decode()))
+        elif words[0] != b"t":
+            self.owners[number] = self.work.line if self.work else None
+            if self.work is None:
+                self.strays["replies"] += 1
+            self.go_on()
+        if self.sent:
+            raise Finding(f"line {self.sent[0][0]}: the rules have no such packet")
+
+    # ---- packets of the key
+
+    def expect(self, owner: Optional[Transaction], channel: int, command: int, code: Optional[int] = None) -> bytes:
+        """Takes the next packet that was sent, which begins a message, and its continuation packets."""
+        if not self.sent:
+            raise Finding(f"{command:02x} {code} on {channel:08x} is missing")
+        number, packet = self.sent.popleft()
+        if packet[:5] != channel.to_bytes(4, "big") + bytes([0x80 | command]) or code not in (None, packet[7]):
+            raise Finding(f"line {number}: {command:02x} {code} on {channel:08x} was due")
+        self.owners[number] = owner.line if owner else None
+        length = int.from_bytes(packet[5:7], "big")
+        self.answers[number] = owner
+        missing = length - 57
+        while missing > 0:
+            number, more = self.sent.popleft()
+            self.owners[number] = owner.line if owner else None
+            self.answers[number] = owner
+            missing -= 59
+        return packet
+
+    def refuse(self, owner: Transaction, code: int) -> None:
+        self.expect(owner, owner.channel, ERROR, code)
+        owner.end = ("error", code)
+
+    def answer(self, owner: Transaction) -> None:
+        packet = self.expect(owner, owner.channel, owner.command)
+        owner.end = ("status", packet[7]) if owner.command == CBOR else ("answer",)
+
+    def go_on(self) -> None:
+        """Takes what the key sends for work: a new status, or its answer."""
+        if self.work and self.sent:
+            if self.sent[0][1][4] == 0x80 | KEEPALIVE:
+                self.keep_alive()
+            else:
+                self.answer(self.work)
+                self.work = None
+
+    def keep_alive(self) -> None:
+        assert self.work
+        self.expect(self.work, self.work.channel, KEEPALIVE)
+        self.work.keepalives += 1
+        self.alive = self.now
+
+    def pass_time(self) -> None:
+        if self.open and self.now - self.open.last >= 500:
+            self.refuse(self.open, 0x05)
+            self.open = None
+        elif self.work and self.now - self.alive >= 100:
+            self.keep_alive()
+
+    # ---- packets of hosts
+
+    def serve(self, number: int, packet: bytes) -> None:
+        channel = int.from_bytes(packet[:4], "big")
+        if packet[4] < 0x80:
+            self.take_more(number, channel, packet)
+        elif packet[4] == 0x80 | CANCEL:
+            self.cancel(number, channel)
+        else:
+            length = int.from_bytes(packet[5:7], "big")
+            begun = Transaction(number, channel, packet[4] & 0x7F, length, packet[7 : 7 + min(length, 57)], self.now)
+            self.transactions[number] = begun
+            self.owners[number] = number
+            self.begin(begun)
+
+    def cancel(self, number: int, channel: int) -> None:
+        if self.work and self.work.channel == channel:
+            self.owners[number] = self.work.line
+            self.answer(self.work)
+            self.work = None
+        else:
+            self.strays["CANCELs"] += 1
+
+    def take_more(self, number: int, channel: int, packet: bytes) -> None:
+        message = self.open
+        if message is None or message.channel != channel:
+            self.strays["continuations"] += 1
+            return
+        self.owners[number] = message.line
+        if packet[4] != message.next:
+            self.refuse(message, 0x04)
+            self.open = None
+            return
+        message.next += 1
+        message.last = self.now
+        message.data += packet[5 : 5 + min(59, message.length - len(message.data))]
+        if message.is_whole:
+            self.open = None
+            self.finish(message)
+
+    def begin(self, begun: Transaction) -> None:
+        """The reply table, row by row."""
+        channel, opened, work = begun.channel, self.open, self.work
+        is_init = begun.command == INIT
+        is_given = 1 <= channel <= self.given
+        if not is_given and not (channel == BROADCAST and is_init):
+            self.refuse(begun, 0x0B)
+        elif is_init and begun.length != 8:
+            self.refuse(begun, 0x03)
+            if opened and opened.channel == channel:
+                opened.end = ("dropped", begun.line)
+                self.open = None
+        elif is_init:
+            self.greet(begun)
+        elif any(it and it.channel != channel for it in (opened, work)) or work:
+            self.refuse(begun, 0x06)
+        elif opened:
+            self.refuse(begun, 0x04)
+            opened.end = ("replaced", begun.line)
+            self.open = None
+        elif begun.command not in (PING, CBOR):
+            self.refuse(begun, 0x01)
+        elif begun.length > LONGEST or begun.command == CBOR and not begun.length:
+            self.refuse(begun, 0x03)
+        elif begun.is_whole:
+            self.finish(begun)
+        else:
+            self.open = begun
+
+    def greet(self, begun: Transaction) -> None:
+        self.answer(begun)
+        if begun.channel == BROADCAST:
+            self.given += 1
+            return
+        for it in (self.open, self.work):
+            if it and it.channel == begun.channel:
+                it.end = ("dropped", begun.line)
+        if self.open and self.open.channel == begun.channel:
+            self.open = None
+        if self.work and self.work.channel == begun.channel:
+            self.work = None
+
+    def finish(self, message: Transaction) -> None:
+        if message.command == CBOR and self.sent and self.sent[0][1][4] == 0x80 | KEEPALIVE:
+            self.work = message
+            self.keep_alive()
+        else:
+            self.answer(message)
+
+    # ---- what it comes to
+
+    def counts(self) -> dict[str, int]:
+        ends = [(it.request, it.end) for it in self.transactions.values()]
+        return {
+            "credentials made": sum(end == ("status", 0) and request == 0x01 for request, end in ends),
+            "credentials used": sum(end == ("status", 0) and request in (0x02, 0x08) for request, end in ends),
+            "credentials excluded": sum(end == ("status", 0x19) for _, end in ends),
+            "requests refused": sum(end[0] == "status" and end[1] != 0 for _, end in ends),
+            "messages refused by ERROR": sum(end[0] == "error" for _, end in ends),
+            "continuation packets of no open message": self.strays["continuations"],
+            "CANCELs for which nothing waited": self.strays["CANCELs"],
+            "replies for which nothing waited": self.strays["replies"],
+        }
+
+
+class Hosts(Maker):
+    """Logs of up to four hosts, each line of which is one of a log."""
+
+    def __init__(self, seed: str) -> None:
+        super().__init__(seed)
+        self.hosts = self.one_of(1, 2, 3, 4)
+
+    def log(self) -> bytes:
+        return b"".join(line + b"\n" for line in self.lines())
+
+
+def said(objects: list[dict], machine: Machine) -> None:
+    """Compares the objects of `show --json` with the machine."""
+    ended: dict[int, dict] = {}
+    for it in objects:
+        kind, line = it["kind"], it.get("line")
+        if kind in ("packet", "presence", "key", "signature") and it.get("transaction") != machine.owners[line]:
+            raise Finding(f"line {line} is of {machine.owners[line]}, not of {it.get('transaction')}")
+        if kind == "answer":
+            owner = machine.answers[line]
+            if it.get("transaction") != (owner.line if owner else None):
+                raise Finding(f"the answer of line {line} is of another transaction")
+            if it.get("command") != (owner.request if owner else None):
+                raise Finding(f"the answer of line {line} is to {owner and owner.request}, not to {it.get('command')}")
+        if kind == "transaction":
+            if it["transaction"] in ended:
+                raise Finding(f"the transaction of line {it['transaction']} ends twice")
+            ended[it["transaction"]] = it
+    for line, wanted in machine.transactions.items():
+        it = ended.pop(line, None)
+        if it is None:
+            raise Finding(f"the transaction of line {line} is missing")
+        detail = {"status": "status", "error": "code", "dropped": "by", "replaced": "by"}.get(it["end"])
+        end = (it["end"], it[detail]) if detail else (it["end"],)
+        if end != wanted.end:
+            raise Finding(f"the transaction of line {line} ended by {wanted.end}, not by {end}")
+        if it["keepalives"] != wanted.keepalives:
+            raise Finding(f"the transaction of line {line} had {wanted.keepalives} KEEPALIVEs, not {it['keepalives']}")
+        if ("came" in it) == wanted.is_whole:
+            raise Finding(f"the message of line {line} is {'' if wanted.is_whole else 'not '}whole")
+    if ended:
+        raise Finding(f"there is no transaction of line {min(ended)}")
+
+
+def explained(text: str, machine: Machine) -> None:
+    """Looks at the names of members, and at what is said of RP ids."""
+    if "  not that of " in text:
+        raise Finding("an RP id's hash is said to be another one's")
+    for found in re.finditer(r"^(\d+)   answer 00 \{.*\n\1     1 (\S+?):", text, re.MULTILINE):
+        owner = machine.answers[int(found[1])]
+        wanted = FIRST_MEMBERS.get(owner.request) if owner and owner.request is not None else None
+        if found[2] != wanted:
+            raise Finding(f"line {found[1]}: the first member is {wanted}, not {found[2]}")
+
+
+def summed(text: str, machine: Machine) -> None:
+    for title, count in machine.counts().items():
+        if f"\n{title}: {count}\n" not in f"\n{text}":
+            raise Finding(f"{title}: {count}, says the machine")
+
+
+def judge(task: tuple[str, str, int]) -> tuple[int, Optional[str], int]:
+    """Plays the log of a number. What was found, and how many transactions it has."""
+    program, seed, number = task
+
+    def run(log: bytes, *words: str) -> bytes:
+        return subprocess.run([program, *words], input=log, capture_output=True, check=True, timeout=60).stdout
+
+    log = run(Hosts(f"{seed}/{number}").log(), "replay")
+    try:
+        machine = Machine(log.splitlines())
+        said([json.loads(it) for it in run(log, "show", "--json").splitlines()], machine)
+        explained(run(log, "show", "--explain").decode(), machine)
+        summed(run(log, "show", "--summary").decode(), machine)
+    except Finding as finding:
+        return number, str(finding), 0
+    return number, None, len(machine.transactions)
+
+
+def main() -> int:
+    parser = argparse.ArgumentParser(description=__doc__.split("\n", maxsplit=1)[0])
+    parser.add_argument("--seed", default="1")
+    parser.add_argument("--count", type=int, default=1000)
+    parser.add_argument("--only", type=int)
+    parser.add_argument("--jobs", type=int, default=2)
+    parser.add_argument("--program", default=os.path.join(TOP, "release", "hidlog"))
+    asked = parser.parse_args()
+    numbers = range(asked.count) if asked.only is None else [asked.only]
+    found = transactions = 0
+    with Pool(asked.jobs) as pool:
+        for number, finding, count in pool.imap(judge, [(asked.program, asked.seed, it) for it in numbers], 8):
+            transactions += count
+            if finding:
+                found += 1
+                if found <= 20:
+                    print(f"log {number}: {finding}")
+    print(f"{len(numbers)} logs, {transactions} transactions, {found} logs of which something wrong is said")
+    return 1 if found else 0
+
+
+if __name__ == "__main__":
+    sys.exit(main())

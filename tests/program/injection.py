@@ -1,0 +1,133 @@
+"""Faults of the system at every place: runs a command again and again under strace, where the n-th call of a name fails
+or kills it, until there is no n-th call."""
+
+from __future__ import annotations
+
+import re
+import subprocess
+import sys
+import tempfile
+from concurrent.futures import ThreadPoolExecutor
+from dataclasses import dataclass
+from pathlib import Path
+from typing import Callable, Iterable, Optional, Sequence
+
+# What a call of a name can fail with; any other fails with EIO, or is interrupted.
+FAULTS = {
+    "openat": ("EIO", "EMFILE", "ENOMEM", "ESTALE", "ENOSPC"),
+    "write": ("EIO", "ENOSPC", "EAGAIN", "EINTR"),
+    "pwrite64": ("EIO", "ENOSPC", "EAGAIN", "EINTR"),
+    "read": ("EIO", "EAGAIN", "EINTR", "ESTALE"),
+    "rename": ("EIO", "ENOSPC", "EACCES"),
+    "fsync": ("EIO", "ENOSPC", "EINTR"),
+    "close": ("EIO", "EINTR"),
+    "mmap": ("ENOMEM",),
+    "brk": ("ENOMEM",),
+}
+OTHERS = ("EIO", "EINTR")
+# Calls that end a program, or whose fault strace can't inject.
+NEVER = {"execve", "exit_group", "exit", "rt_sigreturn", "restart_syscall", "vfork", "fork", "clone", "clone3"}
+_CALL = re.compile(r"^(?:\d+ +)?([a-z_0-9]+)\(", re.MULTILINE)
+
+
+@dataclass(frozen=True)
+class Place:
+    """The n-th call of a name, and what happens there."""
+
+    call: str
+    number: int
+    fault: str
+
+    def words(self, log: Path) -> list[str]:
+        """Returns what goes before the command, so that strace injects it."""
+        how = "signal=KILL" if self.fault == "KILL" else f"error={self.fault}"
+        if how == "error=ENOMEM" and self.call == "brk":
+            how = "retval=0"  # it returns no error: where memory is short, the end that there was
+        inject = f"inject={self.call}:{how}:when={self.number}"
+        trace = f"trace=openat,{self.call}"  # the first, to know which file was closed
+        # With its filter strace is many times as fast, and sends no signal.
+        fast = [] if self.fault == "KILL" else ["--seccomp-bpf"]
+        return ["strace", "-f", *fast, "-qq", "-o", str(log), "-e", trace, "-e", inject]
+
+    def __str__(self) -> str:
+        return f"{self.fault} at {self.call} {self.number}"
+
+
+def was_injected(log: Path, place: Place) -> bool:
+    """Whether the call came, by what strace wrote."""
+    text = log.read_text(encoding="utf-8", errors="replace")
+    is_kill = place.fault == "KILL"
+    return _CALL.findall(text).count(place.call) >= place.number if is_kill else "(INJECTED)" in text
+
+
+def was_beside(log: Path) -> bool:
+    """Whether what failed was about the copy beside a file that is saved, or about reading: the file isn't touched by that."""
+    opened: dict[str, str] = {}
+    for line in log.read_text(encoding="utf-8", errors="replace").splitlines():
+        if found := re.search(r"openat\(.*, (\".*\", \S+?)(?:, 0\d+)?\) = (\d+)$", line):
+            opened[found[2]] = found[1]
+        if "(INJECTED)" in line:
+            number = re.search(r"\((\d+)", line)
+            about = line if '"/' in line or number is None else opened.get(number[1], "")
+            return ".hidlog" in about or "O_RDONLY" in about
+    return False
+
+
+def calls_of(run: Callable[[Sequence[str]], object], folder: Path) -> dict[str, int]:
+    """Returns how often a run makes each call."""
+    log = folder / "calls"
+    run(["strace", "-f", "-qq", "-o", str(log)])
+    counts: dict[str, int] = {}
+    for name in _CALL.findall(log.read_text(encoding="utf-8", errors="replace")):
+        counts[name] = counts.get(name, 0) + 1
+    return counts
+
+
+def places_of(counts: dict[str, int], only: Optional[Iterable[str]] = None) -> list[Place]:
+    """Returns each place of a run, with each fault that can happen there; of these calls alone, where some are named."""
+    names = [it for it in sorted(counts) if it not in NEVER and (only is None or it in only)]
+    # One more than were counted, since a run may make one more: then nothing is injected, and nothing is wrong.
+    return [
+        Place(name, number, fault)
+        for name in names
+        for fault in (*FAULTS.get(name, OTHERS), "KILL")
+        for number in range(1, counts[name] + 2)
+    ]
+
+
+def each(places: Sequence[Place], judge: Callable[[Place, Path], Optional[str]], jobs: int) -> list[tuple[Place, str]]:
+    """Judges each place in a folder of its own. Returns those that are wrong, with what is."""
+
+    def one(place: Place) -> Optional[str]:
+        with tempfile.TemporaryDirectory() as folder:
+            try:
+                return judge(place, Path(folder))
+            except subprocess.TimeoutExpired as wrong:
+                return f"it didn't end: {wrong}"
+
+    with ThreadPoolExecutor(jobs) as lanes:
+        found = zip(places, lanes.map(one, places))
+        return [(place, wrong) for place, wrong in found if wrong is not None]
+
+
+def report(name: str, count: int, wrong: Sequence[tuple[Place, str]], known: dict[str, str]) -> int:
+    """Says what came of a loop. A wrong place is expected where the table of known failures has it, and a known failure
+    that no place shows any more is said too. Returns how many failures are new, or known and gone."""
+    bad, seen = 0, set()
+    for place, said in wrong:
+        mark = next((it for it in known if re.fullmatch(it, str(place))), None)
+        seen.add(mark)
+        if mark is None:
+            bad += 1
+            print(f"FAILED   {name}: {place}: {said}")
+    for mark in known:
+        if mark not in seen:
+            bad += 1
+            print(
+                f"PASSES   {name}: {mark} is named as a known failure ({known[mark]}), and fails no more: take it out"
+            )
+    expected = len(wrong) - sum(1 for place, _ in wrong if not any(re.fullmatch(it, str(place)) for it in known))
+    print(
+        f"{name}: {count} places, {len(wrong) - expected} wrong, {expected} known failures", file=sys.stdout, flush=True
+    )
+    return bad

@@ -1,0 +1,91 @@
+// What happened in a session, in words: registrations, sign-ins and refusals with their outcomes. It sets
+// `globalThis.hidlogStory`.
+"use strict";
+
+(() => {
+    const { CBOR, INIT, PING } = globalThis.hidlogWalk.COMMANDS;
+    const BATCH = 1024;
+    const COMMANDS = {
+        0x01: ["Registration", "registration"], 0x02: ["Sign-in", "sign-in"], 0x04: ["Question what the key is", ""],
+        0x06: ["PIN", ""], 0x07: ["Reset", "reset"], 0x08: ["Next account", ""], 0x0b: ["Selection", "selection"],
+    };
+    const ENDS = {
+        0x00: "done", 0x19: "already registered", 0x27: "the user denied", 0x28: "the key is full",
+        0x2d: "cancelled", 0x2e: "no credential for it", 0x2f: "the user did nothing in time",
+        0x26: "no algorithm that the key has", 0x2b: "an option that the key hasn't", 0x2c: "a wrong option",
+        0x14: "a parameter is missing", 0x11: "a parameter of another type", 0x12: "broken CBOR", 0x36: "a PIN is needed",
+    };
+    const ERRORS = {
+        0x01: "no such command", 0x03: "a wrong length", 0x04: "a packet is missing", 0x05: "packets came too late",
+        0x06: "the key was busy", 0x0b: "no such channel",
+    };
+    const hex = (byte) => `0x${byte.toString(16).padStart(2, "0")}`;
+
+    /** What a transaction was, in a word or two. */
+    const kindOf = (transaction) => {
+        const { command } = transaction;
+        if (command === CBOR) {
+            const asked = transaction.length ? transaction.byteAt(0) : -1;
+            return COMMANDS[asked]?.[0] ?? `Command ${asked < 0 ? "none" : hex(asked)}`;
+        }
+        return { [INIT]: "New channel", [PING]: "Ping" }[command] ?? `Message ${hex(command)}`;
+    };
+
+    /** How it ended, in words. */
+    const endOf = ({ answer, end, code, command, by }) => {
+        if (code !== null) {
+            return ERRORS[code] ?? `error ${hex(code)}`;
+        }
+        if (answer) {
+            const status = answer.command === CBOR && answer.length ? answer.byteAt(0) : 0;
+            return answer.isWhole ? ENDS[status] ?? `status ${hex(status)}` : "its answer isn't whole";
+        }
+        return { replaced: `given up for line ${by?.number}`, dropped: `given up at line ${by?.number}` }[end]
+            ?? (end === "not whole" ? "it never came whole" : "no answer");
+    };
+
+    const plural = (count, word) => `${count.toLocaleString("en")} ${word}${count === 1 ? "" : "s"}`;
+
+    /** Counts a transaction's end by what was asked, where a person asks for that. */
+    const count = (counts, transaction) => {
+        const word = transaction.command === CBOR && transaction.length ? COMMANDS[transaction.byteAt(0)]?.[1] : "";
+        if (word) {
+            const ends = counts.get(word) ?? new Map();
+            const end = endOf(transaction);
+            ends.set(end, (ends.get(end) ?? 0) + 1);
+            counts.set(word, ends);
+        }
+    };
+
+    const inWords = (counts, { lines, transactions, channels }, refused) => {
+        const said = [];
+        for (const [word, ends] of counts) {
+            const all = [...ends.values()].reduce((sum, it) => sum + it, 0);
+            const listed = [...ends].map(([end, many]) => (ends.size > 1 ? `${many.toLocaleString("en")} ${end}` : end));
+            said.push(`${plural(all, word)}: ${listed.join(", ")}.`);
+        }
+        const more = refused ? `, ${refused.toLocaleString("en")} refused` : "";
+        said.push(`${plural(transactions.length, "message")} of hosts on ${plural(channels.length, "channel")}${more}.`);
+        const last = [lines[lines.length - 1], lines[lines.length - 2]].find((it) => it && !it.isFault);
+        return [...said, `${(last?.moment ?? 0).toLocaleString("en")} ms.`].join(" ");
+    };
+
+    /**
+     * Says what happened in a session in a few sentences, which the last step returns.
+     * @yields what is counted so far
+     */
+    const summing = function* summing(session) {
+        const counts = new Map();
+        let refused = 0;
+        for (const it of session.transactions) {
+            count(counts, it);
+            refused += it.code === null ? 0 : 1;
+            if (it.place % BATCH === BATCH - 1) {
+                yield counts;
+            }
+        }
+        return inWords(counts, session, refused);
+    };
+
+    globalThis.hidlogStory = { kindOf, endOf, summing };
+})();
