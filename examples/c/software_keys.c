@@ -54,6 +54,14 @@ static OSSL_PARAM *parameters_of(const struct software_key *key, BIGNUM *secret)
     return parameters;
 }
 
+// Whether the private number is that of the public point.
+static bool is_pair(EVP_PKEY *pair) {
+    EVP_PKEY_CTX *context = EVP_PKEY_CTX_new_from_pkey(NULL, pair, NULL);
+    bool is_one = context != NULL && EVP_PKEY_pairwise_check(context) == 1;
+    EVP_PKEY_CTX_free(context);
+    return is_one;
+}
+
 bool software_keys_add(struct software_keys *keys, const struct software_key *key) {
     struct software_key *place = free_place(keys);
     BIGNUM *secret = BN_bin2bn(key->secret, sizeof key->secret, NULL);
@@ -61,9 +69,12 @@ bool software_keys_add(struct software_keys *keys, const struct software_key *ke
     EVP_PKEY_CTX *context = EVP_PKEY_CTX_new_from_name(NULL, "EC", NULL);
     EVP_PKEY *pair = NULL;
     if (place != NULL && parameters != NULL && context != NULL && EVP_PKEY_fromdata_init(context) == 1 &&
-        EVP_PKEY_fromdata(context, &pair, EVP_PKEY_KEYPAIR, parameters) == 1) {
+        EVP_PKEY_fromdata(context, &pair, EVP_PKEY_KEYPAIR, parameters) == 1 && is_pair(pair)) {
         *place = *key;
         place->pair = pair;
+    } else {
+        EVP_PKEY_free(pair);
+        pair = NULL;
     }
     EVP_PKEY_CTX_free(context);
     OSSL_PARAM_free(parameters);

@@ -26,7 +26,7 @@ struct software_keys {
 // Makes a pair on P-256 under a random id. Returns NULL where all places are taken or libcrypto fails.
 const struct software_key *software_keys_make(struct software_keys *keys);
 
-// Puts back a pair that was made earlier.
+// Puts back a pair that was made earlier. False where there is no place, its numbers are no pair, or libcrypto fails.
 bool software_keys_add(struct software_keys *keys, const struct software_key *key);
 
 // The pair of an id, or NULL.

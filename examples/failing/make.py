@@ -45,7 +45,8 @@ class Session:
     def play(self, kind: str, rest: str = "", passed: int = 1) -> None:
         """Hands in a line."""
         self.moment += passed
-        written = self.key.exchange(f"{kind} {self.moment} {rest}".rstrip().encode()).decode().splitlines()
+        line = f"{kind} {self.moment} {rest}".rstrip().encode()
+        written = self.key.exchange(line).text.decode().splitlines()
         self.lines += written
         self.needs = [it for it in written if it.startswith(("# need ", "# signed "))]
 

@@ -17,9 +17,9 @@ if ! "$python" -c 'import cryptography, pytest, venv, fido2; assert fido2.__vers
 fi
 work=$(mktemp -d)
 trap 'rm -rf "$work"' EXIT
-"$python" "$here/../../python/backend.py" "$work/dist"
+"$here/../../python/build.sh" "$work/dist" >/dev/null
 "$python" -m venv --system-site-packages "$work/venv"
-"$work/venv/bin/pip" install --quiet --no-index --no-deps "$work"/dist/*.whl
+"$work/venv/bin/pip" install --quiet --no-index --no-deps "$work"/dist/*x86_64.whl
 (cd "$work" && env -u HIDLOG "$work/venv/bin/python" "$here/first.py" && "$HIDLOG" check <session.log)
 keep=()
 if [ $# -gt 0 ]; then

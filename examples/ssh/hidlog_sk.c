@@ -2,7 +2,8 @@
 //
 //     gcc -shared -fPIC -fvisibility=hidden -I release -I examples/c -o libhidlog_sk.so
 //     examples/ssh/{hidlog_sk,state}.c
-//         examples/c/{fido_device,held_key,software_keys,snapshot}.c release/libhidlog.a -Wl,--exclude-libs,ALL
+//         examples/c/{fido_device,held_key,private_file,software_keys,snapshot}.c release/libhidlog.a
+//         -Wl,--exclude-libs,ALL
 //         -lfido2 -lcrypto
 //     export SSH_SK_PROVIDER=$PWD/libhidlog_sk.so HIDLOG_SK_STATE=$PWD/key.state
 //     ssh-keygen -t ecdsa-sk

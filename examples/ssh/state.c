@@ -1,51 +1,14 @@
-#define _GNU_SOURCE
 #include "state.h"
 
-#include "snapshot.h"
+#include "private_file.h"
 
-#include <fcntl.h>
 #include <openssl/crypto.h>
 #include <stdio.h>
 #include <stdlib.h>
 #include <string.h>
-#include <sys/file.h>
 #include <unistd.h>
 
 static const char magic[8] = "hidlogS1";
-
-// The path with an ending: each state file has a file that is locked, and one that is being written.
-static bool beside(const struct state *state, const char *ending, char path[sizeof state->path]) {
-    return snprintf(path, sizeof state->path, "%s%s", state->path, ending) < (int)sizeof state->path;
-}
-
-static int locked(const struct state *state) {
-    char path[sizeof state->path];
-    int file = beside(state, ".lock", path) ? open(path, O_RDWR | O_CREAT | O_CLOEXEC, 0600) : -1;
-    if (file >= 0 && flock(file, LOCK_EX) != 0) {
-        close(file);
-        return -1;
-    }
-    return file;
-}
-
-// Reads the file: the magic, how many records, the records, the snapshot to the end. Returns the snapshot's length, 0
-// also where there is no file, or -1.
-static long read_file(struct state *state, uint8_t snapshot[SNAPSHOT_MOST]) {
-    char begin[sizeof magic];
-    uint8_t count = 0;
-    FILE *file = fopen(state->path, "rb");
-    if (file == NULL) {
-        return 0;
-    }
-    bool is_whole = fread(begin, sizeof begin, 1, file) == 1 && memcmp(begin, magic, sizeof magic) == 0 &&
-                    fread(&count, 1, 1, file) == 1 && count <= SOFTWARE_KEYS &&
-                    fread(state->records, sizeof *state->records, count, file) == count;
-    size_t len = is_whole ? fread(snapshot, 1, SNAPSHOT_MOST, file) : 0;
-    is_whole = is_whole && feof(file) && !ferror(file);
-    fclose(file);
-    state->count = count;
-    return is_whole ? (long)len : -1;
-}
 
 static const struct record *find(const struct state *state, const uint8_t id[32]) {
     for (size_t i = 0; i < state->count; i++) {
@@ -56,10 +19,11 @@ static const struct record *find(const struct state *state, const uint8_t id[32]
     return NULL;
 }
 
-// Puts the private keys back: a public key stands in the snapshot, its private number in the record.
+// Puts the private keys back: a public key is in the snapshot, its private number in the record. Each credential has
+// one record, and each record has its credential.
 static bool add_keys(struct state *state) {
     struct hidlog_credential credential;
-    bool is_done = true;
+    bool is_done = hidlog_key_credentials(&state->held.key) == (int32_t)state->count;
     for (size_t place = 0; is_done && hidlog_key_credential(&state->held.key, place, &credential) == 0; place++) {
         const struct record *record = find(state, credential.id);
         struct software_key key = {0};
@@ -76,25 +40,72 @@ static bool add_keys(struct state *state) {
     return is_done;
 }
 
+// Takes the records of a file's bytes and returns where the snapshot begins, or 0 where they are no such file.
+static size_t read_records(struct state *state, const uint8_t *bytes, size_t len) {
+    if (len < STATE_RECORDS_AT || memcmp(bytes, magic, sizeof magic) != 0 || bytes[STATE_COUNT_AT] > SOFTWARE_KEYS) {
+        return 0;
+    }
+    state->count = bytes[STATE_COUNT_AT];
+    size_t records = state->count * sizeof *state->records;
+    if (len < STATE_RECORDS_AT + records) {
+        return 0;
+    }
+    memcpy(state->records, bytes + STATE_RECORDS_AT, records);
+    for (size_t i = 0; i < state->count; i++) {
+        if (state->records[i].application[APPLICATION - 1] != 0) {
+            return 0;
+        }
+    }
+    return STATE_RECORDS_AT + records;
+}
+
+const char *state_read(struct state *state, const uint8_t *bytes, size_t len) {
+    size_t snapshot = read_records(state, bytes, len);
+    if (snapshot == 0) {
+        return "it is no state file, or is damaged";
+    }
+    if (!held_key_open(&state->held, bytes + snapshot, len - snapshot)) {
+        return "its credentials are damaged, or there is no memory for them";
+    }
+    if (!add_keys(state)) {
+        held_key_close(&state->held);
+        return "its private keys aren't those of its credentials";
+    }
+    return NULL;
+}
+
+// Opens the key of the file that is locked.
+static bool open_locked(struct state *state) {
+    long len = private_file_read(state->path, state->saved, sizeof state->saved);
+    if (len == PRIVATE_FILE_REFUSED) {
+        return false;
+    }
+    if (len == PRIVATE_FILE_NONE) {
+        return held_key_open(&state->held, state->saved, 0);
+    }
+    state->saved_len = (size_t)len;
+    const char *wrong = state_read(state, state->saved, state->saved_len);
+    if (wrong != NULL) {
+        fprintf(stderr, "hidlog: %s: %s\n", state->path, wrong);
+    }
+    return wrong == NULL;
+}
+
 bool state_open(struct state *state) {
-    static uint8_t snapshot[SNAPSHOT_MOST];
     const char *path = getenv("HIDLOG_SK_STATE");
     memset(state, 0, sizeof *state);
-    if (path == NULL || strlen(path) >= sizeof state->path) {
-        fprintf(stderr, "hidlog_sk: HIDLOG_SK_STATE names no file\n");
+    if (path == NULL || *path == 0 || strlen(path) >= sizeof state->path) {
+        fprintf(stderr, "hidlog: HIDLOG_SK_STATE names no file\n");
         return false;
     }
     strcpy(state->path, path);
-    state->lock = locked(state);
-    long len = state->lock < 0 ? -1 : read_file(state, snapshot);
-    if (len < 0 || !held_key_open(&state->held, snapshot, (size_t)len)) {
-        fprintf(stderr, "hidlog_sk: %s can't be read\n", path);
-        close(state->lock);
+    state->lock = private_file_lock(state->path);
+    if (state->lock < 0) {
         return false;
     }
-    if (!add_keys(state)) {
-        fprintf(stderr, "hidlog_sk: %s lacks a private key\n", path);
-        state_close(state);
+    if (!open_locked(state)) {
+        close(state->lock);
+        OPENSSL_cleanse(state, sizeof *state);
         return false;
     }
     return true;
@@ -133,22 +144,31 @@ static void drop_records(struct state *state) {
     OPENSSL_cleanse(kept, sizeof kept);
 }
 
-bool state_save(struct state *state) {
-    static uint8_t snapshot[SNAPSHOT_MOST];
-    char path[sizeof state->path];
+size_t state_write(struct state *state, uint8_t bytes[STATE_MOST]) {
     drop_records(state);
-    size_t len = snapshot_write(&state->held.key, snapshot);
-    uint8_t count = (uint8_t)state->count;
-    int number = beside(state, ".new", path) ? open(path, O_WRONLY | O_CREAT | O_TRUNC | O_CLOEXEC, 0600) : -1;
-    FILE *file = number < 0 ? NULL : fdopen(number, "wb");
-    if (file == NULL) {
+    size_t records = state->count * sizeof *state->records;
+    memcpy(bytes, magic, sizeof magic);
+    bytes[STATE_COUNT_AT] = (uint8_t)state->count;
+    memcpy(bytes + STATE_RECORDS_AT, state->records, records);
+    uint8_t *snapshot = bytes + STATE_RECORDS_AT + records;
+    return STATE_RECORDS_AT + records + snapshot_write(&state->held.key, snapshot);
+}
+
+bool state_save(struct state *state) {
+    static uint8_t bytes[STATE_MOST];
+    if (hidlog_key_credentials(&state->held.key) < 0) {
+        fprintf(stderr, "hidlog: %s: there is no key to save, and the old file is kept\n", state->path);
         return false;
     }
-    bool is_written = fwrite(magic, sizeof magic, 1, file) == 1 && fwrite(&count, 1, 1, file) == 1 &&
-                      fwrite(state->records, sizeof *state->records, count, file) == count &&
-                      fwrite(snapshot, 1, len, file) == len && fflush(file) == 0 && fsync(number) == 0;
-    is_written = fclose(file) == 0 && is_written;
-    return is_written && rename(path, state->path) == 0;
+    size_t len = state_write(state, bytes);
+    bool is_saved = len == state->saved_len && memcmp(bytes, state->saved, len) == 0;
+    if (!is_saved && private_file_replace(state->path, bytes, len)) {
+        memcpy(state->saved, bytes, len);
+        state->saved_len = len;
+        is_saved = true;
+    }
+    OPENSSL_cleanse(bytes, sizeof bytes);
+    return is_saved;
 }
 
 void state_close(struct state *state) {

@@ -4,6 +4,7 @@
 #define STATE_H
 
 #include "held_key.h"
+#include "snapshot.h"
 
 enum { APPLICATION = 64 };
 
@@ -15,16 +16,29 @@ struct record {
     char application[APPLICATION]; // zeros after it
 };
 
+// The file: the magic, how many records, the records, and the snapshot to the end.
+enum { STATE_COUNT_AT = 8, STATE_RECORDS_AT = 9 };
+enum { STATE_MOST = STATE_RECORDS_AT + SOFTWARE_KEYS * sizeof(struct record) + SNAPSHOT_MOST };
+
 struct state {
     struct held_key held;
     struct record records[SOFTWARE_KEYS];
     size_t count;
+    uint8_t saved[STATE_MOST]; // what the file has
+    size_t saved_len;          // 0: there is no file
     char path[4096];
     int lock;
 };
 
-// Opens the key whose file the variable HIDLOG_SK_STATE names; where there is none yet the key is new.
+// Opens the key whose file the variable HIDLOG_SK_STATE names. Where there is no such file the key is new; one that
+// can't be read, is damaged, or may be read by others is refused, and left as it is.
 bool state_open(struct state *state);
+
+// Makes the key of a file's bytes, as state_open does. Returns NULL, or what is wrong with them.
+const char *state_read(struct state *state, const uint8_t *bytes, size_t len);
+
+// Writes the bytes of the file, which state_read reads. Returns how many.
+size_t state_write(struct state *state, uint8_t bytes[STATE_MOST]);
 
 // Keeps the application of a new credential.
 bool state_add(struct state *state, const uint8_t id[32], const char *application);
@@ -32,7 +46,8 @@ bool state_add(struct state *state, const uint8_t id[32], const char *applicatio
 // The application of a credential, or NULL.
 const char *state_application(const struct state *state, const uint8_t id[32]);
 
-// Writes the file anew, and then puts it in the old one's place: a raised counter is never lost halfway.
+// Writes the file anew, and then puts it in the old one's place: a raised counter is never lost halfway. What fails is
+// said on standard error, with whether the old file is kept. Where nothing has changed nothing is written.
 bool state_save(struct state *state);
 
 void state_close(struct state *state);

@@ -1,17 +1,20 @@
 // A software security key as a device of the Linux kernel: makes /dev/hidrawN by /dev/uhid, so that browsers, libfido2
 // and OpenSSH find it as if it were plugged in.
 //
-//     gcc -I release -I examples/c -I examples/ssh -o uhid examples/uhid/uhid.c examples/ssh/state.c
-//         examples/c/{held_key,software_keys,snapshot}.c release/libhidlog.a -lcrypto
+//     gcc -I release -I examples/c -I examples/ssh -o uhid examples/uhid/{uhid,turns}.c examples/ssh/state.c
+//         examples/c/{held_key,private_file,software_keys,snapshot}.c release/libhidlog.a -lcrypto
 //     sudo ./uhid -r session.log key.state
 //
 // For tests: nobody is asked for a touch, and the private keys stand in the file in the clear.
 #define _POSIX_C_SOURCE 200809L
+#include "private_file.h"
 #include "snapshot.h"
 #include "state.h"
+#include "turns.h"
 
 #include <errno.h>
 #include <fcntl.h>
+#include <limits.h>
 #include <linux/input.h>
 #include <linux/uhid.h>
 #include <openssl/crypto.h>
@@ -21,12 +24,13 @@
 #include <stdlib.h>
 #include <string.h>
 #include <sys/signalfd.h>
+#include <sys/stat.h>
 #include <time.h>
 #include <unistd.h>
 
 // A KEEPALIVE is due every 100 ms; a message has to go on within 500 ms. A line has at most 255 bytes,
-// and the text of its answer at most 18,000.
-enum { KEEPALIVE_MS = 100, MESSAGE_MS = 500, LINE_MOST = 255, TEXT_MOST = 18000, PACKET = 64 };
+// and the text of its answer at most 18,000. The kernel keeps 32 events.
+enum { KEEPALIVE_MS = 100, MESSAGE_MS = 500, LINE_MOST = 255, TEXT_MOST = 18000, PACKET = 64, EVENTS_MOST = 64 };
 
 // The report descriptor of CTAP 2.1, "HID report descriptor and device discovery": usage page 0xF1D0, 64 bytes each
 // way.
@@ -35,9 +39,11 @@ static const uint8_t descriptor[] = {0x06, 0xd0, 0xf1, 0x09, 0x01, 0xa1, 0x01, 0
                                      0x26, 0xff, 0x00, 0x75, 0x08, 0x95, 0x40, 0x91, 0x02, 0xc0};
 
 static struct state state;
+static struct turns turns;
 static int device = -1;
-static FILE *recording;
+static int recording = -1;
 static uint64_t asked;       // when the key began to wait for the user
+static uint64_t ticked;      // when time last passed while it waited
 static bool is_asked;        // whether it waits
 static uint64_t touch = 200; // how many milliseconds the user takes
 
@@ -70,7 +76,8 @@ static bool send_packet(const uint8_t digits[2 * PACKET]) {
     for (size_t i = 0; i < PACKET; i++) {
         event.u.input2.data[i] = (uint8_t)(digit(digits[2 * i]) << 4 | digit(digits[2 * i + 1]));
     }
-    return write(device, &event, sizeof event) == sizeof event || failed("a packet can't be sent");
+    turns_note(&turns, event.u.input2.data);
+    return write_whole(device, (const uint8_t *)&event, sizeof event) || failed("a packet can't be sent");
 }
 
 // Saves the key. The bridge doesn't know the text of an application, only its hash.
@@ -81,7 +88,7 @@ static bool save(void) {
             return failed("a credential has no private key");
         }
     }
-    return state_save(&state) || failed("the state can't be saved");
+    return state_save(&state);
 }
 
 // Plays one line of a log and sends the packets of its answer. What a reply changes is saved before.
@@ -92,7 +99,7 @@ static bool play(const char *line) {
         fprintf(stderr, "uhid: the key refuses %s", line);
         return false;
     }
-    if (recording != NULL && (fwrite(text, 1, outcome.written, recording) != outcome.written || fflush(recording))) {
+    if (recording >= 0 && !write_whole(recording, text, outcome.written)) {
         return failed("the recording can't be written");
     }
     if (strchr("pks", line[0]) != NULL && !save()) {
@@ -151,7 +158,7 @@ static bool give_signature(const struct hidlog_need *need) {
     return len == 0 ? play_word('s', "no") : play_bytes('s', signature, len);
 }
 
-// Hands the key what it needs, or lets time pass. The user touches it after a while.
+// Hands the key what it needs. While it waits for the user, who touches it after a while, time passes.
 static bool serve(const struct hidlog_need *need) {
     switch (need->kind) {
     case HIDLOG_NEED_KEY:
@@ -159,64 +166,141 @@ static bool serve(const struct hidlog_need *need) {
     case HIDLOG_NEED_SIGNATURE:
         return give_signature(need);
     case HIDLOG_NEED_PRESENCE:
-        return now() - asked < touch ? play_word('t', "") : play_word('p', "granted");
+        if (now() - asked >= touch) {
+            return play_word('p', "granted");
+        }
+        if (now() - ticked >= KEEPALIVE_MS) {
+            ticked = now();
+            return play_word('t', "");
+        }
+        return true;
     default:
-        return play_word('t', "");
+        return true;
     }
 }
 
-// Takes what the kernel tells: a program wrote to the device, or the last one closed it. Then nobody waits for the
-// user, and the work that does ends without a credential.
+// Plays the packet whose turn it is, if one waits.
+static bool take_turn(void) {
+    uint8_t packet[PACKET];
+    return !turns_take(&turns, packet) || play_bytes('>', packet, sizeof packet);
+}
+
+// Ends what waits for the user, since the last program closed the device: that work ends without a credential. What
+// programs wrote before is played first.
+static bool close_all(void) {
+    struct hidlog_need need;
+    while (turns.count > 0) {
+        if (!take_turn()) {
+            return false;
+        }
+    }
+    return hidlog_key_need(&state.held.key, &need) != HIDLOG_NEED_PRESENCE || play_word('p', "timeout");
+}
+
+// Takes an event of the kernel: a program wrote to the device, or the last one closed it.
 static bool take_event(void) {
-    struct uhid_event event;
-    if (read(device, &event, sizeof event) < 0) {
+    struct uhid_event event = {0};
+    ssize_t len = read(device, &event, sizeof event);
+    if (len <= 0) {
+        errno = len == 0 ? EPIPE : errno;
         return failed("/dev/uhid can't be read");
     }
-    if (event.type == UHID_CLOSE && is_asked) {
-        return play_word('p', "timeout");
+    if (event.type == UHID_CLOSE) {
+        return close_all();
     }
     if (event.type != UHID_OUTPUT) {
         return true;
     }
-    // The report's number, which is 0, stands before the packet; what a program wrote too short is filled by zeros.
+    // The report's number, which is 0, comes before the packet; what a program wrote too short is filled by zeros.
     size_t number = event.u.output.size > PACKET ? 1 : 0;
-    size_t len = event.u.output.size - number;
-    memset(event.u.output.data + number + (len < PACKET ? len : PACKET), 0, len < PACKET ? PACKET - len : 0);
-    return play_bytes('>', event.u.output.data + number, PACKET);
+    size_t size = event.u.output.size - number;
+    memset(event.u.output.data + number + (size < PACKET ? size : PACKET), 0, size < PACKET ? PACKET - size : 0);
+    turns_put(&turns, event.u.output.data + number);
+    return true;
 }
 
-// Serves until a signal comes. A tick is played where time changes something.
+// Takes the events that are there, so that the kernel has to drop none; yet not for ever, where a program floods.
+static bool take_events(void) {
+    struct pollfd file = {.fd = device, .events = POLLIN};
+    for (int i = 0; i < EVENTS_MOST; i++) {
+        int ready = poll(&file, 1, 0);
+        if (ready < 0) {
+            return failed("poll");
+        }
+        if (ready == 0) {
+            return true;
+        }
+        if (!take_event()) {
+            return false;
+        }
+    }
+    return true;
+}
+
+// Returns for how many milliseconds nothing has to be done, or -1: for ever.
+static int patience(uint32_t kind, bool is_idle) {
+    if (turns.count > 0 || kind == HIDLOG_NEED_KEY || kind == HIDLOG_NEED_SIGNATURE) {
+        return 0;
+    }
+    if (kind == HIDLOG_NEED_NOTHING) {
+        return is_idle ? -1 : MESSAGE_MS;
+    }
+    uint64_t moment = now(), keepalive = ticked + KEEPALIVE_MS, touched = asked + touch;
+    uint64_t due = keepalive < touched ? keepalive : touched;
+    return due <= moment ? 0 : (int)(due - moment);
+}
+
+// Returns what the key needs, and notes since when it waits for the user.
+static uint32_t look(struct hidlog_need *need) {
+    uint32_t kind = (uint32_t)hidlog_key_need(&state.held.key, need);
+    if (kind == HIDLOG_NEED_PRESENCE && !is_asked) {
+        asked = ticked = now();
+    }
+    is_asked = kind == HIDLOG_NEED_PRESENCE;
+    return kind;
+}
+
+// Serves until a signal comes. In each round the events that are there are taken, one packet is played, and the key
+// gets what it needs: so a program that floods doesn't keep the others from their answers.
 static bool run(int signals) {
     struct pollfd files[] = {{.fd = device, .events = POLLIN}, {.fd = signals, .events = POLLIN}};
     struct hidlog_need need;
     bool is_idle = true;
     for (;;) {
-        uint32_t kind = (uint32_t)hidlog_key_need(&state.held.key, &need);
-        asked = kind == HIDLOG_NEED_PRESENCE && !is_asked ? now() : asked;
-        is_asked = kind == HIDLOG_NEED_PRESENCE;
-        int idle = is_idle ? -1 : MESSAGE_MS;
-        int ready = poll(files, 2, kind == HIDLOG_NEED_NOTHING ? idle : is_asked ? KEEPALIVE_MS : 0);
+        uint32_t kind = look(&need);
+        int ready = poll(files, 2, patience(kind, is_idle));
         if (ready < 0) {
             return failed("poll");
         }
         if (files[1].revents != 0) {
             return true;
         }
-        is_idle = ready == 0 && kind == HIDLOG_NEED_NOTHING;
-        if (!(ready > 0 ? take_event() : serve(&need))) {
+        bool is_quiet = ready == 0 && kind == HIDLOG_NEED_NOTHING && turns.count == 0;
+        // A message that doesn't go on ends by the time alone.
+        if (is_quiet && !play_word('t', "")) {
+            return false;
+        }
+        is_idle = is_quiet;
+        if (!serve(&need) || (files[0].revents != 0 && !take_events()) || !take_turn()) {
             return false;
         }
     }
 }
 
-static bool plug_in(void) {
-    struct uhid_event event = {.type = UHID_CREATE2};
+static bool open_device(void) {
     device = open("/dev/uhid", O_RDWR | O_CLOEXEC);
     if (device < 0) {
+        const char *help =
+            errno == ENOENT ? "load the kernel's module: modprobe uhid" : "run it as root, or see README.md beside it";
         failed("/dev/uhid");
-        fprintf(stderr, "uhid: %s\n",
-                errno == ENOENT ? "load the kernel's module: modprobe uhid"
-                                : "run it as root, or see README.md beside it");
+        fprintf(stderr, "uhid: %s\n", help);
+    }
+    return device >= 0;
+}
+
+static bool plug_in(void) {
+    struct uhid_event event = {.type = UHID_CREATE2};
+    if (device < 0 && !open_device()) {
         return false;
     }
     strcpy((char *)event.u.create2.name, "hidlog software security key");
@@ -228,61 +312,134 @@ static bool plug_in(void) {
     return write(device, &event, sizeof event) == sizeof event || failed("the device can't be made");
 }
 
+// Writes the snapshot that a recording begins with.
+static bool write_snapshot(const char *recorded, const uint8_t *snapshot, size_t len) {
+    char beside[4096];
+    if (snprintf(beside, sizeof beside, "%s.snapshot", recorded) >= (int)sizeof beside) {
+        errno = ENAMETOOLONG;
+        return failed(recorded);
+    }
+    int file = open(beside, O_WRONLY | O_CREAT | O_TRUNC | O_CLOEXEC, 0666);
+    bool is_written = file >= 0 && write_whole(file, snapshot, len);
+    is_written = (file < 0 || close(file) == 0) && is_written;
+    return is_written || failed(beside);
+}
+
+// Whether a recording may be written to a path: not where that is the key's file, or where it can't be known.
+static bool may_record(const char *path) {
+    struct stat one, other;
+    bool is_there = stat(path, &one) == 0;
+    if (!is_there && errno != ENOENT) {
+        return failed(path);
+    }
+    bool has_state = stat(state.path, &other) == 0;
+    if (!has_state && errno != ENOENT) {
+        return failed(state.path);
+    }
+    bool is_one = is_there && has_state && one.st_dev == other.st_dev && one.st_ino == other.st_ino;
+    if (is_one || strcmp(path, state.path) == 0) {
+        fprintf(stderr, "uhid: %s: it is the key's file, which a recording would replace\n", path);
+        return false;
+    }
+    return true;
+}
+
 // Opens the recording, and beside it the snapshot that it begins with where the key has credentials. The key is made
 // anew with an AAGUID of zeros, which is the program's: so `hidlog check` compares the recording.
 static bool begin(const char *path) {
     static const uint8_t aaguid[16];
     static uint8_t snapshot[SNAPSHOT_MOST];
-    char beside[4096];
     size_t len = snapshot_write(&state.held.key, snapshot);
     hidlog_key_free(&state.held.key);
     if (hidlog_key_make(&state.held.key, aaguid, 0, snapshot, len) != 0) {
         fprintf(stderr, "uhid: the key can't be made\n");
         return false;
     }
-    snprintf(beside, sizeof beside, "%s.snapshot", path == NULL ? "" : path);
-    FILE *file = path == NULL || len == 0 ? NULL : fopen(beside, "wb");
-    if (path != NULL && len > 0 && (file == NULL || fwrite(snapshot, 1, len, file) != len || fclose(file) != 0)) {
-        return failed(beside);
+    if (path == NULL) {
+        return true;
     }
-    recording = path == NULL ? NULL : fopen(path, "wb");
-    return path == NULL || recording != NULL || failed(path);
+    if (!may_record(path) || (len > 0 && !write_snapshot(path, snapshot, len))) {
+        return false;
+    }
+    recording = open(path, O_WRONLY | O_CREAT | O_TRUNC | O_CLOEXEC, 0666);
+    return recording >= 0 || failed(path);
 }
 
 static int usage(void) {
-    fprintf(stderr, "usage: uhid [-t MS] [-r RECORDING] STATE\n"
+    fprintf(stderr, "usage: uhid [-t MS] [-r RECORDING] [-f FD] STATE\n"
                     "  -t MS         the user touches the key after MS milliseconds (200)\n"
                     "  -r RECORDING  writes the session's log, for hidlog check\n"
+                    "  -f FD         /dev/uhid is open already, as this descriptor\n"
                     "  STATE         the key's file; a new key where there is none\n");
     return 2;
 }
 
-int main(int count, char **words) {
-    const char *path = NULL;
-    for (int option; (option = getopt(count, words, "t:r:")) != -1;) {
-        if (option == 't') {
-            touch = strtoull(optarg, NULL, 10);
+// Reads a number of an option. False where it is none.
+static bool number(const char *word, uint64_t most, uint64_t *read) {
+    char *end;
+    errno = 0;
+    *read = strtoull(word, &end, 10);
+    return *word >= '0' && *word <= '9' && *end == 0 && errno == 0 && *read <= most;
+}
+
+// Reads the options. False where they are no options of this program.
+static bool read_options(int count, char **words, const char **recorded) {
+    uint64_t descriptor;
+    for (int option; (option = getopt(count, words, "t:r:f:")) != -1;) {
+        if (option == 't' && number(optarg, INT_MAX, &touch)) {
+            continue;
         } else if (option == 'r') {
-            path = optarg;
+            *recorded = optarg;
+        } else if (option == 'f' && number(optarg, INT_MAX, &descriptor)) {
+            device = (int)descriptor;
         } else {
-            return usage();
+            return false;
         }
     }
-    if (optind + 1 != count) {
-        return usage();
-    }
+    return optind + 1 == count;
+}
+
+// Returns what a signal that ends the bridge makes readable, or -1.
+static int end_signals(void) {
     sigset_t ends;
     sigemptyset(&ends);
     sigaddset(&ends, SIGTERM);
     sigaddset(&ends, SIGINT);
     sigaddset(&ends, SIGHUP);
-    sigprocmask(SIG_BLOCK, &ends, NULL);
+    if (sigprocmask(SIG_BLOCK, &ends, NULL) != 0) {
+        return -1;
+    }
+    // A file that grows over the limit of its size, or a pipe without a reader, is a fault that is said.
+    signal(SIGXFSZ, SIG_IGN);
+    signal(SIGPIPE, SIG_IGN);
+    return signalfd(-1, &ends, SFD_CLOEXEC);
+}
+
+// Plugs the key in, serves, and saves at the end: a new key too. After a fault nothing more is saved, since what wasn't
+// saved wasn't answered either.
+static bool play_session(const char *recorded) {
+    int signals = end_signals();
+    if (signals < 0) {
+        return failed("signals can't be awaited");
+    }
+    if (!begin(recorded) || !plug_in()) {
+        return false;
+    }
+    return run(signals) && save();
+}
+
+int main(int count, char **words) {
+    const char *recorded = NULL;
+    if (!read_options(count, words, &recorded)) {
+        return usage();
+    }
     if (setenv("HIDLOG_SK_STATE", words[optind], 1) != 0 || !state_open(&state)) {
         return 1;
     }
-    bool is_done = begin(path) && plug_in() && run(signalfd(-1, &ends, SFD_CLOEXEC));
-    is_done = save() && is_done;
-    is_done = (recording == NULL || fclose(recording) == 0) && is_done;
+    bool is_done = play_session(recorded);
+    if (recording >= 0 && close(recording) != 0) {
+        is_done = failed("the recording can't be written");
+    }
     state_close(&state);
     return is_done ? 0 : 1;
 }

@@ -4,7 +4,7 @@
     examples/web/selenium_devtools.py           Debian: apt-get install python3-selenium chromium chromium-driver
 
 The commands are those of DevTools' domain WebAuthn. The key serves them in the page by hidlogKey.send, under the same
-names, so such a suite runs in browsers too that have no DevTools. User verification is the one option to leave out.
+names, so such a suite runs in browsers too that have no DevTools.
 """
 
 import threading
@@ -13,7 +13,14 @@ from http.server import ThreadingHTTPServer
 
 from selenium_sign_in import Service, click, start_browser
 
-OPTIONS = {"protocol": "ctap2", "transport": "usb", "hasResidentKey": True, "automaticPresenceSimulation": True}
+OPTIONS = {
+    "protocol": "ctap2",
+    "transport": "internal",
+    "hasResidentKey": True,
+    "hasUserVerification": True,
+    "isUserVerified": True,
+    "automaticPresenceSimulation": True,
+}
 
 
 class BrowsersOwn:
@@ -48,7 +55,8 @@ def run_suite(driver, session):
     driver.execute_script(
         """window.registering = navigator.credentials.create({ publicKey: {
         challenge, rp: { name: "A service" }, user: { id: new Uint8Array([1]), name: "ann", displayName: "Ann" },
-        pubKeyCredParams: [{ type: "public-key", alg: -7 }] } })"""
+        pubKeyCredParams: [{ type: "public-key", alg: -7 }],
+        authenticatorSelection: { userVerification: "required", authenticatorAttachment: "platform" } } })"""
     )
     driver.execute_async_script("registering.then(arguments[0])")
     (credential,) = session.send("WebAuthn.getCredentials", authenticatorId=key)["credentials"]
@@ -58,13 +66,13 @@ def run_suite(driver, session):
         authenticatorId=key,
         credential={
             **{name: credential[name] for name in ("rpId", "privateKey")},
-            "credentialId": "/" * 42 + "8=",
+            "credentialId": "/" * 21 + "w==",
             "userHandle": "AQ==",
             "signCount": 7,
             "isResidentCredential": False,
         },
     )
-    found = session.send("WebAuthn.getCredential", authenticatorId=key, credentialId="/" * 42 + "8=")["credential"]
+    found = session.send("WebAuthn.getCredential", authenticatorId=key, credentialId="/" * 21 + "w==")["credential"]
     assert found["signCount"] == 7 and found["privateKey"] == credential["privateKey"], found
     session.send("WebAuthn.clearCredentials", authenticatorId=key)
     assert session.send("WebAuthn.getCredentials", authenticatorId=key)["credentials"] == []

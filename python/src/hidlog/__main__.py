@@ -1,53 +1,49 @@
-"""The commands on logs: python -m hidlog replay|check|show|quiet [--load SNAPSHOT] < LOG
+"""The program hidlog that is in the package: `hidlog` and `python -m hidlog` are the same, with every word of it.
 
-`show` needs the program hidlog; the others need nothing but this package. The exit status is 0, or 1 at a fault of the
-log, or 2 where the arguments or the snapshot are wrong.
+Some commands are the package's own: `COMMANDS` names them. All other words are the program's.
 """
 
 from __future__ import annotations
 
-import argparse
-import subprocess
+import importlib
+import os
 import sys
-from pathlib import Path
 
-from . import logs
-from .errors import LogError, MissingPart, SnapshotError
+from .errors import MissingPart
 from .process import program
 
-_COMMANDS = {"replay": logs.replay, "check": logs.check, "quiet": logs.quiet, "live": logs.live}
-
-
-def _show() -> int:
-    try:
-        path = program()
-    except MissingPart as error:
-        print(f"hidlog: show needs the program: {error}", file=sys.stderr)
-        return 2
-    return subprocess.run([path, "show"], check=False).returncode
+# The package's own commands: by its word the module of each, and the function that takes the words behind it.
+COMMANDS = {
+    "check-many": ("many_command", "check_many_command"),
+    "import": ("captures.commands", "import_capture"),
+    "export": ("captures.commands", "export_log"),
+    "judge": ("judge", "main"),
+    "webdriver": ("webdriver.command", "main"),
+    "browser": ("browser_process", "main"),
+    "mermaid": ("mermaid", "main"),
+}
 
 
 def main() -> int:
-    """Runs a command on the log at standard input."""
-    parser = argparse.ArgumentParser(prog="python -m hidlog", description="Commands on logs of a security key.")
-    parser.add_argument("command", choices=[*_COMMANDS, "show"])
-    parser.add_argument("--load", metavar="SNAPSHOT", help="begin with the credentials of this snapshot")
-    given = parser.parse_args()
-    if given.command == "show":
-        return _show()
+    """Runs a command of the package, or becomes the program, with the words that this was started with."""
+    if sys.argv[1:] and sys.argv[1] in COMMANDS:
+        module, name = COMMANDS[sys.argv[1]]
+        return int(getattr(importlib.import_module(f".{module}", __package__), name)(sys.argv[2:]))
+    return _become_program()
+
+
+def _become_program() -> int:
     try:
-        snapshot = Path(given.load).read_bytes() if given.load else None
-    except OSError:
-        print("hidlog: cannot read snapshot", file=sys.stderr)
-        return 2
-    result = _COMMANDS[given.command](sys.stdin.buffer.read(), snapshot)
-    sys.stdout.buffer.write(result.text)
-    sys.stdout.buffer.flush()
-    try:
-        result.raise_for_fault()
-    except (LogError, SnapshotError) as error:
+        path = program()
+    except MissingPart as error:
         print(f"hidlog: {error}", file=sys.stderr)
-    return result.status
+        return 2
+    sys.stdout.flush()
+    try:
+        os.execv(path, ["hidlog", *sys.argv[1:]])
+    except OSError as error:
+        print(f"hidlog: {path} can't be started here: {error.strerror}", file=sys.stderr)
+    return 2
 
 
 if __name__ == "__main__":

@@ -2,87 +2,174 @@
 
 from __future__ import annotations
 
+from collections.abc import Callable
 from typing import Any
 
-from .errors import ArgumentError
+from .errors import ArgumentError, ArgumentTypeError, bytes_of
 
 _SIMPLE = {20: False, 21: True, 22: None}
 _LENGTHS = {24: 1, 25: 2, 26: 4, 27: 8}
+# CTAP 2.1, "Message Encoding", allows 4 levels; attestation objects of others have more.
+_MOST_LEVELS = 16
 
 
-def _head(major: int, number: int) -> bytes:
+class CborError(ArgumentError):
+    """Bytes that are no CBOR, or a value that has none here."""
+
+
+def head(major: int, number: int) -> bytes:
     """Returns the shortest head of a major type with its argument."""
     if number < 24:
         return bytes([major << 5 | number])
     for code, length in _LENGTHS.items():
         if number < 1 << 8 * length:
             return bytes([major << 5 | code]) + number.to_bytes(length, "big")
-    raise ArgumentError(f"{number} doesn't fit into 64 bits")
+    raise CborError(f"{number} doesn't fit into 64 bits")
 
 
 def encode(value: Any) -> bytes:
     """Returns the canonical encoding of a value."""
-    if isinstance(value, bool) or value is None:
-        return {False: b"\xf4", True: b"\xf5", None: b"\xf6"}[value]
-    if isinstance(value, int):
-        return _head(0, value) if value >= 0 else _head(1, -1 - value)
-    if isinstance(value, (bytes, bytearray, memoryview)):
-        return _head(2, len(bytes(value))) + bytes(value)
-    if isinstance(value, str):
-        return _head(3, len(value.encode())) + value.encode()
-    if isinstance(value, (list, tuple)):
-        return _head(4, len(value)) + b"".join(map(encode, value))
-    if isinstance(value, dict):
-        pairs = sorted((encode(key), encode(it)) for key, it in value.items())
-        pairs.sort(key=lambda it: (it[0][0] >> 5, len(it[0]), it[0]))
-        return _head(5, len(pairs)) + b"".join(key + it for key, it in pairs)
-    raise TypeError(f"{type(value).__name__} has no CBOR encoding here")
+    return _encode(value, 0)
+
+
+def _encode(value: Any, level: int) -> bytes:
+    """Returns the canonical encoding of a value that is so many levels deep in others."""
+    if level > _MOST_LEVELS:
+        raise CborError(f"the value has more than {_MOST_LEVELS} levels")
+    encoder = _ENCODERS.get(type(value)) or _encoder_of(value)
+    return encoder(value, level)
+
+
+def _encode_number(value: int, _: int) -> bytes:
+    return head(0, value) if value >= 0 else head(1, -1 - value)
+
+
+def _encode_bytes(value: Any, _: int) -> bytes:
+    data = bytes(value)
+    return head(2, len(data)) + data
+
+
+def _encode_items(value: Any, level: int) -> bytes:
+    return head(4, len(value)) + b"".join([_encode(it, level + 1) for it in value])
+
+
+def _encode_map(value: dict[Any, Any], level: int) -> bytes:
+    pairs = [(_encode(key, level + 1), _encode(it, level + 1)) for key, it in value.items()]
+    if len(pairs) > 1:
+        pairs.sort(key=_order)
+    return head(5, len(pairs)) + b"".join([part for pair in pairs for part in pair])
+
+
+def _order(pair: tuple[bytes, bytes]) -> tuple[int, int, bytes]:
+    """Returns what keys are ordered by: the major type, the length, the bytes."""
+    return pair[0][0] >> 5, len(pair[0]), pair[0]
+
+
+def _encode_text(value: str, _: int) -> bytes:
+    try:
+        data = value.encode()
+    except UnicodeEncodeError:
+        raise CborError(f"{value[:20]!r} has half of a surrogate pair, and UTF-8 none") from None
+    return head(3, len(data)) + data
+
+
+def _encode_simple(value: bool | None, _: int) -> bytes:
+    return {False: b"\xf4", True: b"\xf5", None: b"\xf6"}[value]
+
+
+_Encoder = Callable[[Any, int], bytes]
+_ENCODERS: dict[type, _Encoder] = {
+    bool: _encode_simple,
+    type(None): _encode_simple,
+    int: _encode_number,
+    bytes: _encode_bytes,
+    bytearray: _encode_bytes,
+    memoryview: _encode_bytes,
+    str: _encode_text,
+    list: _encode_items,
+    tuple: _encode_items,
+    dict: _encode_map,
+}
+
+
+def _encoder_of(value: Any) -> _Encoder:
+    """Returns the encoder of a class that is made of one of these."""
+    for kind, encoder in _ENCODERS.items():
+        if isinstance(value, kind):
+            return encoder
+    raise ArgumentTypeError(f"{type(value).__name__} has no CBOR encoding here")
 
 
 def decode(data: bytes) -> Any:
     """Returns the value that these bytes encode, all of them."""
-    value, rest = decode_first(data)
-    if rest:
-        raise ArgumentError(f"{len(rest)} bytes come after the CBOR item")
+    given = bytes_of("CBOR", data)
+    value, at = _read(given, 0, 0)
+    if at != len(given):
+        raise CborError(f"{len(given) - at} bytes come after the CBOR item")
     return value
 
 
 def decode_first(data: bytes) -> tuple[Any, bytes]:
     """Returns the first value that these bytes encode, and the bytes after it."""
-    major, number, rest = _read_head(data)
+    given = bytes_of("CBOR", data)
+    value, at = _read(given, 0, 0)
+    return value, given[at:]
+
+
+def _read(data: bytes, at: int, level: int) -> tuple[Any, int]:
+    """Returns the value at a place, which is so many levels deep in others, and the place after it."""
+    if at >= len(data):
+        raise CborError("the CBOR item is cut short")
+    major, number = data[at] >> 5, data[at] & 31
+    at += 1
+    if number >= 24:
+        number, at = _read_argument(data, at, major, number)
+    if major == 0:
+        return number, at
     if major in (2, 3):
-        if len(rest) < number:
-            raise ArgumentError("the CBOR item is cut short")
-        part, rest = rest[:number], rest[number:]
-        return (part if major == 2 else part.decode()), rest
+        return _read_text(data, at, major, number)
+    if major in (4, 5) and level == _MOST_LEVELS:
+        raise CborError(f"the CBOR item has more than {_MOST_LEVELS} levels")
     if major == 4:
-        return _read_items(number, rest)
+        return _read_items(data, at, number, level + 1)
     if major == 5:
-        listed, rest = _read_items(2 * number, rest)
-        return dict(zip(listed[::2], listed[1::2])), rest
+        return _read_map(data, at, number, level + 1)
     if major == 7 and number in _SIMPLE:
-        return _SIMPLE[number], rest
+        return _SIMPLE[number], at
     if major > 1:
-        raise ArgumentError(f"CBOR of major type {major} with {number} isn't read here")
-    return (number if major == 0 else -1 - number), rest
+        raise CborError(f"CBOR of major type {major} with {number} isn't read here")
+    return -1 - number, at
 
 
-def _read_items(count: int, rest: bytes) -> tuple[list[Any], bytes]:
+def _read_argument(data: bytes, at: int, major: int, code: int) -> tuple[int, int]:
+    """Returns the argument of an item behind its first byte, and the place after it."""
+    length = _LENGTHS.get(code)
+    if length is None or len(data) < at + length or major == 7:
+        raise CborError("the CBOR item is cut short, or of a kind that isn't read here")
+    return int.from_bytes(data[at : at + length], "big"), at + length
+
+
+def _read_text(data: bytes, at: int, major: int, length: int) -> tuple[Any, int]:
+    end = at + length
+    if len(data) < end:
+        raise CborError("the CBOR item is cut short")
+    try:
+        return (data[at:end] if major == 2 else data[at:end].decode()), end
+    except UnicodeDecodeError as error:
+        raise CborError(f"a text of CBOR isn't UTF-8: {error}") from None
+
+
+def _read_items(data: bytes, at: int, count: int, level: int) -> tuple[list[Any], int]:
     listed = []
     for _ in range(count):
-        value, rest = decode_first(rest)
+        value, at = _read(data, at, level)
         listed.append(value)
-    return listed, rest
+    return listed, at
 
 
-def _read_head(data: bytes) -> tuple[int, int, bytes]:
-    """Returns the major type and the argument of an item, and the bytes after its head."""
-    if not data:
-        raise ArgumentError("the CBOR item is cut short")
-    major, number = data[0] >> 5, data[0] & 31
-    if number < 24:
-        return major, number, data[1:]
-    length = _LENGTHS.get(number)
-    if length is None or len(data) < 1 + length or major == 7:
-        raise ArgumentError("the CBOR item is cut short, or of a kind that isn't read here")
-    return major, int.from_bytes(data[1 : 1 + length], "big"), data[1 + length :]
+def _read_map(data: bytes, at: int, count: int, level: int) -> tuple[dict[Any, Any], int]:
+    listed, at = _read_items(data, at, 2 * count, level)
+    try:
+        return dict(zip(listed[::2], listed[1::2])), at
+    except TypeError:
+        raise CborError("a map of CBOR has a list or a map among its keys") from None

@@ -2,12 +2,17 @@
 
 from __future__ import annotations
 
+import threading
 from collections.abc import Callable
+from contextlib import AbstractContextManager
 from hashlib import sha256
 from typing import Any, Protocol
 
 from . import cbor, packets
-from .errors import CtapError, HidlogError
+from .errors import ArgumentTypeError, CtapError, HidlogError, KeyLost, bytes_of, number_of
+
+_LOST = 0x0B
+_INIT_BYTES = 17
 
 
 class Connection(Protocol):
@@ -21,15 +26,21 @@ class Connection(Protocol):
 
 
 class Client:
-    """A client on a channel of its own."""
+    """A client on a channel of its own. Several threads may use it, or clients of their own: each request waits."""
 
     def __init__(self, connection: Connection):
+        for name in ("write_packet", "read_packet"):
+            if not callable(getattr(connection, name, None)):
+                raise ArgumentTypeError(f"the connection has to be a key, with {name}, not {type(connection).__name__}")
         self._connection = connection
+        own = threading.RLock()
+        # A key has one exchange at a time, whichever client makes it.
+        self._exclusive: Callable[[], AbstractContextManager[Any]] = getattr(connection, "exchange", lambda: own)
         # The nonce is the same in each run, so that a recording can be given to the client again.
         nonce = sha256(b"hidlog").digest()[:8]
         answer = self.transact(packets.INIT, nonce, channel=packets.BROADCAST)
-        if answer[:8] != nonce:
-            raise HidlogError("the key answers an INIT with another nonce")
+        if answer[:8] != nonce or len(answer) < _INIT_BYTES:
+            raise HidlogError(f"the key answers an INIT with {answer.hex()}, not with the nonce and what it is")
         self.channel = int.from_bytes(answer[8:12], "big")
         self.version, self.device_version, self.capabilities = answer[12], tuple(answer[13:16]), answer[16]
 
@@ -42,29 +53,47 @@ class Client:
         channel: int | None = None,
     ) -> bytes:
         """Sends a message, and returns the bytes of its answer. An ERROR is a CtapError."""
-        channel = self.channel if channel is None else channel
-        for packet in packets.packets_of(packets.Message(channel, command, data)):
-            self._connection.write_packet(packet)
+        number_of("command", command, 0, 0x7F)
+        message = packets.Message(self.channel if channel is None else channel, command, bytes_of("data", data))
+        written = packets.packets_of(message)
+        with self._exclusive():
+            for packet in written:
+                self._connection.write_packet(packet)
+            return self._answer(message, is_cancelled, on_keepalive)
+
+    def _answer(
+        self, sent: packets.Message, is_cancelled: Callable[[], bool], on_keepalive: Callable[[int], None]
+    ) -> bytes:
+        """Returns the bytes of the answer to a message."""
         collector, has_cancelled, last = packets.Collector(), False, -1
         while True:
             if not has_cancelled and is_cancelled():
-                self._connection.write_packet(packets.packets_of(packets.Message(channel, packets.CANCEL, b""))[0])
+                cancel = packets.Message(sent.channel, packets.CANCEL, b"")
+                self._connection.write_packet(packets.packets_of(cancel)[0])
                 has_cancelled = True
-            message = collector.add(self._connection.read_packet())
-            if message is None or message.channel != channel:
+            packet = bytes_of("a packet of the key", self._connection.read_packet(), packets.PACKET)
+            message = collector.add(packet)
+            if message is None or message.channel != sent.channel:
                 continue
-            if message.command == packets.ERROR:
-                raise CtapError(message.data[0])
-            if message.command == command:
+            if message.command == sent.command:
                 return message.data
-            if message.command == packets.KEEPALIVE and message.data[0] != last:
-                last = message.data[0]
+            if message.command == packets.ERROR:
+                code = (message.data or b"\x7f")[0]
+                raise KeyLost() if code == _LOST else CtapError(code)
+            if message.command == packets.KEEPALIVE and message.data[:1] != bytes([last & 0xFF]):
+                last = (message.data or b"\0")[0]
                 on_keepalive(last)
 
-    def request(self, command: int, parameters: dict[Any, Any] | None = None) -> Any:
+    def request(
+        self,
+        command: int,
+        parameters: dict[Any, Any] | None = None,
+        is_cancelled: Callable[[], bool] = lambda: False,
+    ) -> Any:
         """Sends a CTAP2 request, and returns what its answer says. A status other than 0 is a CtapError."""
+        number_of("command", command, 0, 0xFF)
         data = bytes([command]) + (b"" if parameters is None else cbor.encode(parameters))
-        answer = self.transact(packets.CBOR, data)
+        answer = self.transact(packets.CBOR, data, is_cancelled)
         if not answer or answer[0]:
             raise CtapError(answer[0] if answer else 0x7F)
         return cbor.decode(answer[1:]) if answer[1:] else {}

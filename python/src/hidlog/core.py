@@ -11,7 +11,7 @@ from functools import lru_cache
 from pathlib import Path
 from typing import Any
 
-from .errors import HidlogError, KeyEnded, MissingPart, SnapshotError
+from .errors import ArgumentError, HidlogError, KeyEnded, MissingPart, SnapshotError
 
 _NAME = "libhidlog.so.0"
 _FAULTS = {
@@ -31,6 +31,7 @@ _SNAPSHOT_FAULTS = (-17, -18, -19)
 _PRESENCE = {"granted": 0, "denied": 1, "timeout": 2}
 # enum hidlog_need_kind.
 _NEEDS = ("nothing", "presence", "key", "signature")
+_SIGNATURE = 3
 
 
 class Outcome(ctypes.Structure):
@@ -102,7 +103,7 @@ def library_paths() -> list[Path]:
     if named := os.environ.get("HIDLOG_LIBRARY"):
         return [Path(named)]
     here = Path(__file__).resolve().parent
-    return [here / _NAME, *(it / "release" / _NAME for it in here.parents[2:3])]
+    return [here / _NAME, *(it / "release" / _NAME for it in list(here.parents)[2:3])]
 
 
 @lru_cache(maxsize=None)
@@ -126,6 +127,15 @@ def run(command: str, log: bytes, snapshot: bytes, capacity: int) -> tuple[Outco
     return outcome, out.raw[: outcome.written]
 
 
+def show(log: bytes, explain: bool, capacity: int) -> tuple[Outcome, bytes]:
+    """Writes what a whole log says, explained or not, and returns the outcome and what was written. No snapshot is
+    taken."""
+    out, outcome, size = ctypes.create_string_buffer(capacity), Outcome(), ctypes.c_size_t
+    words = ctypes.c_uint32(explain)
+    library().hidlog_show(log, size(len(log)), words, out, size(capacity), ctypes.byref(outcome))
+    return outcome, out.raw[: outcome.written]
+
+
 _AT, _SIZE, _BYTES, _OUT = ctypes.c_uint64, ctypes.c_size_t, ctypes.c_char_p, ctypes.c_void_p
 # What the functions of a key take after the key.
 _KEY_FUNCTIONS: dict[str, list[Any]] = {
@@ -144,6 +154,17 @@ _KEY_FUNCTIONS: dict[str, list[Any]] = {
     "credential": [_SIZE, _OUT],
     "meters": [_OUT],
 }
+# How many bytes a word of these functions has to have: a number, or that of the word after it. The library reads so
+# many, whatever was handed in.
+_NEXT = -1
+_BUFFERS: dict[str, dict[int, int]] = {
+    "make": {0: 16, 2: _NEXT},
+    "packet": {1: 64},
+    "new_key": {1: 32, 2: 32, 3: 32},
+    "signature": {1: _NEXT},
+    "next": {0: 64},
+}
+_NONE: dict[int, int] = {}
 
 
 @lru_cache(maxsize=None)
@@ -178,12 +199,21 @@ class Handle:
         size.restype = _SIZE
         self._memory = ctypes.create_string_buffer(size() + 16)
         self._key = _Key((ctypes.addressof(self._memory) + 15) // 16 * 16, 0)
-        self._packet = ctypes.create_string_buffer(64)
+        self._pointer = ctypes.byref(self._key)
+        self._packet, self._need = ctypes.create_string_buffer(64), _Need()
+        self._to_need = ctypes.byref(self._need)
+        self._next, self._needs = functions["next"], functions["need"]
         self.call("make", bytes(16), 0, snapshot, len(snapshot))
 
     def call(self, name: str, *words: Any) -> int:
-        """Calls a function of the key, and returns its number."""
-        answer: int = self._functions[name](ctypes.byref(self._key), *words)
+        """Calls a function of the key, and returns its number. Every buffer has the length that is read or written."""
+        for place, length in _BUFFERS.get(name, _NONE).items():
+            wanted = words[place + 1] if length == _NEXT else length
+            if len(words[place]) != wanted:
+                raise ArgumentError(
+                    f"hidlog_key_{name}: a buffer has {len(words[place])} bytes; it has to have {wanted}"
+                )
+        answer: int = self._functions[name](self._pointer, *words)
         if answer >= 0:
             return answer
         text = _FAULTS.get(answer, f"fault {answer}")
@@ -195,16 +225,27 @@ class Handle:
         """Hands in what the user does."""
         return self.call("presence", at, _PRESENCE[word])
 
+    def packet(self, at: int, packet: bytes) -> int:
+        """Hands in a packet, and returns how many wait then."""
+        return self.call("packet", at, packet)
+
     def next(self) -> bytes:
         """Takes the next packet to send."""
-        self.call("next", self._packet)
+        if self._next(self._pointer, self._packet) < 0:
+            self.call("next", self._packet)  # which raises
         return self._packet.raw
 
-    def need(self) -> tuple[str, bytes, bytes]:
-        """Returns what the key needs, the credential's id, and the bytes to sign."""
-        need = _Need()
-        self.call("need", ctypes.byref(need))
-        return _NEEDS[need.kind], bytes(need.id), bytes(need.signed_bytes)[: need.signed_len]
+    def need(self) -> tuple[str, bytes, bytes] | None:
+        """Returns what the key needs, the credential's id, and the bytes to sign; None where it needs nothing."""
+        need = self._need
+        if self._needs(self._pointer, self._to_need) < 0:
+            self.call("need", self._to_need)  # which raises
+        kind = need.kind
+        if kind == 0:
+            return None
+        if kind != _SIGNATURE:
+            return _NEEDS[kind], b"", b""
+        return _NEEDS[kind], bytes(need.id), bytes(need.signed_bytes)[: need.signed_len]
 
     def credentials(self) -> list[HeldCredential]:
         """Returns the credentials, the newest last."""

@@ -2,24 +2,25 @@
 
 from __future__ import annotations
 
-from collections.abc import Iterator, Sequence
-from dataclasses import dataclass, replace
+from collections.abc import Callable, Iterable, Iterator, Sequence
+from contextlib import AbstractContextManager
+from dataclasses import dataclass, fields, replace
+from functools import wraps
 from hashlib import sha256
-from typing import Any, Protocol, overload
+from typing import Any, Protocol, TypeVar, cast, overload
 
-from . import cbor, private_keys
-from .errors import ArgumentError, SnapshotError, bytes_of, number_of
+from . import cbor, names, private_keys
+from .errors import ArgumentError, SnapshotError, bytes_of, number_of, one_of, utf8
+from .outside import CORE_ID, ID_MOST, Backup, Outside
 
 MOST = 64
 _COUNTER_MOST = 2**32 - 1
-_CHANGED = ("counter", "user_name", "user_id", "discoverable")
+_CHANGED = ("counter", "user_name", "user_id", "discoverable", "backup_eligibility", "backup_state")
 
 
 def rp_hash(rp_id: str) -> bytes:
     """Returns the SHA-256 hash of an RP id, by which keys know a relying party."""
-    if not isinstance(rp_id, str):
-        raise TypeError(f"the RP id has to be str, not {type(rp_id).__name__}")
-    return sha256(rp_id.encode()).digest()
+    return sha256(utf8("the RP id", rp_id)).digest()
 
 
 @dataclass(frozen=True)
@@ -27,12 +28,13 @@ class Credential:
     """A credential without its private key.
 
     rp_id_hash     the SHA-256 hash of the RP id.
-    id             its id, 32 bytes.
+    id             its id, 32 bytes where the key made it, and 1 to 1023 where a test did.
     x, y           the coordinates of its public key on P-256, 32 bytes each.
     user_id        the user handle, up to 64 bytes.
     user_name      the user's name, up to 64 bytes of UTF-8.
     discoverable   whether a sign-in without an allow list finds it.
     counter        its signature counter.
+    backup_eligibility, backup_state   the flags BE and BS of what a browser returns for it.
     """
 
     rp_id_hash: bytes
@@ -43,48 +45,112 @@ class Credential:
     user_name: str = ""
     discoverable: bool = True
     counter: int = 0
+    backup_eligibility: bool = False
+    backup_state: bool = False
 
     def __post_init__(self) -> None:
-        for name in ("rp_id_hash", "id", "x", "y"):
+        for name in ("rp_id_hash", "x", "y"):
             bytes_of(name, getattr(self, name), 32)
+        if not 1 <= len(bytes_of("id", self.id)) <= ID_MOST:
+            raise ArgumentError(f"id has {len(self.id)} bytes; it has 1 to {ID_MOST}")
         if len(bytes_of("user_id", self.user_id)) > 64:
             raise ArgumentError(f"user_id has {len(self.user_id)} bytes; it has at most 64")
-        if not isinstance(self.user_name, str):
-            raise TypeError(f"user_name has to be str, not {type(self.user_name).__name__}")
-        if len(self.user_name.encode()) > 64:
-            raise ArgumentError(f"user_name has {len(self.user_name.encode())} bytes; it has at most 64")
-        if not isinstance(self.discoverable, bool):
-            raise TypeError(f"discoverable has to be bool, not {type(self.discoverable).__name__}")
+        length = len(utf8("user_name", self.user_name))
+        if length > 64:
+            raise ArgumentError(f"user_name has {length} bytes; it has at most 64")
+        for name in ("discoverable", "backup_eligibility", "backup_state"):
+            one_of(name, getattr(self, name), (True, False))
         number_of("counter", self.counter, 0, _COUNTER_MOST)
+
+    @property
+    def backup(self) -> Backup:
+        """The flags of its backup."""
+        return Backup(self.backup_eligibility, self.backup_state)
+
+    @classmethod
+    def of_core(cls, members: dict[str, Any]) -> Credential:
+        """Returns a credential of the core, whose members need no check. Each may be left out that has a default."""
+        made = object.__new__(cls)
+        made.__dict__.update(_DEFAULTS, **members)
+        return made
 
     def is_for(self, rp_id: str) -> bool:
         """Returns whether it belongs to the relying party with this id."""
         return self.rp_id_hash == rp_hash(rp_id)
 
 
+_DEFAULTS = {it.name: it.default for it in fields(Credential)}
+
+
+def _row(it: Credential) -> bytes:
+    """Returns a row of a snapshot of version 2: a map of the members 1 to 8, in canonical CBOR."""
+    head, user, name = cbor.head, it.user_id, it.user_name.encode()
+    return b"".join(
+        (
+            b"\xa8\x01\x58\x20" + it.rp_id_hash + b"\x02\x58\x20" + it.id,
+            b"\x03\x58\x20" + it.x + b"\x04\x58\x20" + it.y,
+            b"\x05" + head(2, len(user)) + user,
+            b"\x06\xf5\x07" if it.discoverable else b"\x06\xf4\x07",
+            head(0, it.counter) + b"\x08" + head(3, len(name)) + name,
+        )
+    )
+
+
 def write_snapshot(listed: Sequence[Credential]) -> bytes:
     """Returns a snapshot (version 2, docs/PROFILE.md) with these credentials, the newest last."""
-    rows = [
-        dict(enumerate((it.rp_id_hash, it.id, it.x, it.y, it.user_id, it.discoverable, it.counter, it.user_name), 1))
-        for it in listed
-    ]
-    return cbor.encode({1: 2, 2: rows})
+    if not listed:
+        return b""
+    if any(len(it.id) != CORE_ID for it in listed):
+        raise ArgumentError(f"a snapshot holds ids of {CORE_ID} bytes")
+    return b"\xa2\x01\x02\x02" + cbor.head(4, len(listed)) + b"".join(map(_row, listed))
 
 
 def read_snapshot(data: bytes) -> list[Credential]:
-    """Returns the credentials in a snapshot, the newest last."""
+    """Returns the credentials in a snapshot of version 1 or 2, the newest last."""
     if not data:
         return []
     try:
-        rows = cbor.decode(data)[2]
-        return [_credential_of(row) for row in rows]
-    except (KeyError, TypeError, ValueError) as error:
+        held = _map_of("it", cbor.decode(data), (1, 2))
+        one_of("its version", held[1], (1, 2))
+        if not isinstance(held[2], list):
+            raise ArgumentError("its credentials are no list of CBOR")
+        return [_credential_of(f"credential {number}", row) for number, row in enumerate(held[2], 1)]
+    except ArgumentError as error:
         raise SnapshotError(f"this is no snapshot: {error}") from None
 
 
-def _credential_of(row: dict[int, Any]) -> Credential:
-    rp, name, x, y, user, discoverable, counter = (row[it] for it in range(1, 8))
-    return Credential(rp, name, x, y, user, row.get(8, ""), discoverable, counter)
+def _map_of(name: str, value: Any, members: Iterable[int]) -> dict[int, Any]:
+    """Returns a map of CBOR that has these members."""
+    if not isinstance(value, dict):
+        raise ArgumentError(f"{name} is no map of CBOR")
+    for member in members:
+        if member not in value:
+            raise ArgumentError(f"{name} has no member {member}")
+    return value
+
+
+def _credential_of(name: str, row: Any) -> Credential:
+    """Returns the credential of a row. Rows of version 1 have no user name."""
+    members = _map_of(name, row, range(1, 8))
+    rp, credential_id, x, y, user, discoverable, counter = (members[it] for it in range(1, 8))
+    try:
+        return Credential(rp, credential_id, x, y, user, members.get(8, ""), discoverable, counter)
+    except ArgumentError as error:
+        raise ArgumentError(f"{name}: {error}") from None
+
+
+_Call = TypeVar("_Call", bound=Callable[..., Any])
+
+
+def _alone(call: _Call) -> _Call:
+    """Makes a change while no other thread registers, signs in or changes the credentials."""
+
+    @wraps(call)
+    def changed(self: Credentials, *given: Any, **members: Any) -> Any:
+        with self._key.ceremony():
+            return call(self, *given, **members)
+
+    return cast(_Call, changed)
 
 
 class _Holder(Protocol):
@@ -92,14 +158,31 @@ class _Holder(Protocol):
 
     private_keys: dict[bytes, private_keys.PrivateKey]
 
-    def snapshot(self) -> bytes:
-        """Returns a snapshot of the credentials."""
+    _outside: Outside
+
+    def _held(self) -> list[Credential]:
+        """Returns the credentials of the core, the newest last."""
+
+    def _count(self) -> int:
+        """Returns how many there are."""
+
+    def ceremony(self) -> AbstractContextManager[Any]:
+        """Has the key serve nobody else meanwhile."""
 
     def _take_snapshot(self, snapshot: bytes) -> None:
         """Goes on with the credentials of a snapshot."""
 
     def _random_bytes(self, count: int) -> bytes:
         """Returns so many random bytes."""
+
+
+def _named(listed: Sequence[Credential], credential_id: bytes) -> Credential:
+    """Returns the credential with an id."""
+    name = bytes_of("the credential id", credential_id)
+    for it in listed:
+        if it.id == name:
+            return it
+    raise ArgumentError(f"the key holds no credential with the id {name.hex()}")
 
 
 class Credentials(Sequence[Credential]):
@@ -113,10 +196,30 @@ class Credentials(Sequence[Credential]):
         self._key = key
 
     def _listed(self) -> list[Credential]:
-        return read_snapshot(self._key.snapshot())
+        outside = self._key._outside
+        if outside.is_empty:
+            return self._key._held()
+        return [self._shown(it) for it in self._key._held()]
+
+    def _shown(self, held: Credential) -> Credential:
+        """Returns a credential of the core with what is kept outside of it."""
+        outside = self._key._outside
+        backup, name = outside.backup(held.id), outside.page_id(held.id)
+        if name is held.id and not backup.flags:
+            return held
+        return replace(held, id=name, backup_eligibility=backup.eligibility, backup_state=backup.state)
+
+    def _take(self, listed: Sequence[Credential]) -> None:
+        """Goes on with these credentials."""
+        outside = self._key._outside
+        cores = [(it, outside.core_id(it.id)) for it in listed]
+        rows = [it if core is it.id else replace(it, id=core) for it, core in cores]
+        self._key._take_snapshot(write_snapshot(rows))
+        for it, core in cores:
+            outside.back_up(core, it.backup)
 
     def __len__(self) -> int:
-        return len(self._listed())
+        return self._key._count()
 
     def __iter__(self) -> Iterator[Credential]:
         return iter(self._listed())
@@ -137,16 +240,13 @@ class Credentials(Sequence[Credential]):
 
     def get(self, credential_id: bytes) -> Credential:
         """Returns the credential with this id."""
-        name = bytes_of("the credential id", credential_id)
-        for it in self._listed():
-            if it.id == name:
-                return it
-        raise ArgumentError(f"the key holds no credential with the id {name.hex()}")
+        return _named(self._listed(), credential_id)
 
     def of(self, rp_id: str) -> list[Credential]:
         """Returns the credentials of a relying party."""
         return [it for it in self._listed() if it.is_for(rp_id)]
 
+    @_alone
     def add(
         self,
         rp_id: str,
@@ -156,48 +256,75 @@ class Credentials(Sequence[Credential]):
         discoverable: bool = True,
         counter: int = 0,
         credential_id: bytes | None = None,
-        private_key: private_keys.PrivateKey | bytes | None = None,
+        private_key: private_keys.PrivateKey | bytes | str | None = None,
+        backup_eligibility: bool = False,
+        backup_state: bool = False,
     ) -> Credential:
-        """Adds a credential, with a new key pair unless a private key is given (PKCS #8, or cryptography's).
+        """Adds a credential, with a new key pair unless a private key is given.
 
-        A discoverable one takes the place of the one with the same relying party and user.
+        That is PEM (bytes or str), PKCS #8 in DER, or cryptography's. An id has 1 to 1,023 bytes; one of another length
+        than 32 is known to the browser alone. A discoverable credential takes the place of the one with the same relying
+        party and user.
         """
         private = (
             private_keys.make(self._key._random_bytes) if private_key is None else private_keys.from_any(private_key)
         )
-        name = self._key._random_bytes(32) if credential_id is None else bytes_of("credential_id", credential_id, 32)
+        core_id = self._key._random_bytes(CORE_ID)
+        name = core_id if credential_id is None else bytes_of("credential_id", credential_id)
         made = Credential(
-            rp_hash(rp_id), name, *private_keys.point_of(private), bytes(user_id), user_name, discoverable, counter
+            rp_hash(rp_id),
+            name,
+            *private_keys.point_of(private),
+            bytes_of("user_id", user_id),
+            user_name,
+            discoverable,
+            counter,
+            backup_eligibility,
+            backup_state,
         )
-        listed = self._listed()
-        if any(it.id == name for it in listed):
-            raise ArgumentError(f"the key holds a credential with the id {name.hex()} already")
-        same = (made.rp_id_hash, made.user_id, True)
-        kept = [it for it in listed if not discoverable or (it.rp_id_hash, it.user_id, it.discoverable) != same]
-        if len(kept) >= MOST:
-            raise ArgumentError(f"the key holds {MOST} credentials, and that is the most")
-        self._key._take_snapshot(write_snapshot([*kept, made]))
-        self._key.private_keys[name] = private
+        kept = self._with(made)
+        if len(name) == CORE_ID:
+            core_id = name
+        self._key._outside.name(core_id, name)
+        self._take([*kept, made])
+        self._key.private_keys[core_id] = private
         return made
 
+    def _with(self, made: Credential) -> list[Credential]:
+        """Returns the credentials that stay where this one is added."""
+        listed = self._listed()
+        if any(it.id == made.id for it in listed):
+            raise ArgumentError(f"the key holds a credential with the id {made.id.hex()} already")
+        same = (made.rp_id_hash, made.user_id, True)
+        is_kept = [not made.discoverable or (it.rp_id_hash, it.user_id, it.discoverable) != same for it in listed]
+        kept = [it for it, stays in zip(listed, is_kept) if stays]
+        if len(kept) >= MOST:
+            raise ArgumentError(f"the key holds {MOST} credentials, and that is the most")
+        return kept
+
+    @_alone
     def remove(self, credential_id: bytes) -> None:
         """Removes a credential."""
-        gone = self.get(credential_id)
-        self._key._take_snapshot(write_snapshot([it for it in self._listed() if it.id != gone.id]))
+        held = self._listed()
+        gone = _named(held, credential_id)
+        self._take([it for it in held if it.id != gone.id])
 
+    @_alone
     def clear(self) -> None:
         """Removes all credentials."""
-        self._key._take_snapshot(b"")
+        self._take([])
 
+    @_alone
     def change(self, credential_id: bytes, **members: Any) -> Credential:
         """Changes members of a credential: counter, user_name, user_id or discoverable."""
         for name in members:
             if name not in _CHANGED:
-                raise ArgumentError(f"there is no {name} to change; there are {', '.join(_CHANGED)}")
-        changed = replace(self.get(credential_id), **members)
-        listed = [changed if it.id == changed.id else it for it in self._listed()]
+                raise names.unknown("member to change", name, _CHANGED)
+        held = self._listed()
+        changed = replace(_named(held, credential_id), **members)
+        listed = [changed if it.id == changed.id else it for it in held]
         found = [(it.rp_id_hash, it.user_id) for it in listed if it.discoverable]
         if len(set(found)) < len(found):
             raise ArgumentError("two discoverable credentials would have the same relying party and user")
-        self._key._take_snapshot(write_snapshot(listed))
+        self._take(listed)
         return changed

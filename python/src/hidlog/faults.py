@@ -12,7 +12,8 @@ from __future__ import annotations
 from hashlib import sha256
 from typing import Any
 
-from .errors import ArgumentError, number_of, status_number
+from .errors import ArgumentTypeError, number_of, status_number, utf8
+from .names import unknown
 
 _OFF: dict[str, Any] = {
     "status": None,
@@ -44,8 +45,9 @@ class Faults:
 
     def __init__(self) -> None:
         self.clear()
-        self._counter = 0
+        self._counters: dict[bytes, int] = {}
         self._altered: tuple[bytes, bytes] | None = None
+        self._is_fault = False
 
     def clear(self) -> None:
         """Switches all faults off."""
@@ -56,28 +58,35 @@ class Faults:
         if name.startswith("_"):
             return object.__setattr__(self, name, value)
         if name not in _OFF:
-            raise ArgumentError(f"there is no fault {name!r}; there are {', '.join(_OFF)}")
+            raise unknown("fault", name, _OFF)
         if name == "status" and value is not None:
             value = status_number(value)
         elif name in ("delay", "cut_short"):
             number_of(name, value, 0, 2**32)
         elif isinstance(_OFF[name], bool) and not isinstance(value, bool):
-            raise TypeError(f"{name} has to be bool, not {type(value).__name__}")
+            raise ArgumentTypeError(f"{name} has to be bool, not {type(value).__name__}")
         elif name == "other_rp" and not isinstance(value, (str, type(None))):
-            raise TypeError(f"other_rp has to be an RP id or None, not {type(value).__name__}")
+            raise ArgumentTypeError(f"other_rp has to be an RP id or None, not {type(value).__name__}")
+        if isinstance(value, str) and name == "other_rp":
+            utf8("other_rp", value)
         object.__setattr__(self, name, value)
 
-    def sign_instead(self, signed: bytes) -> bytes:
-        """Returns the bytes that are signed in the place of these: authenticator data and a hash of 32 bytes."""
+    def sign_instead(self, credential: bytes, signed: bytes, flags: int = 0) -> bytes:
+        """Returns the bytes that are signed in the place of these: authenticator data and a hash of 32 bytes.
+
+        The flags are set too. They are no fault, and what is set is a comment of its own.
+        """
         kept, rest = signed[:-32], signed[-32:]
-        altered = kept
+        flagged = kept[:32] + bytes([kept[32] | flags]) + kept[33:]
+        altered = flagged
         if self.other_rp is not None:
             altered = sha256(self.other_rp.encode()).digest() + altered[32:]
         counter = int.from_bytes(kept[33:37], "big")
-        if self.counter_stays:
-            counter = self._counter
+        if self.counter_stays and counter:
+            counter = self._counters.get(credential, counter - 1)
             altered = altered[:33] + counter.to_bytes(4, "big") + altered[37:]
-        self._counter = counter
+        self._counters[credential] = counter
+        self._is_fault = altered != flagged
         self._altered = (kept, altered) if altered != kept else None
         return altered + rest
 
@@ -86,7 +95,7 @@ class Faults:
         done = []
         if self._altered and self._altered[0] in data:
             data = data.replace(*self._altered, 1)
-            done.append("the authenticator data is altered")
+            done += ["the authenticator data is altered"] if self._is_fault else []
             self._altered = None
         if self.cut_short:
             data = data[: max(1, len(data) - self.cut_short)]

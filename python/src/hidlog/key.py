@@ -6,12 +6,15 @@ import json
 import os
 import time
 from base64 import b64decode, b64encode
+from dataclasses import replace
 from pathlib import Path
-from typing import TYPE_CHECKING, Any
+from typing import TYPE_CHECKING, Any, TypeVar
 
 from . import packets, private_keys
-from .credentials import Credentials
-from .errors import ArgumentError, HidlogError, KeyBusy
+from .credentials import Credential, Credentials, read_snapshot, write_snapshot
+from .errors import ArgumentError, ArgumentTypeError, HidlogError, KeyBusy, number_of, path_of
+from .files import write_private, write_whole
+from .outside import Backup
 from .session import Recording, Session
 
 if TYPE_CHECKING:
@@ -19,6 +22,7 @@ if TYPE_CHECKING:
     from .replayed import ReplayedKey
 
 _FORM = "hidlog key 1"
+_Key = TypeVar("_Key", bound="SecurityKey")
 
 
 class SecurityKey(Session):
@@ -35,6 +39,11 @@ class SecurityKey(Session):
                   is in this process. By default it is in this process where the C library can hold a key.
     private_keys  the private keys by credential id.
     record        False: nothing is recorded, for very long sessions.
+    verification  what a browser finds that asks for the user's verification: "none" (the key has none), "verified" or
+                  "failed". The core verifies nobody: the flag UV is set outside of it, and noted in the recording.
+    attachment    "cross-platform" or "platform": what a browser says that the authenticator is.
+    has_resident_key   False: browsers get no discoverable credentials.
+    default_backup_eligibility, default_backup_state   the flags BE and BS of new credentials, outside of the core too.
     """
 
     @property
@@ -46,13 +55,14 @@ class SecurityKey(Session):
         """Writes the recordings: the last to this path, earlier ones beside it with a number, and their snapshots.
 
         Returns the paths of the logs. A log that began with credentials has a snapshot, `PATH.snapshot`, for --load.
+        Each file is written whole in the place of an older one, which stays where that fails.
         """
-        target, every = Path(path), self.recordings
+        target, every = path_of("path", path), self.recordings
         names = [target.with_name(f"{target.stem}.{it}{target.suffix}") for it in range(1, len(every))] + [target]
         for name, (snapshot, log) in zip(names, every):
-            name.write_bytes(log)
             if snapshot:
-                name.with_name(f"{name.name}.snapshot").write_bytes(snapshot)
+                write_whole(name.with_name(f"{name.name}.snapshot"), snapshot)
+            write_whole(name, log)
         return names
 
     @staticmethod
@@ -71,35 +81,44 @@ class SecurityKey(Session):
 
     def snapshot(self) -> bytes:
         """Returns a snapshot of the credentials, without private keys."""
-        with self._changed:
-            if self._process and not self._record:
-                raise HidlogError(
-                    "a key in a process knows its credentials by its recording, and has none (record=False)"
-                )
-            return self._engine.snapshot(self._log)
+        with self._locked():
+            return self._engine.snapshot(self._recorded())
 
-    def _random_bytes(self, count: int) -> bytes:
-        return self._random(count)
+    def _held(self) -> list[Credential]:
+        """Returns the credentials of the core, the newest last."""
+        with self._locked():
+            return self._engine.credentials(self._recorded())
+
+    def _count(self) -> int:
+        """Returns how many credentials the core holds."""
+        with self._locked():
+            return self._engine.count(self._recorded())
+
+    def _recorded(self) -> bytearray:
+        """Returns the recording, by which a key in a process knows its credentials."""
+        if self._process and not self._record:
+            raise HidlogError("a key in a process knows its credentials by its recording, and has none (record=False)")
+        return self._log
 
     def _take_snapshot(self, snapshot: bytes) -> None:
         """Goes on with the credentials of a snapshot: the clock and the clients' channels stay."""
-        with self._changed:
-            if self._need.kind != "nothing" or self._from_host.is_open:
+        with self._locked():
+            if self._work.need.kind != "nothing" or self._from_host.is_open:
                 raise KeyBusy("credentials are changed only while the key serves no request")
-            passed, latest, started, waiting = self._passed, self._latest, self._started, self._packets
+            now, waiting = self._time, self._packets
             self._end()
             self._begin(snapshot)
-            self._passed, self._latest, self._started = passed, latest, started
+            self._time = now
             self.note("the credentials were changed; the channels are given out again")
             self._play("t")
-            init = packets.packets_of(packets.Message(packets.BROADCAST, packets.INIT, bytes(8)))[0].hex()
+            init = packets.packets_of(packets.Message(packets.BROADCAST, packets.INIT, bytes(8)))[0]
             for _ in range(self._channels):
                 self._play(">", init)
             self._packets = waiting
 
     def restart(self) -> None:
         """Switches the key off and on again: credentials stay; channels, what waits and the clock are lost."""
-        with self._changed:
+        with self._locked():
             snapshot = self.snapshot()
             self._end()
             self._channels = 0
@@ -107,27 +126,77 @@ class SecurityKey(Session):
 
     def save(self, path: str | os.PathLike[str]) -> None:
         """Writes the credentials and their private keys to a file, for `load`. They are for tests alone."""
-        names = {it.id for it in self.credentials}
-        kept = {it: key for it, key in self.private_keys.items() if it in names}
+        file = path_of("path", path)
+        write_private(file, (self.dumps() + "\n").encode())
+
+    def dumps(self) -> str:
+        """Returns the credentials and their private keys as a text, for `loads`. They are for tests alone."""
+        with self.ceremony():
+            return self._dumped()
+
+    def _dumped(self) -> str:
+        held = list(self.credentials)
+        cores = [self.core_id(it.id) for it in held]
+        keys = {it: self.private_keys[it] for it in cores if it in self.private_keys}
         written = {
             "form": _FORM,
             "snapshot": b64encode(self.snapshot()).decode(),
-            "private_keys": {it.hex(): b64encode(private_keys.to_pkcs8(key)).decode() for it, key in kept.items()},
+            "private_keys": {it.hex(): b64encode(private_keys.to_pkcs8(key)).decode() for it, key in keys.items()},
+            "ids": {core.hex(): it.id.hex() for core, it in zip(cores, held) if core != it.id},
+            "backups": {core.hex(): [*it.backup] for core, it in zip(cores, held) if any(it.backup)},
         }
-        Path(path).write_text(json.dumps(written, indent=1) + "\n", encoding="ascii")
+        return json.dumps(written, indent=1)
 
     @classmethod
-    def load(cls, path: str | os.PathLike[str], **options: Any) -> SecurityKey:
-        """Makes a key with what `save` wrote."""
+    def load(cls: type[_Key], path: str | os.PathLike[str], *, counter_margin: int = 0, **options: Any) -> _Key:
+        """Makes a key with what `save` wrote. Counters are raised by the margin, as `loads` says."""
+        file = path_of("path", path)
         try:
-            kept = json.loads(Path(path).read_text(encoding="ascii"))
+            text = file.read_text(encoding="ascii")
+        except UnicodeDecodeError as error:
+            raise ArgumentError(f"{path} isn't what SecurityKey.save writes: {error}") from None
+        return cls._loaded(str(path), text, counter_margin, options)
+
+    @classmethod
+    def loads(cls: type[_Key], text: str, *, counter_margin: int = 0, **options: Any) -> _Key:
+        """Makes a key with what `dumps` returned.
+
+        counter_margin   is added to each counter. A service refuses a counter that it has seen, so a text that may be
+                         older than the last sign-in needs one above the number of sign-ins since.
+        """
+        if not isinstance(text, str):
+            raise ArgumentTypeError(f"the text has to be str, not {type(text).__name__}")
+        return cls._loaded("the text", text, counter_margin, options)
+
+    @classmethod
+    def _loaded(cls: type[_Key], path: str, text: str, counter_margin: int, options: dict[str, Any]) -> _Key:
+        """Makes a key of a text that came from a path."""
+        margin = number_of("counter_margin", counter_margin, 0, 2**32 - 1)
+        try:
+            kept = json.loads(text)
             form, snapshot, given = kept["form"], b64decode(kept["snapshot"]), kept["private_keys"]
             held = {bytes.fromhex(it): private_keys.from_any(b64decode(key)) for it, key in given.items()}
-        except (ValueError, LookupError, TypeError, AttributeError) as error:
+            ids = {bytes.fromhex(core): bytes.fromhex(it) for core, it in kept.get("ids", {}).items()}
+            backups = {bytes.fromhex(it): Backup(*flags) for it, flags in kept.get("backups", {}).items()}
+        except (ValueError, LookupError, TypeError, AttributeError, RecursionError) as error:
             raise ArgumentError(f"{path} isn't what SecurityKey.save writes: {error}") from None
         if form != _FORM:
             raise ArgumentError(f"{path} has the form {form!r}, and {_FORM!r} is read")
-        return cls(snapshot=snapshot, private_keys=held, **options)
+        if margin:
+            raised = [(it, min(it.counter + margin, 2**32 - 1)) for it in read_snapshot(snapshot)]
+            snapshot = write_snapshot([replace(it, counter=counter) for it, counter in raised])
+        key = cls(snapshot=snapshot, private_keys=held, **options)
+        for core, name in ids.items():
+            key._outside.name(core, name)
+        for core, backup in backups.items():
+            key._outside.back_up(core, backup)
+        return key
+
+    def forget_recordings(self) -> None:
+        """Begins a new recording with today's credentials, and forgets those before it, which bounds their memory."""
+        with self.ceremony():
+            self._take_snapshot(self.snapshot())
+            self._ended.clear()
 
     # Clients.
 
@@ -138,7 +207,7 @@ class SecurityKey(Session):
         return KeyDevice(self)
 
     def browser(self, origin: str) -> Browser:
-        """Returns a browser at this origin that speaks a page's JSON. It needs python-fido2."""
+        """Returns a browser at this origin that speaks a page's JSON, such as http://localhost:5000."""
         from .browser import Browser
 
         return Browser(self, origin)
@@ -148,18 +217,20 @@ class SecurityKey(Session):
         if self._is_open:
             self._is_open = False
             counts = self._engine.finish()
-            self._log += counts if self._record else b""
+            self._keep(counts)
             self._ended.append(Recording(self._start, bytes(self._log)))
 
     def close(self) -> None:
         """Ends the key. Its recordings stay."""
-        with self._changed:
+        if self._owner != os.getpid():
+            return  # a child of os.fork leaves its parent's key alone
+        with self._locked():
             if self._is_open:
                 self._end()
                 del self._ended[-1]
             self._changed.notify_all()
 
-    def __enter__(self) -> SecurityKey:
+    def __enter__(self: _Key) -> _Key:
         return self
 
     def __exit__(self, *_: object) -> None:

@@ -2,11 +2,18 @@
 
 from __future__ import annotations
 
-from typing import NamedTuple, Protocol
+from typing import TYPE_CHECKING, NamedTuple, Protocol, Union
+
+from .errors import ArgumentTypeError
+
+if TYPE_CHECKING:
+    from .credentials import Credential
 
 # A line of a log has at most so many bytes.
 LINE_MOST = 255
 _RESERVED = ("need ", "signed ")
+# A field of an input: bytes, or a word such as granted.
+Field = Union[bytes, str]
 
 
 class Need(NamedTuple):
@@ -22,11 +29,28 @@ class Need(NamedTuple):
     signed: bytes = b""
 
 
+class Reply(NamedTuple):
+    """What a key makes of a line: what `live` writes, the packets in it, and what is needed then."""
+
+    text: bytes
+    packets: list[bytes]
+    need: Need
+
+
 class Engine(Protocol):
     """A session of a key that takes lines of a log: in this process, or in one of its own."""
 
-    def exchange(self, line: bytes) -> bytes:
-        """Hands in a line of a log, and returns what `live` writes for it."""
+    def exchange(self, line: bytes) -> Reply:
+        """Hands in a line of a log, and returns what comes of it."""
+
+    def play(self, kind: str, at: int, fields: tuple[Field, ...]) -> Reply:
+        """Hands in an input at a moment, and returns what comes of it. Fields that are bytes are written in hexadecimal."""
+
+    def credentials(self, log: bytes) -> list[Credential]:
+        """Returns the credentials, where this is the log of the session so far."""
+
+    def count(self, log: bytes) -> int:
+        """Returns how many there are."""
 
     def snapshot(self, log: bytes) -> bytes:
         """Returns a snapshot of the credentials, where this is the log of the session so far."""
@@ -35,8 +59,13 @@ class Engine(Protocol):
         """Ends the session, and returns the line of what it counted."""
 
 
-def read_reply(text: bytes) -> tuple[list[bytes], Need]:
-    """Returns the packets in what was written for an input line, and what is needed after it."""
+def line_of(kind: str, at: int, fields: tuple[Field, ...]) -> str:
+    """Returns an input as a line of a log."""
+    return " ".join([kind, str(at), *[it if isinstance(it, str) else it.hex() for it in fields]])
+
+
+def read_reply(text: bytes) -> Reply:
+    """Returns what was written for an input line, with the packets in it and what is needed after it."""
     packets, signed, need = [], b"", Need()
     for line in text.decode("ascii").splitlines():
         if line.startswith("< "):
@@ -46,13 +75,13 @@ def read_reply(text: bytes) -> tuple[list[bytes], Need]:
         elif line.startswith("# need "):
             kind, _, credential = line[7:].partition(" ")
             need = Need(kind, bytes.fromhex(credential), signed)
-    return packets, need
+    return Reply(text, packets, need)
 
 
 def comments_of(text: str) -> list[bytes]:
     """Returns a text as comments of a log: each of its lines, a long one in several."""
     if not isinstance(text, str):
-        raise TypeError(f"a note has to be str, not {type(text).__name__}")
+        raise ArgumentTypeError(f"a note has to be str, not {type(text).__name__}")
     lines = []
     for part in text.split("\n"):
         # Comments that begin so are the key's own.

@@ -7,6 +7,7 @@
 
 from __future__ import annotations
 
+from collections.abc import Callable
 from typing import NamedTuple
 
 from . import core
@@ -49,12 +50,17 @@ class Result(NamedTuple):
 
 
 def _run(command: str, log: bytes, snapshot: bytes | None) -> Result:
-    """Runs a command, again with a larger buffer where the buffer was too small."""
+    """Runs a command on a log that began with a snapshot."""
     data = bytes_of("the log", log)
     begin = b"" if snapshot is None else bytes_of("the snapshot", snapshot)
-    capacity = 2 * len(data) + 4096
+    return _written(lambda capacity: core.run(command, data, begin, capacity), len(data))
+
+
+def _written(call: Callable[[int], tuple[core.Outcome, bytes]], length: int) -> Result:
+    """Makes a call, again with a larger buffer where the buffer was too small for a log of this length."""
+    capacity = 2 * length + 4096
     while True:
-        outcome, text = core.run(command, data, begin, capacity)
+        outcome, text = call(capacity)
         if (outcome.status, outcome.fault) != (1, _WRITE):
             return Result(text, outcome.status, outcome.fault, outcome.line, outcome.packet)
         capacity *= 4
@@ -78,3 +84,10 @@ def quiet(log: bytes, snapshot: bytes | None = None) -> Result:
 def live(log: bytes, snapshot: bytes | None = None) -> Result:
     """Writes the log again, with the packets that the key sends, and after each input what the key needs."""
     return _run("live", log, snapshot)
+
+
+def show(log: bytes, *, explain: bool = False) -> Result:
+    """Writes what the log's lines say: the fixed text, or with names, members and comments for people where it is to
+    explain. A faulty line ends it, with the text of the lines before."""
+    data = bytes_of("the log", log)
+    return _written(lambda capacity: core.show(data, explain, capacity), len(data))

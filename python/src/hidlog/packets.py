@@ -10,7 +10,11 @@ PACKET = 64
 BROADCAST = 0xFFFFFFFF
 PING, MSG, LOCK, INIT, WINK, CBOR, CANCEL, KEEPALIVE, ERROR = 0x01, 0x03, 0x04, 0x06, 0x08, 0x10, 0x11, 0x3B, 0x3F
 MOST_BYTES = 7609
-MAKE_CREDENTIAL, GET_ASSERTION, RESET, SELECTION = 0x01, 0x02, 0x07, 0x0B
+MAKE_CREDENTIAL, GET_ASSERTION, RESET, GET_NEXT_ASSERTION, SELECTION = 0x01, 0x02, 0x07, 0x08, 0x0B
+
+
+# No packet has this number.
+_NONE = (0, 0, -1, b"")
 
 
 class Message(NamedTuple):
@@ -40,8 +44,11 @@ def packets_of(message: Message) -> list[bytes]:
 class Collector:
     """Collects the messages of one direction, a channel each."""
 
+    __slots__ = ("_open",)
+
     def __init__(self) -> None:
-        self._open: dict[int, tuple[Message, int, int]] = {}
+        # By its channel: the command, the length, the next packet's number, and what came so far.
+        self._open: dict[int, tuple[int, int, int, bytes]] = {}
 
     @property
     def is_open(self) -> bool:
@@ -52,22 +59,23 @@ class Collector:
         """Adds a packet, and returns the message that is whole with it."""
         channel, kind = int.from_bytes(packet[:4], "big"), packet[4]
         if kind >= 0x80:
-            length = int.from_bytes(packet[5:7], "big")
-            if length > MOST_BYTES:
-                return None
-            return self._keep(Message(channel, kind - 0x80, packet[7:]), length, 0)
-        if channel not in self._open or self._open[channel][2] != kind:
+            length = packet[5] << 8 | packet[6]
+            if length <= PACKET - 7:
+                self._open.pop(channel, None)
+                return Message(channel, kind - 0x80, packet[7 : 7 + length])
+            if length <= MOST_BYTES:
+                self._open[channel] = (kind - 0x80, length, 0, packet[7:])
             return None
-        begun, length, number = self._open[channel]
-        return self._keep(begun._replace(data=begun.data + packet[5:]), length, number + 1)
+        command, length, number, data = self._open.get(channel, _NONE)
+        if number != kind:
+            return None
+        data += packet[5:]
+        if len(data) < length:
+            self._open[channel] = (command, length, number + 1, data)
+            return None
+        del self._open[channel]
+        return Message(channel, command, data[:length])
 
     def drop(self) -> None:
         """Forgets what has begun."""
         self._open.clear()
-
-    def _keep(self, message: Message, length: int, number: int) -> Message | None:
-        if len(message.data) >= length:
-            self._open.pop(message.channel, None)
-            return message._replace(data=message.data[:length])
-        self._open[message.channel] = (message, length, number)
-        return None

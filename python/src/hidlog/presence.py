@@ -6,7 +6,7 @@ from collections.abc import Callable, Iterable, Iterator
 from typing import Optional, Union
 
 from . import cbor
-from .errors import ArgumentError, HidlogError, ScriptEnded, one_of
+from .errors import ArgumentError, HidlogError, ScriptEnded, one_of, shown
 from .packets import GET_ASSERTION, MAKE_CREDENTIAL, RESET, Message
 
 Answer = Optional[str]
@@ -36,19 +36,19 @@ class User:
         elif not callable(presence):
             if not isinstance(presence, Iterable) or isinstance(presence, (bytes, bytearray, dict)):
                 raise ArgumentError(
-                    f"presence is {presence!r}; it has to be {_SHOWN}, a function, or a script of these"
+                    f"presence is {shown(presence)}; it has to be {_SHOWN}, a function, or a script of these"
                 )
             self._script = iter(presence)
 
-    def answer(self, question: str) -> Answer:
-        """Returns what the user does at this question."""
+    def answer(self, asked: Message | None) -> Answer:
+        """Returns what the user does at a request."""
         if self._script is not None:
             for answer in self._script:
                 return _checked(answer)
-            raise ScriptEnded(f"the script of the user's answers has ended, and the key asks: {question}")
+            raise ScriptEnded(f"the script of the user's answers has ended, and the key asks: {question_of(asked)}")
         if callable(self.presence):
-            return _checked(self.presence(question))
-        return _checked(self.presence)
+            return _checked(self.presence(question_of(asked)))
+        return self.presence  # type: ignore[return-value]  # a word, which was checked when it was set
 
 
 def question_of(message: Message | None) -> str:

@@ -3,14 +3,19 @@
 from __future__ import annotations
 
 from collections.abc import Callable
+from hashlib import sha256
 
+from cryptography.exceptions import UnsupportedAlgorithm
 from cryptography.hazmat.primitives import hashes, serialization
 from cryptography.hazmat.primitives.asymmetric import ec
+from cryptography.hazmat.primitives.asymmetric.utils import Prehashed
 
-from .errors import ArgumentError, bytes_of
+from .errors import ArgumentError, bytes_of, utf8
 
 PrivateKey = ec.EllipticCurvePrivateKey
 _CURVE = ec.SECP256R1()
+# The hash is taken by the standard library, which is quicker for a few bytes.
+_OF_HASH = ec.ECDSA(Prehashed(hashes.SHA256()))
 # The private keys of the curve are the numbers from 1 to this one.
 _MOST = 0xFFFFFFFF00000000FFFFFFFFFFFFFFFFBCE6FAADA7179E84F3B9CAC2FC632550
 
@@ -28,7 +33,7 @@ def point_of(private: PrivateKey) -> tuple[bytes, bytes]:
 
 def sign(private: PrivateKey, data: bytes) -> bytes:
     """Returns the signature over the data, by ES256 and in DER."""
-    return private.sign(data, ec.ECDSA(hashes.SHA256()))
+    return private.sign(sha256(data).digest(), _OF_HASH)
 
 
 def to_pkcs8(private: PrivateKey) -> bytes:
@@ -38,13 +43,15 @@ def to_pkcs8(private: PrivateKey) -> bytes:
 
 
 def from_any(given: object) -> PrivateKey:
-    """Returns a private key on P-256 that is given as such, or in PKCS #8."""
+    """Returns a private key on P-256 that is given as such, in PEM, or in PKCS #8 as DER."""
     if not isinstance(given, PrivateKey):
-        data = bytes_of("the private key", given)
+        data = bytes_of("the private key", utf8("the private key", given) if isinstance(given, str) else given)
+        is_pem = data.lstrip().startswith(b"-----BEGIN")
+        load = serialization.load_pem_private_key if is_pem else serialization.load_der_private_key
         try:
-            given = serialization.load_der_private_key(data, None)
-        except ValueError as error:
-            raise ArgumentError(f"the private key isn't PKCS #8 in DER: {error}") from None
+            given = load(data, None)
+        except (ValueError, TypeError, UnsupportedAlgorithm) as error:
+            raise ArgumentError(f"the private key is neither PEM nor PKCS #8 in DER, unencrypted: {error}") from None
     if not isinstance(given, PrivateKey) or given.curve.name != _CURVE.name:
         raise ArgumentError("the private key has to be on P-256")
     return given

@@ -6,9 +6,15 @@ import os
 import shutil
 import subprocess
 import tempfile
+import weakref
 from pathlib import Path
+from typing import TYPE_CHECKING
 
 from .errors import KeyEnded, MissingPart, SnapshotError
+from .lines import Field, Need, Reply, line_of, read_reply
+
+if TYPE_CHECKING:
+    from .credentials import Credential
 
 
 def program_paths() -> list[Path]:
@@ -17,8 +23,17 @@ def program_paths() -> list[Path]:
         return [Path(named)]
     here = Path(__file__).resolve().parent
     on_path = shutil.which("hidlog")
-    clone = [it / "hidlog" for it in here.parents[2:3] if (it / "release" / "hidlog").is_file()]
+    if on_path and _is_of_python(on_path):
+        on_path = None
+    clone = [it / "hidlog" for it in list(here.parents)[2:3] if (it / "release" / "hidlog").is_file()]
     return [here / "hidlog", *([Path(on_path)] if on_path else []), *clone]
+
+
+def _is_of_python(path: str) -> bool:
+    """Returns whether it is a script of Python, such as that of this package, which looks for the program itself."""
+    with open(path, "rb") as file:
+        first = file.readline(300)
+    return first.startswith(b"#!") and b"python" in first
 
 
 def program() -> str:
@@ -27,7 +42,11 @@ def program() -> str:
     for path in paths:
         if path.is_file() and os.access(path, os.X_OK):
             return str(path.resolve())
-    raise MissingPart(f"hidlog isn't found: it is not {' nor '.join(map(str, paths))}; the variable HIDLOG names it")
+    looked = " nor ".join(map(str, paths))
+    raise MissingPart(
+        f"the program is missing: it is not {looked}. The package has it for Linux on x86-64; the variable HIDLOG names "
+        "another, and hidlog.check, replay, quiet, live and show need no program"
+    )
 
 
 def _said(errors: bytes) -> str:
@@ -50,6 +69,8 @@ def snapshot_after(path: str, log: bytes, start: bytes) -> bytes:
 class ProcessKey:
     """A key in a process of its own."""
 
+    _all: weakref.WeakSet[ProcessKey] = weakref.WeakSet()
+
     def __init__(self, snapshot: bytes = b"", path: str | None = None):
         self._start, self._path = snapshot, path or program()
         self._folder = tempfile.TemporaryDirectory()
@@ -63,9 +84,19 @@ class ProcessKey:
         except OSError as error:
             self._folder.cleanup()
             raise MissingPart(f"{words[0]} can't be started: {error}") from None
+        self._all.add(self)
 
-    def exchange(self, line: bytes) -> bytes:
-        """Hands in a line of a log, and returns what `live` writes for it."""
+    @classmethod
+    def leave_to_parent(cls) -> None:
+        """Closes the pipes in a child of os.fork, so that the program ends where the parent ends it."""
+        for key in list(cls._all):
+            for pipe in (key._process.stdin, key._process.stdout, key._process.stderr):
+                if pipe is not None and not pipe.closed:
+                    getattr(pipe, "raw", pipe).close()
+            key._process.returncode = 0  # it is no child of this process, which can't wait for it
+
+    def exchange(self, line: bytes) -> Reply:
+        """Hands in a line of a log, and returns what comes of it."""
         assert self._process.stdin and self._process.stdout
         try:
             self._process.stdin.write(line + b"\n")
@@ -73,10 +104,25 @@ class ProcessKey:
         except (OSError, ValueError):
             self._raise_ended()
         lines = [self._read()]
-        # A comment or an empty line is echoed alone.
-        while not line.startswith(b"#") and line and not lines[-1].startswith(b"# need "):
+        if line.startswith(b"#") or not line:
+            return Reply(lines[0], [], Need())  # it is echoed alone
+        while not lines[-1].startswith(b"# need "):
             lines.append(self._read())
-        return b"".join(lines)
+        return read_reply(b"".join(lines))
+
+    def play(self, kind: str, at: int, fields: tuple[Field, ...]) -> Reply:
+        """Hands in an input at a moment, and returns what comes of it."""
+        return self.exchange(line_of(kind, at, fields).encode())
+
+    def credentials(self, log: bytes) -> list[Credential]:
+        """Returns the credentials after this log."""
+        from .credentials import read_snapshot  # which needs the package cryptography
+
+        return read_snapshot(self.snapshot(log))
+
+    def count(self, log: bytes) -> int:
+        """Returns how many credentials are held after this log."""
+        return len(self.credentials(log))
 
     def snapshot(self, log: bytes) -> bytes:
         """Returns a snapshot of the credentials after this log, which is the key's so far."""
@@ -106,3 +152,7 @@ class ProcessKey:
         said = _said(self._process.stderr.read())
         status = self._process.wait()
         raise KeyEnded(f"hidlog ended with status {status}: {said}")
+
+
+if hasattr(os, "register_at_fork"):
+    os.register_at_fork(after_in_child=ProcessKey.leave_to_parent)

@@ -5,24 +5,30 @@ from __future__ import annotations
 import os
 import threading
 import time
-from collections import deque
 from collections.abc import Callable, Iterator, Mapping
-from contextlib import contextmanager
-from typing import NamedTuple, Union
+from contextlib import AbstractContextManager, contextmanager, nullcontext
+from typing import Any, NamedTuple, Union
 
-from . import core, packets, private_keys
-from .errors import ArgumentError, KeyEnded, NoAnswer, bytes_of, number_of
+from . import core, names, packets, private_keys
+from .ceremonies import Abilities
+from .errors import ArgumentError, ArgumentTypeError, KeyBusy, KeyEnded, KeyForked, NoAnswer
+from .errors import bytes_of, callable_of, number_of, one_of, path_of, seconds_of, shown
 from .faults import Faults
 from .held import HeldKey
-from .lines import Engine, Need, comments_of, read_reply
-from .presence import Presence, User, question_of
+from .lines import Engine, Field, Need, comments_of
+from .outside import UV, Backup, Outside, names_of
+from .presence import Presence, User
 from .process import ProcessKey
+from .waiting import Waiting
 
 # The key sends a KEEPALIVE so often while it waits.
 KEEPALIVE_MS = 100
 # A little more of real time, since moments are whole milliseconds.
 _KEEPALIVE_SECONDS = 0.101
 Clock = Union[str, Callable[[], int]]
+_VERIFICATION = ("none", "verified", "failed")
+_AS_IT_IS = nullcontext()
+_ATTACHMENT = ("cross-platform", "platform")
 
 
 class Recording(NamedTuple):
@@ -30,6 +36,54 @@ class Recording(NamedTuple):
 
     snapshot: bytes
     log: bytes
+
+
+def _checked_keys(given: Any) -> dict[bytes, private_keys.PrivateKey]:
+    """Returns the private keys by credential id."""
+    if not isinstance(given, (Mapping, type(None))):
+        raise ArgumentTypeError(f"private_keys has to map credential ids to keys, not be {type(given).__name__}")
+    return {bytes_of("a credential id", it): private_keys.from_any(key) for it, key in (given or {}).items()}
+
+
+class _Time:
+    """The clock of a session: milliseconds that passed without real time, the latest moment, and when it began."""
+
+    __slots__ = ("passed", "latest", "started")
+
+    def __init__(self) -> None:
+        self.passed, self.latest, self.started = 0, 0, time.monotonic()
+
+
+class _Work:
+    """What a key needs, since which moment and time, and what has come of the request so far."""
+
+    __slots__ = ("need", "moment", "began", "waited_until", "delayed", "asked", "answer")
+
+    def __init__(self) -> None:
+        self.need, self.moment, self.began = Need(), 0, 0.0
+        self.waited_until, self.delayed = 0.0, 0
+        self.asked: packets.Message | None = None
+        self.answer: list[str | None] = []
+
+
+class _Exchange:
+    """An exchange of a message and its answer: one at a time, over the lock of a ceremony."""
+
+    __slots__ = ("_lock", "_is_open")
+
+    def __init__(self, lock: threading.RLock) -> None:
+        self._lock, self._is_open = lock, False
+
+    def __enter__(self) -> None:
+        self._lock.acquire()
+        if self._is_open:
+            self._lock.release()
+            raise KeyBusy("the key serves a request of this thread: a function of presence can't send another")
+        self._is_open = True
+
+    def __exit__(self, *_: object) -> None:
+        self._is_open = False
+        self._lock.release()
 
 
 class Session:
@@ -46,22 +100,73 @@ class Session:
         random: Callable[[int], bytes] = os.urandom,
         snapshot: bytes = b"",
         private_keys: Mapping[bytes, private_keys.PrivateKey] | None = None,
-        program: str | None = None,
+        program: str | os.PathLike[str] | None = None,
         record: bool = True,
+        verification: str = "none",
+        attachment: str = "cross-platform",
+        has_resident_key: bool = True,
+        default_backup_eligibility: bool = False,
+        default_backup_state: bool = False,
     ):
         if clock not in ("counted", "real") and not callable(clock):
-            raise ArgumentError(f"clock is {clock!r}; it has to be 'counted', 'real', or a function of milliseconds")
-        if not callable(random):
-            raise TypeError("random has to be a function that gives n random bytes")
-        self.private_keys = dict(private_keys or {})
-        self.faults = Faults()
+            raise ArgumentError(
+                f"clock is {shown(clock)}; it has to be 'counted', 'real', or a function of milliseconds"
+            )
+        self._owner, self._work = os.getpid(), _Work()
         self._changed = threading.Condition()
+        self._ceremony = threading.RLock()
+        self._one_exchange = _Exchange(self._ceremony)
+        self._outside, self._is_verified = Outside(), False
+        self.faults = Faults()
+        self.private_keys = _checked_keys(private_keys)
         self.presence, self.delay, self.timeout = presence, delay, timeout
-        self._clock, self._random, self._program, self._record = clock, random, program, record
+        self.verification, self.attachment, self.has_resident_key = verification, attachment, has_resident_key
+        self.default_backup_eligibility = default_backup_eligibility
+        self.default_backup_state = default_backup_state
+        self._clock, self._random = clock, callable_of("random", random, "n random bytes for a number n")
+        one_of("record", record, (True, False))
+        one_of("process", process, (True, False, None))
+        self._program, self._record = None if program is None else str(path_of("program", program)), record
         self._process = not core.has_held_key() if process is None else process
         self._ended: list[Recording] = []
         self._channels = 0
         self._begin(bytes_of("the snapshot", snapshot))
+
+    def __setattr__(self, name: str, value: Any) -> None:
+        if name[:1] != "_":
+            names.check_attribute(self, name, ("faults", "private_keys"))
+        object.__setattr__(self, name, value)
+
+    # Several threads and processes.
+
+    def _locked(self) -> threading.Condition:
+        """Returns the lock of the key, in the process that made it."""
+        if self._owner != os.getpid():
+            text = f"the key was made in process {self._owner}, and this is {os.getpid()}, which os.fork made"
+            raise KeyForked(f"{text}: make a key here, or load what SecurityKey.save wrote")
+        return self._changed
+
+    def ceremony(self) -> AbstractContextManager[Any]:
+        """Has the key serve nobody else for a registration or a sign-in: other threads wait."""
+        self._locked()
+        return self._ceremony
+
+    def exchange(self) -> AbstractContextManager[Any]:
+        """Has the key serve nobody else for a message and its answer: other threads wait."""
+        self._locked()
+        return self._one_exchange
+
+    def verified(self, is_verified: bool) -> AbstractContextManager[Any]:
+        """Sets the flag UV in what is signed meanwhile, where the user is verified."""
+        return self._verifying() if is_verified else _AS_IT_IS
+
+    @contextmanager
+    def _verifying(self) -> Iterator[None]:
+        self._is_verified = True
+        try:
+            yield
+        finally:
+            self._is_verified = False
 
     def _make_engine(self, snapshot: bytes) -> Engine:
         if self._process:
@@ -73,14 +178,11 @@ class Session:
         self._engine = self._make_engine(snapshot)
         self._is_open = True
         self._start, self._log = snapshot, bytearray()
-        self._passed, self._latest, self._started = 0, 0, time.monotonic()
-        self._packets: deque[bytes] = deque()
-        self._need, self._need_moment, self._need_time = Need(), 0, 0.0
-        self._waited_until = 0.0
-        self._delayed = 0
-        self._asked: packets.Message | None = None
+        self._time, self._work = _Time(), _Work()
+        self._packets = Waiting()
         self._from_host, self._from_key = packets.Collector(), packets.Collector()
-        self._answer: list[str | None] = []
+        # The packets of an answer that isn't whole yet.
+        self._answer: list[bytes] = []
 
     @property
     def presence(self) -> Presence:
@@ -89,8 +191,8 @@ class Session:
 
     @presence.setter
     def presence(self, presence: Presence) -> None:
-        with self._changed:
-            self._user, self._answer = User(presence), []
+        with self._locked():
+            self._user, self._work.answer = User(presence), []
             self._changed.notify_all()
 
     @property
@@ -109,70 +211,156 @@ class Session:
 
     @timeout.setter
     def timeout(self, timeout: float) -> None:
-        if isinstance(timeout, bool) or not isinstance(timeout, (int, float)) or not timeout > 0:
-            raise ArgumentError(f"timeout is {timeout!r}; it has to be a number of seconds above 0")
-        self._timeout = timeout
+        self._timeout = seconds_of("timeout", timeout)
+
+    @property
+    def verification(self) -> str:
+        """What comes of asking for the user's verification, which the browser does: "none", "verified" or "failed"."""
+        return self._verification
+
+    @verification.setter
+    def verification(self, verification: str) -> None:
+        one_of("verification", verification, _VERIFICATION)
+        self._verification = verification
+
+    @property
+    def has_user_verification(self) -> bool:
+        """Whether the authenticator verifies users, by WebDriver's name."""
+        return self._verification != "none"
+
+    @property
+    def is_user_verified(self) -> bool:
+        """Whether the user passes verification, by WebDriver's name. Setting it is setting `verification`."""
+        return self._verification == "verified"
+
+    @is_user_verified.setter
+    def is_user_verified(self, is_verified: bool) -> None:
+        one_of("is_user_verified", is_verified, (True, False))
+        self._verification = "verified" if is_verified else "failed"
+
+    @property
+    def attachment(self) -> str:
+        """What the browser says that the authenticator is: "cross-platform" (usb) or "platform" (internal)."""
+        return self._attachment
+
+    @attachment.setter
+    def attachment(self, attachment: str) -> None:
+        one_of("attachment", attachment, _ATTACHMENT)
+        self._attachment = attachment
+
+    @property
+    def has_resident_key(self) -> bool:
+        """Whether the browser asks for discoverable credentials."""
+        return self._has_resident_key
+
+    @has_resident_key.setter
+    def has_resident_key(self, has_resident_key: bool) -> None:
+        one_of("has_resident_key", has_resident_key, (True, False))
+        self._has_resident_key = has_resident_key
+
+    @property
+    def default_backup_eligibility(self) -> bool:
+        """The flag BE of new credentials."""
+        return self._backup.eligibility
+
+    @default_backup_eligibility.setter
+    def default_backup_eligibility(self, eligibility: bool) -> None:
+        one_of("default_backup_eligibility", eligibility, (True, False))
+        self._backup = Backup(eligibility, getattr(self, "_backup", Backup()).state)
+
+    @property
+    def default_backup_state(self) -> bool:
+        """The flag BS of new credentials."""
+        return self._backup.state
+
+    @default_backup_state.setter
+    def default_backup_state(self, state: bool) -> None:
+        one_of("default_backup_state", state, (True, False))
+        self._backup = Backup(self._backup.eligibility, state)
+
+    @property
+    def abilities(self) -> Abilities:
+        """What a browser takes the authenticator for."""
+        return Abilities(self._verification, self._attachment, self._has_resident_key)
+
+    def core_id(self, page_id: bytes) -> bytes:
+        """Returns the id that the core has for a credential of a page."""
+        return self._outside.core_id(page_id)
+
+    def page_id(self, core_id: bytes) -> bytes:
+        """Returns the id that a page sees of a credential of the core."""
+        return self._outside.page_id(core_id)
 
     # The clock.
 
     @property
     def moment(self) -> int:
         """Milliseconds since the key was switched on, as the log has them."""
-        return self._latest
+        return self._time.latest
 
     def pass_time(self, milliseconds: int) -> None:
         """Lets time pass for the key, and none for the test."""
-        with self._changed:
-            self._passed += number_of("milliseconds", milliseconds, 0, 2**48)
+        with self._locked():
+            self._time.passed += number_of("milliseconds", milliseconds, 0, 2**48)
             self._play("t")
 
     def _tell(self) -> int:
         """Returns the moment of the next line."""
         if self._clock == "counted":
-            self._passed += 1
-            now = self._passed
+            self._time.passed += 1
+            now = self._time.passed
         elif callable(self._clock):
-            now = number_of("what the clock gives", self._clock(), 0, 2**60) + self._passed
+            now = number_of("what the clock returns", self._clock(), 0, 2**60) + self._time.passed
         else:
-            now = int((time.monotonic() - self._started) * 1000) + self._passed
-        self._latest = max(self._latest, now)
-        return self._latest
+            now = int((time.monotonic() - self._time.started) * 1000) + self._time.passed
+        self._time.latest = max(self._time.latest, now)
+        return self._time.latest
 
     # Packets.
 
     def write_packet(self, packet: bytes) -> None:
         """Hands the key a packet of the client, 64 bytes without a report number."""
         data = bytes_of("the packet", packet, packets.PACKET)
-        with self._changed:
+        with self._locked():
+            self._packets.wrote(data)
             message = self._from_host.add(data)
-            if message and message.command == packets.CBOR:
-                self._asked, self._delayed = message, 0
-            self._play(">", data.hex())
+            if message and message.command == packets.CBOR and self._work.need.kind == "nothing":
+                self._work.asked, self._work.delayed = message, 0
+            self._play(">", data)
             self._changed.notify_all()
 
     def read_packet(self, timeout: float | None = None) -> bytes:
         """Returns the key's next packet, and gives the key what it needs until there is one.
 
         Where nothing comes, it blocks without cost, and raises NoAnswer after so many seconds (by default `timeout`).
+        Where several threads write packets, each reads those of the channels on which it wrote.
         """
-        limit = time.monotonic() + (self._timeout if timeout is None else timeout)
-        with self._changed:
-            while not self._packets:
+        seconds = self._timeout if timeout is None else seconds_of("timeout", timeout)
+        with self._locked():
+            if (packet := self._packets.take()) is not None:
+                return packet
+            limit = time.monotonic() + seconds
+            while (packet := self._packets.take()) is None:
                 self._serve(limit)
-            return self._packets.popleft()
+            return packet
+
+    def _random_bytes(self, count: int) -> bytes:
+        """Returns so many random bytes, and no other number of them."""
+        return bytes_of("what random returned", self._random(count), count)
 
     def _serve(self, limit: float) -> None:
         """Gives the key what it needs, or waits where that is nothing."""
         if not self._is_open:
             raise KeyEnded("the key is closed")
-        if self._need.kind == "presence":
+        kind = self._work.need.kind
+        if kind == "presence":
             self._serve_presence(limit)
-        elif self._need.kind != "nothing" and self._delayed < self.faults.delay:
-            self._delayed += KEEPALIVE_MS
+        elif kind != "nothing" and self._work.delayed < self.faults.delay:
+            self._work.delayed += KEEPALIVE_MS
             self._wait_for_user()
-        elif self._need.kind == "key":
+        elif kind == "key":
             self._make_key()
-        elif self._need.kind == "signature":
+        elif kind == "signature":
             self._sign()
         elif self._pause(limit) and self._from_host.is_open:
             self._wait_for_user(is_over=True)
@@ -180,26 +368,26 @@ class Session:
     def _pause(self, limit: float) -> bool:
         """Waits in real time. Returns whether 100 ms are over since it last did; before, something may have changed."""
         now = time.monotonic()
-        if now >= self._waited_until:
-            self._waited_until = now + _KEEPALIVE_SECONDS
+        if now >= self._work.waited_until:
+            self._work.waited_until = now + _KEEPALIVE_SECONDS
             return True
         if now >= limit:
             raise NoAnswer("the key has sent nothing in time")
-        self._changed.wait(min(limit, self._waited_until) - now)
+        self._changed.wait(min(limit, self._work.waited_until) - now)
         return False
 
     def _serve_presence(self, limit: float) -> None:
         """The user answers once the delay is over. Before, time passes and the key sends KEEPALIVEs."""
-        is_idle = self._user.presence is None or self._answer == [None]
-        if not is_idle and self._latest - self._need_moment < self._delay:
+        is_idle = self._user.presence is None or self._work.answer == [None]
+        if not is_idle and self._time.latest - self._work.moment < self._delay:
             self._wait_for_user()
             return
-        if not self._answer:
+        if not self._work.answer:
             with self._cancelling():
-                self._answer = [self._user.answer(question_of(self._asked))]
-        if self._answer[0] is not None:
-            self._play("p", self._answer[0])
-        elif time.monotonic() - self._need_time >= self._timeout:
+                self._work.answer = [self._user.answer(self._work.asked)]
+        if self._work.answer[0] is not None:
+            self._play("p", self._work.answer[0])
+        elif time.monotonic() - self._work.began >= self._timeout:
             with self._cancelling():
                 raise NoAnswer(f"the user did nothing for {self._timeout} s (presence), and the client didn't cancel")
         elif self._pause(limit):
@@ -211,7 +399,7 @@ class Session:
             if not is_over:
                 self._changed.wait(KEEPALIVE_MS / 1000)
         else:
-            self._passed += KEEPALIVE_MS
+            self._time.passed += KEEPALIVE_MS
         self._play("t")
 
     @contextmanager
@@ -220,74 +408,92 @@ class Session:
         try:
             yield
         except BaseException:
-            if self._asked and self._is_open:
-                cancel = packets.Message(self._asked.channel, packets.CANCEL, b"")
-                self._play(">", packets.packets_of(cancel)[0].hex())
-            self._packets.clear()
+            if self._work.asked and self._is_open:
+                cancel = packets.Message(self._work.asked.channel, packets.CANCEL, b"")
+                self._play(">", packets.packets_of(cancel)[0])
+            self._packets.drop()
             raise
 
     def _make_key(self) -> None:
         """Hands in a new key pair under a new credential id."""
-        private, credential = private_keys.make(self._random), self._random(32)
+        private, credential = private_keys.make(self._random_bytes), self._random_bytes(32)
         x, y = private_keys.point_of(private)
         self.private_keys[credential] = private
-        self._play("k", credential.hex(), x.hex(), y.hex())
+        self._outside.back_up(credential, self._backup)
+        self._play("k", credential, x, y)
 
     def _sign(self) -> None:
         """Signs the bytes that the key named, with the credential's private key."""
-        private = self.private_keys.get(self._need.credential)
+        private = self.private_keys.get(self._work.need.credential)
         if private is None:
             self._play("s", "no")
             return
-        signed = self.faults.sign_instead(self._need.signed)
+        flags = UV * self._is_verified | self._outside.backup(self._work.need.credential).flags
+        if flags:
+            self.note(f"outside of the core: flags {names_of(flags)}, and the signature over them")
+        signed = self.faults.sign_instead(self._work.need.credential, self._work.need.signed, flags)
         if self.faults.wrong_signature:
-            private = private_keys.make(self._random)
+            private = private_keys.make(self._random_bytes)
             self.note("fault: the signature is by another private key")
-        self._play("s", private_keys.sign(private, signed).hex())
+        self._play("s", private_keys.sign(private, signed))
 
-    def _play(self, kind: str, *fields: str) -> None:
-        """Hands the key an input line, and keeps what it sends and needs."""
-        text = self._exchange(" ".join([kind, str(self._tell()), *fields]).encode())
-        sent, need = read_reply(text)
-        if need.kind != self._need.kind:
-            self._need_moment, self._need_time, self._answer = self._latest, time.monotonic(), []
-            self._waited_until = self._need_time + _KEEPALIVE_SECONDS
-        self._need = need
+    def _play(self, kind: str, *fields: Field) -> None:
+        """Hands the key an input, and keeps what it sends and needs."""
+        if not self._is_open:
+            raise KeyEnded("the key is closed")
+        text, sent, need = self._engine.play(kind, self._tell(), fields)
+        self._keep(text)
+        work = self._work
+        if need.kind != work.need.kind:
+            work.moment, work.began, work.answer = self._time.latest, time.monotonic(), []
+            work.waited_until = work.began + _KEEPALIVE_SECONDS
+        work.need = need
         for packet in sent:
             self._send(packet)
 
+    def _keep(self, text: bytes) -> None:
+        """Keeps lines in the recording."""
+        if self._record:
+            self._log.extend(text)
+
     def _send(self, packet: bytes) -> None:
         """Keeps a packet for the client. The packets of an answer come out together, with its faults."""
-        if packet[4] == 0x80 | packets.ERROR:
+        command = packet[4]
+        if command == 0x80 | packets.ERROR:
             self._from_host.drop()
-        is_init = packet[4] == 0x80 | packets.INIT
-        if is_init and int.from_bytes(packet[:4], "big") == packets.BROADCAST:
+        elif command == 0x80 | packets.INIT and int.from_bytes(packet[:4], "big") == packets.BROADCAST:
             self._channels = max(self._channels, int.from_bytes(packet[15:19], "big"))
-        is_answer = packet[4] == 0x80 | packets.CBOR
-        if not is_answer and not self._from_key.is_open:
-            self._packets.append(packet)
+        if command != 0x80 | packets.CBOR and not self._from_key.is_open:
+            self._packets.put(packet)
             return
         message = self._from_key.add(packet)
+        self._answer.append(packet)
         if message:
-            data, done = self.faults.answer_instead(message.data)
-            for text in done:
-                self.note(f"fault: {text}")
-            self._packets.extend(packets.packets_of(message._replace(data=data)))
+            self._send_answer(message)
 
-    def _exchange(self, line: bytes) -> bytes:
+    def _send_answer(self, message: packets.Message) -> None:
+        """Keeps the packets of an answer for the client: as they are, unless a fault changes it."""
+        sent, self._answer[:] = list(self._answer), []
+        data, done = self.faults.answer_instead(message.data)
+        for text in done:
+            self.note(f"fault: {text}")
+        if data != message.data:
+            sent = packets.packets_of(message._replace(data=data))
+        for it in sent:
+            self._packets.put(it)
+
+    def _exchange(self, line: bytes) -> None:
+        """Writes a comment into the log."""
         if not self._is_open:
             raise KeyEnded("the key is closed")
-        text = self._engine.exchange(line)
-        if self._record:
-            self._log += text
-        return text
+        self._keep(self._engine.exchange(line).text)
 
     # Recordings.
 
     def note(self, text: str) -> None:
         """Writes comments into the log: a line each, and a long line in several."""
         lines = comments_of(text)
-        with self._changed:
+        with self._locked():
             for line in lines:
                 self._exchange(line)
 

@@ -7,48 +7,63 @@ A service's options come as JSON: `creation_options` and `request_options` retur
 
 from __future__ import annotations
 
-import binascii
+import re
 from base64 import urlsafe_b64decode, urlsafe_b64encode
 from collections.abc import Callable, Mapping
 from typing import Any, Optional
 from urllib.parse import urlsplit
 
 from . import cbor
-from .errors import ArgumentError, bytes_of
+from .errors import ArgumentError, ArgumentTypeError, bytes_of
 
 Json = dict[str, Any]
 Conversion = Callable[[str, Any], Any]
 _ES256 = -7
+_NO_BASE64URL = re.compile(r"[^A-Za-z0-9_-]")
 
 
 def text_of(data: bytes) -> str:
     """Returns bytes as base64url without padding."""
-    return urlsafe_b64encode(bytes_of("the data", data)).rstrip(b"=").decode()
+    return urlsafe_b64encode(bytes_of("the data", data)).decode("ascii").rstrip("=")
 
 
 def data_of(text: str, name: str = "the text") -> bytes:
     """Returns the bytes of a base64url text without padding."""
     if not isinstance(text, str):
-        raise TypeError(f"{name} has to be base64url in a str, not {type(text).__name__}")
-    try:
-        if set(text) & set("+/="):
-            raise ValueError("it has one of + / =")
-        return urlsafe_b64decode(text.encode("ascii") + b"=" * (-len(text) % 4))
-    except (ValueError, binascii.Error) as error:
-        raise ArgumentError(f"{name} isn't base64url without padding: {error}") from None
+        raise ArgumentTypeError(f"{name} has to be base64url in a str, not {type(text).__name__}")
+    wrong = _NO_BASE64URL.search(text)
+    if wrong or len(text) % 4 == 1:
+        why = f"it has {wrong[0]!r}" if wrong else f"it has {len(text)} letters"
+        raise ArgumentError(f"{name} isn't base64url without padding: {why}")
+    return urlsafe_b64decode(text.encode("ascii") + b"=" * (-len(text) % 4))
+
+
+def _bytes(name: str, value: Any) -> bytes:
+    """Returns bytes, also of a class that is made of bytes, as those of python-fido2 are, or that converts to bytes."""
+    convert = getattr(value, "__bytes__", None)
+    return bytes_of(name, convert() if convert else value)
 
 
 def _to_bytes(name: str, value: Any) -> bytes:
     return data_of(value, name)
 
 
-def _to_text(_: str, value: Any) -> str:
-    return text_of(value)
+def _to_text(name: str, value: Any) -> str:
+    """Returns bytes as text. A text is that already, as in options of python-fido2 2.x."""
+    if isinstance(value, str):
+        data_of(value, name)
+        return value
+    return text_of(bytes_of(name, value))
 
 
 def host_of(origin: str) -> str:
     """Returns the host of an origin."""
-    host = urlsplit(origin).hostname
+    if not isinstance(origin, str):
+        raise ArgumentTypeError(f"the origin has to be str, not {type(origin).__name__}")
+    try:
+        host = urlsplit(origin).hostname
+    except ValueError:
+        host = None
     if not host:
         raise ArgumentError(f"{origin!r} is no origin; it is like https://example.com")
     return host
@@ -64,6 +79,22 @@ def _member(options: Mapping[str, Any], *path: str) -> Any:
     return value
 
 
+def _object(value: Any, name: str) -> Mapping[str, Any]:
+    """Returns a mapping."""
+    if not isinstance(value, Mapping):
+        raise ArgumentTypeError(f"{name} has to be a dict, not {type(value).__name__}")
+    return value
+
+
+def _all_plain(value: Any, name: str) -> Json:
+    """Returns a mapping and all that is in it as dict and list, without members that are None."""
+    try:
+        made: Json = _plain(_object(value, name))
+        return made
+    except RecursionError:
+        raise ArgumentError(f"{name} hold themselves, or are too deep") from None
+
+
 def _plain(value: Any) -> Any:
     """Returns mappings and lists as dict and list, without members that are None; enumerations as their text."""
     if isinstance(value, Mapping):
@@ -75,16 +106,19 @@ def _plain(value: Any) -> Any:
 
 def _descriptors(options: Json, name: str, convert: Conversion) -> None:
     if name in options:
-        options[name] = [{**it, "id": convert(f"{name}.id", _member(it, "id"))} for it in options[name]]
+        if not isinstance(options[name], list):
+            raise ArgumentTypeError(f"{name} has to be a list, not {type(options[name]).__name__}")
+        listed = [_object(it, f"a credential of {name}") for it in options[name]]
+        options[name] = [{**it, "id": convert(f"{name}.id", _member(it, "id"))} for it in listed]
 
 
 def _prf(values: Json, convert: Conversion) -> Json:
-    return {key: convert(f"extensions.prf.{key}", it) for key, it in values.items()}
+    return {key: convert(f"extensions.prf.{key}", it) for key, it in _object(values, "extensions.prf").items()}
 
 
 def _extensions(given: Json, convert: Conversion) -> Json:
     """Converts the members of extensions that are bytes: of prf, and of largeBlob."""
-    made = dict(given)
+    made = dict(_object(given, "extensions"))
     if isinstance(given.get("largeBlob"), dict):
         parts = given["largeBlob"].items()
         made["largeBlob"] = {
@@ -96,15 +130,17 @@ def _extensions(given: Json, convert: Conversion) -> Json:
             if name in prf:
                 prf[name] = _prf(prf[name], convert)
         if "evalByCredential" in prf:
-            prf["evalByCredential"] = {key: _prf(it, convert) for key, it in prf["evalByCredential"].items()}
+            prf["evalByCredential"] = {
+                key: _prf(it, convert) for key, it in _object(prf["evalByCredential"], "evalByCredential").items()
+            }
         made["prf"] = prf
     return made
 
 
 def _creation(options: Mapping[str, Any], convert: Conversion) -> Json:
-    made: Json = _plain(options)
+    made = _all_plain(options, "options")
     made["challenge"] = convert("challenge", _member(made, "challenge"))
-    made["user"] = {**_member(made, "user"), "id": convert("user.id", _member(made, "user", "id"))}
+    made["user"] = {**_object(_member(made, "user"), "user"), "id": convert("user.id", _member(made, "user", "id"))}
     _member(made, "rp")
     _member(made, "pubKeyCredParams")
     _descriptors(made, "excludeCredentials", convert)
@@ -114,7 +150,7 @@ def _creation(options: Mapping[str, Any], convert: Conversion) -> Json:
 
 
 def _request(options: Mapping[str, Any], convert: Conversion) -> Json:
-    made: Json = _plain(options)
+    made = _all_plain(options, "options")
     made["challenge"] = convert("challenge", _member(made, "challenge"))
     _descriptors(made, "allowCredentials", convert)
     if "extensions" in made:
@@ -125,7 +161,7 @@ def _request(options: Mapping[str, Any], convert: Conversion) -> Json:
 def _unwrapped(options: Mapping[str, Any]) -> Mapping[str, Any]:
     """Returns the options in a member publicKey, where they are there."""
     if not isinstance(options, Mapping):
-        raise TypeError(f"options have to be a dict, not {type(options).__name__}")
+        raise ArgumentTypeError(f"options have to be a dict, not {type(options).__name__}")
     inner = options.get("publicKey")
     return inner if isinstance(inner, Mapping) else options
 
@@ -134,7 +170,7 @@ def creation_options(options: Mapping[str, Any], origin: str | None = None) -> J
     """Returns PublicKeyCredentialCreationOptionsJSON with bytes. A missing rp.id is the origin's host."""
     made = _creation(_unwrapped(options), _to_bytes)
     if origin is not None:
-        made["rp"] = {"id": host_of(origin), **made["rp"]}
+        made["rp"] = {"id": host_of(origin), **_object(made["rp"], "rp")}
     return made
 
 
@@ -156,8 +192,20 @@ def request_options_json(options: Mapping[str, Any]) -> Json:
 
 def attestation_of(data: bytes) -> bytes:
     """Returns an attestation object with the keys of WebAuthn, also where it has the numbers of CTAP2."""
-    names = {1: "fmt", 2: "authData", 3: "attStmt"}
-    return cbor.encode({names.get(key, key): it for key, it in cbor.decode(data).items()})
+    names, given = {1: "fmt", 2: "authData", 3: "attStmt"}, cbor.decode(data)
+    if not isinstance(given, dict):
+        raise ArgumentError("the attestation object is no map of CBOR")
+    return cbor.encode({names.get(key, key): it for key, it in given.items()})
+
+
+def _attested(attestation: bytes) -> tuple[bytes, bytes, Optional[bytes], int]:
+    """Returns authenticator data, the credential's id, the public key as SubjectPublicKeyInfo, and its algorithm."""
+    try:
+        auth_data = bytes_of("authData", cbor.decode(attestation)["authData"])
+        length = int.from_bytes(auth_data[53:55], "big")
+        return auth_data, auth_data[55 : 55 + length], *_public_key(auth_data)
+    except (LookupError, TypeError, ValueError) as error:
+        raise ArgumentError(f"the attestation object can't be read: {error}") from None
 
 
 def _public_key(auth_data: bytes) -> tuple[Optional[bytes], int]:
@@ -175,7 +223,7 @@ def _credential_json(credential_id: bytes, response: Json, extensions: Any, atta
         "rawId": text_of(credential_id),
         "response": response,
         "authenticatorAttachment": attachment,
-        "clientExtensionResults": _extensions(_plain(extensions or {}), _to_text),
+        "clientExtensionResults": _extensions(_all_plain(extensions or {}, "extensions"), _to_text),
         "type": "public-key",
     }
     return {name: it for name, it in made.items() if it is not None}
@@ -189,12 +237,10 @@ def registration_json(
     attachment: str | None = "cross-platform",
 ) -> Json:
     """Returns RegistrationResponseJSON of what a registration made."""
-    attestation = attestation_of(bytes(attestation_object))
-    auth_data = cbor.decode(attestation)["authData"]
-    length = int.from_bytes(auth_data[53:55], "big")
-    public, algorithm = _public_key(auth_data)
+    attestation = attestation_of(_bytes("attestation_object", attestation_object))
+    auth_data, name, public, algorithm = _attested(attestation)
     response = {
-        "clientDataJSON": text_of(bytes(client_data)),
+        "clientDataJSON": text_of(_bytes("client_data", client_data)),
         "authenticatorData": text_of(auth_data),
         "transports": list(transports),
         "publicKey": None if public is None else text_of(public),
@@ -202,7 +248,7 @@ def registration_json(
         "attestationObject": text_of(attestation),
     }
     kept = {name: it for name, it in response.items() if it is not None}
-    return _credential_json(auth_data[55 : 55 + length], kept, extensions, attachment)
+    return _credential_json(name, kept, extensions, attachment)
 
 
 def authentication_json(
@@ -216,9 +262,9 @@ def authentication_json(
 ) -> Json:
     """Returns AuthenticationResponseJSON of what a sign-in made."""
     response = {
-        "clientDataJSON": text_of(bytes(client_data)),
-        "authenticatorData": text_of(bytes(authenticator_data)),
-        "signature": text_of(signature),
+        "clientDataJSON": text_of(_bytes("client_data", client_data)),
+        "authenticatorData": text_of(_bytes("authenticator_data", authenticator_data)),
+        "signature": text_of(_bytes("signature", signature)),
     }
     if user_handle:
         response["userHandle"] = text_of(user_handle)
@@ -227,7 +273,7 @@ def authentication_json(
 
 def _answer(credential: Mapping[str, Any], required: tuple[str, ...], others: tuple[str, ...]) -> Json:
     """Returns a response in JSON with bytes."""
-    made: Json = _plain(credential)
+    made = _all_plain(credential, "credential")
     for name in required:
         _member(made, "response", name)
     made["rawId"] = data_of(_member(made, "rawId"), "rawId")

@@ -1,0 +1,45 @@
+<?php
+// Tests a service in PHP, with a browser and its key as a process. Debian has no library of WebAuthn for PHP, so the test
+// verifies the signature itself:
+//
+//     php sign_in.php hidlog browser
+
+const CHALLENGE = 'AAECAwQFBgcICQoLDA0ODw';
+$command = [...array_slice($argv, 1), '--origin', 'https://example.com'];
+$browser = proc_open($command, [['pipe', 'r'], ['pipe', 'w'], STDERR], $pipes);
+
+/** Sends a line, and returns the answer. */
+function ask(string $command, mixed $given): array
+{
+    global $pipes;
+    fwrite($pipes[0], json_encode([$command => $given]) . "\n");
+    return json_decode(fgets($pipes[1]), true);
+}
+
+function bytes(string $base64url): string
+{
+    return base64_decode(strtr($base64url, '-_', '+/'));
+}
+
+$made = ask('create', [
+    'rp' => ['id' => 'example.com', 'name' => 'Example'], 'challenge' => CHALLENGE,
+    'user' => ['id' => 'YW5u', 'name' => 'ann', 'displayName' => 'Ann'],
+    'pubKeyCredParams' => [['type' => 'public-key', 'alg' => -7]],
+])['value'];
+$spki = base64_encode(bytes($made['response']['publicKey']));
+$key = "-----BEGIN PUBLIC KEY-----\n" . chunk_split($spki, 64) . "-----END PUBLIC KEY-----\n";
+$options = [
+    'challenge' => CHALLENGE, 'rpId' => 'example.com', 'allowCredentials' => [['type' => 'public-key', 'id' => $made['id']]],
+];
+$used = ask('get', $options)['value']['response'];
+$signed = bytes($used['authenticatorData']) . hash('sha256', bytes($used['clientDataJSON']), true);
+if (openssl_verify($signed, bytes($used['signature']), $key, OPENSSL_ALGO_SHA256) !== 1) {
+    exit("the signature is wrong\n");
+}
+ask('presence', 'denied');
+if (ask('get', $options)['error'] !== 'NotAllowedError') {
+    exit("the user denied\n");
+}
+fclose($pipes[0]);
+proc_close($browser);
+echo "ok\n";

@@ -1,0 +1,57 @@
+#!/usr/bin/env bash
+# Loads the service beside this with Locust: examples/load/run.sh [SECONDS [USERS [WORKERS]]]
+#
+# The service, a master and the workers run here, by the package of this clone. Two runs follow each other, each of so
+# many seconds (by default 10, 20 users, 2 workers); the second signs in with the users of the first. In between a
+# worker is killed where HIDLOG_KILL is set. Ends with 3 where a package of Debian is missing, and with 1 where a
+# ceremony failed or the second run knows nobody.
+set -euo pipefail
+here=$(cd "$(dirname "${BASH_SOURCE[0]}")" && pwd)
+seconds=${1:-10}
+users=${2:-20}
+workers=${3:-2}
+python=/usr/bin/python3
+"$python" -c 'import flask, fido2, locust' 2>/dev/null ||
+    { echo "locust, flask or fido2 is missing (apt-get install python3-locust python3-flask python3-fido2)" >&2 && exit 3; }
+work=$(mktemp -d)
+started=()
+end() {
+    [ ${#started[@]} = 0 ] || kill "${started[@]}" 2>/dev/null || true
+    wait
+    rm -rf "$work"
+}
+trap end EXIT
+export PYTHONPATH=$here/../../python/src PYTHONDONTWRITEBYTECODE=1
+port=$("$python" -c 'import socket; s = socket.socket(); s.bind(("127.0.0.1", 0)); print(s.getsockname()[1])')
+master=$((port < 60000 ? port + 1 : port - 1000))
+"$python" "$here/service.py" --port "$port" --database "$work/service.db" &
+service=$!
+started+=("$service")
+for _ in {1..100}; do
+    "$python" -c "import socket; socket.create_connection(('127.0.0.1', $port))" 2>/dev/null && break
+    sleep 0.1
+done
+
+# Runs Locust once: load NAME [USERS BEFORE AFTER], with the words of figures.py
+load() {
+    local words=("$python" -W ignore -m locust -f "$here/locustfile.py" --loglevel WARNING --security-keys "$work/keys.db"
+        --failed-logs "$work/failed") each ran=()
+    for ((each = 0; each < workers; each++)); do
+        "${words[@]}" --worker --master-port "$master" >"$work/worker$each" 2>&1 &
+        ran+=($!)
+    done
+    started+=("${ran[@]}")
+    if [ -n "${HIDLOG_KILL-}" ] && [ "$1" = one ]; then
+        (sleep $((seconds / 2 + 5)) && kill -KILL "${ran[0]}") &
+    fi
+    "${words[@]}" --master --master-bind-port "$master" --headless --expect-workers "$workers" --host "http://localhost:$port" \
+        --users "$users" --spawn-rate "$users" --run-time "${seconds}s" --only-summary --csv "$work/$1" >"$work/said" 2>&1 ||
+        { [ -n "${HIDLOG_KILL-}" ] || { cat "$work/said" "$work"/worker* && return 1; }; }
+    wait "${ran[@]}" 2>/dev/null || true
+    echo "$1: the service has taken $(ps -o cputimes= -p "$service" | tr -d ' ') s of the processor so far"
+    "$python" "$here/figures.py" "$1" "$work/$1_stats.csv" "${@:2}"
+}
+
+load one
+"$python" -c 'import sqlite3, sys; sqlite3.connect(sys.argv[1]).execute("vacuum into ?", sys.argv[2:])' "$work/keys.db" "$work/before.db"
+load two "$users" "$work/before.db" "$work/keys.db"

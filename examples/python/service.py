@@ -1,0 +1,73 @@
+"""A service that signs people in, with python-fido2's server, versions 0.9 to 2.2: options out, answers in, as JSON.
+
+Put your own service in its place.
+"""
+
+import importlib
+import json
+
+from fido2.server import Fido2Server
+from fido2.webauthn import PublicKeyCredentialRpEntity, PublicKeyCredentialUserEntity, UserVerificationRequirement
+from hidlog import webauthn_json
+
+try:
+    features = importlib.import_module("fido2.features")
+except ImportError:
+    features = None  # version 0.9, which takes no JSON
+if hasattr(features, "webauthn_json_mapping"):
+    features.webauthn_json_mapping.enabled = True  # versions 1.x take JSON where it is asked for
+
+
+class Service:
+    """What a service keeps of its users, and the two steps of a registration and of a sign-in."""
+
+    def __init__(self, origin="http://localhost:5000", rp_id="localhost"):
+        entity = PublicKeyCredentialRpEntity(id=rp_id, name="Example")
+        self.server = Fido2Server(entity, verify_origin=origin.__eq__)
+        self.accounts = {}
+        self.state = None
+
+    def registration_options(self, name, known=(), resident="required", verification=None):
+        """Returns the options for navigator.credentials.create."""
+        user = PublicKeyCredentialUserEntity(id=name.encode(), name=name, display_name=name.title())
+        wanted = verification and UserVerificationRequirement(verification)
+        asked, self.state = self.server.register_begin(user, list(known), user_verification=wanted)
+        options = webauthn_json.creation_options_json(dict(asked))
+        options.setdefault("authenticatorSelection", {}).update(residentKey=resident)
+        return json.loads(json.dumps(options))
+
+    def register(self, answer):
+        """Takes what the page made, and returns what is kept of it."""
+        account = self._registered(answer).credential_data
+        self.accounts[answer["id"]] = account
+        return account
+
+    def _registered(self, answer):
+        if features:
+            return self.server.register_complete(self.state, answer)
+        from fido2.client import ClientData
+        from fido2.ctap2 import AttestationObject
+
+        made = webauthn_json.registration(answer)["response"]
+        parts = ClientData(made["clientDataJSON"]), AttestationObject(made["attestationObject"])
+        return self.server.register_complete(self.state, *parts)
+
+    def sign_in_options(self, allowed=(), verification=None):
+        """Returns the options for navigator.credentials.get."""
+        wanted = verification and UserVerificationRequirement(verification)
+        asked, self.state = self.server.authenticate_begin(list(allowed), wanted)
+        return json.loads(json.dumps(webauthn_json.request_options_json(dict(asked))))
+
+    def sign_in(self, answer):
+        """Takes what the page made. Raises ValueError where it is wrong."""
+        known = list(self.accounts.values())
+        if features:
+            self.server.authenticate_complete(self.state, known, answer)
+            return
+        from fido2.client import ClientData
+        from fido2.ctap2 import AuthenticatorData
+
+        made = webauthn_json.authentication(answer)
+        response = made["response"]
+        parts = ClientData(response["clientDataJSON"]), AuthenticatorData(response["authenticatorData"])
+        self.server.authenticate_complete(self.state, known, made["rawId"], *parts, response["signature"])

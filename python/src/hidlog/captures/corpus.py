@@ -1,0 +1,23 @@
+"""Finds the modules of the conformance corpus: installed ones, those in this package, or those of a clone."""
+
+from __future__ import annotations
+
+import importlib
+import sys
+from pathlib import Path
+from types import ModuleType
+
+from ..errors import MissingPart
+
+
+def module(name: str) -> ModuleType:
+    """Returns a module of hidlog_conformance."""
+    here = Path(__file__).resolve()
+    for folder in (here.parents[1] / "corpus", here.parents[4] / "conformance"):
+        if (folder / "hidlog_conformance").is_dir() and str(folder) not in sys.path:
+            sys.path.append(str(folder))
+            break
+    try:
+        return importlib.import_module(f"hidlog_conformance.{name}")
+    except ImportError as error:
+        raise MissingPart(f"the rules of the conformance corpus are missing: {error}. The package has them") from None

@@ -1,0 +1,152 @@
+"""Reads lines of strace: what was read from and written to /dev/hidraw."""
+
+from __future__ import annotations
+
+import re
+from collections.abc import Iterable
+
+from .. import packets as hid
+from .debug_text import ONE_CLIENT
+from .moments import Clock
+from .source import Source
+from .streams import Packet, Stream
+
+# What is before a call: the process, moments, the instruction pointer.
+_FRONT = rb"^(?P<front>(?:[^a-z\"<\[]|\[[0-9a-f? pid]+\])*)"
+_CALL = re.compile(
+    _FRONT + rb"(?P<call>openat|open|openat2|read|write|pread64|pwrite64|close|dup|dup2|dup3)\((?P<rest>.*)$"
+)
+_RESUMED = re.compile(_FRONT + rb"<\.\.\. (?P<call>\w+) resumed>\s*,?\s*(?P<rest>.*)$")
+_UNFINISHED = b"<unfinished ...>"
+_PROCESS = re.compile(rb"^\s*(?:\[pid\s+(\d+)\]|(\d{2,8}) +(?=\d\d:|\d{9,}|[a-z<]|\d+\.\d))")
+_TEXT = re.compile(rb'"((?:[^"\\]|\\.)*)"(\.\.\.)?')
+_RESULT = re.compile(rb"= (-?\d+)")
+_NUMBER = re.compile(rb"^\s*(\d+)(?:<([^>]*)>)?")
+_RELATIVE = re.compile(rb"^\s*(?:\[pid\s+\d+\]|\d+\s+)?\s*(\d+\.\d{6})\s")
+_ESCAPE = re.compile(rb"\\(x[0-9a-fA-F]{2}|[0-7]{1,3}|.)", re.DOTALL)
+_LETTERS = {b"n": b"\n", b"t": b"\t", b"r": b"\r", b"f": b"\f", b"v": b"\v", b"a": b"\a", b"b": b"\b", b"e": b"\x1b"}
+_CUT = "strace cut the bytes of packets: record with -s 128"
+
+
+def is_strace(line: bytes) -> bool:
+    """Returns whether a line is strace's."""
+    return bool(_CALL.match(line)) and (_RESULT.search(line) is not None or line.rstrip().endswith(_UNFINISHED))
+
+
+def unescaped(text: bytes) -> bytes:
+    """Returns the bytes that a text of strace's says."""
+
+    def one(found: re.Match[bytes]) -> bytes:
+        word = found[1]
+        if word[:1] == b"x" and len(word) == 3:
+            return bytes([int(word[1:], 16)])
+        if word[:1] in b"01234567":
+            return bytes([int(word, 8) & 0xFF])
+        return _LETTERS.get(word, word)
+
+    return _ESCAPE.sub(one, text)
+
+
+class _Reader:
+    """Follows the file descriptors of each process."""
+
+    def __init__(self, source: Source):
+        self._source = source
+        self._paths: dict[tuple[bytes, int], str] = {}
+        self._begun: dict[bytes, tuple[bytes, bytes]] = {}
+        self.streams: dict[str, list[Packet]] = {}
+        self._clock = Clock()
+        self._elapsed = 0
+
+    def take(self, line: bytes) -> None:
+        """Takes a line."""
+        process = b""
+        if found := _PROCESS.match(line):
+            process = found[1] or found[2]
+        at = self._moment(line)
+        if resumed := _RESUMED.match(line):
+            call, rest = self._begun.pop(process, (b"", b""))
+            if call == resumed["call"]:
+                self._call(process, call, rest + resumed["rest"], at)
+            return
+        if called := _CALL.match(line):
+            rest = called["rest"]
+            if rest.rstrip().endswith(_UNFINISHED):
+                self._begun[process] = (called["call"], rest.rstrip()[: -len(_UNFINISHED)])
+            else:
+                self._call(process, called["call"], rest, at)
+
+    def _moment(self, line: bytes) -> int | None:
+        """Returns the moment of a line: with -r each says how long after the one before it began."""
+        at = self._clock.read(line)
+        if at is not None:
+            return at
+        if found := _RELATIVE.match(line):
+            self._elapsed += int(found[1].replace(b".", b"")) * 1000
+            return self._elapsed
+        return None
+
+    def _call(self, process: bytes, call: bytes, rest: bytes, at: int | None) -> None:
+        results = _RESULT.findall(rest)
+        result = int(results[-1]) if results else -1
+        if call.startswith(b"open"):
+            texts = _TEXT.search(rest)
+            path = unescaped(texts[1]).decode("utf-8", "replace") if texts else ""
+            if result >= 0:
+                self._paths[process, result] = path
+            return
+        number = _NUMBER.match(rest)
+        if not number:
+            return
+        handle = (process, int(number[1]))
+        if call == b"close":
+            self._paths.pop(handle, None)
+        elif call.startswith(b"dup"):
+            if result >= 0 and handle in self._paths:
+                self._paths[process, result] = self._paths[handle]
+        elif result > 0:
+            self._data(handle, (number[2] or b"").decode("utf-8", "replace"), call, rest, result, at)
+
+    def _path(self, handle: tuple[bytes, int], named: str) -> str | None:
+        """Returns the file of a descriptor, which threads share; None where its opening wasn't recorded."""
+        if named:
+            return unescaped(named.encode()).decode("utf-8", "replace")
+        if handle in self._paths:
+            return self._paths[handle]
+        others = [path for (_, number), path in self._paths.items() if number == handle[1]]
+        return others[-1] if others else None
+
+    def _data(
+        self, handle: tuple[bytes, int], named: str, call: bytes, rest: bytes, result: int, at: int | None
+    ) -> None:
+        path, sent = self._path(handle, named), "write" in call.decode()
+        if result != hid.PACKET + sent or (path is not None and "hidraw" not in path):
+            return
+        texts = _TEXT.search(rest)
+        if not texts:
+            return
+        data = unescaped(texts[1])
+        if path is None and not texts[2] and len(data) != result:
+            return
+        if texts[2] or len(data) < result:
+            self._source.note(_CUT)
+        name = path.rpartition("/")[2] if path else f"descriptor {handle[1]}"
+        self.streams.setdefault(name, []).append(Packet(at, sent, data[1:] if sent else data))
+
+
+def read_strace(lines: Iterable[bytes], source: Source) -> list[Stream]:
+    """Returns the streams of strace's lines, one for each device."""
+    reader = _Reader(source)
+    source.note(ONE_CLIENT)
+    for line in lines:
+        reader.take(line)
+    found = [Stream(name, packets) for name, packets in reader.streams.items()]
+    # A descriptor of which the opening wasn't seen may be of anything that reads and writes 64 bytes.
+    return [it for it in found if not it.name.startswith("descriptor") or _greets(it)]
+
+
+def _greets(stream: Stream) -> bool:
+    """Returns whether packets of CTAPHID are on a descriptor."""
+    heads = [it for it in stream.packets if len(it.data) >= 7 and it.data[4] & 0x80]
+    channels = {it.data[:4] for it in heads if it.sent}
+    return any(not it.sent and it.data[:4] in channels for it in heads)

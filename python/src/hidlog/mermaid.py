@@ -1,0 +1,69 @@
+"""`hidlog mermaid [FILE]`: a recorded session as a sequence diagram, which code hosts draw from a block ```mermaid."""
+
+from __future__ import annotations
+
+import argparse
+import json
+import re
+import subprocess
+import sys
+from collections.abc import Iterable, Iterator
+from typing import Any
+
+from .errors import MissingPart
+from .process import program
+
+Json = dict[str, Any]
+# What ends a text of Mermaid, or begins another thing.
+_SPECIAL = re.compile(r"[#;:<>{}\[\]\"`\n]")
+_NAMED = ("INIT", "PING", "ERROR")
+
+
+def _text(*parts: object) -> str:
+    """Returns parts as a text, in which special characters are codes."""
+    text = " ".join(str(it) for it in parts if it not in (None, ""))
+    return _SPECIAL.sub(lambda found: f"#{ord(found[0])};", text) or "-"
+
+
+def _lines(entries: Iterable[Json]) -> Iterator[str]:
+    """Returns the lines of a diagram for what `show --json` says."""
+    statuses: dict[str, Any] = {}
+    for it in entries:
+        kind, name, channel = it.get("kind"), it.get("name"), it.get("channel")
+        is_host = it.get("from") == "host"
+        if kind == "packet" and is_host and name not in (None, "CBOR"):
+            yield f"host->>key: {_text(channel, name)}"
+        elif kind == "request":
+            yield f"host->>key: {_text(channel, name, it.get('rpId'))}"
+        elif kind == "packet" and name == "KEEPALIVE" and statuses.get(str(channel)) != it.get("code"):
+            statuses[str(channel)] = it.get("code")
+            yield f"key-->>host: {_text('KEEPALIVE', it.get('codeName'))}"
+        elif kind == "presence":
+            yield f"user->>key: {_text(it.get('reply'), 'at', it.get('moment'), 'ms')}"
+        elif kind == "packet" and not is_host and name in _NAMED:
+            yield f"key->>host: {_text(name, it.get('codeName'))}"
+        elif kind == "answer":
+            statuses.pop(str(channel), None)
+            yield f"key->>host: {_text(it.get('statusName'))}"
+
+
+def diagram(entries: Iterable[Json]) -> str:
+    """Returns a sequence diagram of what `hidlog show --json` says of a log."""
+    begin = ["sequenceDiagram", "    participant host", "    participant key", "    participant user"]
+    return "\n".join([*begin, *(f"    {line}" for line in _lines(entries))]) + "\n"
+
+
+def main(words: list[str] | None = None) -> int:
+    """Writes the diagram of a log."""
+    parser = argparse.ArgumentParser(
+        prog="hidlog mermaid", description="Writes a log as a sequence diagram of Mermaid."
+    )
+    parser.add_argument("file", nargs="?", default="-", help="the log; standard input where none is named")
+    options = parser.parse_args(words)
+    try:
+        ran = subprocess.run([program(), "show", "--json", options.file], stdout=subprocess.PIPE, check=False)
+    except MissingPart as error:
+        print(f"hidlog: {error}", file=sys.stderr)
+        return 2
+    sys.stdout.write(diagram(json.loads(line) for line in ran.stdout.splitlines()))
+    return ran.returncode
