@@ -11,7 +11,7 @@ import select
 import sys
 import time
 
-from devices import LiveDevice
+from hidlog_conformance.devices import LiveDevice
 
 START = time.monotonic()
 

@@ -14,8 +14,9 @@ import subprocess
 import sys
 import tempfile
 
-from client_runner import CLIENTS, client_sessions, play_clients
-from known import compare
+from hidlog_conformance.client_runner import client_sessions, play_clients
+from hidlog_conformance.known import compare
+from hidlog_conformance.places import CLIENTS
 
 
 def plays(name: str, command: str) -> bool:

@@ -11,18 +11,21 @@ import os
 import sys
 from typing import Dict, List, Tuple
 
-import cases_cbor
-import cases_checks
-import cases_flows
-import cases_fuzzed
-import cases_order
-import cases_power
-import cases_recorded
-import cases_time
-import cases_transport
-from client_runner import client_sessions, read_client_session
-from corpus import Case
-from sentence_table import sentence_table
+from hidlog_conformance.cases import cbor as cases_cbor
+from hidlog_conformance.cases import checks as cases_checks
+from hidlog_conformance.cases import flows as cases_flows
+from hidlog_conformance.cases import fuzzed as cases_fuzzed
+from hidlog_conformance.cases import likeness as cases_likeness
+from hidlog_conformance.cases import second as cases_second
+from hidlog_conformance.cases import order as cases_order
+from hidlog_conformance.cases import pin as cases_pin
+from hidlog_conformance.cases import power as cases_power
+from hidlog_conformance.cases import recorded as cases_recorded
+from hidlog_conformance.cases import time as cases_time
+from hidlog_conformance.cases import transport as cases_transport
+from hidlog_conformance.client_runner import client_sessions, read_client_session
+from hidlog_conformance.cases.corpus import Case
+from hidlog_conformance.cases.sentence_table import sentence_table
 
 HERE = os.path.dirname(os.path.abspath(__file__))
 SESSIONS = os.path.join(HERE, "sessions")
@@ -32,6 +35,9 @@ MODULES = (
     cases_transport,
     cases_order,
     cases_time,
+    cases_likeness,
+    cases_second,
+    cases_pin,
     cases_cbor,
     cases_checks,
     cases_flows,

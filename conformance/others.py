@@ -17,13 +17,13 @@ from typing import Any, Callable, Deque, List, Optional
 HERE = os.path.dirname(os.path.abspath(__file__))
 sys.path.insert(0, os.path.join(HERE, "others"))
 
-import report  # noqa: E402
-from devices import Device  # noqa: E402
-from known import compare  # noqa: E402
-from offers import Offers  # noqa: E402
-from player import Outcome  # noqa: E402
+from hidlog_conformance import report  # noqa: E402
+from hidlog_conformance.devices import Device  # noqa: E402
+from hidlog_conformance.known import compare  # noqa: E402
+from hidlog_conformance.offers import Offers  # noqa: E402
+from hidlog_conformance.outcome import Outcome  # noqa: E402
 from python_key import Key  # noqa: E402
-from run import all_sessions, play_one, words_of  # noqa: E402
+from hidlog_conformance.run import all_sessions, play_one, words_of  # noqa: E402
 
 KNOWN = "others/python_key.failed"
 
@@ -88,7 +88,7 @@ def main(words: List[str]) -> int:
     for session in all_sessions():
         outcomes.append(play_one(device, session, options, offers))
     if words == ["--report"]:
-        report.write("text", outcomes)
+        report.write("text", outcomes, {})
         return 0
     return 0 if compare(KNOWN, outcomes) else 1
 

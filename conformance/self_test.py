@@ -1,164 +1,64 @@
 #!/usr/bin/env python3
-"""Tries the ways to a device that no test of the corpus itself takes, and the reports.
+"""Tries the ways to a device, the reports, and what the runner does where a device or a client is out of order.
 
-A terminal without line editing stands for /dev/hidrawN, and others/python_key.py for the device behind it. That isn't a
-device: report descriptors and the kernel's own driver have no part in it.
+    conformance/self_test.py          all of it, in processes beside each other, since most of the time is waiting
+    conformance/self_test.py WORD ..  the tests whose names have a word, in this process
+
+Each test of a wrong device or client is played a second time with what it tests taken away, and has to fail then.
 """
 
 from __future__ import annotations
 
-import glob
-import io
 import os
-import pty
-import re
-import select
 import subprocess
 import sys
-import tempfile
-import threading
 import time
-import tty
-import xml.etree.ElementTree as xml
-from contextlib import redirect_stderr, redirect_stdout
-from typing import List
+from concurrent.futures import ThreadPoolExecutor
 
 HERE = os.path.dirname(os.path.abspath(__file__))
-sys.path.insert(0, os.path.join(HERE, "others"))
+for folder in ("self_tests", "others"):
+    sys.path.insert(0, os.path.join(HERE, folder))
 
-import run  # noqa: E402
-from python_key import Key  # noqa: E402
+import odd_clients  # noqa: E402
+import odd_devices  # noqa: E402
+import ways  # noqa: E402
 
-
-class Terminal:
-    """Serves the authenticator in Python on a terminal; counts resets, and reports without the number 0 in front."""
-
-    def __init__(self) -> None:
-        self.master, slave = pty.openpty()
-        tty.setraw(slave)
-        self.path = os.ttyname(slave)
-        self.resets = 0
-        self.wrong = 0
-        self.ended = False
-        self.thread = threading.Thread(target=self.serve, daemon=True)
-        self.thread.start()
-
-    def serve(self) -> None:
-        """Serves until the end."""
-        key, start, rest = Key(), time.monotonic(), b""
-        while not self.ended:
-            ready, _, _ = select.select([self.master], [], [], 0.02)
-            at = int((time.monotonic() - start) * 1000)
-            rest += os.read(self.master, 65) if ready else b""
-            while len(rest) >= 65:
-                report, rest = rest[:65], rest[65:]
-                self.wrong += report[0] != 0
-                self.resets += report[5] == 0x90 and report[8] == 7
-                key.hid.packet(at, report[1:])
-            key.hid.tick(at)
-            for packet in key.hid.out:
-                os.write(self.master, packet)
-            key.hid.out.clear()
+TESTS = {**ways.TESTS, **odd_devices.TESTS, **odd_clients.TESTS}
 
 
-def said(words: List[str]) -> str:
-    """Returns what run.py writes."""
-    out = io.StringIO()
-    with redirect_stdout(out), redirect_stderr(io.StringIO()):
-        run.main(words)
-    return out.getvalue()
+# So many processes wait beside each other. What is played in real time, the ways to a device, is one of them.
+AT_ONCE = 6
+REAL_TIME = "ways/"
 
 
-def hidraw() -> None:
-    """Plays some cases by the way of /dev/hidrawN."""
-    terminal = Terminal()
-    for only in ("init/", "reset/"):
-        text = said(["--device", terminal.path, "--only", only])
-        print(f"by a terminal, {only}: {text.splitlines()[-1]}")
-        assert " 0 failed" in text, text
-    terminal.ended = True
-    terminal.thread.join()
-    assert terminal.wrong == 0, "a report without the number 0"
-    assert terminal.resets == 0, "a reset without --reset"
+def by_itself(name: str) -> "subprocess.CompletedProcess[str]":
+    """Runs the tests whose names have a word in a process of their own."""
+    return subprocess.run([sys.executable, __file__, name], capture_output=True, text=True)
 
 
-def pipe() -> None:
-    """Plays some cases by a pipe, with touches and resets."""
-    command = f"{sys.executable} {os.path.join(HERE, 'others', 'python_key.py')}"
-    text = said(["--device", command, "--touch-line", "touch", "--reset", "--only", "selection/"])
-    print(f"by a pipe, selection/: {text.splitlines()[-1]}")
-    assert " 0 failed" in text, text
+def run_all() -> int:
+    """Runs all tests beside each other, and says in their order what each wrote."""
+    failed, names = 0, [REAL_TIME, *(it for it in TESTS if not it.startswith(REAL_TIME))]
+    with ThreadPoolExecutor(AT_ONCE) as pool:
+        for ran in pool.map(by_itself, names):
+            print("\n".join(it for it in (ran.stdout + ran.stderr).splitlines() if it != "passed"), flush=True)
+            failed += ran.returncode != 0
+    print(f"{failed} of {len(names)} failed" if failed else "passed")
+    return 1 if failed else 0
 
 
-def power() -> None:
-    """Plays a power cycle by a pipe: the command is started anew, and has what it kept."""
-    with tempfile.TemporaryDirectory() as room:
-        command = f"{sys.executable} {os.path.join(HERE, 'others', 'kept_key.py')} {room}/state"
-        words = ["--device", command, "--touch-line", "touch", "--only", "power/c"]
-        text = said([*words, "--keeps"])
-        print(f"by a pipe, power/c*: {text.splitlines()[-1]}")
-        assert text.endswith("4 passed, 0 failed, 0 skipped\n"), text
-        assert said(words).endswith("0 passed, 0 failed, 4 skipped\n"), "a power cycle without --keeps"
-
-
-def reports() -> None:
-    """Reads the reports for machines."""
-    found = xml.fromstring(said(["--only", "ping/", "--report", "junit"]))
-    cases = found.findall("testcase")
-    assert cases and len(cases) == int(found.attrib["tests"]), "JUnit's number of cases"
-    assert all(len(case.findall("properties/property")) == 2 for case in cases), "a case without its rule"
-    lines = said(["--only", "ping/", "--report", "tap"]).splitlines()
-    assert lines[:2] == ["TAP version 13", f"1..{len(cases)}"], "TAP's plan"
-    assert sum(line.startswith("# rule: ") for line in lines) == len(cases), "a case without its rule"
-    print(f"reports: JUnit and TAP, {len(cases)} cases with their rules")
-
-
-def page() -> None:
-    """Looks for each case that docs/CONFORMANCE.md names, of the corpus or of the clients."""
-    with open(os.path.join(HERE, "..", "docs", "CONFORMANCE.md"), encoding="utf-8") as file:
-        lines = [line for line in file.read().splitlines() if line.startswith("|")]
-    count = 0
-    for line in lines:
-        before, _, of_clients = line.partition("client: ")
-        for text, pattern in ((before, "sessions/{}.log"), (of_clients, "clients/{}.session")):
-            for name in re.findall(r"`([a-z]+/[a-z0-9_*]+)`", text):
-                assert glob.glob(os.path.join(HERE, pattern.format(name))), f"the page names {name}"
-                count += 1
-    assert count > 100, "the page's names"
-    print(f"docs/CONFORMANCE.md names cases {count} times, and each is there")
-
-
-def mistakes() -> None:
-    """Names devices that are none; each is said at once."""
-    wrong = {
-        "./nothing": "No such file",
-        "yes": "isn't 128 hexadecimal digits: b'y'",
-        "false": "the command ended",
-        "sleep 9": "nothing came; a command has to write each line at once",
-        "": "names no command",
-        "/dev/null": "is no device",
-    }
-    for device, wanted in wrong.items():
-        heard = io.StringIO()
-        with redirect_stdout(io.StringIO()), redirect_stderr(heard):
-            status = run.main(["--device", device, "--only", "ping/bytes_0000"])
-        assert status == 2 and wanted in heard.getvalue(), (device, heard.getvalue())
-    print(f"{len(wrong)} devices that are none are named so")
-
-
-def help_text() -> None:
-    """Reads what run.py says of its words."""
-    shown = subprocess.run([sys.executable, os.path.join(HERE, "run.py"), "--help"], capture_output=True, check=True)
-    for word in (b"--touch", b"--reset", b"--client", b"--report"):
-        assert word in shown.stdout, word
+def main(words: "list[str]") -> int:
+    """Runs the tests."""
+    if not words:
+        return run_all()
+    chosen = {name: test for name, test in TESTS.items() if any(word in name for word in words)}
+    for name, test in chosen.items():
+        began = time.monotonic()
+        test()
+        print(f"ok  {name} ({time.monotonic() - began:.1f} s)", flush=True)
+    print("passed" if chosen else f"self_test.py: no test is called {' '.join(words)}")
+    return 0 if chosen else 2
 
 
 if __name__ == "__main__":
-    hidraw()
-    pipe()
-    power()
-    reports()
-    mistakes()
-    help_text()
-    page()
-    print("passed")
+    sys.exit(main(sys.argv[1:]))

@@ -5,12 +5,12 @@
 #     hidlog_VERSION_amd64.deb             the program, its man page, completions for bash, zsh and fish
 #     libhidlog0_VERSION_amd64.deb         the shared library
 #     libhidlog-dev_VERSION_amd64.deb      the header, the static library, and what pkg-config reads
-#     hidlog-VERSION-*.whl, .tar.gz        the Python package
+#     hidlog-VERSION-*.whl, .tar.gz        the Python package, for x86-64 and aarch64
 #     hidlog-VERSION.tgz                   the key in a page, for npm: ES module, CommonJS, one script, types
 #     hidlog-VERSION.spdx.json             what the packages hold, in SPDX 2.3
 #     hidlog-VERSION.provenance.json       what they were made from and by which commands, as in-toto and SLSA say it
 #
-# The same release/ gives the same bytes. It needs tar, gzip, dpkg-deb and Python 3.11.
+# The same release/ makes the same bytes. It needs tar, gzip, dpkg-deb, Python 3.11 and hatchling.
 set -euo pipefail
 [ $# = 1 ] || { echo "usage: packages/build.sh FOLDER" >&2; exit 2; }
 top=$(cd "$(dirname "${BASH_SOURCE[0]}")/.." && pwd)
@@ -50,7 +50,7 @@ make_tarball() {
     put 644 release/hidlog.h "$room/$folder/include/hidlog.h"
     put 644 docs/hidlog.1 "$room/$folder/share/man/man1/hidlog.1"
     put_completions "$room/$folder/share"
-    for name in LICENSE-APACHE LICENSE-MIT CHANGELOG.md release/BUILD; do
+    for name in LICENSE-APACHE LICENSE-MIT packages/NOTICE CHANGELOG.md release/BUILD; do
         put 644 "$name" "$room/$folder/$(basename "$name")"
     done
     tar -C "$room" --sort=name --owner=0 --group=0 --numeric-owner --mtime="@$SOURCE_DATE_EPOCH" -cf - "$folder" |
@@ -69,11 +69,26 @@ put_common() {
         echo "Copyright: 2026 Cogtzil maintainers"
         echo "License: Apache-2.0 or Expat"
         echo
+        if [ "$1" = hidlog ]; then
+            echo "Files: usr/bin/hidlog"
+            echo "Copyright: 2026 Cogtzil maintainers"
+            echo " 1991-2022 Free Software Foundation, Inc."
+            echo "License: Apache-2.0 or Expat, and LGPL-2.1+"
+            echo "Comment: The program holds parts of the GNU C Library of Debian's libc6-dev, linked statically."
+            echo " Their source is Debian's source package glibc. How the program is linked is in release/build.sh of"
+            echo " hidlog's sources, so that it can be linked with another C library."
+            echo
+        fi
         echo "License: Apache-2.0"
         echo " On Debian systems the text is in /usr/share/common-licenses/Apache-2.0."
         echo
         echo "License: Expat"
         sed 1,4d "$top/LICENSE-MIT" | sed 's/^$/./; s/^/ /'
+        if [ "$1" = hidlog ]; then
+            echo
+            echo "License: LGPL-2.1+"
+            echo " On Debian systems the text is in /usr/share/common-licenses/LGPL-2.1."
+        fi
     } >"$docs/copyright"
     {
         echo "hidlog ($version) unstable; urgency=low"
@@ -111,8 +126,10 @@ make_program() {
     put 644 docs/hidlog.1 "$room/hidlog/usr/share/man/man1/hidlog.1"
     gzip -9n "$room/hidlog/usr/share/man/man1/hidlog.1"
     put_completions "$room/hidlog/usr/share"
-    override hidlog "It runs on any Linux, also where the C library is another." \
-        "statically-linked-binary [usr/bin/hidlog]"
+    # Of a static program that is position-independent (its ELF type is 3) lintian says that a library lacks others.
+    local tag=statically-linked-binary
+    [ "$(od -An -t u1 -j 16 -N 1 "$top/release/hidlog" | tr -d ' ')" != 3 ] || tag=shared-library-lacks-prerequisites
+    override hidlog "It runs on any Linux, also where the C library is another." "$tag [usr/bin/hidlog]"
     pack hidlog utils "" "FIDO2 security key as a program, for tests" \
         "It plays, checks and shows logs of sessions of a security key (CTAP 2.1)."
 }
@@ -145,10 +162,13 @@ make_npm() {
     for name in security_key.js security_key.mjs security_key.d.ts security_key.d.mts; do
         put 644 "web/dist/$name" "$folder/$name"
     done
-    for name in cjs d.cts; do
-        put 644 "packages/npm/security_key.$name" "$folder/security_key.$name"
+    for name in security_key.cjs security_key.d.cts browser.mjs README.md; do
+        put 644 "packages/npm/$name" "$folder/$name"
     done
-    put 644 web/README.md "$folder/README.md"
+    put 755 packages/npm/cli.mjs "$folder/cli.mjs"
+    put 644 release/hidlog.wasm "$folder/hidlog.wasm"
+    put 644 web/core.js "$folder/core.js"
+    put 644 web/dist/bytes.js "$folder/bytes.js"
     for name in LICENSE-APACHE LICENSE-MIT CHANGELOG.md; do
         put 644 "$name" "$folder/$name"
     done
@@ -163,6 +183,6 @@ make_program
 make_library
 make_development
 make_npm
-python3 "$top/python/backend.py" "$to" >/dev/null
+"$top/python/build.sh" "$to" >/dev/null
 python3 "$top/packages/statements.py" "$to"
 (cd "$to" && sha256sum ./*"$version"* >SHA256SUMS && cat SHA256SUMS)

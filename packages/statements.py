@@ -5,7 +5,8 @@
 
 Two files of JSON, the same for the same packages: hidlog-VERSION.spdx.json, a list of materials in SPDX 2.3, and
 hidlog-VERSION.provenance.json, a statement of in-toto with SLSA's provenance. Neither is signed. The facts are those of
-release/BUILD; the moment is that of SOURCE_DATE_EPOCH.
+release/BUILD, the commit and the sums of what the Python and npm packages are made from beside it; the moment is that of
+SOURCE_DATE_EPOCH.
 """
 
 from __future__ import annotations
@@ -14,14 +15,30 @@ import datetime
 import hashlib
 import json
 import os
+import subprocess
 import sys
 from pathlib import Path
 from typing import Any
 
 TOP = Path(__file__).resolve().parent.parent
-HOME = "https://cogtzil.example"
-# The crates of the toolchain's pack that the program and the library are built with.
-CRATES = ("arrayvec", "byteorder", "clap", "hex", "itoa", "memchr", "sha2", "thiserror")
+# The crates of the toolchain's kit that the program and the library are built with: the version of the Rust crate that
+# each was written after, by its README, and its licence.
+CRATES = {
+    "arrayvec": ("0.7.8", "MIT OR Apache-2.0"),
+    "byteorder": ("1.5.0", "MIT"),
+    "clap": ("4.6.7", "MIT OR Apache-2.0"),
+    "hex": ("0.4.3", "MIT OR Apache-2.0"),
+    "itoa": ("1.0.18", "MIT OR Apache-2.0"),
+    "memchr": ("2.8.3", "MIT"),
+    "sha2": ("0.11.1", "MIT OR Apache-2.0"),
+    "thiserror": ("2.0.21", "MIT OR Apache-2.0"),
+}
+# Debian's versions of libc6-dev, by the front of the sum of its libc.a, which release/BUILD has.
+LIBC = {"8e5252c4b87e3d58": "2.36-9+deb12u14"}
+# What is packed beside release/: the folders and files of each set of sources.
+OTHERS = {"python": ("python",), "npm": ("web/dist", "web/README.md", "packages/npm"), "docs": ("docs/hidlog.1",)}
+# Names of these forms; they lead nowhere.
+BUILD_TYPE, BUILDER = "urn:x-hidlog:packages:1", "urn:x-hidlog:release-build:1"
 COMMANDS = ("rt ci", "release/build.sh", "packages/build.sh FOLDER")
 Json = dict[str, Any]
 
@@ -30,6 +47,31 @@ def build_facts() -> dict[str, str]:
     """Returns the lines of release/BUILD by their names."""
     lines = (TOP / "release" / "BUILD").read_text(encoding="utf-8").splitlines()
     return {name: value for name, _, value in (line.partition(": ") for line in lines)}
+
+
+def git(*words: str) -> str:
+    """Returns what git says of this repository; nothing where there is none."""
+    try:
+        said = subprocess.run(["git", "-C", str(TOP), *words], capture_output=True, text=True, check=True)
+    except (OSError, subprocess.CalledProcessError):
+        return ""
+    return said.stdout.strip()
+
+
+def commit() -> list[Json]:
+    """Returns the commit that is built, and whether a file differs from it; nothing in an unpacked archive."""
+    if not (TOP / ".git").exists() or not (name := git("rev-parse", "HEAD")):
+        return []
+    is_changed = git("status", "--porcelain", "--untracked-files=no") != ""
+    return [{"name": "commit", "digest": {"gitCommit": name}, "annotations": {"changed": is_changed}}]
+
+
+def sum_of(paths: tuple[str, ...]) -> str:
+    """Returns a SHA-256 sum of files: of a line for each, with its own sum and its path, as sha256sum prints them."""
+    files = sorted(it for path in paths for it in ([TOP / path] if (TOP / path).is_file() else (TOP / path).rglob("*")))
+    kept = (it for it in files if it.is_file() and "__pycache__" not in it.parts and it.suffix != ".pyc")
+    lines = (f"{hashlib.sha256(it.read_bytes()).hexdigest()}  {it.relative_to(TOP)}\n" for it in kept)
+    return hashlib.sha256("".join(lines).encode()).hexdigest()
 
 
 def packages_of(folder: Path, version: str) -> dict[str, str]:
@@ -57,12 +99,29 @@ def spdx_package(name: str, version: str, licence: str, **more: Any) -> Json:
 def materials(facts: dict[str, str]) -> list[Json]:
     """Returns what the packages are made from: the sources, the toolchain's crates, and the C library that is linked."""
     kit = facts["kit"].split(" ")[0]
-    sources = [{"algorithm": "SHA256", "checksumValue": facts["sources"]}]
-    return [
-        spdx_package("cogtzil-sources", facts["version"], "MIT OR Apache-2.0", checksums=sources),
-        *(spdx_package(f"crate-{it}", f"of {kit}", "NOASSERTION") for it in CRATES),
-        spdx_package("glibc", facts["linker"], "LGPL-2.1-or-later", comment="Linked into the program alone."),
-    ]
+    sums = {"sources": facts["sources"], **{f"sources-{name}": sum_of(paths) for name, paths in OTHERS.items()}}
+    sources = (
+        spdx_package(
+            f"hidlog-{name}",
+            facts["version"],
+            "MIT OR Apache-2.0",
+            checksums=[{"algorithm": "SHA256", "checksumValue": digest}],
+        )
+        for name, digest in sums.items()
+    )
+    crates = (
+        spdx_package(f"{kit}-{name}", version, licence, comment=f"Of the kit {kit}, after the Rust crate {name}.")
+        for name, (version, licence) in CRATES.items()
+    )
+    libc = LIBC.get(facts["linker"].split(" ")[-2], "NOASSERTION")
+    glibc = spdx_package(
+        "glibc",
+        libc,
+        "LGPL-2.1-or-later",
+        comment=f"Debian's libc6-dev, linked into the program alone ({facts['linker']}).",
+        supplier="Organization: Debian",
+    )
+    return [*sources, spdx_package(kit, facts["kit"], "NOASSERTION"), *crates, glibc]
 
 
 def relationships(packages: list[Json], parts: list[Json]) -> list[Json]:
@@ -88,13 +147,14 @@ def spdx(facts: dict[str, str], sums: dict[str, str]) -> Json:
         )
         for name, digest in sums.items()
     ]
+    namespace = hashlib.sha256(json.dumps([sums, facts["sources"]]).encode()).hexdigest()
     moment = datetime.datetime.fromtimestamp(int(os.environ["SOURCE_DATE_EPOCH"]), datetime.timezone.utc)
     return {
         "spdxVersion": "SPDX-2.3",
         "dataLicense": "CC0-1.0",
         "SPDXID": "SPDXRef-DOCUMENT",
         "name": f"hidlog-{version}",
-        "documentNamespace": f"{HOME}/spdx/hidlog-{version}-{facts['sources']}",
+        "documentNamespace": f"urn:x-hidlog:spdx:{version}:{namespace}",
         "creationInfo": {"created": f"{moment:%Y-%m-%dT%H:%M:%SZ}", "creators": ["Tool: packages/statements.py"]},
         "packages": packages + parts,
         "relationships": relationships(packages, parts),
@@ -109,17 +169,19 @@ def provenance(facts: dict[str, str], sums: dict[str, str]) -> Json:
         "predicateType": "https://slsa.dev/provenance/v1",
         "predicate": {
             "buildDefinition": {
-                "buildType": f"{HOME}/docs/TRUST.md",
+                "buildType": BUILD_TYPE,
                 "externalParameters": {"version": facts["version"], "commands": COMMANDS},
                 "internalParameters": {
                     it: facts[it] for it in sorted(facts) if it not in ("version", "sources", "kit")
                 },
                 "resolvedDependencies": [
+                    *commit(),
                     {"name": "sources", "digest": {"sha256": facts["sources"]}},
+                    *({"name": f"sources-{it}", "digest": {"sha256": sum_of(paths)}} for it, paths in OTHERS.items()),
                     {"name": facts["kit"]},
                 ],
             },
-            "runDetails": {"builder": {"id": f"{HOME}/release/build.sh"}},
+            "runDetails": {"builder": {"id": BUILDER}},
         },
     }
 

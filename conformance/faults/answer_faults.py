@@ -4,12 +4,12 @@ from __future__ import annotations
 
 from typing import Any, Callable, Dict, List, Optional
 
-import ctap_cbor
-import hid_packets as hid
-from ctap_cbor import encode
-from devices import POWER_LOSS
+from hidlog_conformance import ctap_cbor
+from hidlog_conformance import hid_packets as hid
+from hidlog_conformance.ctap_cbor import encode
+from hidlog_conformance.devices import POWER_LOSS
 from faulty import Fault, Faulty, Hook, RequestHook, Sent, answered, is_assertion, is_made, parts_of, with_data
-from hid_packets import Message
+from hidlog_conformance.hid_packets import Message
 
 MAKE, GET, NEXT, RESET, SELECTION = 0x01, 0x02, 0x08, 0x07, 0x0B
 
@@ -305,7 +305,7 @@ ANSWERS: List[Fault] = [
         "11.2.5.1",
         "Channels, messages and requests are still there after a power cycle, and the clock goes on.",
         power="",
-        implies=("11.2.9.1.6", "11.2.9.1.7", "6.6"),
+        implies=("11.2.3", "11.2.9.1.7", "6.6"),
     ),
     Fault("pending_kept", N, "Assertions are pending after a power cycle.", pending_kept),
     Fault("sign_in_wrong_rp", G, "The RP's hash is another one.", asserted(data_changed(31, lambda b: b ^ 1))),

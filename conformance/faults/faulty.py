@@ -4,10 +4,10 @@ from __future__ import annotations
 
 from typing import Any, Callable, Dict, List, NamedTuple, Optional, Tuple
 
-import ctap_cbor
-import hid_packets as hid
-from devices import POWER_CYCLE
-from hid_packets import Message
+from hidlog_conformance import ctap_cbor
+from hidlog_conformance import hid_packets as hid
+from hidlog_conformance.devices import POWER_CYCLE
+from hidlog_conformance.hid_packets import Message
 from remembering import Remembering
 
 Sent = List[Message]

@@ -4,9 +4,9 @@ from __future__ import annotations
 
 from typing import Dict, List, Tuple
 
-import keys
-from devices import LiveDevice
-from keys import KeyMaker
+from hidlog_conformance import keys
+from hidlog_conformance.devices import LiveDevice
+from hidlog_conformance.keys import KeyMaker
 
 
 class Node:

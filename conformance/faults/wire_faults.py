@@ -4,9 +4,9 @@ from __future__ import annotations
 
 from typing import List, Optional
 
-import hid_packets as hid
+from hidlog_conformance import hid_packets as hid
 from faulty import Fault, Faulty, Hook, Sent, with_data
-from hid_packets import Message
+from hidlog_conformance.hid_packets import Message
 
 
 def init_changed(place: int, new: bytes) -> Hook:
@@ -186,6 +186,7 @@ def not_zero(packets: List[bytes]) -> List[bytes]:
 
 
 INIT, CANCEL, KEEP, SEQUENCE = "11.2.9.1.3", "11.2.9.1.5", "11.2.9.1.7", "11.2.5.4"
+CHANNELS = "11.2.3"
 ERRORS, BUSY, TIME, ABORT, PACKETS, PING = "11.2.9.1.6", "11.2.5.1", "11.2.5.2", "11.2.5.3", "11.2.4", "11.2.9.1.4"
 
 WIRE: List[Fault] = [
@@ -231,7 +232,13 @@ WIRE: List[Fault] = [
     Fault("last_lost", PACKETS, "The last packet of a message is lost.", cut=last_lost),
     Fault("not_zero", PACKETS, "Old bytes are left behind a message.", cut=not_zero),
     Fault("unknown_silent", ERRORS, "An unknown command isn't answered.", dropped(hid.ERROR, 1)),
-    Fault("length_wrong_code", ERRORS, "A wrong length has another code.", renamed(hid.ERROR, 3, 4)),
-    Fault("channel_silent", ERRORS, "A strange channel isn't answered.", dropped(hid.ERROR, 0x0B)),
-    Fault("channel_served", ERRORS, "A strange channel is served.", None, any_channel_served),
+    Fault(
+        "length_wrong_code",
+        PACKETS,
+        "A wrong length has another code.",
+        renamed(hid.ERROR, 3, 4),
+        implies=("11.2.9.1.2",),
+    ),
+    Fault("channel_silent", CHANNELS, "A strange channel isn't answered.", dropped(hid.ERROR, 0x0B)),
+    Fault("channel_served", CHANNELS, "A strange channel is served.", None, any_channel_served),
 ]

@@ -29,7 +29,7 @@ from typing import Any, Dict, List
 HERE = os.path.dirname(os.path.abspath(__file__))
 sys.path.insert(0, os.path.join(HERE, ".."))
 
-from devices import LiveDevice  # noqa: E402
+from hidlog_conformance.devices import LiveDevice  # noqa: E402
 from trim import trimmed  # noqa: E402
 
 # The report descriptor of CTAP 2.1, 11.2.8.1: usage page f1d0, 64 bytes each way.

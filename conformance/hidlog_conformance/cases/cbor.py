@@ -1,0 +1,179 @@
+"""Cases of CTAP2 canonical CBOR: what is refused, by kind and depth, and what is taken (CTAP 2.1, 8)."""
+
+from __future__ import annotations
+
+from typing import Any, Dict, List, Tuple
+
+from hidlog_conformance.cases.corpus import MAKE, Case, make_request
+from hidlog_conformance.ctap_cbor import Raw, encode
+
+OURS = "the canonical form doesn't forbid it, this authenticator doesn't take it"
+# The bytes of an item, by name. Malformed: no decoder can take it.
+MALFORMED = {
+    "head_cut": "18",
+    "bytes_cut": "4301",
+    "text_cut": "636162",
+    "array_cut": "8200",
+    "map_cut": "a101",
+    "length_cut": "5900",
+    "huge_array": "9bffffffffffffffff",
+    "huge_map": "bbffffffffffffffff",
+    "huge_bytes": "5bffffffffffffffff",
+    "reserved_28": "1c",
+    "reserved_29": "1d",
+    "reserved_30": "1e",
+    "reserved_bytes": "5c",
+    "reserved_map": "bc",
+    "break_alone": "ff",
+    "indefinite_integer": "1f",
+}
+# What a decoder could take, but shouldn't (the canonical form).
+NOT_CANONICAL = {
+    "indefinite_bytes": "5f4100ff",
+    "indefinite_text": "7f6161ff",
+    "indefinite_array": "9f00ff",
+    "indefinite_map": "bf0000ff",
+    "uint_in_1": "1817",
+    "uint_in_2": "1900ff",
+    "uint_in_4": "1a0000ffff",
+    "uint_in_8": "1b00000000ffffffff",
+    "nint_in_1": "3817",
+    "nint_in_2": "3900ff",
+    "bytes_in_1": "580100",
+    "bytes_in_2": "59000100",
+    "text_in_1": "780161",
+    "array_in_1": "980100",
+    "map_in_1": "b8010000",
+    "keys_fall": "a202000100",
+    "keys_repeat": "a201000100",
+    "texts_fall": "a2616200616100",
+    "longer_text_first": "a262616100616200",
+    "text_before_integer": "a26161000100",
+    "negative_before_positive": "a220000100",
+    "texts_repeat": "a2616100616100",
+    "tag": "c000",
+    "tag_of_bytes": "c24101",
+    "utf8_cut": "61c3",
+    "utf8_overlong": "62c080",
+    "utf8_surrogate": "63eda080",
+    "utf8_past_the_end": "64f4908080",
+    "utf8_alone": "6180",
+}
+OTHER = {
+    "half_float": "f93c00",
+    "float": "fa47c35000",
+    "double": "fb3ff199999999999a",
+    "undefined": "f7",
+    "simple_0": "e0",
+    "simple_255": "f8ff",
+    "key_array": "a18000",
+    "key_map": "a1a000",
+    "key_false": "a1f400",
+    "key_null": "a1f600",
+}
+TAKEN: Dict[str, Any] = {
+    "least_integer": -(2**64),
+    "greatest_integer": 2**64 - 1,
+    "long_bytes": bytes(300),
+    "long_text": "x" * 300,
+    "utf8": "ü€\U0001d11e\U0010ffff",
+    "empty_text": "",
+    "empty_array": [],
+    "empty_map": {},
+    "true": True,
+    "false": False,
+    "null": None,
+    "three_levels": [[[]]],
+    "mixed_keys": {1: 0, 24: 0, -1: 0, b"a": 0, "a": 0, "b": 0, "aa": 0},
+    "many_integers": [0, 23, 24, 255, 256, 65535, 65536, 2**32 - 1, 2**32, -1, -24, -25, -256, -257],
+}
+
+
+def nested(item: bytes, level: int) -> bytes:
+    """Returns a request whose unknown parameter 64 has the item at a level of nesting."""
+    value = Raw(b"\x81" * (level - 2) + item)
+    return MAKE + encode(make_request(p64=value))
+
+
+def kinds() -> List[Tuple[str, bytes, str, Dict[str, str]]]:
+    """Returns each kind's name, bytes, expectation and how far it binds."""
+    found: List[Tuple[str, bytes, str, Dict[str, str]]] = []
+    found += [(name, bytes.fromhex(text), "refused 12", {}) for name, text in MALFORMED.items()]
+    found += [(name, bytes.fromhex(text), "status 12", {"level": "should"}) for name, text in NOT_CANONICAL.items()]
+    found += [(name, bytes.fromhex(text), "status 12", {"profile": OURS}) for name, text in OTHER.items()]
+    return found
+
+
+def refused() -> List[Case]:
+    """Each kind of fault, at levels 2, 3 and 4, and as the whole of the parameters."""
+    cases = []
+    for name, item, answer, more in kinds():
+        says = f"An item that isn't canonical CBOR ({name.replace('_', ' ')}, {item.hex()}) is refused"
+        for level in (2, 3, 4):
+            if level == 4 and item[0] >> 5 in (4, 5):
+                continue
+            case = Case(f"cbor/{name}_level_{level}", "cbor", f"{says}, at level {level} of the parameters.", **more)
+            cases.append(case.greet().cbor(nested(item, level)).expect(answer).alive())
+        profile = {"profile": "the standard doesn't say which of two faults of one message is named"}
+        more_whole = profile if answer == "status 12" else more
+        case = Case(f"cbor/{name}_level_1", "cbor", f"{says}, in the place of the parameters.", **more_whole)
+        cases.append(case.greet().cbor(MAKE + item).expect(answer).alive())
+    return cases
+
+
+def whole() -> List[Case]:
+    """Faults of a message as a whole, and nesting."""
+    cases = []
+    good = encode(make_request())
+    for name, more in (("integer", b"\0"), ("null", b"\xf6"), ("map", b"\xa0"), ("break", b"\xff")):
+        case = Case(f"cbor/trailing_{name}", "cbor", "Nothing comes behind the map of the parameters.", level="should")
+        cases.append(case.greet().cbor(MAKE + good + more).expect("status 12").alive())
+    for count in (1, 2, 10, len(good) // 2, len(good) - 1):
+        case = Case(f"cbor/cut_after_{count:03}", "cbor", "A map of parameters that is cut off is refused.")
+        cases.append(case.greet().cbor(MAKE + good[:count]).expect("refused 12").alive())
+    for level in (5, 6, 16, 200):
+        shows = f"More than four levels of nesting are refused: here {level}."
+        case = Case(f"cbor/nested_{level:03}", "cbor", shows, profile="an authenticator may take more than four levels")
+        item = b"\x81" * (level - 2) + b"\x80"
+        cases.append(case.greet().cbor(nested(item, 2)).expect("status 12").alive())
+    swapped = b"\xa2" + encode(2) + encode({"id": "example.com"}) + encode(1) + encode(bytes(32))
+    case = Case("cbor/parameters_out_of_order", "cbor", "Parameters out of order are refused.", level="should")
+    cases.append(case.greet().cbor(MAKE + swapped).expect("status 12").alive())
+    twice = b"\xa6" + good[1:35] + good[1:]
+    case = Case("cbor/parameter_twice", "cbor", "A parameter that comes twice is refused.", level="should")
+    cases.append(case.greet().cbor(MAKE + twice).expect("status 12").alive())
+    case = Case("cbor/rp_out_of_order", "cbor", "Members of rp out of order are refused.", level="should")
+    rp = Raw(b"\xa2" + encode("name") + encode("x") + encode("id") + encode("example.com"))
+    cases.append(case.greet().make(p2=rp).expect("status 12").alive())
+    return cases
+
+
+def taken() -> List[Case]:
+    """What is canonical and unknown is ignored."""
+    cases = []
+    for name, value in TAKEN.items():
+        for number in (64,) if name != "null" else (64, 255):
+            shows = f"A parameter that isn't known is ignored: {name.replace('_', ' ')} under the key {number}."
+            case = Case(f"cbor/taken_{name}_{number}", "cbor", shows, needs=["touch"])
+            asked = {**make_request(), number: value}
+            cases.append(case.greet().cbor(MAKE + encode(asked)).made(1))
+    others: List[Any] = [0, -1, b"\1", "1"]
+    for key in others:
+        case = Case(
+            f"cbor/taken_key_{encode(key).hex()}", "cbor", "A key that isn't known is ignored.", needs=["touch"]
+        )
+        cases.append(case.greet().cbor(MAKE + encode({**make_request(), key: 0})).made(1))
+    case = Case(
+        "cbor/taken_members", "cbor", "Members that aren't known are ignored, in rp and user too.", needs=["touch"]
+    )
+    rp = {"id": "example.com", "name": "Example", "icon": "x"}
+    user = {"id": b"\1", "name": "alice", "displayName": "Alice", "icon": "x", "more": [1]}
+    cases.append(case.greet().make(p2=rp, p3=user, p7={"unknown": True}).made(1))
+    case = Case("cbor/taken_extension", "cbor", "An extension that isn't known is ignored.", needs=["touch"])
+    cases.append(case.greet().make(p6={"an unknown extension": [1, 2]}).made(1))
+    return cases
+
+
+def cases() -> List[Case]:
+    """Returns the cases of this file."""
+    return refused() + whole() + taken()

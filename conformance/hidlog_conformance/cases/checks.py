@@ -1,0 +1,253 @@
+"""Cases of every check of authenticatorMakeCredential and authenticatorGetAssertion, alone and two at once."""
+
+from __future__ import annotations
+
+from typing import Any, Callable, Dict, List, NamedTuple, Tuple
+
+from hidlog_conformance.cases.corpus import GET, KIND, MAKE, Case, descriptor, get_request, make_request, name_of
+from hidlog_conformance.ctap_cbor import encode
+
+Asked = Dict[Any, Any]
+TYPES = "the standard names the status, not which of two faults is named first"
+PIN = "the status of pinUvAuthParam in an authenticator that has no PIN"
+LENGTH = "the standard doesn't say which status answers a length"
+
+
+class Check(NamedTuple):
+    """A check: its place in the order, its name, its status, what breaks it, and how far the standard fixes it."""
+
+    name: str
+    status: str
+    spoil: Callable[[Asked], None]
+    profile: str = ""
+    uses: Tuple[str, ...] = ()
+
+
+def put(key: Any, value: Any) -> Callable[[Asked], None]:
+    """Returns what puts a value under a key; None takes the key away."""
+
+    def spoil(asked: Asked) -> None:
+        if value is None:
+            asked.pop(key, None)
+        elif isinstance(value, dict) and isinstance(asked.get(key), dict):
+            asked[key] = {**asked[key], **value}
+        else:
+            asked[key] = value
+
+    return spoil
+
+
+# In the order of the algorithm; one of each place, for the pairs.
+MAKE_ORDER = [
+    Check("type", "11", put(6, 1)),
+    Check("missing", "14", put(3, None)),
+    Check("hash_length", "03", put(1, b"\x11" * 31), LENGTH),
+    Check("pin", "02", put(8, b"\0" * 16), PIN, ("no pin",)),
+    Check("algorithm", "26", put(4, [{"alg": -65535, "type": KIND}])),
+    Check("uv", "2c", put(7, {"uv": True}), "", ("no uv",)),
+    Check("enterprise", "02", put(10, 1), "", ("no ep",)),
+]
+GET_ORDER = [
+    Check("type", "11", put(4, 1)),
+    Check("missing", "14", put(1, None)),
+    Check("hash_length", "03", put(2, b"\x22" * 31), LENGTH),
+    Check("pin", "02", put(6, b"\0" * 16), PIN, ("no pin",)),
+    Check("uv", "2c", put(5, {"uv": True}), "", ("no uv",)),
+    Check("rk", "2b", put(5, {"rk": True})),
+    Check("credential", "2e", put(3, [descriptor(9)])),
+]
+WRONG: Dict[str, Any] = {"integer": 1, "text": "x", "bytes": b"x", "array": [], "map": {}, "true": True, "null": None}
+
+
+def wrong_types(known: Dict[int, Tuple[str, str]]) -> List[Tuple[int, str, str, Any]]:
+    """Returns each parameter with values of other types."""
+    found = []
+    for key, (name, kind) in known.items():
+        for other, value in WRONG.items():
+            if other != kind:
+                found.append((key, name, other, value))
+    return found
+
+
+MAKE_TYPES = {
+    1: ("clientDataHash", "bytes"),
+    2: ("rp", "map"),
+    3: ("user", "map"),
+    4: ("pubKeyCredParams", "array"),
+    5: ("excludeList", "array"),
+    6: ("extensions", "map"),
+    7: ("options", "map"),
+}
+GET_TYPES = {
+    1: ("rpId", "text"),
+    2: ("clientDataHash", "bytes"),
+    3: ("allowList", "array"),
+    4: ("extensions", "map"),
+    5: ("options", "map"),
+}
+ENTRY = {"alg": -7, "type": KIND}
+MAKE_INSIDE = [
+    ("rp_id", 2, {"id": 1}, "11"),
+    ("rp_name", 2, {"id": "example.com", "name": 1}, "11"),
+    ("user_id", 3, {"id": "x", "name": "x"}, "11"),
+    ("user_name", 3, {"id": b"\1", "name": 1}, "11"),
+    ("user_display_name", 3, {"id": b"\1", "name": "x", "displayName": b"x"}, "11"),
+    ("entry", 4, [1], "11"),
+    ("entry_alg", 4, [{"alg": "x", "type": KIND}], "11"),
+    ("entry_type", 4, [{"alg": -7, "type": 1}], "11"),
+    ("second_entry", 4, [ENTRY, {"alg": b"x", "type": KIND}], "11"),
+    ("descriptor", 5, [1], "11"),
+    ("descriptor_id", 5, [{"id": "x", "type": KIND}], "11"),
+    ("descriptor_type", 5, [{"id": name_of(1), "type": 1}], "11"),
+    ("descriptor_transports", 5, [{"id": name_of(1), "type": KIND, "transports": "usb"}], "11"),
+    ("option_rk", 7, {"rk": 1}, "11"),
+    ("option_up", 7, {"up": "true"}, "11"),
+    ("option_uv", 7, {"uv": None}, "11"),
+    ("without_rp_id", 2, {"name": "x"}, "14"),
+    ("without_user_id", 3, {"name": "x"}, "14"),
+    ("without_alg", 4, [{"type": KIND}], "14"),
+    ("without_entry_type", 4, [{"alg": -7}], "14"),
+    ("second_without_alg", 4, [ENTRY, {"type": KIND}], "14"),
+    ("without_descriptor_id", 5, [{"type": KIND}], "14"),
+    ("without_descriptor_type", 5, [{"id": name_of(1)}], "14"),
+]
+
+
+def with_value(asked: Asked, key: int, value: Any) -> bytes:
+    """Returns the encoded parameters with another value."""
+    return encode({**asked, key: value})
+
+
+def types(chapter: str, command: bytes, good: Asked, known: Dict[int, Tuple[str, str]]) -> List[Case]:
+    """Parameters of other types, and maps that are none."""
+    cases = []
+    section = chapter
+    for key, name, other, value in wrong_types(known):
+        shows = f"{name} that is of another type ({other}) is refused."
+        case = Case(f"{chapter}/type_{key}_{other}", section, shows)
+        cases.append(case.greet().cbor(command + with_value(good, key, value)).expect("refused 11").alive())
+    for name, item in (("integer", 1), ("bytes", b"x"), ("text", "x"), ("array", []), ("true", True), ("null", None)):
+        case = Case(f"{chapter}/parameters_{name}", section, f"Parameters that are no map ({name}) are refused.")
+        cases.append(case.greet().cbor(command + encode(item)).expect("refused 11").alive())
+    case = Case(f"{chapter}/parameters_absent", section, "A command without its parameters is refused.")
+    cases.append(case.greet().cbor(command).expect("refused 12").alive())
+    for key in [key for key in good if isinstance(key, int)]:
+        case = Case(f"{chapter}/missing_{key}", section, f"The parameter {known[key][0]} is required.")
+        left = {other: value for other, value in good.items() if other != key}
+        cases.append(case.greet().cbor(command + encode(left)).expect("status 14").alive())
+    case = Case(f"{chapter}/missing_all", section, "An empty map lacks what is required.")
+    cases.append(case.greet().cbor(command + encode({})).expect("status 14").alive())
+    return cases
+
+
+def inside() -> List[Case]:
+    """Members of another type, or missing."""
+    cases = []
+    for name, key, value, status in MAKE_INSIDE:
+        says = "of another type" if status == "11" else "missing"
+        shows = f"A member that is {says} is refused ({name.replace('_', ' ')})."
+        case = Case(
+            f"make/inside_{name}", "make", shows, profile="the standard asks for an error, and not for this one"
+        )
+        cases.append(
+            case.greet().cbor(MAKE + with_value(make_request(), key, value)).expect(f"status {status}").alive()
+        )
+    for name, allow, status in (
+        ("type", [{"id": name_of(1), "type": 1}], "11"),
+        ("id", [{"id": 1, "type": KIND}], "11"),
+        ("entry", ["x"], "11"),
+        ("without_id", [{"type": KIND}], "14"),
+        ("without_type", [{"id": name_of(1)}], "14"),
+    ):
+        shows = f"A descriptor of the allow list that isn't whole is refused ({name.replace('_', ' ')})."
+        case = Case(f"get/inside_{name}", "get", shows, profile="the standard asks for an error, and not for this one")
+        cases.append(case.greet().get(p3=allow).expect(f"status {status}").alive())
+    return cases
+
+
+def values() -> List[Case]:
+    """Values that are refused, though their types are right."""
+    cases = []
+    for length in (0, 31, 33, 64):
+        for chapter, key in (("make", "p1"), ("get", "p2")):
+            shows = f"A clientDataHash of {length} bytes is refused: a SHA-256 has 32."
+            case = Case(f"{chapter}/hash_of_{length}", chapter, shows, profile=LENGTH)
+            case.greet()
+            changes: Dict[str, Any] = {key: bytes(length)}
+            case = case.make(**changes) if chapter == "make" else case.get(**changes)
+            cases.append(case.expect("status 03").alive())
+    case = Case("make/user_id_of_65", "make", "A user.id has at most 64 bytes.", profile=LENGTH)
+    cases.append(case.greet().make(p3={"id": bytes(65), "name": "x"}).expect("status 03").alive())
+    case = Case("make/user_id_of_64", "make", "A user.id of 64 bytes is taken.", needs=["touch"])
+    cases.append(case.greet().register(1, p3={"id": bytes(64), "name": "x", "displayName": "x"}))
+    lists = {"none": [], "unknown": [{"alg": -65535, "type": KIND}], "other_type": [{"alg": -7, "type": "other"}]}
+    for name, entries in lists.items():
+        case = Case(f"make/algorithms_{name}", "make", "Without an algorithm that is served the request is refused.")
+        if name == "none":
+            case.comment("profile: an empty list is a list of which nothing is served")
+        cases.append(case.greet().make(p4=entries).expect("status 26").alive())
+    return cases
+
+
+def good_values() -> List[Case]:
+    """Values that are good, and options and PINs that are not."""
+    cases = []
+    both = [{"alg": -65535, "type": KIND}, {"alg": -7, "type": "other"}, {"alg": -7, "type": KIND}]
+    case = Case("make/algorithms_last", "make", "The first algorithm that is served is taken.", needs=["touch"])
+    case.comment("uses: algorithm -7")
+    cases.append(case.greet().register(1, p4=both))
+    case = Case("make/option_up_false", "make", "The option up false is refused in a registration.")
+    cases.append(case.greet().make(p7={"up": False}).expect("status 2c").alive())
+    case = Case("make/options_as_they_are", "make", "rk false, up true and uv false change nothing.", needs=["touch"])
+    cases.append(case.greet().register(1, p7={"rk": False, "up": True, "uv": False}))
+    for command in ("make", "get"):
+        case = Case(
+            f"{command}/pin_of_no_bytes",
+            command,
+            "A pinUvAuthParam of no bytes is refused.",
+            uses=["no pin"],
+            profile=PIN,
+        )
+        case.greet()
+        cases.append((case.make(p8=b"") if command == "make" else case.get(p6=b"")).expect("status 02").alive())
+    case = Case("get/option_rk_false", "get", "The option rk is refused in a sign-in, false too.")
+    cases.append(case.greet().get(p5={"rk": False}).expect("status 2b").alive())
+    return cases
+
+
+def pair(chapter: str, command: bytes, good: Asked, first: Check, second: Check) -> Case:
+    """Two checks that fail at once: the first one decides."""
+    fixed = not first.profile and first.name not in ("type", "missing")
+    more: Dict[str, Any] = {"uses": [*first.uses, *second.uses]}
+    if not fixed:
+        more["profile"] = first.profile or TYPES
+    shows = f"Of two reasons to refuse, {first.name.replace('_', ' ')} comes before {second.name.replace('_', ' ')}."
+    case = Case(f"{chapter}/first_{first.name}_then_{second.name}", chapter, shows, **more)
+    second.spoil(good)
+    first.spoil(good)
+    return case.greet().cbor(command + encode(good)).expect(f"status {first.status}").alive()
+
+
+def ordered(chapter: str, command: bytes, good: Callable[[], Asked], checks: List[Check]) -> List[Case]:
+    """Each check alone, and each two of them at once."""
+    cases = []
+    for place, check in enumerate(checks):
+        shows = f"The check {check.name.replace('_', ' ')} refuses a request that is good otherwise."
+        case = Case(f"{chapter}/alone_{check.name}", chapter, shows, uses=check.uses, profile=check.profile)
+        asked = good()
+        check.spoil(asked)
+        word = "refused" if check.name == "type" else "status"
+        cases.append(case.greet().cbor(command + encode(asked)).expect(f"{word} {check.status}").alive())
+        shows = "What isn't whole CBOR is refused before it is looked into."
+        case = Case(f"{chapter}/first_cbor_then_{check.name}", chapter, shows)
+        cases.append(case.greet().cbor(command + encode(asked)[:-1]).expect("refused 12").alive())
+        for later in checks[place + 1 :]:
+            cases.append(pair(chapter, command, good(), check, later))
+    return cases
+
+
+def cases() -> List[Case]:
+    """Returns the cases of this file."""
+    found = types("make", MAKE, make_request(), MAKE_TYPES) + types("get", GET, get_request(), GET_TYPES)
+    found += ordered("make", MAKE, make_request, MAKE_ORDER) + ordered("get", GET, get_request, GET_ORDER)
+    return found + inside() + values() + good_values()

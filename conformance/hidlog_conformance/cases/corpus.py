@@ -1,0 +1,194 @@
+"""Writes a session of the corpus: its head, its inputs and what is expected after them."""
+
+from __future__ import annotations
+
+from typing import TYPE_CHECKING, Any, Dict, List, Optional, Sequence
+
+from hidlog_conformance import hid_packets as hid
+from hidlog_conformance.ctap_cbor import encode
+from hidlog_conformance.sections import SECTIONS
+
+if TYPE_CHECKING:
+    from typing_extensions import Self
+
+MAKE, GET, INFO, RESET, NEXT, SELECTION = b"\1", b"\2", b"\4", b"\7", b"\x08", b"\x0b"
+NONCE = bytes(range(8))
+KIND = "public-key"
+
+
+def name_of(number: int) -> bytes:
+    """Returns the id by which a session names its credential of this number."""
+    return bytes([0xA0 + number % 96]) * 31 + bytes([number])
+
+
+def descriptor(number: int, kind: str = KIND) -> Dict[str, Any]:
+    """Returns the descriptor of a credential."""
+    return {"id": name_of(number), "type": kind}
+
+
+def like(number: int, kind: str) -> bytes:
+    """Returns the name of an id that is like that of a credential: changed in its last bit, longer or shorter."""
+    return name_of(number)[:-2] + {"changed": b"\xc0", "longer": b"\xc1", "shorter": b"\xc2"}[kind] + bytes([number])
+
+
+def make_request(**changes: Any) -> Dict[Any, Any]:
+    """Returns good parameters of authenticatorMakeCredential; changes name a parameter as p1, p2 .., None leaves it out."""
+    asked: Dict[Any, Any] = {
+        1: b"\x11" * 32,
+        2: {"id": "example.com", "name": "Example"},
+        3: {"id": b"\1", "name": "alice", "displayName": "Alice"},
+        4: [{"alg": -7, "type": KIND}],
+    }
+    return changed(asked, changes)
+
+
+def get_request(**changes: Any) -> Dict[Any, Any]:
+    """Returns good parameters of authenticatorGetAssertion."""
+    return changed({1: "example.com", 2: b"\x22" * 32}, changes)
+
+
+def changed(asked: Dict[Any, Any], changes: Dict[str, Any]) -> Dict[Any, Any]:
+    """Puts changes into parameters."""
+    for key, value in changes.items():
+        if value is None:
+            asked.pop(int(key[1:]), None)
+        else:
+            asked[int(key[1:])] = value
+    return asked
+
+
+class Case:
+    """Collects the lines of a session. Moments are those of the host's clock, in milliseconds."""
+
+    def __init__(self, name: str, section: str, shows: str, why: str = "", **more: Any) -> None:
+        self.name = name
+        self.at = 0
+        self.lines: List[str] = []
+        self.comment("rule: CTAP 2.1, " + SECTIONS[section])
+        self.comment("shows: " + shows)
+        if why:
+            self.comment("why: " + why)
+        for word in ("needs", "uses"):
+            for value in more.get(word, ()):
+                self.comment(f"{word}: {value}")
+        for word in ("profile", "level"):
+            if more.get(word):
+                self.comment(f"{word}: {more[word]}")
+
+    def comment(self, text: str) -> None:
+        """Writes a comment."""
+        line = "# " + text
+        assert len(line.encode()) <= 255, (self.name, line)
+        self.lines.append(line)
+
+    def expect(self, *texts: str) -> Self:
+        """Writes what is expected after the last input."""
+        for text in texts:
+            self.comment("expect " + text)
+        return self
+
+    def wait(self, milliseconds: int) -> Self:
+        """Moves the clock; nothing is written."""
+        self.at += milliseconds
+        return self
+
+    def packets(self, packets: Sequence[bytes]) -> Self:
+        """Writes packets of the host."""
+        self.lines += [f"> {self.at} {packet.hex()}" for packet in packets]
+        return self
+
+    def send(self, channel: int, command: int, data: bytes = b"", length: Optional[int] = None) -> Self:
+        """Writes a message's packets."""
+        return self.packets(hid.packets_of(channel, command, data, length))
+
+    def begin(self, channel: int, length: int = 100, command: int = hid.PING) -> Self:
+        """Writes the first packet of a longer message."""
+        return self.packets(hid.packets_of(channel, command, counted(length))[:1])
+
+    def go_on(self, channel: int, sequence: int = 0, length: int = 100) -> Self:
+        """Writes a continuation packet of what `begin` began, under any sequence number."""
+        data = counted(length)[57 + 59 * sequence :][:59]
+        return self.packets([(channel.to_bytes(4, "big") + bytes([sequence]) + data).ljust(64, b"\0")])
+
+    def greet(self, count: int = 1) -> Self:
+        """Asks for channels."""
+        for number in range(count):
+            nonce = NONCE[:7] + bytes([7 + number])
+            self.send(hid.BROADCAST, hid.INIT, nonce).expect(f"init nonce {nonce.hex()}")
+        return self
+
+    def cbor(self, data: bytes, channel: int = 1) -> Self:
+        """Sends a CBOR message."""
+        return self.send(channel, hid.CBOR, data)
+
+    def make(self, channel: int = 1, **changes: Any) -> Self:
+        """Sends an authenticatorMakeCredential."""
+        return self.cbor(MAKE + encode(make_request(**changes)), channel)
+
+    def get(self, channel: int = 1, **changes: Any) -> Self:
+        """Sends an authenticatorGetAssertion."""
+        return self.cbor(GET + encode(get_request(**changes)), channel)
+
+    def tick(self, milliseconds: int = 0) -> Self:
+        """Lets time pass."""
+        self.at += milliseconds
+        self.lines.append(f"t {self.at}")
+        return self
+
+    def power_cycle(self) -> Self:
+        """Switches the authenticator off and on again; channels are counted anew."""
+        self.lines.append("# power cycle")
+        return self
+
+    def presence(self, word: str = "granted") -> Self:
+        """Lets the user answer."""
+        self.at += 10
+        self.lines.append(f"p {self.at} {word}")
+        return self
+
+    def key(self, number: int) -> Self:
+        """Lets the authenticator make a key, under a name of the session."""
+        self.lines.append(f"k {self.at} {name_of(number).hex()} {'bb' * 32} {'cc' * 32}")
+        return self
+
+    def sign(self) -> Self:
+        """Lets the authenticator sign."""
+        self.lines.append(f"s {self.at} {'dd' * 70}")
+        return self
+
+    def made(self, number: int, words: str = "up", channel: int = 1) -> Self:
+        """Lets the user consent to a registration, and expects a credential."""
+        self.presence().key(number).sign()
+        return self.expect(f"made {words}" + (f" on {channel:08x}" if channel != 1 else ""))
+
+    def alike(self, number: int, kind: str) -> Dict[str, Any]:
+        """Names an id that is like that of a credential, and returns its descriptor."""
+        name = like(number, kind)
+        self.comment(f"derived: {kind} {name_of(number).hex()} {name.hex()}")
+        return {"id": name, "type": KIND}
+
+    def register(self, number: int, rk: bool = False, channel: int = 1, **changes: Any) -> Self:
+        """Registers a credential."""
+        if rk:
+            changes.setdefault("p7", {"rk": True})
+        return self.make(channel, **changes).made(number, channel=channel)
+
+    def asserted(self, words: str, channel: int = 1, presence: bool = True) -> Self:
+        """Lets the user consent to a sign-in, and expects an assertion."""
+        if presence:
+            self.presence()
+        self.sign()
+        return self.expect(f"asserted {words}" + (f" on {channel:08x}" if channel != 1 else ""))
+
+    def alive(self, channel: int = 1) -> Self:
+        """Shows that the channel still serves."""
+        return self.send(channel, hid.PING, b"still here").expect(f"echo on {channel:08x}")
+
+    def text(self) -> str:
+        """Returns the session."""
+        return "\n".join(self.lines) + "\n"
+
+
+def counted(length: int) -> bytes:
+    """Returns so many bytes that differ from place to place."""
+    return bytes((7 * number + number // 251 + 1) % 256 for number in range(length))

@@ -1,0 +1,159 @@
+"""Cases that the fuzzer found in wrong authenticators, cut down by fuzzed/find.py and examples/shrink.py.
+
+What is expected was written by hand, by the line of the finding that it comes after.
+"""
+
+from __future__ import annotations
+
+import os
+from typing import Any, Dict, List, NamedTuple
+
+from hidlog_conformance import hid_packets as hid
+from hidlog_conformance.cases.corpus import Case
+from hidlog_conformance.places import DATA
+
+FOLDER = os.path.join(DATA, "fuzzed")
+OURS = "the standard leaves open which of two faults is named"
+
+
+class Found(NamedTuple):
+    """Names a finding's rule, the fault that it showed, and what comes after which line."""
+
+    name: str
+    fault: str
+    section: str
+    shows: str
+    expects: Dict[int, str]
+    needs: List[str] = []
+    uses: List[str] = []
+    profile: str = ""
+
+
+FOUND = [
+    Found(
+        "allow_list_is_a_map",
+        "allow_ignored",
+        "get",
+        "An allow list that is no array is refused.",
+        {1: "init", 2: "refused 11"},
+    ),
+    Found(
+        "cancel_on_channel_0",
+        "cancel_of_all",
+        "cancel",
+        "A CANCEL of eight bytes on channel 0 ends nobody's request.",
+        {1: "init", 3: "keepalive 02", 4: "nothing", 7: "made up"},
+        needs=["touch"],
+    ),
+    Found(
+        "unfinished_message_on_channel_0",
+        "channel_silent",
+        "channels",
+        "The first packet of a long message on channel 0 is refused, before any INIT.",
+        {1: "error 0b on 0"},
+    ),
+    Found(
+        "excluded_after_long_names",
+        "exclude_ignored",
+        "make",
+        "A credential that is twice in the exclude list ends it; the user's names had letters of three and four bytes.",
+        {1: "init", 12: "made up", 17: "status 19"},
+        needs=["touch"],
+        uses=["rk"],
+    ),
+    Found(
+        "registration_of_four_packets",
+        "from_one",
+        "packets",
+        "A registration of four packets is answered in several, numbered from 0.",
+        {1: "init", 8: "made up"},
+        needs=["touch"],
+    ),
+    Found(
+        "init_before_any_channel",
+        "init_keeps_message",
+        "channels",
+        "INIT on a channel is refused as long as none was given out.",
+        {1: "error 0b on 2"},
+    ),
+    Found(
+        "same_nonce_twice",
+        "keepalive_after",
+        "init",
+        "Two INITs with the same nonce get two channels.",
+        {1: "init", 2: "init", 3: "init"},
+    ),
+    Found(
+        "first_init_too_long",
+        "length_wrong_code",
+        "packets",
+        "An INIT of 29 bytes is refused: its length is 8.",
+        {1: "error 03 on ffffffff"},
+    ),
+    Found(
+        "missing_before_algorithm",
+        "missing_wrong_status",
+        "make",
+        "A user that is missing is found before an algorithm that isn't offered.",
+        {1: "init", 3: "status 14"},
+        uses=["no algorithm -8"],
+    ),
+    Found(
+        "nothing_pending_after_a_list",
+        "next_for_ever",
+        "next",
+        "After a sign-in by a list nothing is pending.",
+        {1: "init", 6: "made up", 10: "asserted up counter-rises", 11: "status 30"},
+        needs=["touch"],
+        uses=["rk"],
+    ),
+    Found(
+        "strange_packet_inside",
+        "not_stored",
+        "channels",
+        "Between the packets of a message a request on channel 0 is refused, and the message goes on.",
+        {1: "init", 2: "init", 4: "error 0b on 0", 7: "keepalive 02 on 2"},
+        needs=["touch"],
+        uses=["rk"],
+        profile=OURS,
+    ),
+    Found(
+        "error_from_the_host",
+        "unknown_silent",
+        "error",
+        "An ERROR of two bytes from a host is refused: what only a device sends.",
+        {1: "init", 2: "error 01"},
+    ),
+    Found(
+        "uv_before_the_list",
+        "up_ignored",
+        "get",
+        "User verification that isn't served is refused before the allow list is looked at.",
+        {1: "init", 5: "status 2c"},
+        uses=["no uv"],
+    ),
+]
+
+
+def case_of(found: Found) -> Case:
+    """Returns a finding as a case."""
+    more: Dict[str, Any] = {"needs": found.needs, "uses": found.uses, "profile": found.profile}
+    case = Case(f"fuzzed/{found.name}", found.section, found.shows, **more)
+    case.comment("found: in the wrong authenticator " + found.fault)
+    with open(os.path.join(FOLDER, found.name + ".log"), encoding="utf-8") as file:
+        lines = file.read().splitlines()
+    assert max(found.expects) == len(lines), (found.name, len(lines))
+    for number, line in enumerate(lines, 1):
+        case.lines.append(line)
+        expected = found.expects.get(number, "")
+        if expected == "init":
+            packet = bytes.fromhex(line.split(" ")[2])
+            assert packet[:5] == b"\xff\xff\xff\xff" + bytes([0x80 | hid.INIT]), found.name
+            expected += f" nonce {packet[7:15].hex()}"
+        case.expect(*filter(None, expected.split("\n")))
+    return case
+
+
+def cases() -> List[Case]:
+    """Returns the cases of this file."""
+    return [case_of(found) for found in FOUND]

@@ -1,0 +1,483 @@
+"""Judges the answers of the authenticator in a recorded log: by the judges of the corpus, and by what the log knows."""
+
+from __future__ import annotations
+
+from dataclasses import dataclass, field
+from typing import Any, Dict, List, Optional, Set, Tuple
+
+from hidlog_conformance import answers, rules
+from hidlog_conformance import hid_packets as hid
+from hidlog_conformance.answers import GET, INFO, MAKE, NEXT, RESET, SELECTION, UP, UV, Credential, Differs, Facts, hold
+from hidlog_conformance.judged_log import KEY, MUST, SHOULD, Recording, seen
+from hidlog_conformance.judged_parts import ExtensionDiffers, Pins, judge_extension_answers
+from hidlog_conformance.requests import FORM, MISSING, PIN, UNKNOWN, fault_of, parameters_of, unknown_parts
+from hidlog_conformance.walk import NO_TIME_OUT, Entry, Transaction
+
+# Milliseconds: how long a reset is taken after power comes, and how long assertions are pending (6.6, 6.3).
+RESET_WITHIN, PENDING = 10000, 30000
+# So many milliseconds may be between what was recorded and what the key saw.
+JITTER = 100
+DENIED, TIMED_OUT, CANCELLED, OTHER = 0x27, 0x2F, 0x2D, 0x7F
+EXCLUDED, NO_CREDENTIALS, NOT_ALLOWED, UNSUPPORTED = 0x19, 0x2E, 0x30, 0x26
+# Statuses that say that a request is wrong by itself (8.2), and those that any request may have.
+OF_FORM = (0x01, 0x02, 0x03, 0x11, 0x12, 0x14, 0x15, 0x2B, 0x2C, 0x39)
+ANY = (DENIED, CANCELLED, 0x3A, OTHER, 0x06, 0x05, *range(0xE0, 0x100))
+# What commands without parameters answer beside these.
+FIT = {
+    INFO: (0,),
+    RESET: (0, NOT_ALLOWED, TIMED_OUT, 0x01),
+    SELECTION: (0, TIMED_OUT, 0x01),
+    NEXT: (0, NOT_ALLOWED, 0x01),
+}
+EXPECTED = {MAKE: "made", GET: "asserted", NEXT: "asserted", INFO: "info"}
+
+
+@dataclass
+class Pending:
+    """What authenticatorGetNextAssertion may answer: how many assertions are left, and since when."""
+
+    request: bytes
+    left: int
+    at: int
+    channel: int = 0
+    # Whether nothing came in between that may end it, and which credentials signed.
+    is_sure: bool = True
+    signed: List[bytes] = field(default_factory=list)
+    flags: int = 0
+
+
+@dataclass
+class Kept:
+    """What the log knows of a credential beside its key."""
+
+    credential: Credential
+    discoverable: bool
+    extensions: Dict[str, Any] = field(default_factory=dict)
+
+
+class AnswerJudge:
+    """Judges answers of CBOR requests, in their order."""
+
+    def __init__(self, recording: Recording) -> None:
+        self.recording = recording
+        self.facts = Facts()
+        self.info: Dict[Any, Any] = {}
+        self.known: Dict[bytes, Credential] = {}
+        self.kept: Dict[bytes, Kept] = {}
+        self.forgotten: Dict[bytes, str] = {}
+        self.replaced: Set[bytes] = set()
+        # Credentials from before the log, of which the counters are followed.
+        self.strangers: Dict[Tuple[str, bytes], Credential] = {}
+        self.pending: Optional[Pending] = None
+        self.pins = Pins()
+        # Whether all that the key holds is in the log, since a reset.
+        self.is_complete = False
+        self.started = recording.start or 0
+        self.passed_over = ""
+
+    def power_cycle(self, at: int) -> None:
+        """Forgets what ends with the power."""
+        self.pending = Pending(b"", 0, 0)
+        self.pins.retries, self.pins.wrong = None, 0
+        self.started = at
+
+    def passed(self, it: Transaction) -> None:
+        """Takes an answer that can't be read: what it leaves behind isn't known."""
+        self.pending, self.is_complete = None, False
+        self.pins = Pins()
+
+    def user_needed(self, entry: Entry, it: Transaction) -> None:
+        """Judges that the user isn't asked for a request which has to be refused before, or which needs no user."""
+        if not it.data:
+            return
+        fault = fault_of(it.data)
+        section = rules.COMMANDS.get(it.data[0], rules.COMMANDS_OTHER)
+        came = "the user is asked"
+        if fault is not None and not fault.should:
+            level = SHOULD if fault.section == "8" else MUST
+            due = f"a refusal, since {fault.due} is due"
+            self.recording.find(entry.line, KEY, fault.section or section, due, came, level)
+            return
+        asked = parameters_of(it.data) or {}
+        options = asked.get(7 if it.data[0] == MAKE else 5, {})
+        wrong = self.wrong_option(it.data[0], asked, options) if it.data[0] in (MAKE, GET) else ""
+        own = self.info.get(4, {})
+        if wrong:
+            self.recording.find(entry.line, KEY, section, f"a refusal (2b or 2c) of the option {wrong}", came)
+        elif it.data[0] == GET and options.get("up") is False and self.info and not own.get("alwaysUv"):
+            if not options.get("uv"):
+                self.recording.find(entry.line, KEY, section, "an answer without the user, since up is false", came)
+        elif it.data[0] == MAKE and 10 in asked and self.info and not own.get("ep"):
+            self.recording.find(entry.line, KEY, section, "a refusal, since there is no enterprise attestation", came)
+
+    def judge(self, entry: Entry, transaction: Transaction, message: hid.Message) -> None:
+        """Judges an answer."""
+        request, data = transaction.data, message.data
+        command = request[0]
+        expected = EXPECTED.get(command, "status") if data[0] == 0 else "status"
+        try:
+            self.judge_status(entry, transaction, data)
+            if command in EXPECTED and data[0] == 0:
+                getattr(self, "judge_" + EXPECTED[command])(transaction, data)
+            if command == PIN:
+                self.pins.judge(request, data)
+        except ExtensionDiffers as differs:
+            self.recording.find(entry.line, KEY, differs.section, differs.wanted, differs.came)
+        except Differs as differs:
+            fault = fault_of(request)
+            level = SHOULD if fault is not None and fault.section == "8" else MUST
+            self.recording.judged(self.seen(transaction, expected, message), entry.line, differs, level)
+        except (KeyError, TypeError, ValueError, IndexError, AttributeError) as fault:
+            shape = Differs("an answer of the standard's shape", repr(fault))
+            self.recording.judged(self.seen(transaction, expected, message), entry.line, shape)
+        self.follow(entry, transaction, data)
+
+    def seen(self, transaction: Transaction, expected: str, message: hid.Message) -> rules.Seen:
+        """Returns what the corpus's rules look at: of a request that has no fault its command's section is the own."""
+        fault = fault_of(transaction.data)
+        own = fault.section if fault is not None and fault.section else ""
+        if self.passed_over:
+            own, self.passed_over = "8", ""
+        return seen(transaction, expected, message, own)
+
+    def judge_status(self, entry: Entry, it: Transaction, data: bytes) -> None:
+        """Judges that the status fits what the log knows."""
+        command, status = it.data[0], data[0]
+        hold(status == 0 or len(data) == 1, "a status alone", f"{len(data)} bytes with status {status:02x}")
+        fault = fault_of(it.data)
+        if fault is not None:
+            if not fault.should:
+                self.judge_refusal(fault.kind, fault.due, status)
+            return
+        self.judge_user(entry, it, data)
+        if command in FIT and status not in (*FIT[command], *ANY):
+            wanted = "|".join(f"{one:02x}" for one in FIT[command])
+            raise Differs(f"status {wanted}", f"status {status:02x}")
+        if command in (MAKE, GET):
+            self.judge_form(it, status)
+        if command == MAKE:
+            self.judge_make_status(it, status)
+        elif command == GET:
+            self.judge_get_status(it, data)
+        elif command == NEXT:
+            self.judge_next_status(entry, it, status)
+        elif command == RESET:
+            elapsed = it.last - self.started
+            hold(
+                status != 0 or elapsed <= RESET_WITHIN + JITTER,
+                "status 30, 10 s after power came",
+                f"status 00 after {elapsed} ms",
+            )
+
+    def judge_user(self, entry: Entry, it: Transaction, data: bytes) -> None:
+        """Judges that the user was asked before an answer that needs it: packets show no touch, but KEEPALIVEs."""
+        command, status = it.data[0], data[0]
+        asked = parameters_of(it.data) or {}
+        needs = command in (RESET, SELECTION) and status == 0
+        needs = needs or (command == MAKE and status in (0, EXCLUDED))
+        if command == GET and status == 0:
+            auth = (parameters_of(data) or {}).get(2)
+            needs = isinstance(auth, bytes) and len(auth) > 32 and bool(auth[32] & UP)
+        # Consent may have come with a token.
+        has_token = (8 if command == MAKE else 6) in asked
+        was_asked = any(one.packet[7] == 2 for one in it.keepalives)
+        if needs and it.keepalives and not was_asked and not has_token:
+            said = "a KEEPALIVE with 02 while the user is asked"
+            self.recording.find(it.keepalives[0].line, KEY, rules.KEEPALIVE, said, "KEEPALIVEs with 01 alone", SHOULD)
+        if not needs or was_asked or has_token or self.recording.is_timeless or entry.at - it.last >= NO_TIME_OUT:
+            return
+        section = rules.COMMANDS.get(command, rules.COMMANDS_OTHER)
+        said = "a test of the user's presence before it, as a KEEPALIVE with 02 shows it"
+        self.recording.find(entry.line, KEY, section, said, f"status {status:02x} at once", SHOULD)
+
+    def judge_refusal(self, kind: str, due: str, status: int) -> None:
+        """Judges that a faulty request is refused, and by the status that is for it."""
+        wanted = {UNKNOWN: (0x01,), MISSING: (0x14,)}.get(kind, ())
+        if kind == MISSING and status not in (0, *wanted, *ANY):
+            raise Differs(f"status 14, since it lacks {due}", f"status {status:02x}")
+        if kind == UNKNOWN and status not in (*wanted, *ANY):
+            raise Differs("status 01", f"status {status:02x}")
+        hold(status != 0 or kind not in (FORM, MISSING), f"a refusal, since {due} is due", "status 00")
+
+    def judge_form(self, it: Transaction, status: int) -> None:
+        """Judges that a request which lacks nothing isn't refused as one that does."""
+        asked = parameters_of(it.data) or {}
+        options = asked.get(7 if it.data[0] == MAKE else 5, {})
+        wrong = self.wrong_option(it.data[0], asked, options)
+        if wrong:
+            taken = status in (0, NO_CREDENTIALS, EXCLUDED)
+            hold(not taken, f"a refusal (2b or 2c) of the option {wrong}", f"status {status:02x}")
+            return
+        strange = unknown_parts(it.data[0], asked)
+        # A PIN, enterprise attestation and what a key can't serve have refusals of their own.
+        own = {8, 9, 10} if it.data[0] == MAKE else {6, 7}
+        rk_is_open = options.get("rk") and not self.info.get(4, {}).get("rk")
+        if own & set(asked) or rk_is_open or options.get("uv"):
+            return
+        if it.length > self.info.get(5, 1024) or status not in OF_FORM:
+            return
+        self.passed_over = "" if not strange or strange[0].startswith("the option") else strange[0]
+        said = f" passes over {strange[0]}" if strange else " takes a request that lacks nothing"
+        raise Differs(f"a key that{said}", f"status {status:02x}")
+
+    def wrong_option(self, command: int, asked: Dict[Any, Any], options: Dict[str, Any]) -> str:
+        """Returns an option that can't be served: rk at a sign-in, up false at a registration, uv where it isn't."""
+        if command == GET and "rk" in options:
+            return "rk"
+        if command == MAKE and options.get("up") is False:
+            return "up"
+        own = self.info.get(4, {})
+        if options.get("uv") and self.info and not own.get("uv") and (8 if command == MAKE else 6) not in asked:
+            return "uv"
+        return ""
+
+    def listed(self, asked: Dict[Any, Any], key: int, rp: str) -> List[Kept]:
+        """Returns the credentials of the log that a list names, of this RP."""
+        found = [self.kept.get(entry["id"]) for entry in asked.get(key, []) if entry["type"] == "public-key"]
+        return [
+            one for one in found if one is not None and one.credential.rp == rp and "credProtect" not in one.extensions
+        ]
+
+    def judge_make_status(self, it: Transaction, status: int) -> None:
+        """Judges the status of a registration."""
+        asked = parameters_of(it.data) or {}
+        excluded = self.listed(asked, 5, asked[2]["id"])
+        hold(status != 0 or not excluded, "status 19, since the list has a credential of this key", "status 00")
+        hold(status != EXCLUDED or bool(asked.get(5)), "no status 19, since there is no list", "status 19")
+        if status == EXCLUDED and not excluded:
+            names = [one["id"] for one in asked[5] if one["type"] == "public-key"]
+            open_question = not self.is_complete and any(name not in self.kept for name in names)
+            said = "no status 19, since the list has no credential of this key and RP"
+            hold(open_question or self.has_hidden(asked, 5), said, "status 19")
+        listed = [entry["alg"] for entry in asked[4] if entry["type"] == "public-key"]
+        served = self.facts.algorithms
+        self.judge_capabilities(asked, status)
+        if served and not set(served) & set(listed):
+            wanted = (UNSUPPORTED, *ANY, *((EXCLUDED,) if asked.get(5) else ()))
+            hold(status in wanted or 8 in asked, "status 26, since no algorithm is served", f"status {status:02x}")
+        elif served:
+            hold(status != UNSUPPORTED, "no status 26, since an algorithm is served", "status 26")
+
+    def has_hidden(self, asked: Dict[Any, Any], key: int) -> bool:
+        """Says whether a list names a credential that extensions may hide."""
+        found = [self.kept.get(entry["id"]) for entry in asked.get(key, [])]
+        return any(one is not None and "credProtect" in one.extensions for one in found)
+
+    def judge_capabilities(self, asked: Dict[Any, Any], status: int) -> None:
+        """Judges a registration by what getInfo says: rk, a PIN, enterprise attestation."""
+        options, own = asked.get(7, {}), self.info.get(4, {})
+        if options.get("rk") and own.get("rk"):
+            hold(status != 0x2B, "a discoverable credential, since getInfo names rk", "status 2b")
+        if 10 in asked and self.info and not own.get("ep"):
+            hold(status != 0, "a refusal, since there is no enterprise attestation", "status 00")
+        if (
+            options.get("rk")
+            and 8 not in asked
+            and not options.get("uv")
+            and self.pins.is_set
+            and not own.get("alwaysUv")
+        ):
+            hold(status != 0, "status 36, since a PIN is set", "status 00")
+        if 8 in asked and status == 0:
+            self.pins.judge_use(1, asked[2]["id"])
+
+    def judge_get_status(self, it: Transaction, data: bytes) -> None:
+        """Judges the status of a sign-in."""
+        status = data[0]
+        asked = parameters_of(it.data) or {}
+        mine = self.candidates(asked)
+        used = self.identity(asked, parameters_of(data) or {}) if status == 0 else b""
+        if used in self.forgotten:
+            raise ExtensionDiffers("6.6", "no credential from before the reset", used.hex())
+        if mine and self.facts.protection < 2:
+            hold(status != NO_CREDENTIALS, "an assertion, since the key made a credential for it", "status 2e")
+        if status == 0 and self.is_complete and not mine and not self.is_protected(asked):
+            raise Differs("status 2e, since the key has no credential for it", "status 00")
+        if not mine and self.is_complete and status not in (0, NO_CREDENTIALS, *ANY, TIMED_OUT) and status < 0x31:
+            raise Differs("status 2e, since the key has no credential for it", f"status {status:02x}")
+
+    def is_protected(self, asked: Dict[Any, Any]) -> bool:
+        """Says whether a credential that may not show itself belongs to the RP."""
+        return any(one.credential.rp == asked[1] and one.extensions for one in self.kept.values())
+
+    def candidates(self, asked: Dict[Any, Any]) -> List[Kept]:
+        """Returns the credentials of the log that a sign-in may use."""
+        if asked.get(3):
+            return self.listed(asked, 3, asked[1])
+        of_rp = [one for one in self.kept.values() if one.credential.rp == asked[1] and one.discoverable]
+        return [one for one in of_rp if "credProtect" not in one.extensions]
+
+    def has_hidden_of(self, asked: Dict[Any, Any]) -> bool:
+        """Says whether extensions may hide a credential of the RP."""
+        return any(one.credential.rp == asked[1] and one.extensions for one in self.kept.values())
+
+    def judge_next_status(self, entry: Entry, it: Transaction, status: int) -> None:
+        """Judges whether assertions were pending."""
+        waiting = self.pending
+        if waiting is None or (status == 0 and waiting.left > 0 and not waiting.is_sure):
+            return
+        if status == 0:
+            hold(waiting.left > 0, "status 30, since no assertion is pending", "status 00")
+            hold(
+                it.last - waiting.at <= PENDING + JITTER,
+                "status 30, after 30 s",
+                f"status 00 after {it.last - waiting.at} ms",
+            )
+        elif status not in (NOT_ALLOWED, *ANY):
+            raise Differs("status 30", f"status {status:02x}")
+        elif status == NOT_ALLOWED and waiting.left > 0:
+            sure = waiting.is_sure and waiting.channel == it.channel
+            late = it.last - waiting.at >= PENDING - JITTER
+            hold(late or not sure, "the next assertion, which is pending", "status 30")
+
+    def judge_info(self, transaction: Transaction, data: bytes) -> None:
+        """Judges authenticatorGetInfo, and keeps what it says."""
+        item = answers.judge_info(data)
+        self.info = item
+        self.facts.aaguid = item[3]
+        self.facts.algorithms = [one["alg"] for one in item.get(10, [])]
+        self.pins.judge_info(item)
+        self.facts.old = not any(name.startswith("FIDO_2_1") for name in item[1])
+
+    def judge_made(self, transaction: Transaction, data: bytes) -> None:
+        """Judges a registration, and keeps its credential."""
+        request = transaction.data
+        words = ["up"] + (["no-uv"] if self.has_no_verification(request) else [])
+        if answers.parameters(request).get(8):
+            words.append("uv")
+        made = answers.judge_made(data, request, words, self.known, self.facts)
+        asked = answers.parameters(request)
+        judge_extension_answers(MAKE, data, asked, self.info, {})
+        self.replace(made, asked)
+        self.known[made.id] = made
+        extensions = {name: value for name, value in asked.get(6, {}).items()}
+        self.kept[made.id] = Kept(made, bool(asked.get(7, {}).get("rk")), extensions)
+
+    def replace(self, made: Credential, asked: Dict[Any, Any]) -> None:
+        """Forgets the discoverable credential that a new one of the same RP and user takes the place of."""
+        if not asked.get(7, {}).get("rk"):
+            return
+        for name, one in list(self.kept.items()):
+            if one.discoverable and (one.credential.rp, one.credential.user) == (made.rp, made.user):
+                self.replaced.add(name)
+                del self.kept[name], self.known[name]
+
+    def has_no_verification(self, request: bytes) -> bool:
+        """Says whether a key can't have verified the user: it names no way of its own, and no PIN was used."""
+        asked = answers.parameters(request)
+        return bool(self.info) and not self.info.get(4, {}).get("uv") and not {8, 6} & set(asked)
+
+    def judge_asserted(self, transaction: Transaction, data: bytes) -> None:
+        """Judges an assertion: of a credential that isn't in the log all but its signature."""
+        follows = transaction.data[0] == NEXT
+        request = self.pending.request if follows and self.pending else transaction.data
+        if not request or request[0] != GET:
+            return
+        asked = answers.parameters(request)
+        item = answers.map_of(data)
+        words = self.words_of(asked, item, follows)
+        known, identity = dict(self.known), self.identity(asked, item)
+        if identity in self.forgotten:
+            self.recording.find(
+                transaction.by or transaction.line, KEY, "6.6", "no credential from before the reset", identity.hex()
+            )
+        hold(identity not in self.replaced, "no credential that another one took the place of", identity)
+        self.judge_series(item, follows, identity)
+        listed = [one["id"] for one in asked.get(3, []) if one["type"] == "public-key"]
+        hold(not asked.get(3) or identity in listed, "a credential of the allow list", identity)
+        self.judge_protection(item, asked, identity)
+        if identity not in known:
+            hold(not self.is_complete or identity in self.forgotten, "a credential that this key made", identity)
+            stranger = Credential(identity, {3: 0}, asked[1], b"", -1)
+            known[identity] = self.strangers.setdefault((asked[1], identity), stranger)
+        words += ["counter-rises"]
+        answers.judge_asserted(data, request, words, known, None, self.facts)
+        extensions = self.kept[identity].extensions if identity in self.kept else {}
+        judge_extension_answers(GET, data, asked, self.info, extensions)
+        self.judge_account(asked, item, follows, identity)
+
+    def judge_series(self, item: Dict[Any, Any], follows: bool, identity: bytes) -> None:
+        """Judges an assertion that follows another: another credential, the same flags, no number."""
+        if not follows or self.pending is None:
+            return
+        hold(identity not in self.pending.signed, "another credential than before", identity)
+        self.pending.signed.append(identity)
+        hold(5 not in item, "no numberOfCredentials", item)
+        auth = item[2]
+        hold(
+            (auth[32] ^ self.pending.flags) & (UP | UV) == 0,
+            f"flags UP and UV of {self.pending.flags:02x}",
+            auth[32:33],
+        )
+
+    def judge_protection(self, item: Dict[Any, Any], asked: Dict[Any, Any], identity: bytes) -> None:
+        """Judges that a protected credential signs as it may: with the user verified, or at level 2 by a list."""
+        level = self.kept[identity].extensions.get("credProtect") if identity in self.kept else None
+        if level is None or item[2][32] & UV or "credProtect" not in self.info.get(2, []):
+            return
+        if level == 3 or (level == 2 and not asked.get(3)):
+            raise ExtensionDiffers(
+                "12.1", f"no assertion of a credential of level {level} without the user verified", "one"
+            )
+
+    def identity(self, asked: Dict[Any, Any], item: Dict[Any, Any]) -> bytes:
+        """Returns the id of the credential that signed."""
+        if isinstance(item.get(1), dict) and isinstance(item[1].get("id"), bytes):
+            return bytes(item[1]["id"])
+        listed = asked.get(3, [])
+        return bytes(listed[0]["id"]) if len(listed) == 1 else b""
+
+    def words_of(self, asked: Dict[Any, Any], item: Dict[Any, Any], follows: bool) -> List[str]:
+        """Returns what is expected of an assertion, in the words of the corpus."""
+        up = asked.get(5, {}).get("up", True)
+        words = [] if follows else ["up"] if up else ["no-up"]
+        auth = item.get(2, bytes(37))
+        if isinstance(auth, bytes) and len(auth) >= 37 and not auth[32] & UV:
+            words.append("no-name")
+        if follows or (asked.get(3) and item.get(5) is not None):
+            words.append("no-number")
+        return words
+
+    def judge_account(self, asked: Dict[Any, Any], item: Dict[Any, Any], follows: bool, identity: bytes) -> None:
+        """Judges the user and the number of accounts, where the log knows them."""
+        hold(item.get(5) != 1, "no numberOfCredentials of one", item)
+        if asked.get(3):
+            return
+        mine = self.candidates(asked)
+        if identity in self.kept and not follows:
+            words = ["user", self.kept[identity].credential.user.hex()]
+            answers.judge_user(item, words, self.facts)
+        names = [one.credential.id for one in mine]
+        if not follows and names and identity in names and not self.has_hidden_of(asked):
+            hold(identity == names[-1], f"the newest credential, {names[-1].hex()}", identity)
+        if not follows and len(mine) > 1 and self.facts.protection < 2 and item.get(6) is not True:
+            number = item.get(5)
+            hold(isinstance(number, int), f"numberOfCredentials of at least {len(mine)}", item)
+            hold(isinstance(number, int) and number >= len(mine), f"numberOfCredentials of at least {len(mine)}", item)
+            hold(not self.is_complete or number == len(mine), f"numberOfCredentials {len(mine)}", item)
+        if identity in self.kept and not self.kept[identity].discoverable:
+            self.recording.find(0, KEY, "6.2.2", "a discoverable credential", identity.hex(), SHOULD)
+
+    def follow(self, entry: Entry, it: Transaction, data: bytes) -> None:
+        """Keeps what an answer leaves behind."""
+        command, status = it.data[0], data[0]
+        if command == RESET and status == 0:
+            self.forgotten.update({name: one.credential.rp for name, one in self.kept.items()})
+            self.kept, self.known, self.is_complete = {}, {}, True
+            self.pins, self.pending = Pins(is_set=False), Pending(b"", 0, entry.at)
+        elif command == GET and status == 0:
+            item = parameters_of(data) or {}
+            number, auth = item.get(5), item.get(2)
+            left = number - 1 if isinstance(number, int) else 0
+            flags = auth[32] if isinstance(auth, bytes) and len(auth) > 32 else 0
+            signed = [self.identity(parameters_of(it.data) or {}, item)]
+            self.pending = Pending(it.data, left, entry.at, it.channel, True, signed, flags)
+        elif command == NEXT and status == 0 and self.pending is not None:
+            self.pending.left, self.pending.at = self.pending.left - 1, entry.at
+        elif command != NEXT and self.pending is not None:
+            if command == GET:
+                self.pending = Pending(b"", 0, entry.at)
+            elif command == MAKE and status == 0:
+                self.pending = None
+            elif self.pending is not None:
+                self.pending.is_sure = False

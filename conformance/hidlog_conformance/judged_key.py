@@ -1,0 +1,441 @@
+"""Judges the key's side of a recorded log: packets, channels, order, KEEPALIVEs, ERRORs, silence."""
+
+from __future__ import annotations
+
+from typing import Dict, List, Optional, Set
+
+from hidlog_conformance import hid_packets as hid
+from hidlog_conformance import rules
+from hidlog_conformance.answers import Differs
+from hidlog_conformance.greeting import CBOR, NMSG, WINK, is_lawful_keepalive, judge_greeting
+from hidlog_conformance.judged_answers import AnswerJudge
+from hidlog_conformance.judged_parts import judge_u2f
+from hidlog_conformance.judged_log import KEY, MUST, SHOULD, SILENCE, Recording, message_of, seen
+from hidlog_conformance.walk import BUSY, CANCELLED, INVALID_COMMAND, NO_TIME_OUT, TIMED_OUT, Entry, Transaction
+
+# Milliseconds after which a message that isn't finished should have been dropped.
+PATIENCE = 3000
+OTHER_ERROR = 0x7F
+SERVED = (hid.PING, hid.MSG, hid.LOCK, hid.INIT, hid.WINK, hid.CBOR)
+
+
+class KeyJudge:
+    """Judges each packet of the key, and what it didn't send."""
+
+    def __init__(self, recording: Recording) -> None:
+        self.recording = recording
+        self.answers = AnswerJudge(recording)
+        self.starts = {it.line: it for it in recording.walk.transactions}
+        self.guest = hid.Collector()
+        self.given: Dict[int, int] = {}
+        self.capabilities: Dict[int, int] = {}
+        self.is_first = True
+        self.cycles = list(recording.power_cycles)
+        # What is under way: transactions in the order in which they began.
+        self.open: List[Transaction] = []
+        # By channel the host's last packet.
+        self.last: Dict[bytes, Entry] = {}
+        self.input: Optional[Entry] = None
+        # When each channel's unfinished message of the key went on, and at which line.
+        self.parts: Dict[int, Entry] = {}
+        self.missed: Set[int] = set()
+
+    def find(self, line: int, section: str, due: str, came: str, level: str = MUST) -> None:
+        """Keeps a finding."""
+        self.recording.find(line, KEY, section, due, came, level)
+
+    def take(self, entry: Entry) -> None:
+        """Takes a packet of either side."""
+        while self.cycles and self.cycles[0][0] < entry.line:
+            self.power_cycle(self.cycles.pop(0)[1])
+        self.judge_silence(entry.at, entry.line)
+        if entry.kind == "device":
+            self.take_sent(entry)
+        else:
+            self.take_input(entry)
+
+    def power_cycle(self, at: int) -> None:
+        """Forgets what ends with the power."""
+        self.guest, self.open, self.given, self.parts = hid.Collector(), [], {}, {}
+        self.answers.power_cycle(at)
+
+    def take_input(self, entry: Entry) -> None:
+        """Keeps a packet of the host."""
+        self.last[entry.packet[:4]] = self.input = entry
+        transaction = self.starts.get(entry.line)
+        if transaction is not None:
+            self.open.append(transaction)
+
+    def take_sent(self, entry: Entry) -> None:
+        """Judges a packet of the key."""
+        channel = int.from_bytes(entry.packet[:4], "big")
+        message = self.guest.feed(entry.packet)
+        self.parts.pop(channel, None)
+        if message is None:
+            self.parts[channel] = entry
+        elif message.problem:
+            said, came = "the packets of a message in their order", message.problem
+            self.recording.find(entry.line, KEY, rules.PACKETS, said, came, MUST, rules.SEQUENCE)
+        elif any(message.padding):
+            self.find(entry.line, rules.PACKETS, "zeros behind the message", message.padding.hex(), SHOULD)
+        if entry.part == "keepalive":
+            self.judge_keepalive(entry, message)
+        elif entry.part == "error":
+            self.judge_error(entry, message)
+        elif entry.packet[4] & 0x80:
+            self.judge_start(entry)
+        if entry.message is not None and entry.message.lines[-1] == entry.line and entry.message.whole:
+            self.judge_whole(entry)
+        self.open = [it for it in self.open if it.by is None or it.by > entry.line or self.starts.get(it.by)]
+        ended = entry.transaction
+        if ended is not None and ended.by == entry.line:
+            self.open = [it for it in self.open if it is not ended]
+            if ended.command == hid.INIT and ended.channel != hid.BROADCAST:
+                self.open = [it for it in self.open if it.channel != ended.channel]
+        self.is_first = False
+
+    def judge_keepalive(self, entry: Entry, message: Optional[hid.Message]) -> None:
+        """Judges a KEEPALIVE."""
+        data = message.data if message is not None else entry.packet[7:]
+        if not is_lawful_keepalive(data):
+            said = "a KEEPALIVE of one byte, 01 or 02, for a request"
+            self.find(entry.line, rules.KEEPALIVE, said, f"KEEPALIVE {data[:8].hex()}")
+        elif entry.transaction is None and not self.is_late_start(entry):
+            section = rules.ABORT if self.was_aborted(entry) else rules.KEEPALIVE
+            self.find(entry.line, section, "a KEEPALIVE of a request that waits", "nothing waits on this channel")
+        elif entry.transaction is not None and entry.transaction.command == hid.CBOR:
+            self.judge_cancelled_on(entry, entry.transaction)
+            if data == b"\2" and not self.recording.is_cut(entry.transaction):
+                self.answers.user_needed(entry, entry.transaction)
+
+    def was_aborted(self, entry: Entry) -> bool:
+        """Says whether INIT ended the channel's transaction, and nothing began since."""
+        last = self.last.get(entry.packet[:4])
+        return last is not None and last.packet[4] == 0x80 | hid.INIT and last.packet[:4] != b"\xff" * 4
+
+    def judge_cancelled_on(self, entry: Entry, transaction: Transaction) -> None:
+        """Judges that a cancelled request ends."""
+        if transaction.cancelled is None or self.recording.was_unread(entry.line):
+            return
+        cancel = next(it for it in self.recording.walk.entries if it.line == transaction.cancelled)
+        if entry.at - cancel.at >= SILENCE and cancel.line < entry.line:
+            self.find(entry.line, rules.CANCEL, "the answer 2d, since CANCEL came", "KEEPALIVEs go on")
+
+    def is_late_start(self, entry: Entry) -> bool:
+        """Says whether a log began within the channel's transaction."""
+        return entry.packet[:4] not in self.last
+
+    def judge_error(self, entry: Entry, message: Optional[hid.Message]) -> None:
+        """Judges an ERROR: for what it is, and its code."""
+        code, transaction = entry.packet[7], entry.transaction
+        if message is not None and not message.problem and len(message.data) != 1:
+            self.find(entry.line, rules.ERROR, "an ERROR of one byte", f"{len(message.data)} bytes")
+        if transaction is None:
+            self.judge_stray_error(entry)
+            return
+        if transaction.cancelled is not None and transaction.whole and transaction.command == hid.CBOR:
+            self.find(entry.line, rules.CANCEL, "the answer 2d of a cancelled request", f"ERROR {code:02x}")
+            return
+        due = self.due_codes(transaction, entry)
+        if due and code not in due:
+            words = "|".join(f"{it:02x}" for it in due)
+            section = rules.CODES.get(f"{due[0]:02x}", rules.ERROR)
+            if due == (0x03,) and transaction.command == hid.CBOR and transaction.length == 0:
+                section = rules.CBOR
+            self.find(entry.line, section, f"error {words}", f"ERROR {code:02x}")
+        elif not due:
+            self.judge_refusal(entry, transaction)
+
+    def judge_stray_error(self, entry: Entry) -> None:
+        """Judges an ERROR that nothing of its channel is for."""
+        last = self.last.get(entry.packet[:4])
+        if last is None and self.recording.is_of_one_client:
+            return
+        came = f"ERROR {entry.packet[7]:02x}"
+        if last is None:
+            if not self.is_first and not self.is_late_start(entry):
+                self.find(entry.line, rules.ERROR, "an ERROR for something", came)
+            elif self.open and not self.is_first:
+                self.find(entry.line, rules.BUSY, "an ERROR on the channel of the message that is refused", came)
+        elif last.packet[4] == 0x80 | hid.CANCEL:
+            self.find(entry.line, rules.CANCEL, "no answer to CANCEL", came)
+        elif last.part == "stray":
+            self.find(entry.line, rules.SEQUENCE, "no answer to a continuation packet of no message", came)
+        else:
+            section = rules.ABORT if self.was_aborted(entry) else rules.ERROR
+            self.find(entry.line, section, "an ERROR for something", came)
+
+    def due_codes(self, it: Transaction, entry: Entry) -> "tuple[int, ...]":
+        """Returns which codes fit a message that is refused; none where nothing in the log calls for an ERROR."""
+        if it.channel == 0 or (it.channel == hid.BROADCAST and it.command != hid.INIT):
+            return (0x0B,)
+        wrong_length = it.length > hid.LONGEST or (it.command == hid.INIT and it.length != 8)
+        wrong_length = wrong_length or (it.command == hid.CBOR and it.length == 0)
+        others = [one for one in self.open if one is not it and one.line < it.line and one.channel != it.channel]
+        own = [one for one in self.open if one is not it and one.line < it.line and one.channel == it.channel]
+        own = [one for one in own if one.command != hid.INIT]
+        strange = (0x0B,) if it.channel not in self.given and it.channel != hid.BROADCAST else ()
+        while_other = (BUSY,) if others else (BUSY, 0x04) if own else ()
+        if wrong_length:
+            first = (0x03, INVALID_COMMAND) if it.command not in SERVED else (0x03,)
+            return (*first, *strange, *while_other)
+        if it.command not in SERVED:
+            return (INVALID_COMMAND, *strange, *while_other)
+        if others and it.command != hid.INIT:
+            return (BUSY, *strange)
+        if own and it.command != hid.INIT:
+            return (BUSY, 0x04, *strange)
+        return strange or self.due_of_open(it, entry)
+
+    def due_of_open(self, it: Transaction, entry: Entry) -> "tuple[int, ...]":
+        """Returns which codes fit an unfinished message: after a packet of another number, or after a while."""
+        last = self.last.get(entry.packet[:4])
+        if it.whole:
+            return ()
+        if last is not None and last.part == "wrong number" and last.transaction is it:
+            return (0x04, TIMED_OUT)
+        if entry.at - it.last >= NO_TIME_OUT or self.input is None or self.input is not last:
+            return (TIMED_OUT,)
+        return ()
+
+    def judge_refusal(self, entry: Entry, it: Transaction) -> None:
+        """Judges an ERROR of a message that nothing in the log speaks against."""
+        code = entry.packet[7]
+        if code == OTHER_ERROR or (code == BUSY and self.recording.is_of_one_client):
+            return
+        if it.command in (hid.MSG, hid.WINK, hid.LOCK):
+            self.judge_capability(it, code)
+            return
+        if it.command in (hid.PING, hid.INIT, hid.CBOR) and not (self.is_first and code == BUSY):
+            expected = {hid.PING: "echo", hid.INIT: "init", hid.CBOR: "status"}[it.command]
+            came = hid.Message(it.channel, hid.ERROR, bytes([code]))
+            section = rules.broken(seen(it, expected, came))
+            self.find(entry.line, section, "an answer", f"ERROR {code:02x}")
+
+    def judge_capability(self, it: Transaction, code: Optional[int]) -> None:
+        """Judges that MSG and WINK are served as INIT's capabilities say; without a code they were."""
+        said = self.capabilities.get(it.channel)
+        if said is None or it.command == hid.LOCK or (code is not None and code != INVALID_COMMAND):
+            return
+        has_it = bool(said & WINK) if it.command == hid.WINK else not said & NMSG
+        name = hid.NAMES[it.command]
+        if has_it and code is not None:
+            due = f"{name} served, as the capabilities {said:02x} say"
+            self.find(it.line, rules.OF_COMMAND[it.command], due, f"ERROR {code:02x}")
+        elif not has_it and code is None:
+            self.find(it.line, rules.ERROR, f"ERROR 01, as the capabilities {said:02x} say", f"{name} is served")
+
+    def judge_start(self, entry: Entry) -> None:
+        """Judges the first packet of an answer: whether it answers something, and whether another waits before it."""
+        transaction, command = entry.transaction, entry.packet[4] & 0x7F
+        name = hid.NAMES.get(command, f"command {command:02x}")
+        if transaction is None:
+            self.judge_unasked(entry, command, name)
+            return
+        self.judge_gap(entry, transaction)
+        if transaction.channel == 0 or (transaction.channel == hid.BROADCAST and command != hid.INIT):
+            self.find(entry.line, rules.CHANNELS, "error 0b", f"{name} on a reserved channel")
+        if transaction.command not in SERVED and transaction.command < 0x40:
+            self.find(entry.line, rules.ERROR, "error 01", name)
+        before = [it for it in self.open if it.line < transaction.line and it.channel != transaction.channel]
+        before = [it for it in before if it.command != hid.INIT and self.is_waiting(it, transaction, entry)]
+        if before and command != hid.INIT:
+            self.find(entry.line, rules.BUSY, f"error 06, since line {before[0].line} has the device", name)
+
+    def judge_gap(self, entry: Entry, transaction: Transaction) -> None:
+        """Judges that a message wasn't taken whose packets came long after one another."""
+        moments = [one.at for one in self.recording.walk.entries if one.line in transaction.lines]
+        gaps = [after - before for before, after in zip(moments, moments[1:])]
+        if gaps and max(gaps) >= PATIENCE:
+            self.find(
+                entry.line, rules.TIMEOUT, "error 05, since the message wasn't finished in time", "an answer", SHOULD
+            )
+
+    def is_waiting(self, it: Transaction, other: Transaction, entry: Entry) -> bool:
+        """Says whether a transaction still had the device while another one was served: its end comes later."""
+        if it.by is not None and it.by < entry.line:
+            return False
+        if it.whole and it.lines[-1] < other.line:
+            return it.end in ("answered", "timed out")
+        # An unfinished message has the device for as long as no key drops it.
+        before = [one for one in self.recording.walk.entries if one.line in it.lines and one.line < other.line]
+        return bool(before) and other.began - before[-1].at < NO_TIME_OUT
+
+    def judge_unasked(self, entry: Entry, command: int, name: str) -> None:
+        """Judges a message that answers nothing."""
+        last = self.last.get(entry.packet[:4])
+        if (last is None and self.is_first) or entry.line in self.recording.cut:
+            return
+        if entry.packet[:4] == b"\xff" * 4 and command != hid.INIT:
+            self.find(
+                entry.line, rules.CHANNELS, "an answer on the channel that asked", f"{name} on the broadcast channel"
+            )
+            return
+        if self.recording.is_of_one_client and (last is None or command == hid.INIT):
+            return
+        if command == hid.INIT:
+            waiting = [it for it in self.open if it.command == hid.INIT]
+            came = f"nonce {entry.packet[7:15].hex()} on {entry.packet[:4].hex()}"
+            self.find(entry.line, rules.INIT, self.due_greeting(waiting), came)
+            return
+        on_channel = [it for it in self.open if it.channel.to_bytes(4, "big") == entry.packet[:4]]
+        if on_channel and on_channel[-1].whole:
+            held = on_channel[-1]
+            self.find(
+                entry.line, rules.OF_COMMAND.get(held.command, rules.ERROR), "an answer of the same command", name
+            )
+        elif on_channel:
+            self.find(entry.line, rules.SEQUENCE, "no answer before the message is whole", name)
+        elif self.was_aborted(entry):
+            self.find(entry.line, rules.ABORT, "no answer of what INIT ended", name)
+        elif last is not None and last.packet[4] == 0x80 | hid.CANCEL:
+            self.find(entry.line, rules.CANCEL, "no answer to CANCEL", name)
+        elif last is not None and last.part == "stray":
+            self.find(entry.line, rules.SEQUENCE, "no answer to a continuation packet of no message", name)
+        elif last is None and any(it.command == command and it.whole for it in self.open):
+            came = f"{name} on {entry.packet[:4].hex()}"
+            self.find(entry.line, rules.CHANNELS, "an answer on the channel that asked", came)
+        elif last is not None:
+            self.find(entry.line, rules.OF_COMMAND.get(command, rules.ERROR), "an answer of something", name)
+
+    def due_greeting(self, waiting: List[Transaction]) -> str:
+        """Says which INIT answer was due."""
+        if not waiting:
+            return "no answer, since no INIT waits"
+        return f"init nonce {waiting[-1].data.hex()} on {waiting[-1].channel:08x}"
+
+    def judge_whole(self, entry: Entry) -> None:
+        """Judges a whole answer."""
+        assert entry.message is not None
+        transaction, message = entry.transaction, message_of(entry.message)
+        if transaction is None:
+            return
+        if self.recording.is_cut(entry.message, transaction):
+            self.answers.passed(transaction)
+            return
+        try:
+            if message.command == hid.INIT:
+                nonce = transaction.data
+                data = message.data
+                if len(data) == 17 and not self.serves_cbor():
+                    # A key of U2F alone has no CBOR.
+                    data = data[:16] + bytes([data[16] | CBOR])
+                channel = judge_greeting(data, nonce, transaction.channel, self.given)
+                self.given[channel] = entry.line
+                self.capabilities[channel] = message.data[16]
+            elif message.command == hid.PING:
+                self.judge_echo(transaction, message)
+            elif message.command == hid.CBOR:
+                self.judge_status(entry, transaction, message)
+            elif message.command in (hid.MSG, hid.WINK):
+                self.judge_capability(transaction, None)
+                if message.command == hid.MSG:
+                    judge_u2f(transaction.data, message.data)
+        except Differs as differs:
+            expected = {hid.INIT: "init", hid.MSG: "message"}.get(message.command, "echo")
+            self.recording.judged(seen(transaction, expected, message), entry.line, differs)
+
+    def serves_cbor(self) -> bool:
+        """Says whether the log has an answer of CBOR."""
+        return any(it.command == hid.CBOR and it.answer is not None for it in self.recording.walk.transactions)
+
+    def judge_echo(self, transaction: Transaction, message: hid.Message) -> None:
+        """Judges that a PING comes back with its bytes."""
+        if message.data != transaction.data:
+            raise Differs(
+                f"the {transaction.length} bytes of the PING", f"{len(message.data)} bytes: {message.shown()}"
+            )
+
+    def judge_status(self, entry: Entry, transaction: Transaction, message: hid.Message) -> None:
+        """Judges an answer of CBOR: what CANCEL makes of it, and what it says."""
+        if not message.data:
+            self.find(entry.line, rules.CBOR, "a status", "an empty message")
+        elif not transaction.data:
+            if message.data[0] == 0:
+                self.find(entry.line, rules.CBOR, "a refusal of an empty message", "answer 00")
+        elif message.data[0] == CANCELLED and transaction.cancelled is None and not self.recording.is_of_one_client:
+            self.find(entry.line, rules.CANCEL, "no answer 2d, since no CANCEL came on this channel", "answer 2d")
+        elif transaction.cancelled is not None and len(message.data) == 1 and message.data[0] != CANCELLED:
+            # Where the answer was under way as CANCEL came, it may be another one.
+            level = MUST if message.data == b"\0" and transaction.data[0] in (1, 2, 8) else SHOULD
+            self.find(
+                entry.line, rules.CANCEL, "the answer 2d of a cancelled request", f"answer {message.data.hex()}", level
+            )
+        else:
+            self.answers.judge(entry, transaction, message)
+
+    def judge_silence(self, now: int, line: int) -> None:
+        """Judges what didn't come until a moment."""
+        for channel, entry in list(self.parts.items()):
+            if now - entry.at >= SILENCE and not self.recording.was_unread(line):
+                part = self.guest.open.get(channel)
+                left = part.length - len(part.data) if part is not None else 0
+                due = f"the other {left} bytes of the message"
+                self.recording.find(entry.line, KEY, rules.PACKETS, due, "nothing", MUST, rules.SEQUENCE)
+                del self.parts[channel]
+        for it in self.open:
+            is_due = it.whole or it.length > hid.LONGEST
+            if it.line not in self.missed and is_due and self.is_silent(it, now, line):
+                self.missed.add(it.line)
+                self.missing(it)
+            elif it.line not in self.missed and not is_due and it.by is None and now - it.last >= PATIENCE:
+                self.missed.add(it.line)
+                self.find(it.lines[-1], rules.TIMEOUT, "error 05, since the message isn't finished", "nothing", SHOULD)
+
+    def is_silent(self, it: Transaction, now: int, line: int) -> bool:
+        """Says whether nothing came for a whole message for a while."""
+        if it.end == "replaced" or (it.by is not None and it.by < line) or self.recording.was_unread(line):
+            return False
+        heard = [one.at for one in it.keepalives if one.line < line]
+        return now - max([it.last, *heard]) >= SILENCE
+
+    def missing(self, it: Transaction) -> None:
+        """Keeps that an answer is missing, under the rule that calls for it."""
+        line, others = it.lines[-1], [one for one in self.open if one is not it and one.line < it.line]
+        others = [one for one in others if one.channel != it.channel and one.command != hid.INIT]
+        if it.channel in (0, hid.BROADCAST) and it.command != hid.INIT:
+            self.find(line, rules.CHANNELS, "error 0b", "nothing")
+        elif it.length > hid.LONGEST:
+            self.find(line, rules.PACKETS, "error 03", "nothing")
+        elif self.was_cancelled_inside(it):
+            self.find(line, rules.CANCEL, "an answer, since CANCEL drops no message that comes in", "nothing")
+        elif it.command == hid.INIT:
+            self.find(line, rules.INIT if it.length == 8 else rules.PACKETS, "an answer of INIT", "nothing")
+        elif it.command not in SERVED:
+            self.find(line, rules.ERROR, "error 01", "nothing")
+        elif others:
+            self.find(line, rules.BUSY, f"error 06, since line {others[0].line} has the device", "nothing")
+        elif self.given and it.channel not in self.given:
+            self.find(line, rules.CHANNELS, "error 0b, or an answer", "nothing")
+        elif it.cancelled is not None:
+            self.find(line, rules.CANCEL, "the answer 2d, since CANCEL came", "nothing")
+        elif it.command == hid.CBOR and it.length:
+            self.find(
+                line,
+                rules.KEEPALIVE,
+                "an answer, or KEEPALIVEs each 100 ms",
+                "nothing",
+                SHOULD if it.keepalives else MUST,
+            )
+        else:
+            self.find(line, rules.OF_COMMAND.get(it.command, rules.ERROR), "an answer", "nothing")
+
+    def was_cancelled_inside(self, it: Transaction) -> bool:
+        """Says whether a CANCEL came between a message's packets."""
+        inside = [one for one in self.recording.walk.entries if it.line < one.line < it.lines[-1]]
+        return any(one.part == "cancel" and one.packet[:4] == it.channel.to_bytes(4, "big") for one in inside)
+
+    def finish(self) -> None:
+        """Judges what didn't come until the log's end."""
+        self.judge_silence(self.recording.walk.now, self.recording.lines + 1)
+        for it in self.recording.walk.transactions:
+            self.judge_unfinished(it)
+
+    def judge_unfinished(self, it: Transaction) -> None:
+        """Judges that a packet of another number was answered."""
+        wrong = [one for one in self.recording.walk.entries if one.transaction is it and one.part == "wrong number"]
+        if not wrong or it.code == 0x04 or it.end in ("refused", "timed out"):
+            return
+        after = [one for one in self.recording.walk.entries if one.kind == "device" and one.line > wrong[0].line]
+        if self.recording.walk.now - wrong[0].at >= SILENCE or after:
+            self.find(wrong[0].line, rules.SEQUENCE, "error 04", "nothing")

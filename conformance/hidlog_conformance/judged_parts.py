@@ -1,0 +1,170 @@
+"""Judges parts of recorded answers: extensions, and those of authenticatorClientPIN."""
+
+from __future__ import annotations
+
+from dataclasses import dataclass
+from typing import Any, Dict, Optional
+
+from hidlog_conformance import answers, ctap_cbor, keys
+from hidlog_conformance.answers import ED, MAKE, Differs, hold
+from hidlog_conformance.listener import MOST_RETRIES
+from hidlog_conformance.platform_side import Platform
+from hidlog_conformance.requests import parameters_of
+
+PROTECT, BLOB, SECRET = "credProtect", "credBlob", "hmac-secret"
+GET_RETRIES, GET_AGREEMENT, SET_PIN, CHANGE_PIN, GET_TOKEN, TOKENS = 1, 2, 3, 4, 5, (5, 6, 9)
+# After so many wrong PINs in a row the power has to be switched off (6.5.5.7).
+WRONG_IN_A_ROW = 3
+
+
+class ExtensionDiffers(Differs):
+    """Says which section of an extension is broken."""
+
+    def __init__(self, section: str, wanted: str, came: str) -> None:
+        super().__init__(wanted, came)
+        self.section = section
+
+
+def outputs_of(auth: bytes) -> Dict[Any, Any]:
+    """Returns the extensions' answers that are in authenticator data, none where they can't be read."""
+    if len(auth) < 37 or not auth[32] & ED:
+        return {}
+    rest = auth[37:]
+    if auth[32] & answers.AT:
+        _, rest = answers.cose_key(auth[55 + int.from_bytes(auth[53:55], "big") :])
+    try:
+        found = ctap_cbor.decode(rest)
+    except ctap_cbor.CborFault:
+        return {}
+    return found if isinstance(found, dict) else {}
+
+
+def judge_extension_answers(
+    command: int, data: bytes, asked: Dict[Any, Any], info: Dict[Any, Any], made: Dict[str, Any]
+) -> None:
+    """Judges that the extensions that getInfo names are answered; `made` has what the registration asked."""
+    requested = asked.get(6 if command == MAKE else 4, {})
+    named = [name for name in info.get(2, []) if name in requested]
+    outputs = outputs_of(answers.map_of(data)[2])
+    for name in named:
+        value = requested[name]
+        if name == PROTECT and command == MAKE:
+            said = f"credProtect: {value}"
+            hold_extension("12.1", outputs.get(PROTECT) == value, said, outputs)
+        elif name == SECRET and command == MAKE and value is True:
+            hold_extension("12.5", isinstance(outputs.get(SECRET), bool), "hmac-secret: true or false", outputs)
+        elif name == SECRET and isinstance(value, dict) and isinstance(value.get(2), bytes):
+            judge_secret(value, outputs, made)
+        elif name == BLOB:
+            judge_blob(command, value, outputs, info, made)
+
+
+def judge_secret(value: Dict[Any, Any], outputs: Dict[Any, Any], made: Dict[str, Any]) -> None:
+    """Judges that encrypted secrets are as long as the salts."""
+    found = outputs.get(SECRET)
+    if not made.get(SECRET):
+        return
+    hold_extension("12.5", isinstance(found, bytes), "an answer of the extension hmac-secret", outputs)
+    wanted = len(value[2])
+    hold_extension("12.5", len(found or b"") == wanted, f"secrets of {wanted} bytes, as the salts", outputs)
+
+
+def judge_blob(command: int, value: Any, outputs: Dict[Any, Any], info: Dict[Any, Any], made: Dict[str, Any]) -> None:
+    """Judges a blob: that it is kept where it isn't too long, and comes back as it was."""
+    if command == MAKE and isinstance(value, bytes):
+        fits = len(value) <= info.get(15, 32)
+        hold_extension("12.2", outputs.get(BLOB) is True or not fits, "credBlob: true", outputs)
+    elif value is True and isinstance(made.get(BLOB), bytes):
+        hold_extension("12.2", outputs.get(BLOB) == made[BLOB], f"the blob {made[BLOB].hex()}", outputs)
+
+
+def hold_extension(section: str, holds: bool, wanted: str, came: Any) -> None:
+    """Raises a difference of an extension's section where something doesn't hold."""
+    if not holds:
+        raise ExtensionDiffers(section, wanted, ctap_cbor.shown(came))
+
+
+@dataclass
+class Pins:
+    """What a log knows of a PIN: whether one is set, how many wrong ones are left, what the last token permits."""
+
+    is_set: Optional[bool] = None
+    retries: Optional[int] = None
+    # Wrong PINs in a row, the key for key agreement, and whether a wrong PIN came since it was answered.
+    wrong: int = 0
+    agreement: Any = None
+    is_stale: bool = False
+    # What the last token permits, and at which RP; None where the log doesn't know.
+    permissions: Optional[int] = None
+    rp: Optional[str] = None
+
+    def judge(self, request: bytes, data: bytes) -> None:
+        """Judges an answer of authenticatorClientPIN."""
+        asked = parameters_of(request)
+        if asked is None or not isinstance(asked.get(2), int):
+            return
+        kind, status = asked[2], data[0]
+        if status == 0x31:
+            self.wrong += 1
+            self.is_stale = True
+            self.retries = None if self.retries is None else self.retries - 1
+            hold(self.wrong < WRONG_IN_A_ROW, f"status 34 after {WRONG_IN_A_ROW} wrong PINs", "status 31")
+        elif status in (0x32, 0x33, 0x34):
+            self.retries = None
+        elif status == 0:
+            self.take(kind, asked, data)
+
+    def take(self, kind: int, asked: Dict[Any, Any], data: bytes) -> None:
+        """Judges an answer with status 00."""
+        if kind == GET_RETRIES:
+            left = answers.member(answers.map_of(data), 3, int, "the retries")
+            hold(0 <= left <= MOST_RETRIES, f"0 to {MOST_RETRIES} retries", str(left))
+            hold(self.retries is None or left == self.retries, f"{self.retries} retries", f"{left} retries")
+            self.retries = left
+        elif kind == GET_AGREEMENT:
+            self.take_agreement(asked, data)
+        elif kind == SET_PIN:
+            hold(not self.is_set, "a refusal, since a PIN is set", "status 00")
+            self.is_set, self.retries, self.wrong = True, None, 0
+        elif kind == CHANGE_PIN:
+            self.retries, self.wrong = None, 0
+        elif kind in TOKENS:
+            token = answers.member(answers.map_of(data), 2, bytes, "the token")
+            lengths = (16, 32) if asked.get(1) == 1 else (48,)
+            hold(len(token) in lengths, f"an encrypted token of {' or '.join(map(str, lengths))} bytes", token)
+            self.retries, self.wrong = None, 0
+            self.permissions, self.rp = asked.get(9) if kind != GET_TOKEN else None, asked.get(10)
+
+    def take_agreement(self, asked: Dict[Any, Any], data: bytes) -> None:
+        """Judges a key for key agreement: its form, and that it is a new one after a wrong PIN."""
+        found = answers.map_of(data)
+        if keys.THERE:
+            Platform().agree(found, asked)
+        hold(not self.is_stale or found.get(1) != self.agreement, "a new key after a wrong PIN", found)
+        self.agreement, self.is_stale = found.get(1), False
+
+    def judge_info(self, item: Dict[Any, Any]) -> None:
+        """Judges what authenticatorGetInfo says of a PIN."""
+        said = item.get(4, {}).get("clientPin")
+        if said is not None and self.is_set is not None and said != self.is_set:
+            raise ExtensionDiffers("6.5", f"clientPin: {str(self.is_set).lower()}", str(said).lower())
+        self.is_set = said if said is not None else self.is_set
+
+    def judge_use(self, needed: int, rp: str) -> None:
+        """Judges that a token was used for what it permits."""
+        if self.permissions is None:
+            return
+        hold(bool(self.permissions & needed), "status 33, since the token doesn't permit this", "status 00")
+        hold(self.rp is None or self.rp == rp, f"status 33, since the token is for {self.rp}", "status 00")
+
+
+def judge_u2f(request: bytes, data: bytes) -> None:
+    """Judges U2F's version, and the refusals of classes and instructions that U2F doesn't have."""
+    if len(request) < 4:
+        return
+    if request[0] != 0:
+        hold(data[-2:] == b"\x6e\x00", "6e00, since U2F's class is 00", data)
+    elif request[1] == 3 and request[2:4] == b"\0\0" and data[-2:] == b"\x90\x00":
+        hold(data == b"U2F_V2\x90\x00", "U2F_V2 and 9000", data)
+    elif request[1] not in (1, 2, 3) and request[1] < 0xC0:
+        hold(data[-2:] != b"\x90\x00", "a refusal, since U2F has no such instruction", data)

@@ -1,0 +1,107 @@
+"""Writes what was judged of a recorded log: text for people, JSON and JUnit XML for programs."""
+
+from __future__ import annotations
+
+import json
+from typing import Callable, Dict, List
+from xml.sax.saxutils import escape, quoteattr
+
+from hidlog_conformance.judged_log import KEY, MUST, SHOULD, Finding, Recording
+from hidlog_conformance.keys import THERE
+from hidlog_conformance.report import clean
+
+SIDES = {KEY: "the key", "host": "the host"}
+
+
+def packets_of(recording: Recording) -> int:
+    """Returns how many packets were judged."""
+    return sum(bool(it.packet) for it in recording.walk.entries)
+
+
+def total(recording: Recording) -> str:
+    """Returns the last line: how much was judged, and what came of it."""
+    counts = {level: sum(it.level == level for it in recording.findings) for level in (MUST, SHOULD)}
+    packets = packets_of(recording)
+    return (
+        f"{packets} packets, {len(recording.walk.transactions)} transactions: "
+        f"{counts[MUST]} broken musts, {counts[SHOULD]} broken shoulds"
+    )
+
+
+def notes_of(recording: Recording) -> List[str]:
+    """Says what wasn't judged."""
+    found = []
+    if recording.is_timeless:
+        found.append("the log has no moments: nothing that depends on time was judged")
+    if recording.cut:
+        found.append(f"of {len(recording.cut)} packets the front alone is known: what is in them wasn't judged")
+    if recording.is_of_one_client:
+        found.append("the log has the packets of one client alone: refusals for other clients' sake weren't judged")
+    if recording.unread:
+        found.append("nobody read from the key for a while: silence wasn't judged behind it")
+    if not any(it.kind == "device" for it in recording.walk.entries):
+        found.append("the log has no packet of a key: hidlog replay writes those of this project's key")
+    if not THERE:
+        found.append("signatures weren't verified: the package cryptography is missing")
+    return found
+
+
+def lines_of(it: Finding) -> List[str]:
+    """Returns the lines of a finding."""
+    return [
+        f"line {it.line}: {SIDES[it.side]} breaks a {it.level}: {it.rule}",
+        f"  due:  {clean(it.due)}",
+        f"  came: {clean(it.came)}",
+    ]
+
+
+def as_text(name: str, recording: Recording) -> str:
+    """Writes text."""
+    lines = [line for it in recording.findings for line in lines_of(it)]
+    lines += [f"note: {note}" for note in notes_of(recording)]
+    return "".join(f"{line}\n" for line in [*lines, total(recording)])
+
+
+def object_of(it: Finding) -> Dict[str, object]:
+    """Returns a finding as an object."""
+    return {
+        "line": it.line,
+        "side": it.side,
+        "level": it.level,
+        "section": it.section,
+        "also": it.also,
+        "rule": it.rule,
+        "due": it.due,
+        "came": it.came,
+    }
+
+
+def as_json(name: str, recording: Recording) -> str:
+    """Writes one object."""
+    whole = {
+        "log": name,
+        "packets": packets_of(recording),
+        "transactions": len(recording.walk.transactions),
+        "findings": [object_of(it) for it in recording.findings],
+        "notes": notes_of(recording),
+    }
+    return json.dumps(whole, indent=1) + "\n"
+
+
+def as_junit(name: str, recording: Recording) -> str:
+    """Writes JUnit XML: a case for each section that is broken, or one that passes."""
+    cases = []
+    for it in recording.findings:
+        text = escape("\n".join(lines_of(it)))
+        title = quoteattr(f"line {it.line}: {it.side}: {it.rule}")
+        kind = "failure" if it.level == MUST else "system-out"
+        opened = f"<failure message={quoteattr(clean(it.due))}>" if it.level == MUST else "<system-out>"
+        cases.append(f"  <testcase classname={quoteattr(name)} name={title}>{opened}{text}</{kind}></testcase>")
+    if not cases:
+        cases.append(f'  <testcase classname={quoteattr(name)} name="no rule is broken"/>')
+    failures = sum(it.level == MUST for it in recording.findings)
+    head = f'<testsuite name="hidlog judge" tests="{len(cases)}" failures="{failures}">'
+    return "\n".join(['<?xml version="1.0" encoding="UTF-8"?>', head, *cases, "</testsuite>", ""])
+
+
+WRITERS: Dict[str, Callable[[str, Recording], str]] = {"text": as_text, "json": as_json, "junit": as_junit}

@@ -1,0 +1,105 @@
+"""Makes keys, signs and verifies, where Debian's python3-cryptography is there."""
+
+from __future__ import annotations
+
+import hashlib
+from typing import Any, Dict, Tuple
+
+try:
+    from cryptography import x509
+    from cryptography.exceptions import InvalidSignature
+    from cryptography.hazmat.primitives import hashes
+    from cryptography.hazmat.primitives.asymmetric import ec, ed25519, padding, rsa
+
+    THERE = True
+except ImportError:
+    THERE = False
+
+ORDER = 0xFFFFFFFF00000000FFFFFFFFFFFFFFFFBCE6FAADA7179E84F3B9CAC2FC632550
+
+
+class KeyMaker:
+    """Makes keys from a count, so that a run is like the one before; holds the private ones."""
+
+    def __init__(self) -> None:
+        self.count = 0
+        self.private: Dict[bytes, Any] = {}
+
+    def make(self) -> Tuple[bytes, bytes, bytes]:
+        """Returns a new credential id and the coordinates of its public key."""
+        self.count += 1
+        credential = hashlib.sha256(b"id %d" % self.count).digest()
+        secret = hashlib.sha256(b"key %d" % self.count).digest()
+        if not THERE:
+            return credential, secret, secret
+        private = ec.derive_private_key(int.from_bytes(secret, "big") % ORDER + 1, ec.SECP256R1())
+        self.private[credential] = private
+        public = private.public_key().public_numbers()
+        return credential, public.x.to_bytes(32, "big"), public.y.to_bytes(32, "big")
+
+    def sign(self, credential: bytes, signed: bytes) -> bytes:
+        """Returns a signature by a credential's key."""
+        if credential not in self.private:
+            return hashlib.sha256(credential + signed).digest() * 2
+        signature: bytes = self.private[credential].sign(signed, ec.ECDSA(hashes.SHA256()))
+        return signature
+
+
+def is_point(cose: Any) -> bool:
+    """Says whether an ES256 key is a point on its curve; true where that can't be checked."""
+    if not THERE:
+        return True
+    x, y = int.from_bytes(cose[-2], "big"), int.from_bytes(cose[-3], "big")
+    try:
+        ec.EllipticCurvePublicNumbers(x, y, ec.SECP256R1()).public_key()
+    except ValueError:
+        return False
+    return True
+
+
+def public_of(cose: Any) -> Any:
+    """Returns the public key of a COSE key: ES256, EdDSA or RS256; None for another algorithm."""
+    if cose.get(3) == -7:
+        x, y = int.from_bytes(cose[-2], "big"), int.from_bytes(cose[-3], "big")
+        return ec.EllipticCurvePublicNumbers(x, y, ec.SECP256R1()).public_key()
+    if cose.get(3) == -8:
+        return ed25519.Ed25519PublicKey.from_public_bytes(cose[-2])
+    if cose.get(3) == -257:
+        return rsa.RSAPublicNumbers(int.from_bytes(cose[-2], "big"), int.from_bytes(cose[-1], "big")).public_key()
+    return None
+
+
+def verified(public: Any, signed: bytes, signature: bytes) -> None:
+    """Verifies a signature by the algorithm of the key; raises InvalidSignature."""
+    if isinstance(public, ec.EllipticCurvePublicKey):
+        public.verify(signature, signed, ec.ECDSA(hashes.SHA256()))
+    elif isinstance(public, rsa.RSAPublicKey):
+        public.verify(signature, signed, padding.PKCS1v15(), hashes.SHA256())
+    elif isinstance(public, ed25519.Ed25519PublicKey):
+        public.verify(signature, signed)
+
+
+def verifies(cose: Any, signed: bytes, signature: bytes) -> bool:
+    """Says whether a signature verifies under a COSE key; true where that can't be checked."""
+    if not THERE:
+        return True
+    try:
+        verified(public_of(cose), signed, signature)
+    except (KeyError, TypeError, ValueError, InvalidSignature):
+        return False
+    return True
+
+
+def verified_by(certificate: bytes, alg: int, signed: bytes, signature: bytes) -> bool:
+    """Says whether a signature verifies under a certificate's key, which has to be one of the algorithm."""
+    if not THERE:
+        return True
+    kinds: Dict[int, Any] = {-7: ec.EllipticCurvePublicKey, -8: ed25519.Ed25519PublicKey, -257: rsa.RSAPublicKey}
+    try:
+        public = x509.load_der_x509_certificate(certificate).public_key()
+        if alg in kinds and not isinstance(public, kinds[alg]):
+            return False
+        verified(public, signed, signature)
+    except (TypeError, ValueError, InvalidSignature):
+        return False
+    return True

@@ -1,0 +1,143 @@
+"""Plays the platform's side of PINs, tokens and secrets (CTAP 2.1, 6.5 and 12.5): puts into requests what only keys make.
+
+A session's request has byte strings in these places: `=agreement`, the platform's key; `=encrypt:BYTES`; `=hash:PIN`, the
+PIN's hash, encrypted; `=auth:5+6`, the authentication of members; `=token:1`, that of a member by the token; `=manage`,
+that of a subcommand with its parameters.
+"""
+
+from __future__ import annotations
+
+import hashlib
+import hmac
+import os
+from typing import Any, Dict
+
+from hidlog_conformance import ctap_cbor
+from hidlog_conformance.answers import Differs, hold, member
+
+try:
+    from cryptography.hazmat.primitives.asymmetric import ec
+    from cryptography.hazmat.primitives.ciphers import Cipher, algorithms, modes
+except ImportError:
+    pass
+
+
+def extracted(secret: bytes, info: bytes) -> bytes:
+    """Returns 32 bytes of HKDF-SHA-256 with a salt of zeros (RFC 5869)."""
+    first = hmac.new(bytes(32), secret, hashlib.sha256).digest()
+    return hmac.new(first, info + b"\1", hashlib.sha256).digest()
+
+
+class Platform:
+    """Holds a platform's key, the secret that it shares with a device, and its token."""
+
+    def __init__(self) -> None:
+        self.private: Any = None
+        self.protocol = 0
+        self.for_auth = b""
+        self.for_encryption = b""
+        self.token = b""
+        self.secrets: Dict[str, bytes] = {}
+
+    def agree(self, item: Dict[Any, Any], asked: Dict[Any, Any]) -> None:
+        """Takes the device's key for key agreement."""
+        key = member(item, 1, dict, "the key for key agreement")
+        hold(key.get(1) == 2 and key.get(3) == -25 and key.get(-1) == 1, "a key of kty 2, alg -25, crv 1", key)
+        hold(set(key) == {1, 3, -1, -2, -3}, "the members 1, 3, -1, -2, -3 alone", key)
+        self.protocol = asked[1]
+        self.private = ec.generate_private_key(ec.SECP256R1())
+        try:
+            x, y = int.from_bytes(key[-2], "big"), int.from_bytes(key[-3], "big")
+            public = ec.EllipticCurvePublicNumbers(x, y, ec.SECP256R1()).public_key()
+        except (TypeError, ValueError):
+            raise Differs("a point on P-256", ctap_cbor.shown(key)) from None
+        z = self.private.exchange(ec.ECDH(), public)
+        if self.protocol == 1:
+            self.for_auth = self.for_encryption = hashlib.sha256(z).digest()
+        else:
+            self.for_auth, self.for_encryption = extracted(z, b"CTAP2 HMAC key"), extracted(z, b"CTAP2 AES key")
+
+    def own_key(self) -> Dict[int, Any]:
+        """Returns the platform's public key."""
+        numbers = self.private.public_key().public_numbers()
+        return {1: 2, 3: -25, -1: 1, -2: numbers.x.to_bytes(32, "big"), -3: numbers.y.to_bytes(32, "big")}
+
+    def encrypt(self, data: bytes) -> bytes:
+        """Encrypts for the device."""
+        vector = bytes(16) if self.protocol == 1 else os.urandom(16)
+        done: bytes = Cipher(algorithms.AES(self.for_encryption), modes.CBC(vector)).encryptor().update(data)
+        return done if self.protocol == 1 else vector + done
+
+    def decrypt(self, data: bytes) -> bytes:
+        """Decrypts what the device encrypted."""
+        vector, rest = (bytes(16), data) if self.protocol == 1 else (data[:16], data[16:])
+        hold(bool(rest) and len(rest) % 16 == 0, "whole blocks of AES", data)
+        done: bytes = Cipher(algorithms.AES(self.for_encryption), modes.CBC(vector)).decryptor().update(rest)
+        return done
+
+    def authenticate(self, key: bytes, data: bytes) -> bytes:
+        """Returns the authentication of bytes."""
+        whole = hmac.new(key, data, hashlib.sha256).digest()
+        return whole[:16] if self.protocol == 1 else whole
+
+    def take_token(self, item: Dict[Any, Any]) -> None:
+        """Takes a token."""
+        self.token = self.decrypt(member(item, 2, bytes, "the token"))
+        lengths = (16, 32) if self.protocol == 1 else (32,)
+        hold(
+            len(self.token) in lengths, f"a token of {' or '.join(map(str, lengths))} bytes", f"{len(self.token)} bytes"
+        )
+
+    def take_secret(self, name: str, encrypted: Any) -> None:
+        """Compares a secret with that of the same name, and with others."""
+        hold(isinstance(encrypted, bytes), "an encrypted secret", encrypted)
+        found = self.decrypt(encrypted)
+        hold(len(found) in (32, 64), "one secret or two of 32 bytes", f"{len(found)} bytes")
+        hold(self.secrets.setdefault(name, found) == found, f"the secret {name} again", found)
+        others = [other for other, secret in self.secrets.items() if other != name and secret[:32] == found[:32]]
+        hold(not others, f"another secret than {' '.join(others)}", found)
+
+    def fill(self, request: bytes) -> bytes:
+        """Puts what the platform makes into a request; one without places is as it was."""
+        if b"=" not in request:
+            return request
+        try:
+            item = ctap_cbor.decode(request[1:])
+        except ctap_cbor.CborFault:
+            return request
+        filled = self.filled(item)
+        return request if filled == item else request[:1] + ctap_cbor.encode(filled)
+
+    def filled(self, item: Any) -> Any:
+        """Returns an item with its places filled: what is encrypted first, since others authenticate it."""
+        if isinstance(item, list):
+            return [self.filled(part) for part in item]
+        if not isinstance(item, dict):
+            return self.made(item)
+        found = {key: self.filled(value) for key, value in item.items()}
+        for key, value in found.items():
+            if isinstance(value, bytes):
+                found[key] = self.authentic(value, found)
+        return found
+
+    def made(self, value: Any) -> Any:
+        """Returns what is in the place of a byte string."""
+        if value == b"=agreement":
+            return self.own_key()
+        if isinstance(value, bytes) and value.startswith(b"=encrypt:"):
+            return self.encrypt(value[9:])
+        if isinstance(value, bytes) and value.startswith(b"=hash:"):
+            return self.encrypt(hashlib.sha256(value[6:]).digest()[:16])
+        return value
+
+    def authentic(self, value: bytes, item: Dict[Any, Any]) -> bytes:
+        """Returns the authentication that a placeholder asks for, and any other byte string as it is."""
+        if value.startswith(b"=auth:"):
+            parts = [item[int(part)] for part in value[6:].split(b"+")]
+            return self.authenticate(self.for_auth, b"".join(parts))
+        if value.startswith(b"=token:"):
+            return self.authenticate(self.token, item[int(value[7:])])
+        if value == b"=manage":
+            parameters = ctap_cbor.encode(item[2]) if 2 in item else b""
+            return self.authenticate(self.token, bytes([item[1]]) + parameters)
+        return value

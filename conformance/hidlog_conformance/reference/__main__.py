@@ -1,0 +1,52 @@
+"""Serves the reference authenticator as a command of packets: python3 -m hidlog_conformance.reference [--pin PIN].
+
+It reads a packet a line, 128 hexadecimal digits, and writes such lines. The line `touch` is the user's touch.
+"""
+
+from __future__ import annotations
+
+import argparse
+import os
+import select
+import sys
+import time
+from typing import List
+
+from hidlog_conformance.reference.authenticator import Authenticator
+from hidlog_conformance.reference.traits import Traits
+
+
+def take(authenticator: Authenticator, at: int, line: bytes) -> None:
+    """Takes a line."""
+    if line == b"touch":
+        authenticator.u2f.touched = at
+        authenticator.transport.touch(at)
+    else:
+        authenticator.transport.packet(at, bytes.fromhex(line.decode()))
+
+
+def main(words: List[str]) -> int:
+    """Serves until the input ends."""
+    parser = argparse.ArgumentParser(
+        prog="hidlog_conformance.reference", description="Serves a reference authenticator."
+    )
+    parser.add_argument("--pin", default="", help="a PIN that is set from the start")
+    authenticator = Authenticator(Traits(pin=parser.parse_args(words).pin))
+    start, rest = time.monotonic(), b""
+    while True:
+        ready, _, _ = select.select([sys.stdin], [], [], 0.02)
+        at = int((time.monotonic() - start) * 1000)
+        piece = os.read(sys.stdin.fileno(), 4096) if ready else b""
+        if ready and not piece:
+            return 0
+        *lines, rest = (rest + piece).split(b"\n")
+        for line in lines:
+            take(authenticator, at, line)
+        authenticator.transport.tick(at)
+        for packet in authenticator.transport.out:
+            print(packet.hex(), flush=True)
+        authenticator.transport.out.clear()
+
+
+if __name__ == "__main__":
+    sys.exit(main(sys.argv[1:]))

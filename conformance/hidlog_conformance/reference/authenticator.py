@@ -1,0 +1,440 @@
+"""The reference authenticator: registrations, sign-ins, reset and selection (CTAP 2.1, 6).
+
+Each step of the standard is a method, so that a fault or a trait changes one alone.
+"""
+
+from __future__ import annotations
+
+import hashlib
+import os
+from typing import Any, Dict, List, Optional
+
+from hidlog_conformance.ctap_cbor import encode
+from hidlog_conformance.reference import requests
+from hidlog_conformance.reference.credential import Attestor, Credential, new_key
+from hidlog_conformance.reference.extensions import Extensions
+from hidlog_conformance.reference.management import Management
+from hidlog_conformance.reference.pin import AUTH_INVALID, GET, MAKE, NOT_SET, Pin, Refused
+from hidlog_conformance.reference.requests import Requests
+from hidlog_conformance.reference.traits import Traits
+from hidlog_conformance.reference.transport import Transport, Work
+from hidlog_conformance.reference.u2f import U2f
+
+INVALID_COMMAND, INVALID_PARAMETER, LIMIT, EXCLUDED = 0x01, 0x02, 0x15, 0x19
+ALGORITHM, DENIED, FULL, UNSUPPORTED, INVALID_OPTION = 0x26, 0x27, 0x28, 0x2B, 0x2C
+NO_CREDENTIALS, TIMEOUT, NOT_ALLOWED, PIN_REQUIRED = 0x2E, 0x2F, 0x30, 0x36
+UP, UV, AT, ED = 0x01, 0x04, 0x40, 0x80
+RESET_TIME = 10000
+
+
+class Asked:
+    """Holds a request that is served: whether the user was there, and was verified."""
+
+    def __init__(self, at: int, channel: int, item: Dict[Any, Any], options: Dict[str, Any]) -> None:
+        self.at = at
+        self.channel = channel
+        self.item = item
+        self.options = options
+        self.present = False
+        self.verified = False
+
+
+class Pending:
+    """Holds what authenticatorGetNextAssertion goes on with."""
+
+    def __init__(self, asked: Asked, left: List[Credential], at: int) -> None:
+        self.asked = asked
+        self.left = left
+        self.at = at
+
+
+class Authenticator:
+    """Serves requests."""
+
+    def __init__(self, traits: Traits) -> None:
+        self.traits = traits
+        self.transport = Transport(traits, self.serve)
+        self.requests = Requests(traits)
+        self.pin = Pin(traits.protocols, traits.pin)
+        self.extensions = Extensions(self)
+        self.management = Management(self)
+        self.u2f = U2f(self)
+        self.transport.serve_message = self.u2f.serve
+        self.attestor = Attestor()
+        self.credentials: List[Credential] = []
+        self.pending: Optional[Pending] = None
+        self.counter = traits.first_counter
+
+    def power_cycle(self) -> None:
+        """Forgets what isn't kept without power."""
+        self.transport = Transport(self.traits, self.serve)
+        self.transport.serve_message = self.u2f.serve
+        self.pending = None
+        self.pin.in_a_row = 0
+        self.pin.token, self.pin.permissions = os.urandom(32), 0
+
+    def serve(self, at: int, channel: int, data: bytes) -> Work:
+        """Serves a request."""
+        try:
+            if data[0] != 8 and (data[0] == 2 or not self.traits.pending_outlasts_commands):
+                self.pending = None
+            answer = yield from self.command(at, channel, data[0], data[1:])
+        except Refused as refused:
+            return self.refusal(data[0], refused.status)
+        return b"\0" + (encode(answer) if answer else b"")
+
+    def refusal(self, command: int, status: int) -> bytes:
+        """Returns the answer of a refusal."""
+        return bytes([status])
+
+    def command(self, at: int, channel: int, command: int, data: bytes) -> Any:
+        """Serves one command; returns its answer's map."""
+        if command in (4, 7, 8, 11) and data and command != 11:
+            raise Refused(self.traits.wrong_length)
+        if command == 1:
+            return (yield from self.make(self.asked(at, channel, self.requests.read(data, requests.MAKE), 7)))
+        if command == 2:
+            return (yield from self.get(self.asked(at, channel, self.requests.read(data, requests.GET), 5)))
+        if command == 4:
+            return self.info()
+        if command == 6 and self.traits.has_pin:
+            return self.pin.serve(self.requests.read(data, requests.PIN))
+        if command == 7:
+            return (yield from self.reset(at))
+        if command == 8:
+            return self.next(at, channel)
+        if command == 10 and self.traits.management and self.traits.has_pin:
+            return self.management.serve(self.requests.read(data, requests.MANAGE))
+        if command == 11 and self.traits.selection:
+            yield from self.consent(TIMEOUT)
+            return {}
+        raise Refused(INVALID_COMMAND)
+
+    def asked(self, at: int, channel: int, item: Dict[Any, Any], place: int) -> Asked:
+        """Returns a request with its options."""
+        return Asked(at, channel, item, item.get(place, {}))
+
+    def consent(self, late: int = DENIED) -> Work:
+        """Asks the user; without consent it ends."""
+        reply = yield
+        if reply != "granted":
+            raise Refused(late if reply == "timeout" else DENIED)
+        return b""
+
+    # What the device says of itself.
+
+    @property
+    def protected(self) -> bool:
+        """Says whether some way to verify the user is set up."""
+        return bool(self.pin.hash) or self.traits.built_in_uv
+
+    def options(self) -> Dict[str, bool]:
+        """Returns getInfo's options."""
+        traits = self.traits
+        found = {"rk": traits.rk, "up": True, "plat": False, **traits.more_options}
+        if traits.has_pin:
+            found.update({"clientPin": bool(self.pin.hash), "pinUvAuthToken": True})
+            if traits.management:
+                found["credMgmt"] = True
+        if traits.built_in_uv:
+            found["uv"] = True
+        if traits.always_uv:
+            found["alwaysUv"] = True
+        if traits.make_without_uv:
+            found["makeCredUvNotRqd"] = True
+        return found
+
+    def info(self) -> Dict[int, Any]:
+        """Serves authenticatorGetInfo."""
+        traits = self.traits
+        answer: Dict[int, Any] = {1: list(traits.versions), 3: traits.aaguid, 4: self.options()}
+        if traits.extensions:
+            answer[2] = list(traits.extensions)
+        if traits.longest_message != 1024:
+            answer[5] = traits.longest_message
+        if traits.has_pin:
+            answer[6] = list(traits.protocols)
+        if traits.longest_list is not None:
+            answer[7] = traits.longest_list
+        if traits.longest_id is not None:
+            answer[8] = traits.longest_id
+        answer[9] = ["usb"]
+        if traits.says_algorithms:
+            answer[10] = [{"alg": alg, "type": "public-key"} for alg in traits.algorithms]
+        if "credBlob" in traits.extensions:
+            answer[15] = 32
+        answer.update(traits.more_info)
+        return answer
+
+    # Registrations (6.1.2).
+
+    def make(self, asked: Asked) -> Any:
+        """Serves authenticatorMakeCredential."""
+        item = asked.item
+        if len(item[1]) != 32 or len(item[3]["id"]) > 64:
+            raise Refused(self.traits.wrong_length)
+        yield from self.pin_asks_for_touch(asked, 8)
+        self.token_known(asked, 8, 9)
+        algorithm = self.algorithm(item[4])
+        self.make_options(asked)
+        self.make_wants_user(asked)
+        if 10 in item:
+            raise Refused(INVALID_PARAMETER)
+        self.verify(asked, 8, 9, MAKE, item[2]["id"])
+        yield from self.exclude(asked)
+        yield from self.consent()
+        asked.present = True
+        return self.made(asked, algorithm)
+
+    def pin_asks_for_touch(self, asked: Asked, key: int) -> Work:
+        """Answers a pinUvAuthParam of no bytes: whether a PIN is set, after a touch."""
+        if asked.item.get(key) == b"" and self.traits.has_pin:
+            yield from self.consent()
+            raise Refused(0x31 if self.pin.hash else NOT_SET)
+        return b""
+
+    def token_known(self, asked: Asked, key: int, protocol: int) -> None:
+        """Refuses a pinUvAuthParam of a protocol that isn't served."""
+        if key in asked.item:
+            if not self.traits.has_pin:
+                raise Refused(INVALID_PARAMETER)
+            self.pin.protocol(asked.item, protocol)
+
+    def algorithm(self, listed: List[Dict[str, Any]]) -> int:
+        """Returns the first algorithm of the list that is served."""
+        for entry in listed:
+            if entry["type"] == "public-key" and entry["alg"] in self.traits.algorithms:
+                return int(entry["alg"])
+        raise Refused(ALGORITHM)
+
+    def make_options(self, asked: Asked) -> None:
+        """Refuses options that aren't served, or can't be."""
+        if asked.options.get("uv") and not self.traits.built_in_uv:
+            raise Refused(INVALID_OPTION)
+        if asked.options.get("rk") and not self.traits.rk:
+            raise Refused(UNSUPPORTED)
+        if asked.options.get("up") is False:
+            raise Refused(INVALID_OPTION)
+
+    def make_wants_user(self, asked: Asked) -> None:
+        """Refuses a registration without a verified user where one is wanted."""
+        without = 8 not in asked.item and not asked.options.get("uv")
+        if without and self.traits.always_uv:
+            raise Refused(PIN_REQUIRED)
+        needed = bool(asked.options.get("rk")) or not self.traits.make_without_uv
+        if without and self.protected and needed:
+            raise Refused(PIN_REQUIRED)
+
+    def verify(self, asked: Asked, key: int, protocol: int, permission: int, rp: str) -> None:
+        """Verifies the user by a token, or by the device itself."""
+        if key in asked.item and self.traits.has_pin:
+            if not self.pin.hash:
+                raise Refused(AUTH_INVALID)
+            found = self.pin.protocol(asked.item, protocol)
+            given = asked.item[1] if permission == MAKE else asked.item[2]
+            self.pin.check(found, given, asked.item[key], permission, rp)
+            asked.verified = True
+        elif asked.options.get("uv"):
+            asked.verified = True
+
+    def exclude(self, asked: Asked) -> Work:
+        """Ends a registration for which there is a credential already, after a touch."""
+        if self.excluded(asked):
+            yield
+            raise Refused(EXCLUDED)
+        return b""
+
+    def excluded(self, asked: Asked) -> bool:
+        """Says whether the exclude list names a credential of the RP that may be known."""
+        named = [entry["id"] for entry in asked.item.get(5, []) if entry["type"] == "public-key"]
+        found = [one for one in self.credentials if one.rp == asked.item[2]["id"] and one.id in named]
+        return any(one.protection < 3 or asked.verified for one in found)
+
+    def new_id(self, rp: str, user: Dict[str, Any]) -> bytes:
+        """Returns a new credential's id."""
+        return os.urandom(self.traits.id_length)
+
+    def new_private(self, algorithm: int) -> Any:
+        """Returns a new private key."""
+        return new_key(algorithm)
+
+    def made(self, asked: Asked, algorithm: int) -> Dict[int, Any]:
+        """Makes a credential, stores it and attests it."""
+        item = asked.item
+        rp, user, discoverable = item[2]["id"], dict(item[3]), bool(asked.options.get("rk"))
+        new = Credential(self.new_id(rp, user), rp, user, discoverable, algorithm, self.new_private(algorithm))
+        outputs = self.extensions.of_make(asked, new)
+        self.store(new)
+        auth = self.data(asked, new, self.start_counter(new), self.attested(new), outputs)
+        return self.attestation(new, auth, item[1])
+
+    def store(self, new: Credential) -> None:
+        """Stores a credential; a discoverable one takes the place of that of its RP and user."""
+        kept = [one for one in self.credentials if not self.replaces(new, one)]
+        if len(kept) >= self.traits.capacity:
+            raise Refused(FULL)
+        self.credentials = kept + [new]
+
+    def replaces(self, new: Credential, old: Credential) -> bool:
+        """Says whether a new credential takes the place of an old one."""
+        return new.discoverable and old.discoverable and new.rp == old.rp and new.user["id"] == old.user["id"]
+
+    def attested(self, new: Credential) -> bytes:
+        """Returns the attested credential data."""
+        return self.traits.aaguid + len(new.id).to_bytes(2, "big") + new.id + encode(new.cose())
+
+    def flags(self, asked: Asked) -> int:
+        """Returns the flags of an answer."""
+        return self.traits.flags | (UP if asked.present else 0) | (UV if asked.verified else 0)
+
+    def data(self, asked: Asked, one: Credential, counter: int, attested: bytes, outputs: Dict[str, Any]) -> bytes:
+        """Returns authenticator data."""
+        flags = self.flags(asked) | (AT if attested else 0) | (ED if outputs else 0)
+        start = hashlib.sha256(one.rp.encode()).digest() + bytes([flags]) + counter.to_bytes(4, "big")
+        return start + attested + (encode(outputs) if outputs else b"")
+
+    def attestation(self, new: Credential, auth: bytes, client_hash: bytes) -> Dict[int, Any]:
+        """Returns the answer with the attestation of its format."""
+        kind, statement = "packed", {}
+        if self.traits.format == "none":
+            kind = "none"
+        elif self.traits.format == "x5c":
+            signature = self.attestor.sign(auth + client_hash)
+            statement = {"alg": -7, "sig": signature, "x5c": [self.attestor.certificate]}
+        else:
+            statement = {"alg": new.algorithm, "sig": new.sign(auth + client_hash)}
+        return {1: kind, 2: auth, 3: statement}
+
+    # Sign-ins (6.2.2, 6.3).
+
+    def start_counter(self, new: Credential) -> int:
+        """Returns the counter of a new credential."""
+        new.counter = self.traits.first_counter
+        return self.raised(new) if self.traits.counter in ("all", "steps") else new.counter
+
+    def raised(self, one: Credential) -> int:
+        """Raises the counter of a credential, or that of all, and returns it."""
+        if self.traits.counter == "none":
+            return 0
+        if self.traits.counter in ("all", "steps"):
+            self.counter += 1 if self.traits.counter == "all" else 1 + os.urandom(1)[0]
+            return self.counter
+        one.counter += 1
+        return one.counter
+
+    def get(self, asked: Asked) -> Any:
+        """Serves authenticatorGetAssertion."""
+        item = asked.item
+        if len(item[2]) != 32:
+            raise Refused(self.traits.wrong_length)
+        yield from self.pin_asks_for_touch(asked, 6)
+        self.token_known(asked, 6, 7)
+        self.get_options(asked)
+        self.get_wants_user(asked)
+        self.verify(asked, 6, 7, GET, item[1])
+        found = self.applicable(asked)
+        if not found:
+            if self.traits.touch_before_none and asked.options.get("up", True):
+                yield from self.consent()
+            raise Refused(NO_CREDENTIALS)
+        if asked.options.get("up", True):
+            yield from self.consent()
+            asked.present = True
+        return self.first(asked, found)
+
+    def get_options(self, asked: Asked) -> None:
+        """Refuses options that aren't served, or can't be."""
+        if asked.options.get("uv") and not self.traits.built_in_uv:
+            raise Refused(INVALID_OPTION)
+        if "rk" in asked.options:
+            raise Refused(UNSUPPORTED)
+
+    def get_wants_user(self, asked: Asked) -> None:
+        """Refuses a sign-in without a verified user where each has to have one."""
+        without = 6 not in asked.item and not asked.options.get("uv")
+        if self.traits.always_uv and without and asked.options.get("up", True):
+            raise Refused(PIN_REQUIRED)
+
+    def named(self, listed: List[Dict[str, Any]], one: Credential) -> bool:
+        """Says whether a list names a credential."""
+        return any(entry["type"] == "public-key" and entry["id"] == one.id for entry in listed)
+
+    def of_rp(self, rp: str) -> List[Credential]:
+        """Returns the credentials of an RP, the newest first."""
+        found = [one for one in self.credentials if one.rp == rp]
+        return found if self.traits.oldest_first else found[::-1]
+
+    def applicable(self, asked: Asked) -> List[Credential]:
+        """Returns the credentials that may sign: those of the list, or those that are discoverable."""
+        listed = asked.item.get(3)
+        found = self.of_rp(asked.item[1])
+        if listed:
+            found = [one for one in found if self.named(listed, one)]
+        else:
+            found = [one for one in found if one.discoverable]
+        return [one for one in found if self.shown(asked, one, bool(listed))]
+
+    def shown(self, asked: Asked, one: Credential, listed: bool) -> bool:
+        """Says whether credential protection lets a credential be found."""
+        return asked.verified or one.protection < (3 if listed else 2)
+
+    def first(self, asked: Asked, found: List[Credential]) -> Dict[int, Any]:
+        """Signs by the first of some credentials; the others wait where there was no list."""
+        listed = bool(asked.item.get(3))
+        if listed and not self.traits.number_with_list:
+            found = found[-1:] if self.traits.last_of_list else found[:1]
+        chosen = not listed and self.traits.display and len(found) > 1
+        if chosen:
+            found = found[:1]
+        answer = self.assertion(asked, found[0], listed)
+        if chosen:
+            answer[6] = True
+        if len(found) > 1:
+            answer[5] = len(found)
+            self.pending = Pending(asked, found[1:], self.transport.at)
+        return answer
+
+    def user(self, asked: Asked, one: Credential) -> Dict[str, Any]:
+        """Returns the user as an assertion shows it: names to a verified user alone."""
+        return dict(one.user) if asked.verified else {"id": one.user["id"]}
+
+    def assertion(self, asked: Asked, one: Credential, listed: bool) -> Dict[int, Any]:
+        """Returns an assertion."""
+        outputs = self.extensions.of_get(asked, one)
+        auth = self.data(asked, one, self.raised(one), b"", outputs)
+        answer: Dict[int, Any] = {1: {"id": one.id, "type": "public-key"}, 2: auth}
+        answer[3] = self.sign(one, auth + asked.item[2])
+        if one.discoverable or self.traits.user_with_any:
+            answer[4] = self.user(asked, one)
+        return answer
+
+    def sign(self, one: Credential, data: bytes) -> bytes:
+        """Signs by a credential."""
+        return one.sign(data)
+
+    def next(self, at: int, channel: int) -> Dict[int, Any]:
+        """Serves authenticatorGetNextAssertion."""
+        pending = self.pending
+        if pending is None or not pending.left or self.transport.at - pending.at > self.traits.pending_time:
+            self.pending = None
+            raise Refused(NOT_ALLOWED)
+        if channel != pending.asked.channel and not self.traits.one_state:
+            raise Refused(NOT_ALLOWED)
+        pending.at = self.transport.at
+        return self.assertion(pending.asked, pending.left.pop(0), False)
+
+    # Reset (6.6).
+
+    def reset(self, at: int) -> Any:
+        """Serves authenticatorReset."""
+        if at > RESET_TIME and not self.traits.display:
+            raise Refused(NOT_ALLOWED)
+        yield from self.consent(TIMEOUT)
+        self.forget()
+        return {}
+
+    def forget(self) -> None:
+        """Forgets credentials and the PIN."""
+        self.credentials = []
+        self.pending = None
+        self.pin = Pin(self.traits.protocols, "")

@@ -1,0 +1,121 @@
+"""Credential management of the reference authenticator (CTAP 2.1, 6.8)."""
+
+from __future__ import annotations
+
+import hashlib
+from typing import TYPE_CHECKING, Any, Dict, List
+
+from hidlog_conformance.ctap_cbor import encode
+from hidlog_conformance.reference.credential import Credential
+from hidlog_conformance.reference.pin import (
+    AUTH_INVALID,
+    INVALID_PARAMETER,
+    INVALID_SUBCOMMAND,
+    MANAGE,
+    MISSING,
+    NOT_ALLOWED,
+    Refused,
+)
+
+if TYPE_CHECKING:
+    from hidlog_conformance.reference.authenticator import Authenticator
+
+NO_CREDENTIALS, PIN_REQUIRED = 0x2E, 0x36
+METADATA, RPS, NEXT_RP, OF_RP, NEXT_OF_RP, DELETE, UPDATE = 1, 2, 3, 4, 5, 6, 7
+
+
+class Management:
+    """Serves authenticatorCredentialManagement."""
+
+    def __init__(self, authenticator: Authenticator) -> None:
+        self.authenticator = authenticator
+        self.rps: List[str] = []
+        self.left: List[Credential] = []
+
+    def stored(self) -> List[Credential]:
+        """Returns the discoverable credentials."""
+        return [one for one in self.authenticator.credentials if one.discoverable]
+
+    def serve(self, asked: Dict[int, Any]) -> Dict[int, Any]:
+        """Serves a subcommand."""
+        if 1 not in asked:
+            raise Refused(MISSING)
+        if asked[1] == NEXT_RP:
+            return self.next_rp()
+        if asked[1] == NEXT_OF_RP:
+            return self.next_of_rp()
+        served = {METADATA: self.metadata, RPS: self.first_rp, OF_RP: self.first_of_rp, DELETE: self.delete}
+        served[UPDATE] = self.update
+        if asked[1] not in served:
+            raise Refused(INVALID_SUBCOMMAND)
+        self.authorize(asked)
+        return served[asked[1]](asked.get(2, {}))
+
+    def authorize(self, asked: Dict[int, Any]) -> None:
+        """Refuses a request without a token that may manage."""
+        if 4 not in asked:
+            raise Refused(PIN_REQUIRED)
+        pin = self.authenticator.pin
+        protocol = pin.protocol(asked, 3)
+        data = bytes([asked[1]]) + (encode(asked[2]) if 2 in asked else b"")
+        if not pin.hash or not pin.verified(protocol, data, asked[4]):
+            raise Refused(AUTH_INVALID)
+        if not pin.permissions & MANAGE:
+            raise Refused(AUTH_INVALID)
+
+    def metadata(self, asked: Dict[int, Any]) -> Dict[int, Any]:
+        """Answers how many credentials are stored, and how many more fit."""
+        return {1: len(self.stored()), 2: self.authenticator.traits.capacity - len(self.authenticator.credentials)}
+
+    def first_rp(self, asked: Dict[int, Any]) -> Dict[int, Any]:
+        """Answers the first RP and how many there are."""
+        self.rps = list(dict.fromkeys(one.rp for one in self.stored()))
+        if not self.rps:
+            raise Refused(NO_CREDENTIALS)
+        return {**self.next_rp(), 5: len(self.rps) + 1}
+
+    def next_rp(self) -> Dict[int, Any]:
+        """Answers the next RP."""
+        if not self.rps:
+            raise Refused(NOT_ALLOWED)
+        rp = self.rps.pop(0)
+        return {3: {"id": rp}, 4: hashlib.sha256(rp.encode()).digest()}
+
+    def first_of_rp(self, asked: Dict[int, Any]) -> Dict[int, Any]:
+        """Answers the first credential of an RP and how many there are."""
+        if 1 not in asked:
+            raise Refused(MISSING)
+        self.left = [one for one in self.stored() if hashlib.sha256(one.rp.encode()).digest() == asked[1]]
+        if not self.left:
+            raise Refused(NO_CREDENTIALS)
+        return {**self.next_of_rp(), 9: len(self.left) + 1}
+
+    def next_of_rp(self) -> Dict[int, Any]:
+        """Answers the next credential."""
+        if not self.left:
+            raise Refused(NOT_ALLOWED)
+        one = self.left.pop(0)
+        descriptor = {"id": one.id, "type": "public-key"}
+        return {6: one.user, 7: descriptor, 8: one.cose(), 10: one.protection}
+
+    def named(self, asked: Dict[int, Any]) -> Credential:
+        """Returns the credential that a request names."""
+        if not isinstance(asked.get(2), dict) or "id" not in asked[2]:
+            raise Refused(MISSING)
+        for one in self.stored():
+            if one.id == asked[2]["id"]:
+                return one
+        raise Refused(NO_CREDENTIALS)
+
+    def delete(self, asked: Dict[int, Any]) -> Dict[int, Any]:
+        """Removes a credential."""
+        self.authenticator.credentials.remove(self.named(asked))
+        return {}
+
+    def update(self, asked: Dict[int, Any]) -> Dict[int, Any]:
+        """Changes the names of a credential's user."""
+        one = self.named(asked)
+        if not isinstance(asked.get(3), dict) or asked[3].get("id") != one.user["id"]:
+            raise Refused(INVALID_PARAMETER)
+        one.user = dict(asked[3])
+        return {}

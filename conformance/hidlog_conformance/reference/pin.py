@@ -1,0 +1,236 @@
+"""The PIN of the reference authenticator: both protocols, retries and tokens (CTAP 2.1, 6.5)."""
+
+from __future__ import annotations
+
+import hashlib
+import hmac
+import os
+from typing import Any, Dict, Tuple
+
+from cryptography.hazmat.primitives import hashes
+from cryptography.hazmat.primitives.asymmetric import ec
+from cryptography.hazmat.primitives.ciphers import Cipher, algorithms, modes
+from cryptography.hazmat.primitives.kdf.hkdf import HKDF
+
+INVALID_PARAMETER, MISSING, PIN_INVALID, PIN_BLOCKED, AUTH_INVALID = 0x02, 0x14, 0x31, 0x32, 0x33
+AUTH_BLOCKED, NOT_SET, POLICY, UNAUTHORIZED = 0x34, 0x35, 0x37, 0x40
+NOT_ALLOWED, INVALID_SUBCOMMAND = 0x30, 0x3E
+MAKE, GET, MANAGE = 0x01, 0x02, 0x04
+RETRIES, IN_A_ROW = 8, 3
+
+
+class Refused(Exception):
+    """Ends a request with a status."""
+
+    def __init__(self, status: int) -> None:
+        super().__init__(status)
+        self.status = status
+
+
+def cipher(key: bytes, vector: bytes) -> Any:
+    """Returns AES-256-CBC."""
+    return Cipher(algorithms.AES(key), modes.CBC(vector))
+
+
+def cose_of(private: Any) -> Dict[int, Any]:
+    """Returns a key's public half for key agreement."""
+    public = private.public_key().public_numbers()
+    return {1: 2, 3: -25, -1: 1, -2: public.x.to_bytes(32, "big"), -3: public.y.to_bytes(32, "big")}
+
+
+class Protocol:
+    """Holds one PIN/UV auth protocol: key agreement, encryption, authentication."""
+
+    def __init__(self, number: int) -> None:
+        self.number = number
+        self.private = ec.generate_private_key(ec.SECP256R1())
+
+    def renew(self) -> None:
+        """Makes a new key for key agreement."""
+        self.private = ec.generate_private_key(ec.SECP256R1())
+
+    def shared(self, peer: Any) -> bytes:
+        """Returns the secret that is shared with a peer: one key, or those of HMAC and AES one after the other."""
+        try:
+            x, y = int.from_bytes(peer[-2], "big"), int.from_bytes(peer[-3], "big")
+            public = ec.EllipticCurvePublicNumbers(x, y, ec.SECP256R1()).public_key()
+        except (KeyError, TypeError, ValueError):
+            raise Refused(INVALID_PARAMETER) from None
+        z = self.private.exchange(ec.ECDH(), public)
+        if self.number == 1:
+            return hashlib.sha256(z).digest()
+        parts = (HKDF(hashes.SHA256(), 32, bytes(32), info) for info in (b"CTAP2 HMAC key", b"CTAP2 AES key"))
+        return b"".join(part.derive(z) for part in parts)
+
+    def encrypt(self, key: bytes, data: bytes) -> bytes:
+        """Encrypts whole blocks."""
+        vector = bytes(16) if self.number == 1 else os.urandom(16)
+        done = cipher(key[-32:], vector).encryptor().update(data)
+        return bytes(done) if self.number == 1 else vector + bytes(done)
+
+    def decrypt(self, key: bytes, data: bytes) -> bytes:
+        """Decrypts whole blocks."""
+        vector, rest = (bytes(16), data) if self.number == 1 else (data[:16], data[16:])
+        if len(rest) % 16 or len(vector) != 16:
+            raise Refused(INVALID_PARAMETER)
+        return bytes(cipher(key[-32:], vector).decryptor().update(rest))
+
+    def authenticate(self, key: bytes, data: bytes) -> bytes:
+        """Returns the authentication of a message."""
+        whole = hmac.new(key[:32], data, hashlib.sha256).digest()
+        return whole[:16] if self.number == 1 else whole
+
+    def verify(self, key: bytes, data: bytes, given: bytes) -> bool:
+        """Says whether a message is authentic."""
+        return hmac.compare_digest(self.authenticate(key, data), given)
+
+
+class Pin:
+    """Holds the PIN and the tokens that it was exchanged for."""
+
+    def __init__(self, numbers: Tuple[int, ...], pin: str) -> None:
+        self.protocols = {number: Protocol(number) for number in numbers}
+        self.hash = hashlib.sha256(pin.encode()).digest()[:16] if pin else b""
+        self.retries = RETRIES
+        self.in_a_row = 0
+        self.token = os.urandom(32)
+        self.permissions = 0
+        self.rp = ""
+
+    def protocol(self, asked: Dict[int, Any], key: int) -> Protocol:
+        """Returns the protocol that a request names."""
+        if key not in asked:
+            raise Refused(MISSING)
+        found = self.protocols.get(asked[key]) if isinstance(asked[key], int) else None
+        if found is None:
+            raise Refused(INVALID_PARAMETER)
+        return found
+
+    def needed(self, asked: Dict[int, Any], *keys: int) -> None:
+        """Refuses where a parameter is missing."""
+        if any(key not in asked for key in keys):
+            raise Refused(MISSING)
+
+    def serve(self, asked: Dict[int, Any]) -> Dict[int, Any]:
+        """Serves authenticatorClientPIN."""
+        self.needed(asked, 2)
+        served = {1: self.get_retries, 2: self.agree, 3: self.set, 4: self.change, 5: self.old_token, 9: self.new_token}
+        if asked[2] not in served:
+            raise Refused(INVALID_SUBCOMMAND)
+        return served[asked[2]](asked)
+
+    def get_retries(self, asked: Dict[int, Any]) -> Dict[int, Any]:
+        """Answers how many wrong PINs are left."""
+        return {3: self.retries, 4: self.in_a_row >= IN_A_ROW}
+
+    def agree(self, asked: Dict[int, Any]) -> Dict[int, Any]:
+        """Answers the key for key agreement."""
+        return {1: cose_of(self.protocol(asked, 1).private)}
+
+    def new_pin(self, protocol: Protocol, key: bytes, encrypted: bytes) -> None:
+        """Takes a new PIN, of 4 letters and at most 63 bytes."""
+        padded = protocol.decrypt(key, encrypted)
+        if len(padded) != 64:
+            raise Refused(INVALID_PARAMETER)
+        pin = padded.rstrip(b"\0")
+        if not self.long_enough(pin):
+            raise Refused(POLICY)
+        self.hash = hashlib.sha256(pin).digest()[:16]
+        self.retries, self.in_a_row = RETRIES, 0
+
+    def long_enough(self, pin: bytes) -> bool:
+        """Says whether a PIN is long enough, and not too long."""
+        return len(pin.decode("utf-8", "replace")) >= 4 and len(pin) <= 63
+
+    def set(self, asked: Dict[int, Any]) -> Dict[int, Any]:
+        """Sets the first PIN."""
+        protocol = self.protocol(asked, 1)
+        self.needed(asked, 3, 4, 5)
+        if self.hash:
+            raise Refused(AUTH_INVALID)
+        key = protocol.shared(asked[3])
+        if not protocol.verify(key, asked[5], asked[4]):
+            raise Refused(AUTH_INVALID)
+        self.new_pin(protocol, key, asked[5])
+        return {}
+
+    def change(self, asked: Dict[int, Any]) -> Dict[int, Any]:
+        """Changes the PIN."""
+        protocol = self.protocol(asked, 1)
+        self.needed(asked, 3, 4, 5, 6)
+        self.unblocked()
+        key = protocol.shared(asked[3])
+        if not protocol.verify(key, asked[5] + asked[6], asked[4]):
+            raise Refused(AUTH_INVALID)
+        self.compare(protocol, key, asked[6])
+        self.new_pin(protocol, key, asked[5])
+        self.token = os.urandom(32)
+        return {}
+
+    def unblocked(self) -> None:
+        """Refuses where no PIN is set, or where too many were wrong."""
+        if not self.hash:
+            raise Refused(NOT_SET)
+        if not self.retries:
+            raise Refused(PIN_BLOCKED)
+        if self.in_a_row >= IN_A_ROW:
+            raise Refused(AUTH_BLOCKED)
+
+    def compare(self, protocol: Protocol, key: bytes, encrypted: bytes) -> None:
+        """Compares a PIN; each wrong one costs a retry and the key for key agreement."""
+        self.retries -= 1
+        if not self.same(protocol.decrypt(key, encrypted)):
+            protocol.renew()
+            self.in_a_row += 1
+            if not self.retries:
+                raise Refused(PIN_BLOCKED)
+            raise Refused(AUTH_BLOCKED if self.in_a_row >= IN_A_ROW else PIN_INVALID)
+        self.retries, self.in_a_row = RETRIES, 0
+
+    def same(self, given: bytes) -> bool:
+        """Says whether a PIN's hash is that of the PIN."""
+        return hmac.compare_digest(given, self.hash)
+
+    def grant(self, protocol: Protocol, key: bytes, permissions: int, rp: str) -> Dict[int, Any]:
+        """Returns a new token."""
+        self.token = os.urandom(32)
+        self.permissions, self.rp = permissions, rp
+        return {2: protocol.encrypt(key, self.token)}
+
+    def old_token(self, asked: Dict[int, Any]) -> Dict[int, Any]:
+        """Exchanges the PIN for a token that may register and sign in."""
+        protocol = self.protocol(asked, 1)
+        self.needed(asked, 3, 6)
+        if 9 in asked or 10 in asked:
+            raise Refused(INVALID_PARAMETER)
+        self.unblocked()
+        key = protocol.shared(asked[3])
+        self.compare(protocol, key, asked[6])
+        return self.grant(protocol, key, MAKE | GET, "")
+
+    def new_token(self, asked: Dict[int, Any]) -> Dict[int, Any]:
+        """Exchanges the PIN for a token with permissions."""
+        protocol = self.protocol(asked, 1)
+        self.needed(asked, 3, 6, 9)
+        permissions = asked[9]
+        if not permissions or permissions & (MAKE | GET) and 10 not in asked:
+            raise Refused(INVALID_PARAMETER if not permissions else MISSING)
+        if permissions & ~(MAKE | GET | MANAGE):
+            raise Refused(UNAUTHORIZED)
+        self.unblocked()
+        key = protocol.shared(asked[3])
+        self.compare(protocol, key, asked[6])
+        return self.grant(protocol, key, permissions, asked.get(10, ""))
+
+    def check(self, protocol: Protocol, data: bytes, given: bytes, permission: int, rp: str) -> None:
+        """Refuses a request whose token doesn't verify, or doesn't permit it at this RP."""
+        if not self.verified(protocol, data, given):
+            raise Refused(AUTH_INVALID)
+        if not self.permissions & permission or (self.rp and rp and self.rp != rp):
+            raise Refused(AUTH_INVALID)
+        if not self.rp and rp:
+            self.rp = rp
+
+    def verified(self, protocol: Protocol, data: bytes, given: bytes) -> bool:
+        """Says whether a request has the token's authentication."""
+        return protocol.verify(self.token, data, given)

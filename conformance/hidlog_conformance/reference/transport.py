@@ -1,0 +1,223 @@
+"""Speaks CTAPHID for the reference authenticator: packets and moments in, packets out."""
+
+from __future__ import annotations
+
+from typing import Callable, Dict, Generator, List, Optional
+
+from hidlog_conformance.reference.traits import Traits
+
+PING, MSG, LOCK, INIT, WINK, CBOR, CANCEL, KEEPALIVE, ERROR = 1, 3, 4, 6, 8, 16, 17, 59, 63
+BROADCAST = 0xFFFFFFFF
+INVALID_COMMAND, INVALID_LENGTH, INVALID_SEQUENCE, TIMEOUT, BUSY, OTHER, INVALID_CHANNEL = 1, 3, 4, 5, 6, 0x7F, 11
+CANCELLED = 0x2D
+LONGEST = 7609
+
+# A request at work: each yield asks for the user, and is answered by what came of it: granted, denied or
+# timeout. It returns its answer.
+Work = Generator[None, str, bytes]
+
+
+class Transaction:
+    """A message that comes in, and then the request at work."""
+
+    def __init__(self, channel: int, command: int, length: int, at: int) -> None:
+        self.channel = channel
+        self.command = command
+        self.length = length
+        self.data = b""
+        self.latest = at
+        self.sequence = 0
+        self.work: Optional[Work] = None
+        self.began = at
+        self.alive_at = at
+
+
+class Transport:
+    """Serves hosts. What a fault changes is a method of its own."""
+
+    def __init__(self, traits: Traits, serve: Callable[[int, int, bytes], Work]) -> None:
+        self.traits = traits
+        self.serve = serve
+        self.serve_message: Callable[[int, bytes], bytes] = lambda at, data: b"\x6d\0"
+        self.out: List[bytes] = []
+        self.channels: List[int] = []
+        self.now: Optional[Transaction] = None
+        self.at = 0
+
+    def packets(self, channel: int, command: int, data: bytes) -> List[bytes]:
+        """Cuts a message."""
+        front = channel.to_bytes(4, "big")
+        pieces = [front + bytes([0x80 | command]) + len(data).to_bytes(2, "big") + data[:57]]
+        for number, start in enumerate(range(57, len(data), 59)):
+            pieces.append(front + bytes([number]) + data[start : start + 59])
+        return [piece.ljust(64, bytes([self.traits.padding])) for piece in pieces]
+
+    def send(self, channel: int, command: int, data: bytes) -> None:
+        """Sends a message."""
+        self.out += self.packets(channel, command, data)
+
+    def error(self, channel: int, code: int) -> None:
+        """Sends an error."""
+        self.send(channel, ERROR, bytes([code]))
+
+    def packet(self, at: int, packet: bytes) -> None:
+        """Takes a packet."""
+        self.tick(at)
+        channel = int.from_bytes(packet[:4], "big")
+        if packet[4] & 0x80:
+            self.begin(channel, packet[4] & 0x7F, int.from_bytes(packet[5:7], "big"), packet[7:])
+        else:
+            self.go_on(channel, packet[4], packet[5:])
+
+    def go_on(self, channel: int, sequence: int, data: bytes) -> None:
+        """Takes a continuation packet; without an open message it is ignored."""
+        now = self.now
+        if now is None or now.work is not None or now.channel != channel:
+            return
+        if sequence != now.sequence:
+            self.now = None
+            self.error(channel, INVALID_SEQUENCE)
+            return
+        now.sequence += 1
+        now.latest = self.at
+        now.data += data
+        self.whole(now)
+
+    def begin(self, channel: int, command: int, length: int, data: bytes) -> None:
+        """Takes an initialization packet."""
+        if command == CANCEL:
+            self.cancel(channel)
+        elif channel != BROADCAST and channel not in self.channels:
+            self.error(channel, INVALID_CHANNEL)
+        elif command == INIT:
+            self.init(channel, length, data[:8])
+        elif channel == BROADCAST:
+            self.error(channel, INVALID_CHANNEL)
+        elif self.now is not None and self.now.channel != channel:
+            self.error(channel, BUSY)
+        elif self.now is not None and self.now.work is not None:
+            self.error(channel, BUSY)
+        elif self.now is not None and not self.traits.begins_anew:
+            self.now = None
+            self.error(channel, INVALID_SEQUENCE)
+        else:
+            self.take(channel, command, length, data)
+
+    def serves(self, command: int) -> bool:
+        """Says whether a command is served."""
+        return command in (PING, CBOR) or command == MSG and self.traits.u2f or command == WINK and self.traits.wink
+
+    def take(self, channel: int, command: int, length: int, data: bytes) -> None:
+        """Takes the first packet of a message that may be served."""
+        self.now = None
+        if not self.serves(command):
+            self.error(channel, INVALID_COMMAND)
+        elif length > min(LONGEST, max(self.traits.longest_message, 1024)):
+            self.error(channel, INVALID_LENGTH)
+        else:
+            self.now = Transaction(channel, command, length, self.at)
+            self.now.data = data
+            self.whole(self.now)
+
+    def nonce_answer(self, nonce: bytes, channel: int) -> bytes:
+        """Returns the answer of INIT."""
+        capabilities = 0x04 | (0x01 if self.traits.wink else 0) | (0 if self.traits.u2f else 0x08)
+        return nonce + channel.to_bytes(4, "big") + b"\2" + self.traits.version_bytes + bytes([capabilities])
+
+    def new_channel(self) -> int:
+        """Returns a channel that wasn't given out."""
+        return (self.traits.first_channel + len(self.channels) * self.traits.channel_step) & 0xFFFFFFFF
+
+    def init(self, channel: int, length: int, nonce: bytes) -> None:
+        """Allocates a channel, or begins anew on one."""
+        if length != 8:
+            self.error(channel, INVALID_LENGTH)
+        elif channel != BROADCAST:
+            if self.now is not None and self.now.channel == channel:
+                self.now = None
+            self.send(channel, INIT, self.nonce_answer(nonce, channel))
+        elif len(self.channels) >= self.traits.channels:
+            self.error(channel, OTHER)
+        else:
+            new = self.new_channel()
+            self.channels.append(new)
+            self.send(BROADCAST, INIT, self.nonce_answer(nonce, new))
+
+    def cancel(self, channel: int) -> None:
+        """Ends the request that waits on a channel; else it is ignored."""
+        if self.now is not None and self.now.channel == channel and self.now.work is not None:
+            self.finish(bytes([CANCELLED]))
+
+    def whole(self, now: Transaction) -> None:
+        """Serves a message once all its bytes are there."""
+        if len(now.data) < now.length:
+            return
+        data = now.data[: now.length]
+        if now.command in (PING, WINK):
+            self.now = None
+            self.send(now.channel, now.command, data if now.command == PING else b"")
+        elif now.command == MSG:
+            self.now = None
+            self.send(now.channel, MSG, self.serve_message(self.at, data))
+        elif not data:
+            self.now = None
+            self.empty(now.channel)
+        else:
+            now.work = self.serve(self.at, now.channel, data)
+            now.began = self.at
+            if self.traits.works_first:
+                self.send(now.channel, KEEPALIVE, b"\1")
+            self.work_on()
+
+    def empty(self, channel: int) -> None:
+        """Refuses a CBOR message without a command."""
+        if self.traits.empty_cbor_status:
+            self.send(channel, CBOR, bytes([self.traits.empty_cbor_status]))
+        else:
+            self.error(channel, INVALID_LENGTH)
+
+    def work_on(self, reply: str = "") -> None:
+        """Lets the request work until it asks for the user or is done."""
+        assert self.now is not None and self.now.work is not None
+        try:
+            if reply:
+                self.now.work.send(reply)
+            else:
+                next(self.now.work)
+        except StopIteration as done:
+            self.finish(done.value)
+        else:
+            self.now.began = self.now.alive_at = self.at
+            self.send(self.now.channel, KEEPALIVE, b"\2")
+
+    def finish(self, answer: bytes) -> None:
+        """Sends the answer of the request at work."""
+        assert self.now is not None
+        channel, self.now = self.now.channel, None
+        self.send(channel, CBOR, answer)
+
+    def touch(self, at: int, reply: str = "granted") -> None:
+        """Takes the user's touch; without a request that asks for it it is none."""
+        self.tick(at)
+        if self.now is not None and self.now.work is not None:
+            self.work_on(reply)
+
+    def tick(self, at: int) -> None:
+        """Ends what took too long, and shows that a request is at work."""
+        self.at = max(at, self.at)
+        now = self.now
+        if now is None:
+            return
+        if now.work is None:
+            if self.at - now.latest >= self.traits.time_out:
+                self.now = None
+                if not self.traits.silent_time_out:
+                    self.error(now.channel, TIMEOUT)
+        elif self.at - now.began >= self.traits.patience:
+            self.work_on("timeout")
+        elif self.at - now.alive_at >= self.traits.keepalive:
+            now.alive_at = self.at
+            self.send(now.channel, KEEPALIVE, b"\2")
+
+
+COMMANDS: Dict[str, int] = {"cbor": CBOR, "msg": MSG}

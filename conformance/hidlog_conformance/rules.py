@@ -1,0 +1,120 @@
+"""Says which rule a difference breaks: not always the one that the session is about."""
+
+from __future__ import annotations
+
+from dataclasses import dataclass
+from typing import Dict, Optional
+
+from hidlog_conformance import hid_packets as hid
+from hidlog_conformance.hid_packets import Message
+
+CHANNELS, PACKETS, BUSY, TIMEOUT, SEQUENCE = "11.2.3", "11.2.4", "11.2.5.1", "11.2.5.2", "11.2.5.4"
+ABORT = "11.2.5.3"
+CBOR, INIT, PING, CANCEL = "11.2.9.1.2", "11.2.9.1.3", "11.2.9.1.4", "11.2.9.1.5"
+ERROR, KEEPALIVE = "11.2.9.1.6", "11.2.9.1.7"
+# The rule that an ERROR's code shows, and that of a request's command.
+CODES = {"01": ERROR, "03": PACKETS, "0b": CHANNELS, "04": SEQUENCE, "05": TIMEOUT, "06": BUSY}
+COMMANDS: Dict[int, str] = {
+    0x01: "6.1.2",
+    0x02: "6.2.2",
+    0x04: "6.4",
+    0x06: "6.5",
+    0x07: "6.6",
+    0x08: "6.3",
+    0x0B: "6.9",
+}
+# The rule of a request that no command has, and those of the transport's messages.
+COMMANDS_OTHER = "8.1"
+MSG, WINK = "11.2.9.1.1", "11.2.9.2.1"
+OF_COMMAND: Dict[int, str] = {
+    hid.PING: PING,
+    hid.MSG: MSG,
+    hid.INIT: INIT,
+    hid.WINK: WINK,
+    hid.CBOR: CBOR,
+    hid.CANCEL: CANCEL,
+    hid.KEEPALIVE: KEEPALIVE,
+    hid.ERROR: ERROR,
+}
+MAPS = ("made", "asserted", "info")
+# What answers a CBOR request, and the commands that may come for one.
+ANSWERS = (*MAPS, "status", "refused")
+LAWFUL = (hid.CBOR, hid.ERROR, hid.KEEPALIVE)
+
+
+@dataclass
+class Seen:
+    """Holds what was expected and what came in its place."""
+
+    # The rule that the session is about.
+    own: str
+    expected: str
+    came: Optional[Message]
+    # Whether packets of a message are missing.
+    partial: bool
+    # The request that was sent last, and whether the host cancelled it.
+    request: bytes
+    cancelled: bool
+
+    @property
+    def of_request(self) -> str:
+        """Returns the rule of the request's command."""
+        return COMMANDS.get(self.request[0], self.own) if self.request else self.own
+
+    @property
+    def refusal(self) -> str:
+        """Returns the code of an ERROR that came, empty where something else did."""
+        return self.came.data.hex() if self.came is not None and self.came.command == hid.ERROR else ""
+
+    @property
+    def answered(self) -> bytes:
+        """Returns the CBOR answer that came, empty where something else did."""
+        return self.came.data if self.came is not None and self.came.command == hid.CBOR else b""
+
+
+def broken(seen: Seen) -> str:
+    """Returns the number of the section whose rule a difference breaks."""
+    kind = seen.expected.split(" ")[0]
+    if kind == "zeros" or seen.partial or (seen.came is not None and seen.came.problem):
+        return PACKETS
+    if kind == "init":
+        return INIT
+    if kind == "maybe":
+        return TIMEOUT
+    if kind != "silence" and seen.came is not None and seen.came.command == hid.KEEPALIVE:
+        return KEEPALIVE
+    if kind != "error" and seen.refusal in ("04", "05", "06"):
+        return CODES[seen.refusal]
+    if kind in ("nothing", "silence") and seen.cancelled:
+        return CANCEL
+    if len(seen.answered) > 1 and seen.answered[0] != 0:
+        # A refusal comes alone.
+        return CBOR
+    if kind in ANSWERS and seen.came is not None and seen.came.command not in LAWFUL:
+        return CBOR
+    if kind in MAPS and seen.answered == b"\0":
+        return CBOR
+    if kind in ("echo", "ping"):
+        return PING if seen.came is not None and seen.came.command == hid.PING else seen.own
+    if kind == "error" and seen.own != CBOR:
+        return CODES.get(seen.expected.split(" ")[1][:2], seen.own)
+    return of_answer(kind, seen)
+
+
+def of_answer(kind: str, seen: Seen) -> str:
+    """Returns the rule that a wrong answer of a request breaks, or one that came too early or not at all."""
+    if kind == "status" and seen.cancelled and "2d" in seen.expected:
+        return CANCEL
+    if seen.own.startswith("12.") and {"extension", "secret"} & set(seen.expected.split(" ")):
+        return seen.own
+    if kind == "keepalive":
+        return seen.of_request if seen.answered else KEEPALIVE if seen.came is None else seen.own
+    success = seen.answered[:1] == b"\0"
+    if kind == "rest":
+        return seen.of_request if seen.answered and not seen.own.startswith("8") else seen.own
+    if kind in MAPS and (success or seen.own.startswith("6.")):
+        return seen.of_request
+    if kind == "status" and seen.answered and not success and seen.own.startswith("6."):
+        # One status in place of another.
+        return seen.of_request
+    return seen.own

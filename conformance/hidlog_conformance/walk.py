@@ -1,0 +1,408 @@
+"""Walks over the packets of a log: which transaction each belongs to, and how each transaction ends.
+
+It decides from the packets alone, their order and the moments (CTAP 2.1, 11.2). No authenticator is inside, so that
+recordings of any key are read. Nothing is kept across channels but the latest moment and the last input.
+"""
+
+from __future__ import annotations
+
+from dataclasses import dataclass, field
+from typing import Dict, List, Optional, Tuple, Type, TypeVar
+
+from hidlog_conformance.hid_packets import BROADCAST, CANCEL, CBOR, ERROR, INIT, KEEPALIVE, LONGEST, PING
+
+INVALID_COMMAND, INVALID_LENGTH, INVALID_SEQUENCE, TIMED_OUT, BUSY, INVALID_CHANNEL = 0x01, 0x03, 0x04, 0x05, 0x06, 0x0B
+# What a CANCEL or a stray packet may be answered, though both begin no transaction.
+NOT_SERVED = (INVALID_COMMAND, INVALID_SEQUENCE, BUSY, INVALID_CHANNEL)
+CANCELLED = 0x2D
+# Milliseconds within which no key drops an unfinished message: KEEPALIVE's own interval.
+NO_TIME_OUT = 100
+
+
+@dataclass(eq=False)
+class Part:
+    """What the packets of one message carry."""
+
+    line: int
+    channel: int
+    command: int
+    length: int
+    parts: List[bytes]
+    lines: List[int]
+
+    @property
+    def next(self) -> int:
+        """Returns the sequence number of the next packet."""
+        return len(self.parts) - 1
+
+    @property
+    def came(self) -> int:
+        """Returns how many bytes came."""
+        return min(self.length, 57 + 59 * self.next)
+
+    @property
+    def whole(self) -> bool:
+        """Says whether all bytes came."""
+        return self.came == self.length <= LONGEST
+
+    @property
+    def data(self) -> bytes:
+        """Returns the bytes that came."""
+        return b"".join(self.parts)[: self.length]
+
+    @property
+    def padding(self) -> bytes:
+        """Returns what is behind the message in its last packet."""
+        return b"".join(self.parts)[self.length :]
+
+
+@dataclass(eq=False)
+class Transaction(Part):
+    """A message of a host, except CANCEL, and what became of it."""
+
+    # answered, refused, timed out, dropped, replaced; at the log's end unanswered or not whole.
+    end: str = ""
+    # The code of the ERROR that ended it, and the line of what ended it.
+    code: Optional[int] = None
+    by: Optional[int] = None
+    answer: Optional["Answer"] = None
+    keepalives: List["Entry"] = field(default_factory=list)
+    # The line of a CANCEL that came while it waited.
+    cancelled: Optional[int] = None
+    # The moments of its first and last packets, and how long the first came after the channel's packet before.
+    began: int = 0
+    last: int = 0
+    after: int = 0
+
+
+@dataclass(eq=False)
+class Answer(Part):
+    """A message of the device."""
+
+    request: Optional[Transaction] = None
+    # The latest moment of the log when it began.
+    at: int = 0
+
+
+@dataclass(eq=False)
+class Entry:
+    """A packet or a reply: what it is, and which transaction it belongs to."""
+
+    line: int
+    kind: str
+    at: int = 0
+    packet: bytes = b""
+    # start, more, wrong number, stray, cancel; keepalive, error, answer.
+    part: str = ""
+    transaction: Optional[Transaction] = None
+    # Of a KEEPALIVE: whether its status is another than before, or time has come.
+    why: str = ""
+    message: Optional[Answer] = None
+
+
+@dataclass(eq=False)
+class Channel:
+    """What is open on a channel."""
+
+    # A message that is collected, or is whole and not answered.
+    held: Optional[Transaction] = None
+    # The last start, neither refused nor taken yet, where `held` is another one.
+    asked: Optional[Transaction] = None
+    # INITs without an end.
+    inits: List[Transaction] = field(default_factory=list)
+    # Whether the host's last packet was a CANCEL, or a continuation of nothing.
+    stray: bool = False
+    # The device's last message, while it may go on, and the status of the last KEEPALIVE of `held`.
+    answering: Optional[Answer] = None
+    status: Optional[int] = None
+
+
+Message = TypeVar("Message", bound=Part)
+
+
+def works(transaction: Optional[Transaction]) -> bool:
+    """Says whether a key may send KEEPALIVEs of it: of a whole message, except PING and INIT."""
+    return transaction is not None and transaction.whole and transaction.command not in (PING, INIT)
+
+
+def may_refuse(code: int, start: Transaction) -> bool:
+    """Says whether an ERROR may be for a start: INIT is taken at any time on its own channel."""
+    if start.command != INIT:
+        return True
+    return code not in (INVALID_SEQUENCE, TIMED_OUT) and (code != BUSY or start.channel == BROADCAST)
+
+
+class Walk:
+    """Walks over lines. `entries` has one for each packet and reply, `transactions` one for each start of a host."""
+
+    def __init__(self) -> None:
+        self.entries: List[Entry] = []
+        self.transactions: List[Transaction] = []
+        self.channels: Dict[bytes, Channel] = {}
+        self.now = 0
+        # The last input, until a packet of the device follows it; how long after the message's packet before it came.
+        self.first: Optional[Entry] = None
+        self.taken: Optional[int] = None
+
+    def finish(self) -> None:
+        """Says of transactions without an end what they are at the log's end."""
+        for transaction in self.transactions:
+            if not transaction.end:
+                transaction.end = "unanswered" if transaction.whole else "not whole"
+
+    def pass_time(self, at: int) -> None:
+        """Lets time pass."""
+        self.now = max(self.now, at)
+
+    def host(self, line: int, at: int, packet: bytes) -> Entry:
+        """Takes a packet of a host."""
+        self.pass_time(at)
+        entry = Entry(line, "host", self.now, packet)
+        self.first, self.taken = entry, None
+        (self.start if packet[4] & 0x80 else self.more)(entry, self.channel(packet))
+        self.entries.append(entry)
+        return entry
+
+    def device(self, line: int, packet: bytes) -> Entry:
+        """Takes a packet of the device."""
+        entry = Entry(line, "device", self.now, packet)
+        self.answer_of(entry, self.channel(packet))
+        self.first = None
+        self.entries.append(entry)
+        return entry
+
+    def reply(self, line: int, at: int) -> Entry:
+        """Takes a reply of the caller, which belongs to the one CBOR message that waits."""
+        self.pass_time(at)
+        entry = Entry(line, "reply", self.now)
+        held = [it.held for it in self.channels.values() if it.held and it.held.whole and it.held.command == CBOR]
+        entry.transaction = held[0] if len(held) == 1 else None
+        self.first, self.taken = entry, None
+        self.entries.append(entry)
+        return entry
+
+    def channel(self, packet: bytes) -> Channel:
+        """Returns what is open on a packet's channel."""
+        return self.channels.setdefault(packet[:4], Channel())
+
+    def message(self, entry: Entry, kind: Type[Message]) -> Message:
+        """Returns the message that an initialization packet begins."""
+        packet = entry.packet
+        channel = int.from_bytes(packet[:4], "big")
+        return kind(entry.line, channel, packet[4] & 0x7F, packet[5] << 8 | packet[6], [packet[7:]], [entry.line])
+
+    def start(self, entry: Entry, channel: Channel) -> None:
+        """Takes an initialization packet of a host."""
+        channel.stray = entry.packet[4] & 0x7F == CANCEL
+        if channel.stray:
+            waiting = [it for it in (channel.held, channel.asked) if it is not None and works(it)]
+            fresh = [it for it in waiting if not it.cancelled] or waiting
+            entry.part, entry.transaction = "cancel", fresh[0] if fresh else None
+            if entry.transaction:
+                entry.transaction.cancelled = entry.line
+            return
+        self.settle(channel)
+        begun = self.message(entry, Transaction)
+        begun.began = begun.last = self.now
+        self.transactions.append(begun)
+        entry.part, entry.transaction, channel.asked = "start", begun, None
+        if begun.command == INIT:
+            channel.inits.append(begun)
+            channel.asked = begun
+        elif channel.held:
+            channel.asked, begun.after = begun, self.now - channel.held.last
+        else:
+            self.hold(channel, begun)
+
+    def more(self, entry: Entry, channel: Channel) -> None:
+        """Takes a continuation packet of a host."""
+        open_one, asked = channel.held, channel.asked
+        if asked and asked.command != INIT and entry.packet[4] == asked.next and not asked.whole:
+            open_one = asked
+        channel.stray = open_one is None or open_one.whole
+        if open_one is None or open_one.whole:
+            entry.part = "stray"
+            return
+        entry.transaction, self.taken = open_one, self.now - open_one.last
+        if entry.packet[4] != open_one.next:
+            entry.part = "wrong number"
+            return
+        entry.part = "more"
+        open_one.parts.append(entry.packet[5:])
+        open_one.lines.append(entry.line)
+        open_one.last = self.now
+
+    def hold(self, channel: Channel, transaction: Optional[Transaction]) -> None:
+        """Begins to hold a message."""
+        channel.held, channel.status = transaction, None
+
+    def ended(self, it: Transaction, how: str, code: Optional[int] = None, by: Optional[int] = None) -> None:
+        """Ends a transaction."""
+        it.end, it.code, it.by = how, code, by
+
+    def free(self, channel: Channel) -> None:
+        """Holds no message any more; the last start takes its place."""
+        channel.held = None
+        self.settle(channel)
+
+    def settle(self, channel: Channel) -> None:
+        """Lets a start that wasn't refused take the channel."""
+        asked, old = channel.asked, channel.held
+        if asked is None or asked.command == INIT:
+            return
+        channel.asked = None
+        if old:
+            self.ended(old, "dropped" if old.cancelled else "replaced", by=old.cancelled or asked.line)
+            asked.keepalives = [it for it in old.keepalives if works(asked) and it.line > asked.lines[-1]]
+            old.keepalives = old.keepalives[: len(old.keepalives) - len(asked.keepalives)]
+            for keepalive in asked.keepalives:
+                keepalive.transaction = asked
+        self.hold(channel, asked)
+
+    def answer_of(self, entry: Entry, channel: Channel) -> None:
+        """Takes a packet of the device."""
+        command = entry.packet[4] & 0x7F
+        if entry.packet[4] < 0x80:
+            answer, entry.part = channel.answering, "stray"
+            if answer and entry.packet[4] == answer.next and answer.came < answer.length:
+                answer.parts.append(entry.packet[5:])
+                answer.lines.append(entry.line)
+                entry.part, entry.transaction, entry.message = "answer", answer.request, answer
+            return
+        channel.answering = None
+        if command == KEEPALIVE:
+            entry.part, entry.transaction = "keepalive", self.keepalive(entry, channel)
+        elif command == ERROR:
+            entry.part, entry.transaction = "error", self.error(entry, channel, entry.packet[7])
+        else:
+            channel.answering = entry.message = self.message(entry, Answer)
+            entry.message.at = self.now
+            entry.part, entry.transaction = "answer", self.answer(channel, entry.message)
+            entry.message.request = entry.transaction
+            if entry.transaction:
+                entry.transaction.answer = entry.message
+                self.ended(entry.transaction, "answered", by=entry.line)
+
+    def keepalive(self, entry: Entry, channel: Channel) -> Optional[Transaction]:
+        """Returns the transaction of a KEEPALIVE."""
+        if works(channel.asked) and not works(channel.held):
+            self.settle(channel)
+        held = channel.held
+        if held is None or not works(held):
+            return None
+        entry.why = "time" if channel.status == entry.packet[7] else "status"
+        channel.status = entry.packet[7]
+        held.keepalives.append(entry)
+        return held
+
+    def error(self, entry: Entry, channel: Channel, code: int) -> Optional[Transaction]:
+        """Returns the transaction that an ERROR ends."""
+        asked, held = channel.asked, channel.held
+        if code == TIMED_OUT and asked and not asked.whole and held and (held.whole or asked.after < NO_TIME_OUT):
+            self.settle(channel)
+        held = channel.held
+        if code == TIMED_OUT and held:
+            self.leave_late(held)
+            if not held.whole:
+                self.ended(held, "timed out", code, entry.line)
+                self.free(channel)
+                return held
+        found = next((it for it in channel.inits if it.length != 8 and code == INVALID_LENGTH), channel.asked)
+        if found and may_refuse(code, found):
+            return self.refuse(entry, channel, found, code)
+        if channel.stray and (held is None or (held.keepalives and code in NOT_SERVED)):
+            return None
+        if held:
+            self.free(channel)
+        elif channel.inits:
+            held = channel.inits.pop()
+            channel.asked = None
+        if held:
+            self.ended(held, "timed out" if code == TIMED_OUT else "refused", code, entry.line)
+        return held
+
+    def leave_late(self, held: Transaction) -> None:
+        """Takes a continuation packet out of a message that had timed out before it came."""
+        first = self.first
+        if not first or first.transaction is not held or first.part not in ("more", "wrong number"):
+            return
+        if self.taken is None or self.taken < NO_TIME_OUT:
+            return
+        if first.part == "more":
+            held.parts.pop()
+            held.lines.pop()
+            held.last = first.at - self.taken
+        first.part, first.transaction = "stray", None
+
+    def refuse(self, entry: Entry, channel: Channel, found: Transaction, code: int) -> Transaction:
+        """Ends a start that is refused, and the message that it interrupted."""
+        held = channel.held
+        self.ended(found, "refused", code, entry.line)
+        if channel.asked is found:
+            channel.asked = None
+        if found.command == INIT and found in channel.inits:
+            channel.inits.remove(found)
+        cause = INVALID_LENGTH if found.command == INIT else INVALID_SEQUENCE
+        if held and not held.whole and held.line < found.line and code == cause:
+            self.ended(held, "dropped" if found.command == INIT else "replaced", by=found.line)
+            self.free(channel)
+        return found
+
+    def answer(self, channel: Channel, answer: Answer) -> Optional[Transaction]:
+        """Returns the transaction that a message of the device ends."""
+        if answer.command == INIT:
+            return self.greeting(channel, answer)
+        asked, held = channel.asked, channel.held
+        if asked and asked.whole and asked.command == answer.command != INIT:
+            late = held and held.whole and held.cancelled and held.command == CBOR
+            if not (late and answer.parts[0][0] == CANCELLED):
+                self.settle(channel)
+                held = asked
+        if held is None or not held.whole or held.command != answer.command:
+            return None
+        self.free(channel)
+        return held
+
+    def greeting(self, channel: Channel, answer: Answer) -> Optional[Transaction]:
+        """Returns the INIT that a message answers; off broadcast it ends what its channel held."""
+        nonce = answer.parts[0][:8]
+        found = next((it for it in channel.inits if it.length == 8 and it.parts[0][:8] == nonce), None)
+        if found is None:
+            return None
+        channel.inits.remove(found)
+        if channel.asked is found:
+            channel.asked = None
+        if answer.channel != BROADCAST and channel.held and channel.held.line < found.line:
+            self.ended(channel.held, "dropped", by=found.line)
+            self.free(channel)
+        return found
+
+
+def walk_log(log: bytes) -> Walk:
+    """Walks over a log's lines; those that aren't packets, ticks or replies are passed over."""
+    walk = Walk()
+    for number, line in enumerate(log.split(b"\n"), 1):
+        take_line(walk, number, line)
+    walk.finish()
+    return walk
+
+
+def take_line(walk: Walk, number: int, line: bytes) -> Optional[Entry]:
+    """Takes a line of a log."""
+    word, _, rest = line.partition(b" ")
+    if word == b"<" and len(rest) == 128:
+        return walk.device(number, bytes.fromhex(rest.decode()))
+    moment, _, words = rest.partition(b" ")
+    if word == b">":
+        return walk.host(number, int(moment), bytes.fromhex(words.decode()))
+    if word in (b"p", b"k", b"s"):
+        return walk.reply(number, int(moment))
+    if word == b"t":
+        walk.pass_time(int(moment))
+    return None
+
+
+def packets_in(log: bytes) -> List[Tuple[bool, bytes]]:
+    """Returns the packets of a log, each with whether a host sent it."""
+    lines = [line for line in log.split(b"\n") if line[:2] in (b"> ", b"< ")]
+    return [(line[:1] == b">", bytes.fromhex(line.split(b" ")[-1].decode())) for line in lines]

@@ -1,0 +1,53 @@
+#!/usr/bin/env bash
+# Installs the packages of the corpus in a clean machine, and runs them there as a user who isn't root, against the
+# reference authenticator, with a PIN unset and set: conformance/packages/clean.sh FOLDER
+#
+# FOLDER is made by debootstrap, or used again; it has Debian's base system, and nothing of this repository. Needs root,
+# debootstrap and its mirror. Ends with 3 where one is missing.
+set -euo pipefail
+top=$(cd "$(dirname "${BASH_SOURCE[0]}")/../.." && pwd)
+room=${1:?usage: conformance/packages/clean.sh FOLDER}
+for tool in debootstrap dpkg-deb; do
+    command -v "$tool" >/dev/null || { echo "$tool is missing; nothing was run" >&2 && exit 3; }
+done
+[ "$(id -u)" = 0 ] || { echo "root is needed for a folder of debootstrap; nothing was run" >&2 && exit 3; }
+[ -d "$room/usr" ] || debootstrap --variant=minbase bookworm "$room" >"${room%/}.log" || exit 3
+python=$("$top/tests/with_fido2.sh" -c 'import sys; print(sys.executable)')
+rm -rf "$room/home/tester"
+mkdir -p "$room/home/tester/packages"
+"$python" "$top/conformance/packages/build.py" "$room/home/tester/packages" >/dev/null
+chown -R 1234:1234 "$room/home/tester"
+
+# Runs commands in the machine: inside USER COMMANDS
+inside() {
+    chroot --userspec="$1" "$room" /usr/bin/env -i PATH=/usr/sbin:/usr/bin:/sbin:/bin HOME=/home/tester LANG=C.UTF-8 \
+        DEBIAN_FRONTEND=noninteractive bash -euc "$2"
+}
+
+# What a maker does who has the command: its version, its cases, those of registrations, with and without a PIN, and a run
+# with each report. The command is $1, and the authenticator's is $2.
+# shellcheck disable=SC2016 # the shell in the machine expands it
+played='
+    $1 --version
+    $1 --list | tail -1
+    for cases in make/ pin/; do
+        $1 --device "$2" --touch-line touch --reset --jobs 2 --only $cases 2>/dev/null >report || true
+        grep -A 3 ^failed report || true
+        echo "$cases $(tail -1 report)"
+        [[ $(tail -1 report) =~ ^[1-9][0-9]*\ passed,\ 0\ failed ]]
+    done
+    for kind in tap junit json html; do
+        $1 --device "$2" --touch-line touch --only ping/ --report $kind 2>/dev/null >report.$kind
+        [ -s report.$kind ]
+    done'
+
+inside 0:0 'cd /home/tester/packages && apt-get -qq update && apt-get -qq install -y --no-install-recommends ./*.deb >/dev/null'
+echo "the deb:"
+inside 1234:1234 "cd && set -- hidlog-conformance 'python3 -m hidlog_conformance.reference' && $played"
+inside 0:0 'apt-get -qq purge -y hidlog-conformance >/dev/null && ! python3 -c "import hidlog_conformance" 2>/dev/null'
+inside 0:0 'apt-get -qq install -y --no-install-recommends python3-venv >/dev/null'
+echo "the wheel:"
+inside 1234:1234 "cd && python3 -m venv --system-site-packages venv &&
+    venv/bin/python -m pip install --quiet --no-index --no-deps --disable-pip-version-check packages/*.whl &&
+    set -- venv/bin/hidlog-conformance 'venv/bin/python -m hidlog_conformance.reference' && $played"
+echo "the packages run in a clean machine"

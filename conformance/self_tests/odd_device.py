@@ -1,0 +1,123 @@
+#!/usr/bin/env python3
+"""An authenticator that is lawful but unusual, or out of order on purpose: odd_device.py KIND.
+
+It is the one of others/python_key.py, with packets of its own before, behind or in place of the answers.
+"""
+
+from __future__ import annotations
+
+import os
+import select
+import subprocess
+import sys
+import time
+from typing import List
+
+HERE = os.path.dirname(os.path.abspath(__file__))
+for folder in ("..", "../others"):
+    sys.path.insert(0, os.path.join(HERE, folder))
+
+from hidlog_conformance import hid_packets as hid  # noqa: E402
+from python_key import Key  # noqa: E402
+
+# How long a busy key works before it asks for a touch, in milliseconds.
+WORK = 3500
+EVIL = "\x1b[31mred\u202e\u0001"
+START = time.monotonic()
+
+
+def now() -> int:
+    """Returns the moment in milliseconds."""
+    return int((time.monotonic() - START) * 1000)
+
+
+class OddKey:
+    """Serves lines."""
+
+    def __init__(self, kind: str) -> None:
+        self.kind = kind
+        self.key = Key()
+        # Requests that are kept until the key has worked for them, and when the next KEEPALIVE is due.
+        self.kept: List["tuple[int, bytes]"] = []
+        self.due = 0
+
+    def say(self, packet: bytes) -> None:
+        """Writes a packet."""
+        print(packet.hex(), flush=True)
+
+    def keepalive(self, channel: int, status: bytes = b"\1") -> None:
+        """Writes a KEEPALIVE."""
+        self.say(hid.packets_of(channel, hid.KEEPALIVE, status)[0])
+
+    def take(self, line: bytes) -> None:
+        """Takes a line of the host."""
+        if line == b"touch":
+            self.key.hid.touch(now())
+            return
+        packet = bytes.fromhex(line.decode())
+        channel, is_cbor = int.from_bytes(packet[:4], "big"), packet[4] == 0x80 | hid.CBOR
+        if self.kind == "keepalive_first" and is_cbor:
+            self.keepalive(channel)
+        if self.kind == "keepalive_for_ever" and is_cbor and packet[7] not in (4, 11):
+            while True:
+                self.keepalive(channel)
+                time.sleep(0.1)
+        if self.kind == "busy" and is_cbor and packet[7] == 11:
+            self.kept.append((now() + WORK, packet))
+            return
+        if self.kind == "full" and is_cbor and packet[7] == 1:
+            self.say(hid.packets_of(channel, hid.CBOR, b"\x28")[0])
+            return
+        self.key.hid.packet(now(), packet)
+
+    def tick(self) -> None:
+        """Lets time pass."""
+        for ready, packet in self.kept[:]:
+            if now() >= ready:
+                self.kept.remove((ready, packet))
+                self.key.hid.packet(now(), packet)
+            elif now() >= self.due:
+                self.due = now() + 100
+                self.keepalive(int.from_bytes(packet[:4], "big"))
+        self.key.hid.tick(now())
+
+    def answer(self) -> None:
+        """Writes what the key answers."""
+        for packet in self.key.hid.out:
+            if self.kind == "evil_text" and packet[4] == 0x80 | hid.CBOR and packet[5:8] != b"\0\1\0":
+                packet = packet[:8] + packet[8:].replace(b"FIDO_2_0", EVIL.encode()[:8].ljust(8, b"\1"))
+            self.say(packet)
+            if self.kind == "continues" and packet[4] == 0x80 | hid.PING:
+                self.say(packet[:4] + bytes(60))
+        self.key.hid.out.clear()
+
+
+def out_of_order(kind: str) -> None:
+    """Never serves: a flood, or a line without an end."""
+    packet = hid.packets_of(hid.BROADCAST, hid.KEEPALIVE, b"\1")[0].hex().encode() + b"\n"
+    piece = {"flood": packet * 100, "no_line_feed": b"0" * 4096}[kind]
+    while True:
+        os.write(1, piece)
+
+
+def main(words: List[str]) -> int:
+    """Serves until the input ends."""
+    if words[0] in ("flood", "no_line_feed"):
+        out_of_order(words[0])
+    if words[0] == "with_a_child":
+        subprocess.Popen(["sleep", words[1]])
+    odd, rest = OddKey(words[0]), b""
+    while True:
+        ready, _, _ = select.select([sys.stdin], [], [], 0.02)
+        piece = os.read(0, 4096) if ready else b""
+        if ready and not piece:
+            return 0
+        *lines, rest = (rest + piece).split(b"\n")
+        for line in lines:
+            odd.take(line)
+        odd.tick()
+        odd.answer()
+
+
+if __name__ == "__main__":
+    sys.exit(main(sys.argv[1:]))
