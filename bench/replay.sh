@@ -12,7 +12,7 @@ here=$(cd "$(dirname "$0")" && pwd)
 work=${1:-$(mktemp -d)}
 mkdir -p "$work"
 "$here/../hidlog" --help >"$work/help"
-program=$here/../$(cut -d " " -f 1 "$here/../release/out/current")
+program=$here/../$(sed 's/^program=\([^ ]*\).*/\1/' "$here/../release/out/ran")
 gcc -O2 -march=x86-64-v2 -o "$work/replay_c" "$here/replay_c.c"
 
 # A log of so many lines of a kind, after the INIT that gives channel 1.

@@ -39,7 +39,7 @@ replays() {
 }
 
 replays "$copy/hidlog"
-[ -e "$copy/release/out/current" ] || fail "the first call noted nothing"
+[ -e "$copy/release/out/ran" ] || fail "the first call noted nothing"
 replays "$copy/hidlog"
 ln -s "$copy/hidlog" "$work/link"
 replays "$work/link"
@@ -58,11 +58,39 @@ replays "$copy/hidlog" --released
 cp -p "$work/source" "$source"
 replays "$copy/hidlog"
 
+# So is a definition, which is written in place. A proof decides only whether a program is made, so the calls after the
+# first don't ask for it; the first does.
+for kind in specs proofs; do
+    changed=$(find "$copy/crates/session_log/$kind" -name '*.antt' | sort | head -1)
+    cp -p "$changed" "$work/changed"
+    echo '-- changed' >>"$changed"
+    touch -d 2001-01-01 "$changed"
+    [ $kind = specs ] || { replays "$copy/hidlog" && rm "$copy/release/out/ran"; }
+    call 3 "$copy/hidlog" replay
+    cp -p "$work/changed" "$changed"
+    replays "$copy/hidlog"
+done
+
+# A note that is damaged is no reason to run anything.
+: >"$copy/release/out/ran"
+replays "$copy/hidlog"
+
 # A source that is new is seen.
 touch "$copy/crates/session_log/src/new.rt"
 call 3 "$copy/hidlog" replay
 rm "$copy/crates/session_log/src/new.rt"
 replays "$copy/hidlog"
+
+# Without a folder for temporary files it says so, and ends as it does for all that is its own.
+rm -rf "$copy/release/out"
+for folder in "$work/none" "$log" /proc; do
+    call 3 env "TMPDIR=$folder" "$copy/hidlog" replay
+    grep -q "^hidlog: .*TMPDIR" "$work/said" || fail "TMPDIR=$folder: $(cat "$work/said")"
+    [ ! -s "$work/out" ] || fail "TMPDIR=$folder: the program ran"
+done
+call 0 env "TMPDIR=$work/none" "$copy/hidlog" --released replay
+replays "$copy/hidlog"
+call 0 env "TMPDIR=$work/none" "$copy/hidlog" replay
 
 # A changed byte of the program is found.
 cp -p "$copy/release/hidlog" "$work/program"

@@ -22,9 +22,11 @@ replays() {
     grep -q "^same " "$room/said" || stop "$1 says: $(cat "$room/said")"
 }
 
-"$top/packages/build.sh" "$room/first" >/dev/null
-sleep 1
+# The second begins a second later, so that each time in it is another.
+"$top/packages/build.sh" "$room/first" >/dev/null &
+sleep 1.1
 "$top/packages/build.sh" "$room/second" >/dev/null
+wait $! || stop "the first build failed"
 diff -r "$room/first" "$room/second" >/dev/null || stop "two builds differ"
 echo "tests/packages.sh: two builds are the same, byte for byte"
 
@@ -65,12 +67,15 @@ if command -v node >/dev/null; then
         (cd "$room/npm" && tsc --noEmit --module node16 --moduleResolution node16 --lib es2022,dom wrong.mts) >/dev/null &&
             stop "the types of the npm package take any argument"
     fi
+    HIDLOG=$top/release/hidlog node "$top/tests/web/npm_package.mjs" "$room/npm" || stop "the npm package's command or README"
     echo "tests/packages.sh: the npm package is loaded"
 fi
 # Each package is named by both statements, with its sum.
-python3 - "$room/first" <<'END' || stop "the statements don't name the packages"
+python3 - "$room/first" "$top" <<'END' || stop "the statements don't name the packages"
 import hashlib
 import json
+import re
+import subprocess
 import sys
 from pathlib import Path
 
@@ -84,8 +89,24 @@ sums = {
 listed = json.loads(spdx.read_text())["packages"]
 assert {it["packageFileName"]: it["checksums"][0]["checksumValue"] for it in listed if "packageFileName" in it} == sums
 assert {it["name"]: it["digest"]["sha256"] for it in json.loads(provenance.read_text())["subject"]} == sums
+# Versions are those of crates.txt's names, and nothing leads to a name that doesn't exist.
+uses = {
+    word
+    for line in (Path(sys.argv[2]) / "crates.txt").read_text().splitlines()
+    if not line.startswith("#")
+    for word in line.partition(":")[2].split()
+}
+kit = {it["name"].rpartition("-")[2]: it["versionInfo"] for it in listed if " Rust crate " in it.get("comment", "")}
+assert set(kit) == {it for it in uses if not (Path(sys.argv[2]) / "crates" / it).is_dir()}, sorted(kit)
+assert all(re.fullmatch(r"[0-9]+[.][0-9]+[.][0-9]+", it) for it in kit.values()), kit
+assert ".example" not in spdx.read_text() + provenance.read_text()
+# The commit is the one that git has.
+made = json.loads(provenance.read_text())["predicate"]["buildDefinition"]["resolvedDependencies"]
+head = subprocess.run(["git", "-C", sys.argv[2], "rev-parse", "HEAD"], capture_output=True, text=True).stdout.strip()
+assert [it["digest"]["gitCommit"] for it in made if it["name"] == "commit"] == ([head] if head else []), made
+assert {"sources", "sources-python", "sources-npm"} <= {it["name"] for it in made}
 END
-echo "tests/packages.sh: the statements name each package with its sum"
+echo "tests/packages.sh: the statements name each package with its sum, true versions and the commit"
 if command -v lintian >/dev/null; then
     # The packages aren't Debian's own, so they close no bug of Debian's.
     lintian --fail-on error,warning --suppress-tags initial-upload-closes-no-bugs "$room"/first/*.deb || stop "lintian objects"

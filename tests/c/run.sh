@@ -32,16 +32,24 @@ play_on() {
     played=$((played + 1))
 }
 
-# Shows a log, and compares with the program, the text and the line of a fault: show_log LOG [WORD ..]
-show_log() {
+# Shows a log in one form, and compares with the program, the text and the line of a fault:
+# show_form LOG PROGRAM'S-WORD LIBRARY'S-WORD [WORD ..]
+show_form() {
     local status=0 wanted=0
-    "$top/release/hidlog" show <"$1" >"$room/shown" 2>"$room/fault" || wanted=$?
-    "${@:2}" "$room/show" <"$1" >"$room/held" 2>"$room/said" || status=$?
+    "$top/release/hidlog" show "$2" <"$1" >"$room/shown" 2>"$room/fault" || wanted=$?
+    # shellcheck disable=SC2086 # no word is no word
+    "${@:4}" "$room/show" $3 <"$1" >"$room/held" 2>"$room/said" || status=$?
     [ "$status" = "$wanted" ] || stop "showing $1 ends with $status"
     cmp -s "$room/shown" "$room/held" || stop "what is shown differs at $1"
     [ "$(sed -n 's/^hidlog: line \([0-9]*\):.*/\1/p' "$room/fault")" = "$(sed -n 's/.*line //p' "$room/said")" ] ||
         stop "the fault of $1 is another"
     shown=$((shown + 1))
+}
+
+# Shows a log in its fixed text and explained: show_log LOG [WORD ..]
+show_log() {
+    show_form "$1" --plain "" "${@:2}"
+    show_form "$1" --explain explain "${@:2}"
 }
 
 # Makes hostile logs, those of the fuzzer's seed 1.
@@ -67,8 +75,8 @@ show_logs() {
         head -c 700 "$log" >"$room/front"
         show_log "$room/front" "$@"
     done
-    [ "$shown" -ge 150 ] || stop "only $shown logs were shown"
-    echo "tests/c: $shown logs shown as the program shows them"
+    [ "$shown" -ge 300 ] || stop "only $shown logs were shown"
+    echo "tests/c: $((shown / 2)) logs shown as the program shows them, in both forms"
 }
 
 # Runs the programs with the words before them.

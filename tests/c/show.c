@@ -1,5 +1,6 @@
-/* Writes what hidlog_show writes for the log on standard input, and ends with its fault: show. The buffer begins with a
- * few bytes and grows while it is too small, so that each call with less room is tried on the way. */
+/* Writes what hidlog_show writes for the log on standard input, explained where a word is given, and ends with
+ * its fault: show [explain]. The buffer begins with a few bytes and grows while it is too small, so that each
+ * call with less room is tried on the way. */
 #include "hidlog.h"
 
 #include <stdio.h>
@@ -21,7 +22,7 @@ static uint8_t *read_log(size_t *size)
 }
 
 /* Shows the log into memory of just so many bytes, which a sanitizer watches, and one for a byte that stays. */
-static uint8_t *show(const uint8_t *log, size_t size, size_t room, struct hidlog_outcome *outcome)
+static uint8_t *show(const uint8_t *log, size_t size, uint32_t explain, size_t room, struct hidlog_outcome *outcome)
 {
     uint8_t *out = malloc(room + 1);
     if (!out) {
@@ -29,7 +30,7 @@ static uint8_t *show(const uint8_t *log, size_t size, size_t room, struct hidlog
         exit(2);
     }
     out[room] = CANARY;
-    hidlog_show(log, size, out, room, outcome);
+    hidlog_show(log, size, explain, out, room, outcome);
     if (out[room] != CANARY || outcome->written > room || outcome->packet != 0 || outcome->status > HIDLOG_FAULT) {
         fprintf(stderr, "show: a call with %zu bytes of room did what it may not\n", room);
         exit(2);
@@ -37,13 +38,14 @@ static uint8_t *show(const uint8_t *log, size_t size, size_t room, struct hidlog
     return out;
 }
 
-int main(void)
+int main(int count, char **words)
 {
+    (void)words;
     size_t size, room = 3, known = 0;
     uint8_t *log = read_log(&size), *before = malloc(1);
     struct hidlog_outcome outcome;
     for (;;) {
-        uint8_t *out = show(log, size, room, &outcome);
+        uint8_t *out = show(log, size, count > 1, room, &outcome);
         if (known > outcome.written || memcmp(before, out, known)) {
             fprintf(stderr, "show: the text begins otherwise with %zu bytes of room\n", room);
             return 2;

@@ -15,8 +15,8 @@ source "$(dirname "${BASH_SOURCE[0]}")/machine.sh"
 
 build hidraw_vm.sh
 bring_python "$top/conformance" <<'END'
-import keys
-import run
+from hidlog_conformance import keys
+from hidlog_conformance import run
 maker = keys.KeyMaker()
 name, x, y = maker.make()
 assert run and keys.verifies({3: -7, -2: x, -3: y}, b"a", maker.sign(name, b"a"))
@@ -24,7 +24,7 @@ END
 bring "$(command -v nice)"
 mkdir -p "$root/conformance"
 cp "$top"/conformance/*.py "$root/conformance"
-cp -r "$top/conformance/sessions" "$root/conformance"
+cp -r "$top/conformance/hidlog_conformance" "$top/conformance/sessions" "$root/conformance"
 [ $# -gt 0 ] || set -- --only power/c
 [ "$*" != all ] || set --
 printf '%s\n' "$@" >"$root/words"

@@ -58,6 +58,7 @@ bring_python() {
             '    if path and path.startswith("/") and "/conformance/" not in path:' '        print(path)'; } |
             PYTHONDONTWRITEBYTECODE=1 PYTHONPATH=$(IFS=: && echo "$*") /usr/bin/python3 -
     )
+    [ ${#files[@]} -gt 1 ] || { echo "$name: what is brought of Python couldn't be loaded here" >&2 && exit 1; }
     bring "${files[@]}" "$(find /usr/lib -name legacy.so -path '*ossl-modules*' | head -1)"
 }
 
@@ -66,8 +67,8 @@ bring_python() {
 build() {
     local parts module file
     find_kernel
-    parts=("$top/examples/uhid/uhid.c" "$top/examples/ssh/state.c"
-        "$top"/examples/c/{held_key,software_keys,snapshot}.c)
+    parts=("$top"/examples/uhid/{uhid,turns}.c "$top/examples/ssh/state.c"
+        "$top"/examples/c/{held_key,private_file,software_keys,snapshot}.c)
     mkdir -p "$root"/{bin,dev,etc/pam.d,modules,proc,root,sys,tmp}
     # With address and undefined-behaviour checks, which end it by a status of their own.
     compile -g -fsanitize=address,undefined -fno-sanitize-recover=all -I "$top/examples/ssh" -o "$root/bin/uhid" \

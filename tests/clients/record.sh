@@ -18,8 +18,8 @@ pam=$(dpkg -L libpam-u2f 2>/dev/null | grep '/pam_u2f\.so$') || nothing "pam_u2f
 build record_vm.sh
 bring_python "$top/conformance/recorded" "$top/conformance" <<'END'
 import fido2.hid.linux
-import keys
 import python_fido2
+from hidlog_conformance import keys
 maker = keys.KeyMaker()
 name, x, y = maker.make()
 assert keys.verifies({3: -7, -2: x, -3: y}, b"a", maker.sign(name, b"a"))

@@ -27,7 +27,8 @@ end() {
 trap end EXIT
 cd "$room"
 echo "$name: OpenSSH client $(version openssh-client), server $(version openssh-server), libfido2 $(version libfido2-dev)"
-parts=("$top"/examples/ssh/{hidlog_sk,state}.c "$top"/examples/c/{fido_device,held_key,software_keys,snapshot}.c)
+parts=("$top"/examples/ssh/{hidlog_sk,state}.c
+    "$top"/examples/c/{fido_device,held_key,private_file,software_keys,snapshot}.c)
 compile -shared -fPIC -fvisibility=hidden -o libhidlog_sk.so "${parts[@]}" "$library/libhidlog.a" \
     -Wl,--exclude-libs,ALL -lfido2 -lcrypto
 export SSH_SK_PROVIDER=$room/libhidlog_sk.so HIDLOG_SK_STATE=$room/key.state

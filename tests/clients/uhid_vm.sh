@@ -183,6 +183,14 @@ killed() {
         grep -q '^p .* timeout$' second.log
 }
 
+# Starts the bridge as another user, with /dev/uhid open: it makes the device, answers, and ends by a signal.
+without_root() {
+    (exec 3<>/dev/uhid && as_nobody uhid -f 3 /tmp/other.state) 2>bridge.err &
+    bridge=$!
+    soon is_listed && device=$(sed 's/:.*//' listed) && fido2-token -I "$device" | grep -q FIDO_2_0 || return
+    pid=$(pidof uhid) && kill -TERM "$pid" && wait "$bridge" && soon is_gone && [ -s /tmp/other.state ]
+}
+
 has_pam() {
     command -v pamtester >/dev/null
 }
@@ -234,6 +242,7 @@ all() {
     works "plugged in again after the bridge was killed" plug_in third.log
     works "fido2-assert signs in after it, the counter one higher" sign_in_counted
     works "unplugged by an interrupt" unplug INT
+    works "a bridge of another user, which was handed /dev/uhid open" without_root
     for log in first second third; do
         [ "$log" = first ] || load="--load $log.log.snapshot"
         # shellcheck disable=SC2086 # an option and its word

@@ -7,17 +7,17 @@ set -euo pipefail
 tests=$(cd "$(dirname "${BASH_SOURCE[0]}")" && pwd)
 top=$tests/../..
 python=/usr/bin/python3
-if ! "$python" -c 'import cryptography, fido2.server, pytest, venv' 2>/dev/null; then
-    echo "python-fido2, pytest or venv is missing (tests/run --install); nothing was run" >&2
+if ! "$python" -c 'import cryptography, fido2.server, hatchling, pytest, venv' 2>/dev/null; then
+    echo "python-fido2, hatchling, pytest or venv is missing (tests/run --install); nothing was run" >&2
     exit 3
 fi
 work=$(mktemp -d)
 trap 'rm -rf "$work"' EXIT
-"$python" "$top/python/backend.py" "$work/dist"
+"$top/python/build.sh" "$work/dist"
 "$python" -m venv --system-site-packages "$work/venv"
-"$work/venv/bin/pip" install --quiet --no-index --no-deps "$work"/dist/*.whl
+"$work/venv/bin/pip" install --quiet --no-index --no-deps "$work"/dist/*x86_64.whl
 # The tests are run outside of the clone, so that only the installed package is found.
-cp "$tests"/*.py "$work"
+cp "$tests"/*.py "$tests"/*.json "$work"
 export HIDLOG_EXAMPLES=$top/examples HIDLOG_DIST=$work/dist
 export PYTHONDONTWRITEBYTECODE=1
 cd "$work"

@@ -2,19 +2,12 @@
 
 from __future__ import annotations
 
-import json
-import shutil
-import socket
-import subprocess
-import threading
-import time
-import urllib.request
 from base64 import urlsafe_b64encode
 from collections.abc import Iterator
-from http.server import BaseHTTPRequestHandler, ThreadingHTTPServer
 from typing import Any
 
 import pytest
+from chromium import Driver, is_there, page
 from test_json import CREATION, REQUEST
 
 from hidlog import webauthn_json
@@ -63,73 +56,13 @@ const done = arguments[arguments.length - 1];
 """
 
 
-class Page(BaseHTTPRequestHandler):
-    """An empty page."""
-
-    def do_GET(self) -> None:
-        """Answers any path."""
-        self.send_response(200)
-        self.send_header("Content-Type", "text/html")
-        self.end_headers()
-
-    def log_message(self, *_: Any) -> None:
-        """Says nothing of each request."""
-
-
-class Driver:
-    """A session of chromedriver."""
-
-    def __init__(self, port: int):
-        self.url = f"http://127.0.0.1:{port}/session"
-        options = {"args": ["--headless=new", "--no-sandbox"]}
-        started = self.call("", {"capabilities": {"alwaysMatch": {"goog:chromeOptions": options}}})
-        self.url += f"/{started['sessionId']}"
-
-    def call(self, path: str, given: Any, method: str = "POST") -> Any:
-        """Calls a command of WebDriver and returns its value."""
-        body = json.dumps(given).encode() if method == "POST" else None
-        kind = {"Content-Type": "application/json"}
-        request = urllib.request.Request(self.url + path, body, kind, method=method)
-        with urllib.request.urlopen(request, timeout=60) as answer:
-            return json.load(answer)["value"]
-
-    def run(self, script: str, *words: Any, waits: bool = False) -> Any:
-        """Runs a script in the page."""
-        return self.call(f"/execute/{'async' if waits else 'sync'}", {"script": script, "args": words})
-
-
-def wait_for(port: int) -> None:
-    """Waits up to a minute until something listens at a port of this machine."""
-    for _ in range(600):
-        try:
-            socket.create_connection(("127.0.0.1", port)).close()
-            return
-        except ConnectionRefusedError:
-            time.sleep(0.1)
-    raise TimeoutError(f"nothing listens at port {port}")
-
-
 @pytest.fixture(scope="module")
 def browser() -> Iterator[Driver]:
     """A page of a secure origin, with Chromium's own virtual authenticator."""
-    if not shutil.which("chromedriver"):
+    if not is_there():
         pytest.skip("chromedriver is missing (apt-get install chromium-driver)")
-    server = ThreadingHTTPServer(("127.0.0.1", 0), Page)
-    threading.Thread(target=server.serve_forever, daemon=True).start()
-    with socket.socket() as free:
-        free.bind(("127.0.0.1", 0))
-        port = free.getsockname()[1]
-    process = subprocess.Popen(["chromedriver", f"--port={port}"], stdout=subprocess.DEVNULL, stderr=subprocess.DEVNULL)
-    try:
-        wait_for(port)
-        driver = Driver(port)
-        driver.call("/url", {"url": f"http://localhost:{server.server_address[1]}/"})
+    with page() as driver:
         yield driver
-        driver.call("", None, "DELETE")
-    finally:
-        process.terminate()
-        process.wait()
-        server.shutdown()
 
 
 def shown(value: Any) -> Any:

@@ -9,7 +9,6 @@ from hashlib import sha256
 from typing import Any
 
 import pytest
-from conftest import ORIGIN, Service
 from cryptography.hazmat.primitives.asymmetric import ec
 from cryptography.hazmat.primitives.hashes import SHA256
 from cryptography.hazmat.primitives.serialization import load_der_public_key
@@ -17,6 +16,7 @@ from fido2.client import ClientData
 from fido2.ctap2 import AttestationObject, AuthenticatorData
 from fido2.server import Fido2Server
 from fido2.utils import websafe_decode, websafe_encode
+from service import ORIGIN, Service
 
 import hidlog
 from hidlog import cbor, webauthn_json

@@ -10,9 +10,9 @@ from threading import Event
 from typing import Any
 
 import pytest
-from conftest import REFUSED, Service, assert_refused
 from fido2.ctap import CtapError
 from fido2.ctap2 import Ctap2
+from service import REFUSED, Service, assert_refused
 
 import hidlog
 

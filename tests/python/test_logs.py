@@ -1,4 +1,4 @@
-"""The commands on logs, as functions and by python -m hidlog."""
+"""The commands on logs, as functions, by python -m hidlog and by the console script."""
 
 from __future__ import annotations
 
@@ -6,6 +6,7 @@ import os
 import subprocess
 import sys
 from collections.abc import Callable
+from pathlib import Path
 
 import pytest
 
@@ -38,7 +39,17 @@ def test_faults_are_reported() -> None:
         hidlog.replay(b"", b"no snapshot").raise_for_fault()
 
 
+def test_show_writes_what_the_program_writes(example: Example) -> None:
+    for log in (example("sign_in.log"), example("service_presence_denied.log"), b"t 1\nt x\n", b""):
+        for explain, word in ((False, "--plain"), (True, "--explain")):
+            theirs = subprocess.run([program(), "show", word], input=log, capture_output=True)
+            shown = hidlog.show(log, explain=explain)
+            assert (shown.text, shown.status) == (theirs.stdout, theirs.returncode)
+
+
 def test_a_text_is_a_type_error() -> None:
+    with pytest.raises(TypeError, match="has to be bytes, bytearray or memoryview, not str"):
+        hidlog.show("t 1\n")  # type: ignore[arg-type]
     for command in (hidlog.replay, hidlog.check, hidlog.quiet, hidlog.live):
         with pytest.raises(TypeError, match="has to be bytes, bytearray or memoryview, not str"):
             command("t 1\n")  # type: ignore[arg-type]
@@ -64,13 +75,27 @@ def test_each_command_is_the_program(example: Example, command: str) -> None:
         theirs = subprocess.run([program(), command], input=log, capture_output=True)
         status, output, faults = ran(command, log=log)
         assert (status, output) == (theirs.returncode, theirs.stdout)
-        # The program says more on the next line, such as the first byte that doesn't fit.
-        assert faults.splitlines()[:1] == theirs.stderr.splitlines()[:1]
+        assert faults == theirs.stderr
 
 
-def test_show_without_the_program() -> None:
-    status, _, text = ran("show", HIDLOG="/nowhere/hidlog")
-    assert (status, text.startswith(b"hidlog: show needs the program: hidlog isn't found: it is not /nowhere/")) == (
-        2,
-        True,
-    )
+def test_a_missing_program_is_said_in_one_line() -> None:
+    status, output, text = ran("show", HIDLOG="/nowhere/hidlog")
+    assert (status, output, text.count(b"\n")) == (2, b"", 1)
+    assert text.startswith(b"hidlog: the program is missing: it is not /nowhere/hidlog.")
+
+
+def test_the_console_script_is_the_program(example: Example, tmp_path: Path) -> None:
+    script = Path(sys.executable).parent / "hidlog"
+    (tmp_path / "session.log").write_bytes(example("sign_in.log"))
+    words: list[list[str]] = [
+        ["--version"],
+        ["show", "--summary", "session.log"],
+        ["show", "--json", "session.log"],
+        [],
+    ]
+    for given in words:
+        theirs, own = (
+            subprocess.run([path, *given], cwd=tmp_path, capture_output=True, stdin=subprocess.DEVNULL)
+            for path in (program(), str(script))
+        )
+        assert (own.returncode, own.stdout, own.stderr) == (theirs.returncode, theirs.stdout, theirs.stderr)

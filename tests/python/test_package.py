@@ -6,6 +6,7 @@ import os
 import re
 import subprocess
 import sys
+import tarfile
 import zipfile
 from importlib import metadata
 from pathlib import Path
@@ -16,12 +17,19 @@ DIST = Path(os.environ["HIDLOG_DIST"])
 TOP = Path(os.environ["HIDLOG_EXAMPLES"]).resolve().parent
 HEADINGS = re.findall(r"^## (\d.*)$", (TOP / "CHANGELOG.md").read_text(encoding="utf-8"), re.MULTILINE)
 VERSION = HEADINGS[0]
+PROCESSOR = re.compile(r"x86_64|aarch64")
 
 
 def test_the_installed_package_is_tested() -> None:
     assert Path(hidlog.__file__).is_relative_to(sys.prefix)
     assert hidlog.__version__ == metadata.version("hidlog") == VERSION
     assert (Path(hidlog.__file__).parent / "py.typed").exists()
+
+
+def test_each_public_name_is_there() -> None:
+    found = {name: getattr(hidlog, name) for name in hidlog.__all__}
+    errors = {it for it in found.values() if isinstance(it, type) and issubclass(it, Exception)}
+    assert len(errors) >= 24 and all(issubclass(it, hidlog.HidlogError) for it in errors)
 
 
 def test_the_version_is_the_same_everywhere() -> None:
@@ -31,20 +39,51 @@ def test_the_version_is_the_same_everywhere() -> None:
     assert said.stdout == f"hidlog {VERSION}\n"
 
 
-def test_the_sdist_makes_the_same_wheel(tmp_path: Path) -> None:
-    (sdist,), (wheel,) = DIST.glob("*.tar.gz"), DIST.glob("*.whl")
+def test_the_sdist_makes_the_same_wheels(tmp_path: Path) -> None:
+    (sdist,), wheels = DIST.glob("*.tar.gz"), sorted(DIST.glob("*.whl"))
     subprocess.run(["tar", "-xf", sdist, "-C", tmp_path], check=True)
     (folder,) = tmp_path.iterdir()
-    subprocess.run([sys.executable, folder / "backend.py", tmp_path / "made"], check=True, capture_output=True)
-    assert (tmp_path / "made" / wheel.name).read_bytes() == wheel.read_bytes()
-    assert (tmp_path / "made" / sdist.name).read_bytes() == sdist.read_bytes()
+    for wheel in wheels:
+        variables = {
+            **os.environ,
+            "HIDLOG_PROCESSOR": PROCESSOR.findall(wheel.name)[0],
+            "SOURCE_DATE_EPOCH": "315532800",
+        }
+        words = ["/usr/bin/python3", "-m", "hatchling", "build", "-t", "wheel", "-d", str(tmp_path / "made")]
+        subprocess.run(words, cwd=folder, env=variables, check=True, capture_output=True)
+        assert (tmp_path / "made" / wheel.name).read_bytes() == wheel.read_bytes()
 
 
-def test_the_wheel_holds_what_its_record_says() -> None:
-    (wheel,) = DIST.glob("*.whl")
-    with zipfile.ZipFile(wheel) as archive:
-        record = archive.read(f"hidlog-{VERSION}.dist-info/RECORD").decode().splitlines()
-        assert sorted(it.split(",")[0] for it in record) == sorted(archive.namelist())
+def test_the_sdist_holds_each_file_once() -> None:
+    (sdist,) = DIST.glob("*.tar.gz")
+    with tarfile.open(sdist) as archive:
+        names = [it.name.partition("/")[2] for it in archive]
+        assert all(it.isfile() for it in archive) and len(set(names)) == len(names)
+    assert {"LICENSE-MIT", "LICENSE-APACHE", "NOTICE", "README.md", "hatch_build.py", "src/hidlog/py.typed"} <= set(
+        names
+    )
+
+
+def test_a_wheel_holds_what_its_record_says() -> None:
+    for wheel in DIST.glob("*.whl"):
+        with zipfile.ZipFile(wheel) as archive:
+            record = archive.read(f"hidlog-{VERSION}.dist-info/RECORD").decode().splitlines()
+            assert sorted(it.split(",")[0] for it in record) == sorted(archive.namelist())
+            names = {it.rpartition("/")[2] for it in archive.namelist()}
+            assert {"LICENSE-MIT", "LICENSE-APACHE", "NOTICE", "libhidlog.so.0", "BUILD"} <= names
+            assert ("hidlog" in names) == ("x86_64" in wheel.name)
+
+
+def test_the_licences_are_those_of_the_repository() -> None:
+    for name in ("LICENSE-MIT", "LICENSE-APACHE"):
+        assert (TOP / "python" / name).read_bytes() == (TOP / name).read_bytes()
+
+
+def test_the_metadata_says_what_a_registry_shows() -> None:
+    said = metadata.metadata("hidlog")
+    assert said["Requires-Python"] == ">=3.9" and said["License"] == "MIT OR Apache-2.0"
+    assert "Framework :: Pytest" in said.get_all("Classifier", [])
+    assert len(said.get_all("Project-URL", [])) == 3 and "webauthn" in said["Keywords"]
 
 
 def test_logs_need_no_other_package() -> None:
@@ -54,3 +93,23 @@ def test_logs_need_no_other_package() -> None:
         "assert hidlog.check(b't 1\\n').text == b'same 1 inputs 0 packets\\n'; assert 'cryptography' not in sys.modules"
     )
     subprocess.run([*words, code], check=True)
+
+
+def test_an_editable_install(tmp_path: Path) -> None:
+    """The clone stays as it is, and its own files are imported."""
+    subprocess.run(["/usr/bin/python3", "-m", "venv", "--system-site-packages", tmp_path / "venv"], check=True)
+    words = ["install", "--quiet", "--no-index", "--no-build-isolation", "--no-deps", "-e", str(TOP / "python")]
+    subprocess.run([str(tmp_path / "venv/bin/pip"), *words], check=True)
+    code = "import hidlog; hidlog.SecurityKey().close(); print(hidlog.__file__)"
+    ran = subprocess.run([str(tmp_path / "venv/bin/python"), "-c", code], check=True, capture_output=True, text=True)
+    assert Path(ran.stdout.strip()) == TOP / "python" / "src" / "hidlog" / "__init__.py"
+
+
+def test_nothing_is_imported_before_it_is_asked_for() -> None:
+    """Each process that has the plugin of pytest pays for what the import takes."""
+    words = (
+        "import sys, hidlog; print([it for it in sys.modules if it.startswith('hidlog.')], hidlog.check, hidlog.errors)"
+    )
+    said = subprocess.run([sys.executable, "-c", words], capture_output=True, text=True, check=True)
+    assert said.stdout.startswith("[] <function check")
+    assert set(hidlog.__all__) == set(hidlog._LATER)

@@ -27,13 +27,18 @@ def test_the_recordings_of_a_failed_test(pytester: pytest.Pytester) -> None:
     pytester.makepyfile(test_suite=SUITE)
     result = pytester.runpytest_subprocess("--security-key-log", "kept")
     result.assert_outcomes(passed=1, failed=1)
-    names = ["test_suite.test_bad-2.1.log", "test_suite.test_bad-2.log", "test_suite.test_bad.log"]
+    names = ["test_suite.test_bad.key2.1.log", "test_suite.test_bad.key2.log", "test_suite.test_bad.log"]
     assert sorted(it.name for it in Path("kept").glob("*.log")) == names
     result.stdout.fnmatch_lines(
         [
             "*CtapError 0x27 OPERATION_DENIED",
             "*- security key -*",
-            *(f"recorded in kept/{it}" for it in names[::-1][:1]),
+            "*authenticatorGetInfo *CTAP2_OK 00*",
+            "recorded in kept/test_suite.test_bad.log",
+            "the call that failed came to line * of kept/test_suite.test_bad.log",
+            "*- security key 2 -*",
+            "*authenticatorSelection *CTAP2_ERR_OPERATION_DENIED 27*",
+            "the call that failed came to line * of kept/test_suite.test_bad.key2.log",
         ]
     )
     assert b"# the key of the failed test\n" in Path("kept", names[2]).read_bytes()
@@ -48,8 +53,165 @@ def test_without_the_option_nothing_is_kept(pytester: pytest.Pytester) -> None:
     result.assert_outcomes(passed=1, failed=1)
     assert not list(Path().glob("**/*.log"))
     assert "recorded in" not in result.stdout.str()
+    result.stdout.fnmatch_lines(["*authenticatorSelection *", "the call that failed came to line * of the log"])
+
+
+PHASES = """
+import hidlog
+import pytest
+
+@pytest.fixture
+def broken(security_key):
+    hidlog.Client(security_key).request(4)
+    raise ValueError("set-up")
+
+@pytest.fixture
+def breaks(security_key):
+    yield hidlog.Client(security_key)
+    raise ValueError("teardown")
+
+def test_set_up(broken):
+    pass
+
+def test_teardown(breaks):
+    breaks.request(4)
+"""
+
+
+def test_set_up_and_teardown_keep_their_recordings(pytester: pytest.Pytester) -> None:
+    pytester.makepyfile(test_suite=PHASES)
+    result = pytester.runpytest_subprocess("--security-key-log", "kept")
+    result.assert_outcomes(passed=1, errors=2)
+    assert sorted(it.name for it in Path("kept").iterdir()) == [
+        "test_suite.test_set_up.log",
+        "test_suite.test_teardown.log",
+    ]
+    result.stdout.fnmatch_lines(["the setup that failed came to line *", "the teardown that failed came to line *"])
+    for name in Path("kept").iterdir():
+        assert b"\n> " in name.read_bytes()
+
+
+SCOPES = """
+import hidlog
+import pytest
+
+@pytest.fixture(scope="{scope}")
+def registered(security_key):
+    security_key.credentials.add("example.com", b"ann")
+    return security_key
+
+def test_first(registered):
+    assert len(registered.credentials) == 1
+    registered.note("first")
+
+def test_second(registered, security_key):
+    assert registered is security_key
+    security_key.note("second")
+    assert False
+"""
+
+
+@pytest.mark.parametrize("scope", ["class", "module", "package", "session"])
+@pytest.mark.parametrize("is_setting", [True, False])
+def test_fixtures_of_any_scope(pytester: pytest.Pytester, scope: str, is_setting: bool) -> None:
+    pytester.makepyfile(test_suite=IN_CLASS if scope == "class" else SCOPES.format(scope=scope))
+    if is_setting:
+        pytester.makeini(f"[pytest]\nsecurity_key_scope = {scope}\n")
+    words = [] if is_setting else ["--security-key-scope", scope]
+    result = pytester.runpytest_subprocess("--security-key-log", "kept", *words)
+    result.assert_outcomes(passed=1, failed=1)
+    (log,) = (it for it in Path("kept").glob("*test_second.log"))
+    assert b"# first\n" in log.read_bytes() and b"# second\n" in log.read_bytes()
+
+
+IN_CLASS = """
+import pytest
+
+class TestAll:
+    def test_first(self, security_key):
+        security_key.note("first")
+
+    def test_second(self, security_key):
+        security_key.note("second")
+        assert False
+"""
+
+
+def test_a_wrong_scope_is_named(pytester: pytest.Pytester) -> None:
+    pytester.makepyfile(test_suite=SUITE)
+    pytester.makeini("[pytest]\nsecurity_key_scope = modul\n")
+    result = pytester.runpytest_subprocess()
+    assert "security_key_scope is 'modul'; it has to be one of function" in result.stdout.str() + result.stderr.str()
+
+
+SAME_NAMES = """
+import pytest
+
+@pytest.mark.parametrize("name", ["a b", "a_b", "a:b", "A_B", "x" * 400])
+def test_names(security_key, name):
+    security_key.note(name[:20])
+    assert False
+"""
+
+
+@pytest.mark.parametrize("workers", [0, 2])
+def test_names_that_look_the_same_are_numbered(pytester: pytest.Pytester, workers: int) -> None:
+    if workers:
+        pytest.importorskip("xdist")
+    pytester.makepyfile(test_suite=SAME_NAMES)
+    words = ["-p", "xdist", "-n", str(workers)] if workers else []
+    result = pytester.runpytest_subprocess("--security-key-log", "kept", *words)
+    result.assert_outcomes(failed=5)
+    logs = [it.read_bytes().split(b"\n")[0] for it in Path("kept").glob("*.log")]
+    assert sorted(logs) == [b"# A_B", b"# a b", b"# a:b", b"# a_b", b"# " + b"x" * 20]
+
+
+MANY = """
+import pytest
+
+OPTIONS = {
+    "challenge": "AAAA",
+    "rp": {"name": "Example"},
+    "pubKeyCredParams": [{"type": "public-key", "alg": -7}],
+    "authenticatorSelection": {"residentKey": "required"},
+}
+
+@pytest.mark.parametrize("number", range(40))
+def test_ten_registrations(make_security_key, number):
+    key = make_security_key()
+    browser = key.browser("http://localhost:5000")
+    for it in range(10):
+        browser.create({**OPTIONS, "user": {"id": f"AA{it}A", "name": str(it), "displayName": ""}})
+    assert len(key.credentials) == 10
+"""
+
+
+def test_four_hundred_registrations_by_four_workers(pytester: pytest.Pytester) -> None:
+    pytest.importorskip("xdist")
+    pytester.makepyfile(test_suite=MANY)
+    pytester.runpytest_subprocess("-p", "xdist", "-n", "4").assert_outcomes(passed=40)
 
 
 def test_the_fixtures_are_listed(pytester: pytest.Pytester) -> None:
     result = pytester.runpytest_subprocess("--fixtures")
     result.stdout.fnmatch_lines(["make_security_key*", "security_key*"])
+
+
+FREED = """
+import gc
+import pytest
+import hidlog
+
+@pytest.mark.parametrize("number", range(40))
+def test_one(number, security_key):
+    hidlog.Client(security_key)
+
+def test_what_is_kept(security_key):
+    gc.collect()
+    assert sum(isinstance(it, hidlog.SecurityKey) for it in gc.get_objects()) == 1
+"""
+
+
+def test_keys_are_gone_after_their_tests(pytester: pytest.Pytester) -> None:
+    pytester.makepyfile(test_suite=FREED)
+    pytester.runpytest_subprocess().assert_outcomes(passed=41)

@@ -9,10 +9,11 @@ from pathlib import Path
 from typing import Any
 
 import pytest
-from conftest import REFUSED, Service, assert_refused
 from fido2.ctap import CtapError
+from service import REFUSED, Service, assert_refused
 
 import hidlog
+from hidlog import cbor
 from hidlog.credentials import write_snapshot
 
 Make = Callable[..., hidlog.SecurityKey]
@@ -77,7 +78,9 @@ def test_an_added_credential_replaces_that_of_its_user(make: Make) -> None:
     assert list(key.credentials) == [hidden, second]
     with pytest.raises(hidlog.ArgumentError, match="the same relying party and user"):
         key.credentials.change(hidden.id, discoverable=True)
-    with pytest.raises(hidlog.ArgumentError, match="there is no rp_id to change; there are counter, user_name"):
+    with pytest.raises(
+        hidlog.ArgumentError, match="there is no member to change 'rp_id'; there are counter, user_name"
+    ):
         key.credentials.change(hidden.id, rp_id="example.org")
     with pytest.raises(hidlog.ArgumentError, match="holds a credential with the id"):
         key.credentials.add("example.com", credential_id=second.id)
@@ -154,3 +157,60 @@ def test_without_a_recording(make: Make) -> None:
             len(key.credentials)
     else:
         assert key.credentials.get(alice.credential_id).counter == 1
+
+
+def test_a_snapshot_at_its_limits(make: Make) -> None:
+    """The snapshot is that of an encoder that knows no rows, and the core takes it and lists the same credentials."""
+    point = hidlog.SecurityKey().credentials.add("example.com")
+    listed = [
+        replace(
+            point, id=bytes([number]) * 32, user_id=user, user_name=name, counter=counter, discoverable=number % 2 == 0
+        )
+        for number, (user, name, counter) in enumerate(
+            [
+                (b"", "", 0),
+                (b"a" * 23, "b" * 24, 23),
+                (b"c" * 24, "\u00e9" * 32, 24),
+                (b"d" * 64, "e" * 64, 2**32 - 1),
+            ]
+        )
+    ]
+    members = ("rp_id_hash", "id", "x", "y", "user_id", "discoverable", "counter", "user_name")
+    rows = [dict(enumerate((getattr(it, name) for name in members), 1)) for it in listed]
+    assert write_snapshot(listed) == cbor.encode({1: 2, 2: rows})
+    with make(snapshot=write_snapshot(listed)) as key:
+        assert list(key.credentials) == listed and len(key.credentials) == len(listed)
+        assert key.snapshot() == write_snapshot(listed)
+    with pytest.raises(hidlog.ArgumentError, match="ids of 32 bytes"):
+        write_snapshot([replace(point, id=b"short")])
+
+
+def test_a_key_as_text(make: Make) -> None:
+    """What dumps returned is the key again, and its counters are above those that a service has seen."""
+    with make() as key:
+        alice = Service(key).register()
+        Service(key).sign_in([alice])
+        text, held = key.dumps(), list(key.credentials)
+    with hidlog.SecurityKey.loads(text) as again:
+        assert list(again.credentials) == held
+        assert Service(again).sign_in([alice]).authenticator_data.counter == 2
+    with hidlog.SecurityKey.loads(text, counter_margin=1000) as later:
+        assert [it.counter for it in later.credentials] == [it.counter + 1000 for it in held]
+    with hidlog.SecurityKey.loads(text, counter_margin=2**32 - 1) as last:
+        assert [it.counter for it in last.credentials] == [2**32 - 1] * len(held)
+    for wrong in (None, b"{}", "", "{}", text[:-9]):
+        with pytest.raises(hidlog.ArgumentError):
+            hidlog.SecurityKey.loads(wrong)  # type: ignore[arg-type]
+
+
+def test_recordings_are_forgotten(make: Make) -> None:
+    with make() as key:
+        key.credentials.add("example.com", b"alice")
+        hidlog.Client(key).request(4)
+        before = key.snapshot()
+        key.forget_recordings()
+        (recording,) = key.recordings
+        assert recording.snapshot == before and b"\n< " in recording.log
+        assert hidlog.check(recording.log, recording.snapshot).raise_for_fault()
+        hidlog.Client(key).request(4)
+        assert hidlog.check(key.recordings[-1].log, before).raise_for_fault()

@@ -20,6 +20,8 @@ type judged struct {
 	PublicKey  string          `json:"public_key"`
 	Counter    uint32          `json:"counter"`
 	Credential json.RawMessage `json:"credential"`
+	// "required" or "discouraged", as the service asks for the user's verification.
+	Verification string `json:"verification"`
 }
 
 func registration(it judged) error {
@@ -27,7 +29,7 @@ func registration(it judged) error {
 	if err != nil {
 		return err
 	}
-	return parsed.Verify(it.Challenge, false, it.RPID, it.Origin)
+	return parsed.Verify(it.Challenge, it.Verification == "required", it.RPID, it.Origin)
 }
 
 func assertion(it judged) error {
@@ -39,7 +41,7 @@ func assertion(it judged) error {
 	if err != nil {
 		return err
 	}
-	if err := parsed.Verify(it.Challenge, it.RPID, it.Origin, "", false, key); err != nil {
+	if err := parsed.Verify(it.Challenge, it.RPID, it.Origin, "", it.Verification == "required", key); err != nil {
 		return err
 	}
 	stored := webauthn.Authenticator{SignCount: it.Counter}

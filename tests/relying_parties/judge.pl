@@ -14,7 +14,7 @@ for my $case (@$cases) {
         if ( $case->{kind} eq 'registration' ) {
             $service->validate_registration(
                 challenge_b64          => $case->{challenge},
-                requested_uv           => 'discouraged',
+                requested_uv           => $case->{verification},
                 client_data_json_b64   => $response->{clientDataJSON},
                 attestation_object_b64 => $response->{attestationObject},
             );
@@ -24,7 +24,7 @@ for my $case (@$cases) {
                 challenge_b64          => $case->{challenge},
                 credential_pubkey_b64  => $case->{public_key},
                 stored_sign_count      => $case->{counter},
-                requested_uv           => 'discouraged',
+                requested_uv           => $case->{verification},
                 client_data_json_b64   => $response->{clientDataJSON},
                 authenticator_data_b64 => $response->{authenticatorData},
                 signature_b64          => $response->{signature},

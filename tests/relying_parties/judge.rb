@@ -16,10 +16,13 @@ end
 
 def verify(judged)
   if judged['kind'] == 'registration'
-    WebAuthn::Credential.from_create(judged['credential']).verify(judged['challenge'])
+    WebAuthn::Credential.from_create(judged['credential']).verify(
+      judged['challenge'], user_verification: judged['verification'] == 'required'
+    )
   else
     WebAuthn::Credential.from_get(judged['credential']).verify(
-      judged['challenge'], public_key: judged['public_key'], sign_count: judged['counter']
+      judged['challenge'], public_key: judged['public_key'], sign_count: judged['counter'],
+                           user_verification: judged['verification'] == 'required'
     )
   end
 end

@@ -3,7 +3,8 @@
 
     tests/relying_parties/run.py [NAME ..]     by default each library that is there: python, perl, ruby, go
 
-The key registers and signs in through python-fido2's client. Each library then gets the same cases as JSON, and has to
+The key registers and signs in through python-fido2's client; with a verified user, at a service of http://localhost,
+through the browser of the package. Each library then gets the same cases as JSON, and has to
 say yes to the right ones and no to the wrong ones. The last line is `N passed, N failed, N skipped`. Exit status 1 where
 a library's answer is another, 3 where no library is there. It needs python3-fido2 and python3-cryptography.
 """
@@ -27,11 +28,13 @@ sys.path.insert(0, str(TOP / "python" / "src"))
 
 from fido2 import cbor
 from fido2.client import Fido2Client
-from hidlog import SecurityKey
+from hidlog import SecurityKey, check
 from hidlog.webauthn_json import authentication_json, data_of as data, registration_json, text_of as text
 
 ORIGIN, RP_ID = "https://example.com", "example.com"
+LOCAL = "http://localhost:5000"
 Case = dict[str, Any]
+Json = dict[str, Any]
 
 
 class Library(NamedTuple):
@@ -80,6 +83,7 @@ def registered(key: SecurityKey, challenge: bytes, rp_id: str = RP_ID, origin: s
     public = made.attestation_object.auth_data.credential_data.public_key
     return {
         "kind": "registration",
+        "verification": "discouraged",
         "origin": ORIGIN,
         "rp_id": RP_ID,
         "challenge": text(challenge),
@@ -120,6 +124,69 @@ def with_attestation_signature(case: Case) -> Case:
     signature[-1] ^= 1
     made["attStmt"]["sig"] = bytes(signature)
     response["attestationObject"] = urlsafe_b64encode(cbor.encode(made)).rstrip(b"=").decode()
+    return other
+
+
+def attested(key: SecurityKey, credential: Json) -> str:
+    """Returns the COSE key of a credential."""
+    held = key.credentials.get(data(credential["id"]))
+    return str(text(cbor.encode({1: 2, 3: -7, -1: 1, -2: held.x, -3: held.y})))
+
+
+def verified_cases() -> list[tuple[str, bool, Case]]:
+    """Returns cases of a service at http://localhost that requires a verified user and a resident key.
+
+    The browser is the package's own. What it signs for a user who wasn't verified is to be refused.
+    """
+    first, second = (os.urandom(32) for _ in range(2))
+    base = {"verification": "required", "origin": LOCAL, "rp_id": "localhost", "counter": 0}
+    with SecurityKey(verification="verified", attachment="platform") as key:
+        browser = key.browser(LOCAL)
+        asked: Json = {
+            "rp": {"name": "Example"},
+            "user": {"id": text(b"alice"), "name": "alice", "displayName": "Alice"},
+            "challenge": text(first),
+            "pubKeyCredParams": [{"type": "public-key", "alg": -7}],
+            "authenticatorSelection": {"residentKey": "required", "userVerification": "required"},
+        }
+        made = browser.create(asked)
+        found = browser.get({"challenge": text(second), "userVerification": "required"})
+        unseen = browser.get({"challenge": text(second), "userVerification": "discouraged"})
+        public = attested(key, found)
+        key.verification = "none"
+        unverified = browser.create({**asked, "authenticatorSelection": {"residentKey": "required"}})
+        key.verification = "verified"
+        key.default_backup_eligibility = key.default_backup_state = True
+        backed = browser.create(asked)
+    check_flags([(made, 0x45), (found, 0x05), (unseen, 0x01), (backed, 0x5D), (unverified, 0x41)])
+    for snapshot, log in key.recordings:
+        check(log, snapshot).raise_for_fault()
+    registration = {**base, "kind": "registration", "challenge": text(first)}
+    sign_in = {**base, "kind": "assertion", "challenge": text(second), "public_key": public}
+    return [
+        ("a registration of a verified user", True, {**registration, "credential": made}),
+        ("a registration of a verified user, backed up", True, {**registration, "credential": backed}),
+        ("a registration of a user who isn't verified", False, {**registration, "credential": unverified}),
+        ("a sign-in of a verified user", True, {**sign_in, "credential": found}),
+        ("a sign-in of a user who isn't verified", False, {**sign_in, "credential": unseen}),
+        ("a sign-in whose flag UV was set later", False, {**sign_in, "credential": with_flag_uv(unseen)}),
+    ]
+
+
+def check_flags(answers: list[tuple[Json, int]]) -> None:
+    """Compares flags with those of WebAuthn Level 3, section 6.1."""
+    for answer, flags in answers:
+        found = data(answer["response"]["authenticatorData"])[32]
+        if found != flags:
+            raise SystemExit(f"run.py: the flags are 0x{found:02X} in place of 0x{flags:02X}")
+
+
+def with_flag_uv(answer: Json) -> Json:
+    """Returns a sign-in whose flag UV is set, and the signature as it was."""
+    other = deepcopy(answer)
+    changed_data = bytearray(data(other["response"]["authenticatorData"]))
+    changed_data[32] |= 0x04
+    other["response"]["authenticatorData"] = text(bytes(changed_data))
     return other
 
 
@@ -179,7 +246,7 @@ def main() -> int:
             print(f"run.py: there is no library {name}; there are {', '.join(LIBRARIES)}", file=sys.stderr)
             return 2
     with SecurityKey() as key:
-        cases = cases_of(key)
+        cases = cases_of(key) + verified_cases()
     passed = failed = skipped = 0
     for name in names:
         if not LIBRARIES[name].is_there():

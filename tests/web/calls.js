@@ -34,7 +34,7 @@ const seenOfRegistration = (made) => {
     return {
         is: made instanceof PublicKeyCredential && response instanceof AuthenticatorAttestationResponse,
         type: made.type, attachment: made.authenticatorAttachment, idBytes: made.rawId.byteLength,
-        clientData: JSON.parse(text(response.clientDataJSON)), flags: authData[32] & 0x45,
+        clientData: JSON.parse(text(response.clientDataJSON)), flags: authData[32] & 0x5d,
         counter: new DataView(authData.buffer).getUint32(33),
         fmt: /fmt.(packed|none)/.exec(text(response.attestationObject))?.[1],
         transports: response.getTransports(), algorithm: response.getPublicKeyAlgorithm(),
@@ -53,7 +53,7 @@ const seenOfSignIn = (used) => {
         is: used instanceof PublicKeyCredential && response instanceof AuthenticatorAssertionResponse,
         type: used.type, attachment: used.authenticatorAttachment,
         clientData: JSON.parse(text(response.clientDataJSON)),
-        flags: authData[32] & 0x45, length: authData.length,
+        flags: authData[32] & 0x5d, length: authData.length,
         user: response.userHandle && [...new Uint8Array(response.userHandle)],
         extensions: used.getClientExtensionResults(), json: Object.keys(json).sort(),
         responseJson: Object.keys(json.response).sort(),
@@ -170,7 +170,8 @@ const optionsOfRegistration = {
     "create, userVerification unknown": () => create(selection({ userVerification: "maybe" })),
     "create, attachment platform": () =>
         create(selection({ authenticatorAttachment: "platform" }), { signal: AbortSignal.timeout(HANGS) }),
-    "create, attachment cross-platform": () => create(selection({ authenticatorAttachment: "cross-platform" })),
+    "create, attachment cross-platform": () =>
+        create(selection({ authenticatorAttachment: "cross-platform" }), { signal: AbortSignal.timeout(HANGS) }),
     "create, attachment unknown": () => create(selection({ authenticatorAttachment: "internal" })),
     "create, authenticatorSelection null": () => create(selection(null)),
     "create, authenticatorSelection a text": () => create(selection("x")),

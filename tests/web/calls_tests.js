@@ -4,10 +4,11 @@ import { callsOf, endOf, outcomeOf } from "./calls.js";
 import { framed, toldBy } from "./frames.js";
 import { expect, results } from "./harness.js";
 import { create, creationOptions, get, getBy, named, toText, withKey } from "./options.js";
-import { reasonOf } from "./reasons.js";
+import { KINDS, reasonOf } from "./reasons.js";
 
-const endsAsInChromium = async (key) => {
-    const expected = await (await fetch("chromium_outcomes.json")).json();
+/** The calls that end otherwise than those of Chromium's authenticator of this kind did. */
+const otherEnds = async (kind, expected) => {
+    const key = install(KINDS[kind]);
     const calls = callsOf({
         presence: (enabled) => key.setAutomaticPresenceSimulation(enabled), clear: () => key.clearCredentials(),
     });
@@ -15,12 +16,24 @@ const endsAsInChromium = async (key) => {
     for (const [name, call] of Object.entries(calls)) {
         await key.clearCredentials();
         const end = endOf(await outcomeOf(call));
-        if (end !== expected[name] && !reasonOf(name, "error")) {
-            wrong.push(`${name}: ${end} in place of ${expected[name]}`);
+        if (end !== expected[name] && !reasonOf(kind, name, "error")) {
+            wrong.push(`${kind}: ${name}: ${end} in place of ${expected[name]}`);
         }
     }
-    results.figures.push(`${Object.keys(calls).length} calls end as in Chromium, but for the reasons of reasons.js`);
-    expect(Object.keys(calls).length >= 80 && !wrong.length, wrong.join("\n"));
+    key.uninstall();
+    results.figures.push(`${kind}: ${Object.keys(calls).length} calls end as in Chromium, but for the reasons of`
+        + " reasons.js");
+    expect(Object.keys(calls).length >= 190, "few calls");
+    return wrong;
+};
+
+const endsAsInChromium = async () => {
+    const expected = await (await fetch("chromium_outcomes.json")).json();
+    const wrong = [];
+    for (const kind of Object.keys(KINDS)) {
+        wrong.push(...await otherEnds(kind, expected[kind]));
+    }
+    expect(!wrong.length, wrong.join("\n"));
 };
 
 const REGISTRATION = ["attestationObject", "authenticatorData", "clientDataJSON", "publicKey", "publicKeyAlgorithm",
@@ -96,7 +109,7 @@ const needsNoEval = async () => {
 };
 
 export const callsTests = {
-    "calls end as in Chromium": withKey(endsAsInChromium),
+    "calls end as in Chromium": endsAsInChromium,
     "a credential's JSON": withKey(hasItsJson),
     "navigator.credentials stays what it is": staysTheContainer,
     "clientDataJSON tells the origins of frames": tellsItsOrigins,

@@ -4,8 +4,13 @@ import { install } from "../../web/dist/security_key.mjs";
 import { callsOf, endOf, outcomeOf } from "./calls.js";
 import { post, results } from "./harness.js";
 import { create, getBy } from "./options.js";
-import { reasonOf } from "./reasons.js";
+import { KINDS, reasonOf } from "./reasons.js";
 
+// What DevTools calls protocols.
+const PROTOCOLS = {
+    "ctap1/u2f": { protocol: "u2f" }, ctap2: { protocol: "ctap2" },
+    ctap2_1: { protocol: "ctap2", ctap2Version: "ctap2_1" },
+};
 const ROUNDS = 60;
 const MOST_SHOWN = 20;
 
@@ -22,13 +27,13 @@ const comparedOf = ({ text, ...outcome }) =>
     new Map(partsOf(outcome).filter(([path]) => !path.includes("other_keys_can_be_added_here")));
 
 /** The differences of two outcomes, with their reasons. */
-const differences = (name, native, own) => {
+const differences = (kind, name, native, own) => {
     const [one, other] = [comparedOf(native), comparedOf(own)];
     const isOtherEnd = one.has("error") !== other.has("error");
     const paths = isOtherEnd ? ["error"] : [...new Set([...one.keys(), ...other.keys()])];
     return paths.filter((path) => one.get(path) !== other.get(path)).map((path) => ({
         name, path, native: one.get(path) ?? "done", own: other.get(path) ?? "done",
-        reason: reasonOf(name, path),
+        reason: reasonOf(kind, name, path),
     }));
 };
 
@@ -41,8 +46,11 @@ const outcomesOf = async (environment) => {
     return outcomes;
 };
 
-/** The median of a registration and a sign-in, in milliseconds. */
+/** The median of a registration and a sign-in, in milliseconds; nothing where the user fails. */
 const median = async () => {
+    if (await create().then(() => false, () => true)) {
+        return "no";
+    }
     const all = [];
     for (let round = 0; round < ROUNDS; round += 1) {
         const begun = performance.now();
@@ -53,21 +61,21 @@ const median = async () => {
 };
 
 /** Prints the differences of each reason, and fails at one that has none. */
-const report = (found, count, sameTexts) => {
+const report = (kind, found, count, sameTexts) => {
     const lines = new Map();
     for (const { name, path, native, own, reason } of found) {
         const said = `${name}: ${path} ${native}, here ${own}`;
         lines.set(reason, new Set(lines.get(reason)).add(reason === undefined ? said : name));
     }
-    const other = new Set(found.filter(({ path }) => !/(flags|counter|fmt)$/.test(path)).map((it) => it.name)).size;
-    results.figures.push(`${count} calls, of which ${count - other} gave the same but for UV, counter and fmt; of the`
-        + ` errors ${sameTexts}`);
+    const other = new Set(found.filter(({ path }) => !/(counter|fmt)$/.test(path)).map((it) => it.name)).size;
+    results.figures.push(`${kind}: ${count} calls, of which ${count - other} gave the same but for counter and fmt; of`
+        + ` the errors ${sameTexts}`);
     for (const [reason, names] of lines) {
         const shown = names.size > MOST_SHOWN ? `${names.size} calls` : [...names].join("; ");
-        results.figures.push(`${reason ?? "NO REASON"}: ${shown}`);
+        results.figures.push(`    ${reason ?? "NO REASON"}: ${shown}`);
     }
     const error = [...(lines.get(undefined) ?? [])].join("\n");
-    results.tests.push({ name: `${count} calls beside Chromium's virtual authenticator`, error });
+    results.tests.push({ name: `${count} calls beside Chromium's virtual authenticator, ${kind}`, error });
 };
 
 /** How many errors of the same name have the same text. */
@@ -77,30 +85,54 @@ const textsOf = (native, own) => {
     return `${same.length} of ${both.length} have the same text`;
 };
 
-const compare = async () => {
-    const devtools = (command, parameters = {}) => post("/devtools", { command, parameters });
-    const native = await outcomesOf({
-        presence: (enabled) => devtools("WebAuthn.setAutomaticPresenceSimulation", { enabled }),
-        clear: () => devtools("WebAuthn.clearCredentials"),
-    });
-    const nativeTime = await median();
-    const key = install();
-    const own = await outcomesOf({
-        presence: (enabled) => key.setAutomaticPresenceSimulation(enabled), clear: () => key.clearCredentials(),
-    });
-    await key.clearCredentials();
-    const ownTime = await median();
-    key.uninstall();
-    const found = [...native].flatMap(([name, outcome]) => differences(name, outcome, own.get(name)));
-    const expected = [...native].filter(([name]) => !reasonOf(name, "error"));
-    const ends = Object.fromEntries(expected.map(([name, outcome]) => [name, endOf(outcome)]));
-    results.logs["chromium_outcomes.json"] = `${JSON.stringify(ends, null, 1)}\n`;
-    report(found, native.size, textsOf(native, own));
-    results.figures.push(`a registration and a sign-in by the clock: Chromium's ${nativeTime} ms, here ${ownTime} ms`);
+const devtools = (command, parameters = {}) => post("/devtools", { command, parameters });
+
+/** The outcomes of Chromium's own authenticator with these abilities, and the median of a registration and a sign-in. */
+const ofChromium = async (abilities) => {
+    const options = { ...abilities, ...PROTOCOLS[abilities.protocol ?? "ctap2"], automaticPresenceSimulation: true };
+    const made = await devtools("WebAuthn.addVirtualAuthenticator", { options });
+    try {
+        const outcomes = await outcomesOf({
+            presence: (enabled) => devtools("WebAuthn.setAutomaticPresenceSimulation", { enabled, ...made }),
+            clear: () => devtools("WebAuthn.clearCredentials", made),
+        });
+        return { outcomes, time: await median() };
+    } finally {
+        await devtools("WebAuthn.removeVirtualAuthenticator", made);
+    }
+};
+
+/** The same of the key. */
+const ofTheKey = async (abilities) => {
+    const key = install(abilities);
+    try {
+        const outcomes = await outcomesOf({
+            presence: (enabled) => key.setAutomaticPresenceSimulation(enabled), clear: () => key.clearCredentials(),
+        });
+        await key.clearCredentials();
+        return { outcomes, time: await median() };
+    } finally {
+        key.uninstall();
+    }
+};
+
+/** Compares both with the same abilities, and returns how Chromium's calls ended. */
+const compare = async (kind, abilities) => {
+    const [{ outcomes: native, time }, { outcomes: own, time: ownTime }] = [
+        await ofChromium(abilities), await ofTheKey(abilities)];
+    const found = [...native].flatMap(([name, outcome]) => differences(kind, name, outcome, own.get(name)));
+    report(kind, found, native.size, textsOf(native, own));
+    results.figures.push(`    a registration and a sign-in by the clock: Chromium's ${time} ms, here ${ownTime} ms`);
+    const expected = [...native].filter(([name]) => !reasonOf(kind, name, "error"));
+    return Object.fromEntries(expected.map(([name, outcome]) => [name, endOf(outcome)]));
 };
 
 try {
-    await compare();
+    const ends = {};
+    for (const [kind, abilities] of Object.entries(KINDS)) {
+        ends[kind] = await compare(kind, abilities);
+    }
+    results.logs["chromium_outcomes.json"] = `${JSON.stringify(ends, null, 1)}\n`;
 } catch (error) {
     results.tests.push({ name: "the comparison", error: `${error}\n${error.stack}` });
 }

@@ -49,7 +49,7 @@ const refusesWrongOnes = async (key) => {
     const { credentialId } = await key.addCredential({ rpId: "localhost" });
     await refuses(key.addCredential({ rpId: "localhost", credentialId }), "TypeError", "already");
     await refuses(key.addCredential({ rpid: "localhost" }), "TypeError", "rpId");
-    await refuses(key.addCredential({ rpId: "localhost", credentialId: "AQID" }), "TypeError", "32 bytes");
+    await refuses(key.addCredential({ rpId: "localhost", credentialId: "" }), "TypeError", "1 to 1023 bytes");
     await refuses(key.addCredential({ rpId: "localhost", privateKey: "AQID" }), "TypeError", "PKCS #8");
     await refuses(key.addCredential({ rpId: "localhost", signCount: -1 }), "TypeError", "signCount");
     await refuses(key.removeCredential("AQID"), "RangeError", "AQID");
@@ -123,8 +123,8 @@ const servesDevTools = async () => {
     await send("WebAuthn.setCredentialProperties", { authenticatorId, credentialId, signCount: 9 });
     expect((await send("WebAuthn.getCredential", { credentialId })).credential.signCount === 9, "changed");
     await send("WebAuthn.removeCredential", { authenticatorId, credentialId });
-    const verifying = send("WebAuthn.addVirtualAuthenticator", { options: { isUserVerified: true } });
-    await refuses(verifying, "TypeError", "false");
+    const large = send("WebAuthn.addVirtualAuthenticator", { options: { hasLargeBlob: true } });
+    await refuses(large, "TypeError", "false");
     await refuses(send("WebAuthn.getCredental"), "TypeError", "getCredential");
     await send("WebAuthn.removeVirtualAuthenticator", { authenticatorId });
     expect(current() === null, "put back");

@@ -9,15 +9,51 @@ from driver import Driver, is_there
 PAGE = Path(__file__).resolve().parents[2] / "web" / "index.html"
 
 
+# What a screen reader is told, by role and name.
+ROLES = [
+    ("listbox", "The lines of the log"),
+    ("status", "not compared yet"),
+    ("region", "What happened"),
+    ("button", "Open"),
+    ("button", "Check"),
+    ("button", "Save as page"),
+    ("searchbox", "Search"),
+    ("combobox", "Channel"),
+    ("checkbox", "Fold transactions"),
+    ("tab", "Drawing"),
+    ("option", "Registration at example.com: done"),
+    ("complementary", "The line that is chosen"),
+]
+
+
+def missing_roles(driver):
+    """Returns what Chromium's accessibility tree lacks of the roles, and whether a row that is chosen is told."""
+    driver.run("document.getElementById('scroller').focus(); arguments[0]()")
+    nodes = [it for it in driver.devtools("Accessibility.getFullAXTree")["nodes"] if not it.get("ignored")]
+    found = [(it["role"]["value"], it.get("name", {}).get("value", ""), it.get("properties", [])) for it in nodes]
+    texts = " ".join(name for _, name, _ in found)
+
+    def is_there(role, name):
+        return any(kind == role and (name in said or (role == "status" and name in texts)) for kind, said, _ in found)
+
+    wrong = [it for it in ROLES if not is_there(*it)]
+    listed = next(properties for kind, _, properties in found if kind == "listbox")
+    if not any(it["name"] == "activedescendant" for it in listed):
+        wrong.append("the row that is chosen")
+    return wrong
+
+
 def main():
     if not is_there():
         print("tests/web: chromedriver is missing (apt-get install chromium-driver)", file=sys.stderr)
         return 3
     with Driver() as driver:
         driver.open(f"{PAGE.as_uri()}#registration")
-        driver.wait_for("document.body.textContent.includes('+0  authenticatorMakeCredential')")
+        driver.wait_for("document.body.textContent.includes('authenticatorMakeCredential → CTAP2_OK')")
+        wrong = missing_roles(driver)
     print("ok  the page from a file")
-    return 0
+    print(f"FAILED  a screen reader's view lacks {wrong}" if wrong else "ok  a screen reader's view of it")
+    return 1 if wrong else 0
 
 
 if __name__ == "__main__":

@@ -47,17 +47,62 @@ test("what is missing is said by the first call, in one line", async () => {
     }
 });
 
-test("in jsdom, as Jest has it", { skip: !existsSync(JSDOM) && "node-jsdom is missing" }, async () => {
+const noJsdom = { skip: !existsSync(JSDOM) && "node-jsdom is missing" };
+
+/** A page of jsdom at an address, with the key's script, and what its console is told. */
+const pageAt = (url) => {
     process.env.NODE_PATH = "/usr/share/nodejs";
     createRequire(import.meta.url)("node:module").Module._initPaths();
-    const { JSDOM: Page } = createRequire(import.meta.url)(JSDOM);
-    const { window } = new Page("", { url: "https://example.com/", runScripts: "outside-only" });
+    const { JSDOM: Page, VirtualConsole } = createRequire(import.meta.url)(JSDOM);
+    const virtualConsole = new VirtualConsole();
+    const said = [];
+    virtualConsole.on("warn", (text) => said.push(text));
+    const { window } = new Page("", { url, runScripts: "outside-only", virtualConsole });
     window.eval(readFileSync(SCRIPT, "utf8"));
     window.webcrypto = webcrypto;
-    window.eval("hidlogKey.install({ crypto: webcrypto })");
+    return { window, said };
+};
+
+test("in jsdom, as Jest has it", noJsdom, async () => {
+    const { window } = pageAt("https://example.com/");
+    window.eval('hidlogKey.install({ crypto: webcrypto, allowOrigins: ["https://example.com"] })');
     const made = await window.eval(REGISTER);
     assert.equal(JSON.parse(new TextDecoder().decode(made.response.clientDataJSON)).origin, "https://example.com");
     assert.equal(made.toJSON().response.publicKeyAlgorithm, -7);
+});
+
+test("a page that isn't for tests gets no key, unless it is named", noJsdom, () => {
+    for (const url of ["https://bank.com/a", "https://localhost.bank.com", "https://test", "http://127.0.0.2",
+        "https://mytest", "https://example", "https://example.com", "https://bank.com:8443/"]) {
+        const { window, said } = pageAt(url);
+        const { origin } = new URL(url);
+        assert.throws(() => window.eval("hidlogKey.install()"), (error) =>
+            error.message.includes(`${origin} isn't a page for tests`)
+                && error.message.includes(`allowOrigins: ["${origin}"]`), url);
+        assert.equal(window.hidlogKey.current(), null);
+        assert.throws(() => window.eval('hidlogKey.install({ allowOrigins: ["https://other.com"] })'), /isn't a page/);
+        assert.deepEqual(said, []);
+        window.eval(`hidlogKey.install({ allowOrigins: [${JSON.stringify(origin)}] })`);
+        assert.equal(said.length, 1);
+    }
+});
+
+test("a page for tests gets one, and its console is told once", noJsdom, () => {
+    for (const url of ["http://localhost:8080/", "https://localhost", "http://127.0.0.1:1", "https://a.localhost",
+        "https://bank.test", "https://login.bank.example", "file:///tmp/page.html", "about:blank"]) {
+        const { window, said } = pageAt(url);
+        window.eval("hidlogKey.install().uninstall(); hidlogKey.install()");
+        assert.ok(window.hidlogKey.current(), url);
+        assert.equal(said.length, 1, url);
+        assert.match(said[0], /test key is in the place of navigator\.credentials/);
+    }
+});
+
+test("origins that are none are refused", noJsdom, () => {
+    const { window } = pageAt("https://bank.com/");
+    for (const wrong of ['"https://bank.com"', '["bank.com"]', '["https://bank.com/"]', "[7]", '["*"]']) {
+        assert.throws(() => window.eval(`hidlogKey.install({ allowOrigins: ${wrong} })`), /allowOrigins/, wrong);
+    }
 });
 
 const hasEsbuild = existsSync("/usr/bin/esbuild");

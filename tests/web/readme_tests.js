@@ -13,13 +13,16 @@ const blocksOf = async () =>
 
 /** The functions of "your page". */
 const page = {
-    register: (name) => create(named(name)),
+    register: (name, { userVerification } = {}) => {
+        const options = named(name);
+        return create({ ...options, authenticatorSelection: { ...options.authenticatorSelection, userVerification } });
+    },
     signIn: (more = {}) => get({}, more),
 };
 
 const runsItsSnippets = async () => {
     const texts = (await blocksOf()).filter(({ kind, tool }) => kind === "js" && !tool).map(({ text }) => text);
-    expect(texts.length === 5, `${texts.length} snippets`);
+    expect(texts.length === 6, `${texts.length} snippets`);
     await new AsyncFunction(...Object.keys(page), texts.join("\n"))(...Object.values(page));
     expect(hidlogKey.current() === null, "the last one puts back");
     results.figures.push(`${texts.length} snippets of web/README.md run in turn`);

@@ -69,7 +69,9 @@ check_logs() {
 
 "$top/web/build.sh" --check || failed=1
 if command -v tsc >/dev/null; then
-    tsc -p "$top/web/tsconfig.json" && tsc -p "$here/tsconfig.json" && echo "ok  types" || failed=1
+    for project in "$top/web/tsconfig.json" "$here/tsconfig.json" "$here/tsconfig.node.json"; do
+        tsc -p "$project" && echo "ok  types of ${project#"$top"/}" || failed=1
+    done
 else
     echo "tests/web: tsc is missing, types are not checked (apt-get install node-typescript)" >&2
 fi

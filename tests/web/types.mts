@@ -3,7 +3,10 @@
 import { current, install, SecurityKey, send, type Credential, type State } from "../../web/dist/security_key.mjs";
 
 export const suite = async (publicKey: PublicKeyCredentialCreationOptions): Promise<Credential[]> => {
-    const key = install({ presence: "granted", delay: 10, store: sessionStorage });
+    const key = install({
+        presence: "granted", delay: 10, store: sessionStorage, transport: "internal", hasUserVerification: true,
+        allowOrigins: ["https://staging.example.com"],
+    });
     key.presence = (question) => (question.startsWith("Register") ? "granted" : "denied");
     // @ts-expect-error a typo
     key.presence = "grantd";

@@ -25,12 +25,14 @@ const choose = (id, value) => {
     at(id).dispatchEvent(new (page().Event)(id === "search" ? "input" : "change"));
 };
 
-const fetched = async (name) => new Uint8Array(await (await fetch(`/examples/${name}`)).arrayBuffer());
+const fetchedFrom = async (path) => new Uint8Array(await (await fetch(`/${path}`)).arrayBuffer());
+
+const fetched = (name) => fetchedFrom(`examples/${name}`);
 
 const encode = (text) => new TextEncoder().encode(text);
 
-/** Loads the page anew, and drops a file on it. */
-const open = async (name, bytes) => {
+/** Loads the page anew, and drops a file on it. Its lines are shown one by one, unless they are to stay folded. */
+const open = async (name, bytes, isFolded = false) => {
     const loaded = new Promise((done) => frame.addEventListener("load", done, { once: true }));
     frame.src = "../../web/index.html";
     await loaded;
@@ -38,6 +40,9 @@ const open = async (name, bytes) => {
     if (bytes) {
         drop(name, bytes);
         await until(() => notice() !== "", "a word on the file");
+        if (!isFolded && !at("fold").disabled) {
+            at("fold").click();
+        }
     }
 };
 
@@ -68,7 +73,9 @@ const folds = async () => {
     await open("registration.log", await fetched("registration.log"));
     const lines = rows().length;
     at("fold").click();
-    expect(rows().length < lines, "fewer rows");
+    expect(rows().length === 3 && lines > 10, `a row for each transaction: ${rows().length}`);
+    expect(at("story").textContent.startsWith("1 registration: done. 2 messages of hosts on 2 channels."), "in words");
+    expect(texts()[2].includes("Registration at example.com: done"), texts()[2]);
     expect(texts().some((text) => text.includes("authenticatorMakeCredential → CTAP2_OK")), "folded");
     const place = texts().findIndex((text) => text.includes("MakeCredential"));
     rows()[place].click();
@@ -77,8 +84,7 @@ const folds = async () => {
 
 /** A request that is refused meanwhile doesn't take the answer of the one that waits. */
 const keepsTheWaitingRequest = async () => {
-    await open("busy_channel.log", await fetched("failing/busy_channel.log"));
-    at("fold").click();
+    await open("busy_channel.log", await fetched("failing/busy_channel.log"), true);
     const has = (title) => texts().some((text) => text.includes(title));
     expect(has("authenticatorGetInfo → ERR_CHANNEL_BUSY"), "the one that is refused");
     expect(has("authenticatorMakeCredential → CTAP2_OK"), "the one that waits");
@@ -254,7 +260,12 @@ const saysWhatIsFaulty = async () => {
     await open("empty.log", new Uint8Array(0));
     expect(notice() === "empty.log is empty: a log has a line at least.", notice());
     await open("huge.log", new Uint8Array(100 * 1024 * 1024));
-    expect(notice() === "huge.log has 100.0 MB: the page takes logs of up to 32.0 MB.", notice());
+    await until(() => notice() === "This is no session log: line 1: not a log line.", "no text");
+    expect(at("story").textContent.startsWith("This file is no text: it begins with the bytes 00 00 00 00."), "why");
+    await open("windows.log", encode(text.replaceAll("\n", "\r\n")));
+    expect(at("story").textContent.startsWith("Its lines end with CR LF"), at("story").textContent);
+    await open("cut.log", encode(text.slice(0, 100)));
+    expect(at("story").textContent.startsWith("The file is cut: its last line ends after"), at("story").textContent);
     drop("first.log", encode(text));
     await until(() => notice().includes("inputs alone") || notice().includes("not compared"), "the page still works");
 };
@@ -320,14 +331,180 @@ const opensALongLog = async () => {
     const bytes = encode(line.repeat(Math.floor((30 * 1024 * 1024) / line.length)));
     const begun = performance.now();
     await open("long.log", bytes);
-    expect(/^long\.log (has inputs alone|: \d+ lines)/.test(notice()), notice());
+    await until(() => /^long\.log: \d+ lines/.test(notice()), "the lines");
     choose("view", "quiet");
-    expect(/ inputs are noise/.test(notice()), notice());
+    await until(() => / inputs are noise/.test(notice()), "the quiet view");
     results.figures.push(`30 MB opened and made quiet in ${((performance.now() - begun) / 1000).toFixed(1)} s`);
     const searched = performance.now();
     choose("search", "cancel");
-    expect(/^\d+ of \d+ lines$/.test(at("count").textContent) && rows().length > 0, at("count").textContent);
+    await until(() => /^\d+ of \d+ lines$/.test(at("count").textContent) && rows().length > 0, "what is found");
     results.figures.push(`and searched in ${((performance.now() - searched) / 1000).toFixed(1)} s`);
+};
+
+const packetsOf = (text) =>
+    text.split("\n").filter((line) => /^[<>]/.test(line)).map((line) => line.replace(/ \d+ /, " ")).join("\n");
+
+/** Captures of four recorders have the packets of the key's own log of the same session. */
+const opensCaptures = async () => {
+    const names = [
+        ["libfido2_register.pcap", "libfido2_register"], ["keyboard_beside.48.pcap", "keyboard_beside"],
+        ["python_cancel.pcapng", "python_cancel"], ["qemu_mixed.qemu.pcap", "qemu_mixed"],
+    ];
+    for (const [name, session] of names) {
+        const capture = await fetchedFrom(`tests/captures/data/${name}`);
+        const log = new TextDecoder().decode(await fetchedFrom(`tests/captures/data/${session}.log`));
+        const found = page().hidlogCaptures.logsIn(capture);
+        const packets = packetsOf(new TextDecoder().decode(found[0].bytes));
+        expect(found.length === 1 && packets === packetsOf(log), `${name}: ${found.length} keys`);
+    }
+    await open("python_cancel.pcapng", await fetchedFrom("tests/captures/data/python_cancel.pcapng"));
+    choose("search", "cancel");
+    expect(texts().some((text) => text.includes("CANCEL")), `${notice()} ${texts()}`);
+};
+
+/** A capture without a key is refused by name. */
+const refusesOtherCaptures = async () => {
+    const capture = await fetchedFrom("tests/captures/data/python_cancel.pcapng");
+    await open("cut.pcapng", capture.slice(0, 300));
+    expect(notice() === "cut.pcapng could not be opened: no key with whole packets is in the capture; hidlog import reads more", notice());
+};
+
+/** The longest time for which the page did nothing else, since this is called. */
+const longestBlock = () => {
+    const { document: inside } = page();
+    let [last, longest] = [performance.now(), 0];
+    const timer = page().setInterval(() => {
+        longest = Math.max(longest, performance.now() - last);
+        last = performance.now();
+    }, 10);
+    return () => {
+        page().clearInterval(timer);
+        return inside ? longest : 0;
+    };
+};
+
+/** Opens a long log, and says how long that took, and for how long the page stopped. */
+const openLong = async (name, parts, lines) => {
+    await open("", null);
+    const file = new (page().File)(parts, name);
+    const block = longestBlock();
+    const begun = performance.now();
+    const data = new (page().DataTransfer)();
+    data.items.add(file);
+    page().document.dispatchEvent(new (page().DragEvent)("drop", { dataTransfer: data, cancelable: true }));
+    await until(() => rows().length > 0, "the first row");
+    const first = performance.now() - begun;
+    await until(() => new RegExp(`^${name}: ${lines} lines`).test(notice()), "all lines");
+    const all = performance.now() - begun;
+    await until(() => at("story").textContent, "the story");
+    const longest = block();
+    results.figures.push(`${name}, ${(file.size / 1024 / 1024).toFixed(0)} MB: the first row after`
+        + ` ${(first / 1000).toFixed(2)} s, all lines after ${(all / 1000).toFixed(1)} s, and the page never stopped for`
+        + ` more than ${longest.toFixed(0)} ms`);
+    expect(first < 5000, `${first} ms to the first row`);
+    return longest;
+};
+
+/** 200 MB of sessions: rows are there at once, and the page never stops. */
+const opensHugeLogs = async () => {
+    const text = new TextDecoder().decode(await fetched("sign_in.log"));
+    const part = encode(text.split("\n").filter((it) => !/^[=#]/.test(it)).join("\n"));
+    const count = Math.floor((200 * 1024 * 1024) / part.length);
+    // Where other processes want the processor, a slice takes longer by the clock: the least of three times counts.
+    let longest = Infinity;
+    for (let time = 0; time < 3 && longest >= 200; time += 1) {
+        longest = Math.min(longest, await openLong("huge.log", Array.from({ length: count }, () => part), "\\d+"));
+    }
+    expect(longest < 1000, `it stopped for ${longest} ms`);
+    const block = longestBlock();
+    choose("search", "no such words");
+    at("cancel").click();
+    expect(notice() === "huge.log: cancelled.", notice());
+    results.figures.push(`a search that is cancelled: ${block().toFixed(0)} ms`);
+};
+
+/** A log of 230,000 channels, which froze the page before. */
+const opensManyChannels = async () => {
+    const packet = (at) => `> ${at} ${(at + 1).toString(16).padStart(8, "0")}8100010${"0".repeat(113)}`;
+    const bytes = encode(Array.from({ length: 230_000 }, (_, at) => packet(at)).join("\n"));
+    const longest = await openLong("channels.log", [bytes], "230000");
+    expect(at("channel").options.length === 201, `${at("channel").options.length} channels are listed`);
+    expect(longest < 1000, `it stopped for ${longest} ms`);
+};
+
+/** After Check the differing row is chosen, in the middle, its transaction is open, and a sentence is on top. */
+const showsTheDifference = async () => {
+    const lines = new TextDecoder().decode(await fetched("sign_in.log")).split("\n");
+    const place = lines.findIndex((line) => line.includes(SIGN_IN_COUNTER));
+    lines[place] = lines[place].replace(SIGN_IN_COUNTER, "470100000007");
+    await open("changed.log", encode(lines.join("\n")), true);
+    const before = rows().length;
+    press("c");
+    const [chosen] = rows().filter((row) => row.getAttribute("aria-selected") === "true");
+    expect(chosen?.classList.contains("differs") && chosen.firstChild.textContent === "35", "the row is chosen");
+    expect(rows().length > before, "its transaction is open");
+    expect(at("scroller").getAttribute("aria-activedescendant") === chosen.id, "and told to a screen reader");
+    const box = chosen.getBoundingClientRect();
+    const around = at("scroller").getBoundingClientRect();
+    expect(box.top >= around.top && box.bottom <= around.bottom, "it is in sight");
+    const said = "The log has signCount 7, and the key sends signCount 2.";
+    expect(at("story").textContent.startsWith(said), at("story").textContent);
+};
+
+/** The page that is saved has the log inside, its own policy, and needs nothing else. */
+const savesItself = async () => {
+    await open("sign_in_again.log", await fetched("sign_in_again.log"));
+    drop("example_com.snapshot", await fetched("example_com.snapshot"));
+    await until(() => notice().includes("on the credentials"), "the snapshot");
+    const before = at("story").textContent;
+    const html = await page().hidlogSave.pageOf(page().hidlogViewer.state);
+    expect(!/<script src|<link rel="stylesheet"|https?:\/\/(?!www\.w3)/.test(html.split("HIDLOG_SOURCES")[0]), "alone");
+    expect(/script-src 'wasm-unsafe-eval' ('sha256-[^']+' )+/.test(html), "a policy of its own scripts");
+    const loadedPage = new Promise((done) => frame.addEventListener("load", done, { once: true }));
+    const address = URL.createObjectURL(new Blob([html], { type: "text/html" }));
+    frame.src = address;
+    await loadedPage;
+    await until(() => page().document.documentElement.dataset.ready === "yes", "the saved page");
+    expect(at("story").textContent === before && rows().length > 1, "the same story");
+    press("c");
+    expect(/^Compared, the key sends just this/.test(notice()), notice());
+    const again = await page().hidlogSave.pageOf(page().hidlogViewer.state);
+    expect(again.length > 100_000, "it saves itself again");
+    URL.revokeObjectURL(address);
+};
+
+/** The brightness of a colour, as WCAG 2.1 computes it. */
+const brightness = (colour) => {
+    const parts = colour.match(/[\d.]+/g).slice(0, 3).map((it) => it / 255);
+    const [red, green, blue] = parts.map((it) => (it <= 0.04045 ? it / 12.92 : ((it + 0.055) / 1.055) ** 2.4));
+    return 0.2126 * red + 0.7152 * green + 0.0722 * blue;
+};
+
+const behind = (element) => {
+    const { backgroundColor } = page().getComputedStyle(element);
+    return /, 0\)$|transparent/.test(backgroundColor) ? behind(element.parentElement) : backgroundColor;
+};
+
+/** Every text has a contrast of 4.5:1 to what is behind it, in both themes (WCAG 2.1, 1.4.3). */
+const keepsItsContrast = async () => {
+    const text = new TextDecoder().decode(await fetched("registration.log"));
+    await open("changed.log", encode(text.replace("< 00000001bb000102", "< 00000001bb000101")));
+    press("c");
+    for (const theme of ["light", "dark"]) {
+        page().document.documentElement.dataset.theme = theme;
+        const faint = [];
+        for (const element of page().document.querySelectorAll("button, label, span, p, h1, h2, pre, mark, select, #notice")) {
+            if (element.disabled || !element.textContent.trim() || !element.getClientRects().length) {
+                continue;
+            }
+            const [one, other] = [page().getComputedStyle(element).color, behind(element)].map(brightness);
+            const ratio = (Math.max(one, other) + 0.05) / (Math.min(one, other) + 0.05);
+            if (ratio < 4.5) {
+                faint.push(`${element.tagName}.${element.className} ${ratio.toFixed(2)}`);
+            }
+        }
+        expect(!faint.length, `${theme}: ${[...new Set(faint)].join("; ")}`);
+    }
 };
 
 const loaded = Object.fromEntries(LOGS.map((name) => [`examples/${name}.log`, showsALog(name)]));
@@ -350,6 +527,13 @@ run({
     "check on a snapshot": passesTheCheck,
     "quiet shows what went": cutsNoise,
     "faulty, empty and huge files": saysWhatIsFaulty,
+    "captures are opened": opensCaptures,
+    "other captures are refused": refusesOtherCaptures,
     "10,000 lines": scrollsSmoothly,
     "30 MB": opensALongLog,
+    "after a check the difference is in sight": showsTheDifference,
+    "the page saves itself with the log inside": savesItself,
+    "contrast in both themes": keepsItsContrast,
+    "200 MB": opensHugeLogs,
+    "230,000 channels": opensManyChannels,
 });

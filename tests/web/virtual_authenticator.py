@@ -1,7 +1,7 @@
 #!/usr/bin/env python3
 """Compares the key with Chromium's own virtual authenticator: what a page sees of the same calls, and their time.
 
-    virtual_authenticator.py            prints what compare.html found, whose virtual authenticator verifies users
+    virtual_authenticator.py            prints what compare.html found, for each kind of authenticator in reasons.js
     virtual_authenticator.py --write    writes chromium_outcomes.json too: how each call ends, for other browsers
 """
 
@@ -15,14 +15,6 @@ from serve import Handler
 
 SECONDS = 600
 OUTCOMES = os.path.join(os.path.dirname(os.path.abspath(__file__)), "chromium_outcomes.json")
-AUTHENTICATOR = {
-    "protocol": "ctap2",
-    "transport": "usb",
-    "hasResidentKey": True,
-    "hasUserVerification": True,
-    "isUserVerified": True,
-    "automaticPresenceSimulation": True,
-}
 
 
 class Comparing(Handler):
@@ -31,8 +23,7 @@ class Comparing(Handler):
     def answer(self, path, given):
         """Answers a call of the page."""
         if path == "/devtools":
-            parameters = {"authenticatorId": self.server.authenticator, **given["parameters"]}
-            return self.server.driver.devtools(given["command"], **parameters)
+            return self.server.driver.devtools(given["command"], **given["parameters"])
         return super().answer(path, given)
 
 
@@ -40,8 +31,6 @@ def compare(driver, server):
     """Opens the page, and returns what it posts."""
     server.driver = driver
     driver.devtools("WebAuthn.enable")
-    made = driver.devtools("WebAuthn.addVirtualAuthenticator", options=AUTHENTICATOR)
-    server.authenticator = made["authenticatorId"]
     driver.open(f"http://localhost:{server.server_address[1]}/tests/web/compare.html")
     return server.results[0] if server.is_done.wait(SECONDS) else None
 

@@ -1,0 +1,60 @@
+// Calls OpenSSH's provider of examples/ssh as ssh-sk-helper does, for tests/clients/bridge_faults.py:
+//
+//     sk_call enroll         prints the key's handle, in hexadecimal digits
+//     sk_call sign HANDLE    prints the signature's counter
+//
+// Exit status: 1 where the provider returns a fault, which is said.
+#include "sk_api.h"
+
+#include <stdio.h>
+#include <stdlib.h>
+#include <string.h>
+
+static const uint8_t data[32] = "what is signed, or its challenge";
+
+static int fault(int result) {
+    fprintf(stderr, "the provider returned %d\n", result);
+    return 1;
+}
+
+static int printed(void) {
+    if (puts("") < 0 || fflush(stdout) != 0) {
+        perror("sk_call: standard output");
+        return 1;
+    }
+    return 0;
+}
+
+static int enroll(void) {
+    struct sk_enroll_response *made = NULL;
+    int result = sk_enroll(SK_ECDSA, data, sizeof data, "ssh:", SK_PRESENCE, NULL, NULL, &made);
+    if (result != SK_DONE) {
+        return fault(result);
+    }
+    for (size_t i = 0; i < made->key_handle_len; i++) {
+        printf("%02x", made->key_handle[i]);
+    }
+    return printed();
+}
+
+static int sign(const char *digits) {
+    struct sk_sign_response *made = NULL;
+    uint8_t handle[32];
+    for (size_t i = 0; i < sizeof handle; i++) {
+        char two[3] = {digits[2 * i], digits[2 * i + 1], 0};
+        handle[i] = (uint8_t)strtoul(two, NULL, 16);
+    }
+    int result = sk_sign(SK_ECDSA, data, sizeof data, "ssh:", handle, sizeof handle, SK_PRESENCE, NULL, NULL, &made);
+    if (result != SK_DONE) {
+        return fault(result);
+    }
+    printf("%u", (unsigned)made->counter);
+    return printed();
+}
+
+int main(int count, char **words) {
+    if (count == 2 && strcmp(words[1], "enroll") == 0) {
+        return enroll();
+    }
+    return count == 3 && strlen(words[2]) == 64 ? sign(words[2]) : 2;
+}

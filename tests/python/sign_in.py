@@ -1,0 +1,21 @@
+"""A registration and a sign-in with nothing but the package. Its recording has to be what the key sends."""
+
+import platform
+
+import hidlog
+
+OPTIONS = {
+    "challenge": "AAECAwQFBgcICQoLDA0ODw",
+    "rp": {"name": "Example"},
+    "user": {"id": "AQ", "name": "ann", "displayName": "Ann"},
+    "pubKeyCredParams": [{"type": "public-key", "alg": -7}],
+    "authenticatorSelection": {"residentKey": "required", "userVerification": "required"},
+}
+
+with hidlog.SecurityKey(verification="verified") as key:
+    browser = key.browser("http://localhost:5000")
+    made = browser.create(OPTIONS)
+    found = browser.get({"challenge": OPTIONS["challenge"], "userVerification": "required"})
+    assert found["id"] == made["id"]
+said = hidlog.check(key.log).raise_for_fault().text.decode().strip()
+print(platform.machine(), platform.python_version(), said)

@@ -1,0 +1,177 @@
+"""The readers of the package beside input that another wrote: what is wrong is a HidlogError that says what."""
+
+from __future__ import annotations
+
+from collections.abc import Callable, Iterator
+from typing import Any
+
+import pytest
+from test_browser import creation
+
+import hidlog
+from hidlog import cbor, webauthn_json
+from hidlog.credentials import read_snapshot
+from hidlog.options import read_creation, read_request
+
+Example = Callable[[str], bytes]
+PRF = {"eval": {"first": "AQ", "second": "Ag"}, "evalByCredential": {"_-8": {"first": "AQ"}}}
+EXTENSIONS = {"credProps": True, "credBlob": "AA", "largeBlob": {"support": "required", "write": "AQI"}, "prf": PRF}
+LISTED = [{"id": "_-8", "type": "public-key", "transports": ["usb"]}]
+OPTIONS = {
+    "create": creation(timeout=1, excludeCredentials=LISTED, hints=["hybrid"], extensions=EXTENSIONS),
+    "get": {"challenge": "AAEC", "rpId": "a.example", "allowCredentials": LISTED, "extensions": EXTENSIONS},
+}
+READS: list[Callable[[Any], Any]] = [
+    webauthn_json.creation_options,
+    webauthn_json.request_options,
+    webauthn_json.creation_options_json,
+    webauthn_json.request_options_json,
+    webauthn_json.registration,
+    webauthn_json.authentication,
+    read_creation,
+    read_request,
+]
+# Values of each type, shallow and deep, with texts that are base64url and that aren't.
+WRONG: list[Any] = [None, True, 0, -1, 1.5, 2**70, "", "A", "AAAA", "é", "\ud800", b"a", [], [1], ["AA"], [["AA", 1]]]
+WRONG += [[None], [{}], {}, {"id": 1}, {"first": 1}, {"eval": 1}, {"eval": {"first": 1}}, {"evalByCredential": [7]}]
+
+
+def changes(value: Any, wrong: list[Any]) -> Iterator[Any]:
+    """Yields a value with each of the wrong ones in each of its places, and without each of its members."""
+    yield from wrong
+    places = value.items() if isinstance(value, dict) else enumerate(value) if isinstance(value, list) else ()
+    for place, inner in places:
+        for changed in changes(inner, wrong):
+            copied = value.copy()
+            copied[place] = changed
+            yield copied
+        copied = value.copy()
+        del copied[place]
+        yield copied
+
+
+def answers() -> dict[str, Any]:
+    with hidlog.SecurityKey() as key:
+        browser = key.browser("https://a.example")
+        made = browser.create(creation())
+        return {"made": made, "found": browser.get({"challenge": "AAEC"})}
+
+
+@pytest.mark.parametrize("name", ["create", "get", "made", "found"])
+def test_json_with_a_wrong_value_in_each_place(name: str) -> None:
+    for given in changes({**OPTIONS, **answers()}[name], WRONG):
+        for read in READS:
+            try:
+                read(given)
+            except hidlog.HidlogError as error:
+                assert str(error)
+
+
+@pytest.mark.parametrize(
+    "members, text",
+    [
+        ({"excludeCredentials": [7]}, "^a credential of excludeCredentials has to be a dict, not int$"),
+        ({"excludeCredentials": ["id"]}, "^a credential of excludeCredentials has to be a dict, not str$"),
+        ({"excludeCredentials": {"id": "AA"}}, "^excludeCredentials has to be a list, not dict$"),
+        ({"user": [["id", "AA"]]}, "^user has to be a dict, not list$"),
+        ({"extensions": "ab"}, "^extensions has to be a dict, not str$"),
+        ({"extensions": [1]}, "^extensions has to be a dict, not list$"),
+        ({"extensions": {"prf": {"eval": "ab"}}}, "^extensions.prf has to be a dict, not str$"),
+        ({"extensions": {"prf": {"evalByCredential": [1]}}}, "^evalByCredential has to be a dict, not list$"),
+    ],
+)
+def test_what_is_wrong_in_options_is_said(members: dict[str, Any], text: str) -> None:
+    with pytest.raises(hidlog.ArgumentError, match=text):
+        webauthn_json.creation_options(creation(**members))
+
+
+@pytest.mark.parametrize(
+    "options",
+    [creation(excludeCredentials=[7]), creation(user=7), creation(extensions="ab"), creation(extensions={"prf": 7})],
+)
+def test_a_browser_refuses_them_by_the_name_of_the_dom(options: dict[str, Any]) -> None:
+    """Web IDL: a value that can't be converted to a dictionary is a TypeError."""
+    with hidlog.SecurityKey() as key, pytest.raises(hidlog.WebAuthnError) as caught:
+        key.browser("https://a.example").create(options)
+    assert caught.value.name == "TypeError" and "The provided value is not of type" in str(caught.value)
+
+
+@pytest.mark.parametrize(
+    "line", [b">", b"<", b"< 00", b"> 5 0011", b"> 5 zz", b"> x " + b"0" * 128, b"< " + b"g" * 128]
+)
+@pytest.mark.parametrize("after", [1, 2, 3])
+def test_a_recording_with_a_line_that_is_no_packet(example: Example, line: bytes, after: int) -> None:
+    """Before the first packet, where the key sends, and where the client does; as the program reports it."""
+    lines = example("registration.log").splitlines()
+    assert [it[:1] for it in lines[:4]] == [b"#", b">", b"<", b">"]
+    log = b"\n".join([*lines[:after], line, *lines[after:]]) + b"\n"
+    for read in (hidlog.SecurityKey.replay_of, lambda it: hidlog.check(it).raise_for_fault()):
+        with pytest.raises(hidlog.LogError, match=f"^line {after + 1}: not a log line$"):
+            read(log)
+
+
+ROW = {number: bytes(32) for number in range(1, 5)} | {5: b"\1", 6: True, 7: 0, 8: "ann"}
+
+
+@pytest.mark.parametrize(
+    "value, text",
+    [
+        ([1, 2, []], "it is no map of CBOR"),
+        ("abc", "it is no map of CBOR"),
+        ({1: 2}, "it has no member 2"),
+        ({2: []}, "it has no member 1"),
+        ({1: 3, 2: []}, "its version is 3; it has to be 1 or 2"),
+        ({1: 2, 2: {}}, "its credentials are no list of CBOR"),
+        ({1: 2, 2: [ROW, 7]}, "credential 2 is no map of CBOR"),
+        ({1: 2, 2: ["abcdefghi"]}, "credential 1 is no map of CBOR"),
+        ({1: 2, 2: [b"abcdefghi"]}, "credential 1 is no map of CBOR"),
+        ({1: 2, 2: [[1] * 9]}, "credential 1 is no map of CBOR"),
+        ({1: 2, 2: [{1: bytes(32)}]}, "credential 1 has no member 2"),
+        ({1: 2, 2: [{**ROW, 3: b"x"}]}, "credential 1: x has 1 bytes; it has to have 32"),
+        ({1: 2, 2: [{**ROW, 7: "0"}]}, "credential 1: counter has to be a whole number, not str"),
+    ],
+)
+def test_what_is_wrong_in_a_snapshot_is_said(value: Any, text: str) -> None:
+    """Each of them is also refused by the program."""
+    data = cbor.encode(value)
+    with pytest.raises(hidlog.SnapshotError, match=f"^this is no snapshot: {text}$"):
+        read_snapshot(data)
+    with pytest.raises(hidlog.SnapshotError, match="^snapshot refused: "):
+        hidlog.replay(b"", data).raise_for_fault()
+
+
+def test_snapshots_with_a_wrong_value_in_each_place(example: Example) -> None:
+    whole = cbor.decode(example("example_com.snapshot"))
+    wrong: list[Any] = [
+        None,
+        True,
+        0,
+        3,
+        -1,
+        2**33,
+        b"",
+        bytes(32),
+        "",
+        "abcdefghi",
+        [],
+        [1],
+        ["abcdefghi"],
+        {},
+        {1: 2},
+        [{}],
+    ]
+    for given in changes(whole, [*wrong, [[1] * 9], [b"abcdefghi"]]):
+        try:
+            read_snapshot(cbor.encode(given))
+        except hidlog.SnapshotError as error:
+            assert str(error).startswith("this is no snapshot: ")
+
+
+@pytest.mark.parametrize("version", [1, 2])
+def test_snapshots_of_both_versions_are_read(version: int) -> None:
+    """Version 1 has no user names. The program takes both, too."""
+    row = {number: it for number, it in ROW.items() if number < 8 or version == 2}
+    data = cbor.encode({1: version, 2: [row]})
+    hidlog.replay(b"", data).raise_for_fault()
+    (held,) = read_snapshot(data)
+    assert (held.user_id, held.user_name) == (b"\1", "ann" if version == 2 else "")

@@ -1,0 +1,180 @@
+"""Several threads on one key, and processes that os.fork makes."""
+
+from __future__ import annotations
+
+import os
+import sys
+import threading
+from collections.abc import Callable
+from concurrent.futures import ThreadPoolExecutor
+from typing import Any
+
+import pytest
+from test_browser import REQUEST, creation
+
+import hidlog
+from hidlog import packets
+
+Make = Callable[..., hidlog.SecurityKey]
+THREADS = 4
+
+
+def test_four_threads_lose_nothing(make: Make) -> None:
+    """Each makes 100 registrations at a site of its own, for 15 users in turn, and signs in after each."""
+    key = make()
+
+    def register(thread: int) -> list[str]:
+        browser, made = key.browser(f"https://site{thread}.example"), []
+        for number in range(100):
+            made.append(str(browser.create(creation(f"user {number % 15}"))["id"]))
+            allowed = [{"type": "public-key", "id": made[-1]}]
+            assert browser.get({**REQUEST, "allowCredentials": allowed})["id"] == made[-1]
+        return made
+
+    with ThreadPoolExecutor(THREADS) as pool:
+        made = [it for listed in pool.map(register, range(THREADS)) for it in listed]
+    assert len(set(made)) == 400
+    assert [len(key.credentials.of(f"site{it}.example")) for it in range(THREADS)] == [15] * THREADS
+
+
+def test_four_threads_with_one_browser(make: Make) -> None:
+    browser = make().browser("https://example.com")
+    with ThreadPoolExecutor(THREADS) as pool:
+        made = list(pool.map(lambda it: str(browser.create(creation(f"user {it}"))["id"]), range(40)))
+        allowed = [{**REQUEST, "allowCredentials": [{"type": "public-key", "id": it}]} for it in made]
+        assert [it["id"] for it in pool.map(browser.get, allowed)] == made
+
+
+def test_clients_of_several_threads(make: Make) -> None:
+    key = make()
+    parameters = {1: bytes(32), 2: {"id": "a"}, 4: [{"alg": -7, "type": "public-key"}]}
+
+    def register(number: int) -> bytes:
+        client = hidlog.Client(key)
+        answer = client.request(1, {**parameters, 3: {"id": bytes([number])}})
+        return bytes(answer[2][55:87])
+
+    with ThreadPoolExecutor(THREADS) as pool:
+        assert len(set(pool.map(register, range(20)))) == 20
+
+
+def test_raw_packets_of_two_threads_have_a_queue_a_channel(make: Make) -> None:
+    """Each thread pings on a channel of its own, and then both read."""
+    key, meeting = make(), threading.Barrier(2)
+    found: dict[bytes, bytes] = {}
+
+    def ping(letter: bytes) -> None:
+        nonce = letter * 8
+        key.write_packet(packets.packets_of(packets.Message(packets.BROADCAST, packets.INIT, nonce))[0])
+        meeting.wait(10)
+        answer = key.read_packet(timeout=5)
+        assert answer[7:15] == nonce
+        message = packets.Message(int.from_bytes(answer[15:19], "big"), packets.PING, letter * 50)
+        key.write_packet(packets.packets_of(message)[0])
+        meeting.wait(10)
+        collector, whole = packets.Collector(), None
+        while whole is None:
+            whole = collector.add(key.read_packet(timeout=5))
+        found[letter] = whole.data
+
+    with ThreadPoolExecutor(2) as pool:
+        list(pool.map(ping, [b"a", b"b"]))
+    assert found == {b"a": b"a" * 50, b"b": b"b" * 50}
+
+
+def test_a_thread_that_only_reads_gets_all_packets(make: Make) -> None:
+    key = make()
+    key.write_packet(packets.packets_of(packets.Message(packets.BROADCAST, packets.INIT, b"12345678"))[0])
+    with ThreadPoolExecutor(1) as pool:
+        assert pool.submit(key.read_packet).result(5)[7:15] == b"12345678"
+
+
+def test_a_function_of_presence_that_uses_the_key_is_refused(make: Make) -> None:
+    key = make()
+    browser = key.browser("https://example.com")
+    key.presence = lambda _: str(browser.get(REQUEST)["type"])
+    with pytest.raises(hidlog.KeyBusy, match="a function of presence can't send another"):
+        browser.create(creation())
+    key.presence = "granted"
+    browser.create(creation())
+
+
+def test_credentials_change_while_another_thread_registers(make: Make) -> None:
+    key, ended = make(), threading.Event()
+    browser, other = key.browser("https://example.com"), key.browser("https://other.example")
+
+    def change() -> None:
+        while not ended.is_set():
+            added = key.credentials.add("changed.example", b"u")
+            key.credentials.change(added.id, counter=5)
+
+    thread = threading.Thread(target=change)
+    thread.start()
+    try:
+        for it in range(20):
+            browser.create(creation(f"user {it}"))
+            other.create(creation(f"user {it}"))
+    finally:
+        ended.set()
+        thread.join()
+    assert [len(key.credentials.of(it)) for it in ("example.com", "other.example")] == [20, 20]
+
+
+IN_CHILD: list[tuple[str, Callable[[hidlog.SecurityKey, Any], Any]]] = [
+    ("a sign-in", lambda key, browser: browser.get(REQUEST)),
+    ("the credentials", lambda key, browser: len(key.credentials)),
+    ("an added credential", lambda key, browser: key.credentials.add("a")),
+    ("a packet", lambda key, browser: key.write_packet(bytes(64))),
+    ("a read", lambda key, browser: key.read_packet()),
+    ("a note", lambda key, browser: key.note("x")),
+    ("a restart", lambda key, browser: key.restart()),
+    ("what was saved", lambda key, browser: key.save(os.devnull)),
+    ("time", lambda key, browser: key.pass_time(1)),
+    ("presence", lambda key, browser: setattr(key, "presence", "denied")),
+]
+
+
+@pytest.mark.skipif(not hasattr(os, "fork"), reason="there is no os.fork")
+@pytest.mark.filterwarnings("ignore:This process.*is multi-threaded:DeprecationWarning")
+def test_a_child_of_fork_is_refused_and_the_parent_goes_on(make: Make) -> None:
+    key = make()
+    browser = key.browser("https://example.com")
+    made = browser.create(creation())
+    child = os.fork()
+    if child == 0:
+        wrong = []
+        for name, call in IN_CHILD:
+            try:
+                call(key, browser)
+                wrong.append(name)
+            except hidlog.KeyForked as error:
+                wrong += [] if f"made in process {os.getppid()}" in str(error) else [str(error)]
+            except BaseException as error:
+                wrong.append(f"{name}: {error!r}")
+        key.close()
+        if wrong:
+            print(wrong, file=sys.stderr, flush=True)
+        os._exit(len(wrong))
+    assert os.waitpid(child, 0)[1] == 0
+    assert browser.get(REQUEST)["id"] == made["id"] and len(key.credentials) == 1
+
+
+@pytest.mark.skipif(not hasattr(os, "fork"), reason="there is no os.fork")
+@pytest.mark.filterwarnings("ignore:This process.*is multi-threaded:DeprecationWarning")
+def test_a_child_that_lives_on_does_not_hold_up_its_parent(make: Make) -> None:
+    key = make()
+    hidlog.Client(key)
+    ours, theirs = os.pipe()
+    child = os.fork()
+    if child == 0:
+        os.close(theirs)
+        os.read(ours, 1)
+        os._exit(0)
+    os.close(ours)
+    ended = threading.Thread(target=key.close)
+    ended.start()
+    ended.join(10)
+    os.close(theirs)
+    os.waitpid(child, 0)
+    ended.join(10)
+    assert not ended.is_alive() and hidlog.check(key.log).status == 0

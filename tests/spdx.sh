@@ -1,0 +1,79 @@
+#!/usr/bin/env bash
+# Has a tool of others judge the list of materials that the packages come with: tools-golang of SPDX, which Debian has
+# from trixie on, reads and validates it, and refuses five lists that are wrong: tests/spdx.sh CACHE
+#
+# What is needed of trixie is downloaded into CACHE and unpacked there; nothing of it is installed. With HIDLOG_OFFLINE=1
+# nothing is downloaded. Ends with 3 where something is missing.
+set -euo pipefail
+top=$(cd "$(dirname "${BASH_SOURCE[0]}")/.." && pwd)
+mkdir -p "${1:?usage: tests/spdx.sh CACHE}"
+cache=$(cd "$1" && pwd)
+work=$(mktemp -d)
+trap 'rm -rf "$work"' EXIT
+command -v go >/dev/null || { echo "go is missing (apt-get install golang-go); nothing was run" >&2 && exit 3; }
+packages=(golang-github-spdx-tools-golang-dev golang-github-spdx-gordf-dev golang-github-anchore-go-struct-converter-dev
+    golang-k8s-sigs-yaml-dev golang-github-google-go-cmp-dev)
+
+# Downloads the packages of trixie by apt-get, with folders of CACHE in the place of the system's.
+download() {
+    local options=(-o "Dir::Etc::sourcelist=$cache/sources.list" -o Dir::Etc::sourceparts=/dev/null
+        -o "Dir::State::lists=$cache/lists" -o "Dir::Cache=$cache" -o APT::Sandbox::User=root)
+    mkdir -p "$cache"/lists/partial "$cache"/archives/partial "$cache/debs"
+    echo "deb [signed-by=/usr/share/keyrings/debian-archive-keyring.gpg] http://deb.debian.org/debian trixie main" \
+        >"$cache/sources.list"
+    apt-get -qq "${options[@]}" update && (cd "$cache/debs" && apt-get -qq "${options[@]}" download "${packages[@]}")
+}
+
+if [ ! -e "$cache/root/.whole" ]; then
+    [ -z "${HIDLOG_OFFLINE-}" ] && download >"$work/said" 2>&1 ||
+        { echo "Debian isn't reached, or HIDLOG_OFFLINE is set: nothing was run" >&2 && exit 3; }
+    for package in "$cache"/debs/*.deb; do
+        dpkg-deb -x "$package" "$cache/root"
+    done
+    touch "$cache/root/.whole"
+fi
+cat >"$work/main.go" <<'GO'
+package main
+
+import (
+	"fmt"
+	"os"
+
+	"github.com/spdx/tools-golang/json"
+	"github.com/spdx/tools-golang/spdxlib"
+)
+
+func main() {
+	document, err := json.Read(os.Stdin)
+	if err == nil {
+		err = spdxlib.ValidateDocument(document)
+	}
+	if err != nil {
+		fmt.Println("refused:", err)
+		os.Exit(1)
+	}
+	described, err := spdxlib.GetDescribedPackageIDs(document)
+	if err != nil {
+		fmt.Println("refused:", err)
+		os.Exit(1)
+	}
+	fmt.Printf("%s, %d packages, %d of them described\n", document.SPDXVersion, len(document.Packages), len(described))
+}
+GO
+GO111MODULE=off GOPATH=$cache/root/usr/share/gocode GOCACHE=$work/go go build -o "$work/judge" "$work/main.go"
+"$top/packages/build.sh" "$work/made" >/dev/null
+list=$(echo "$work"/made/*.spdx.json)
+"$work/judge" <"$list"
+
+# Whether the tool refuses a list that an expression of sed makes wrong: refuses SED
+refuses() {
+    sed "$1" "$list" >"$work/wrong"
+    ! cmp -s "$list" "$work/wrong" || { echo "$1 changes nothing" && exit 1; }
+    ! "$work/judge" <"$work/wrong" >"$work/said" || { echo "the tool takes a list with $1" && exit 1; }
+}
+refuses 's/"SPDX-2.3"/"SPDX-9.9"/'
+refuses '0,/"SPDXID": "SPDXRef-h/s//"SPDXID": "h/'
+refuses 's/"Organization: Debian"/"Debian"/'
+refuses '0,/"relatedSpdxElement": "[^"]*/s//&-none/'
+refuses '$d'
+echo "a list that is wrong is refused"

@@ -1,0 +1,74 @@
+// The npm package as it is installed: npm_package.mjs FOLDER, whose node_modules has it. Its command beside the program
+// over logs, byte for byte, and the lines of its README.
+import assert from "node:assert/strict";
+import { spawnSync } from "node:child_process";
+import { readdirSync, readFileSync, writeFileSync } from "node:fs";
+import { join } from "node:path";
+import { fileURLToPath } from "node:url";
+
+const TOP = fileURLToPath(new URL("../..", import.meta.url));
+const folder = process.argv[2];
+const command = join(folder, "node_modules/hidlog/cli.mjs");
+const program = process.env.HIDLOG ?? join(TOP, "release/hidlog");
+
+/** How a command ends. */
+const ran = (file, words, input = "") => {
+    const { status, stdout, stderr } = spawnSync(file, words, { input, cwd: folder, maxBuffer: 2 ** 28 });
+    return { status, stdout: stdout.toString("latin1"), stderr: stderr.toString() };
+};
+
+const logsIn = (path) =>
+    readdirSync(join(TOP, path)).filter((it) => it.endsWith(".log")).map((it) => join(TOP, path, it));
+const logs = [join(TOP, "examples/registration.log"), ...logsIn("examples/failing"),
+    ...logsIn("crates/hidlog/data/capacity_64")];
+const calls = logs.flatMap((log) => [["check", log], ["replay", log], ["quiet", log], ["show", log],
+    ["show", "--explain", log]]);
+const failing = (name) => join(TOP, "examples/failing", name);
+calls.push(["check", "--load", failing("alice.snapshot"), failing("wrong_snapshot.log")],
+    ["check", "--load", failing("bob.snapshot"), failing("wrong_snapshot.log")], ["check", ...logs.slice(0, 4)]);
+/** Without the reason of a fault, which the program alone explains. */
+const withoutReason = ({ stderr, ...rest }) => ({ ...rest, stderr: stderr.split("\n")[0] });
+for (const words of calls) {
+    const ends = [ran("node", [command, ...words]), ran(program, words)];
+    const [own, theirs] = words.includes("--explain") ? ends.map(withoutReason) : ends;
+    assert.deepEqual(own, theirs, words.join(" "));
+}
+const log = readFileSync(logs[0]);
+for (const words of [["check"], ["check", "-"], ["replay"]]) {
+    assert.deepEqual(ran("node", [command, ...words], log), ran(program, words, log), words.join(" "));
+}
+console.log(`ok  npx hidlog writes the program's bytes in ${calls.length + 3} calls`);
+
+// Mistakes: a status and a text of one line that says what is right.
+for (const [words, status, said] of [
+    [["chek", "a.log"], 2, "there are check"], [["check", "nothing.log"], 1, "nothing.log"],
+    [["check", "--lod", "x"], 2, "--help"], [["check", "--load"], 2, "snapshot"], [["browser"], 2, "--origin"],
+    [["browser", "--origin", "example.com"], 2, "https://example.com"], [["replay", "a", "b"], 2, "one log"],
+]) {
+    const end = ran("node", [command, ...words]);
+    assert.equal(end.status, status, words.join(" "));
+    assert.ok(end.stderr.includes(said) && end.stderr.trim().split("\n").length === 1, end.stderr);
+}
+assert.match(ran("node", [command, "--help"]).stdout, /Usage: npx hidlog/);
+assert.equal(ran("node", [command]).status, 2);
+console.log("ok  mistakes at npx hidlog");
+
+const readme = readFileSync(join(folder, "node_modules/hidlog/README.md"), "utf8");
+const blocks = [...readme.matchAll(/^```js\n([\s\S]*?)^```$/gm)].map(([, text]) => text);
+assert.equal(blocks.length, 2);
+const lines = blocks.join("\n").split("\n");
+const imports = lines.filter((it) => it.startsWith("import "));
+const rest = lines.filter((it) => !it.startsWith("import "));
+writeFileSync(join(folder, "readme.mjs"), [...imports, ...rest].join("\n"));
+const first = ran("node", ["readme.mjs"]);
+assert.equal(first.stdout, "true YW5u\n", first.stderr);
+const named = [...readme.matchAll(/hidlog\/([\w./]+)/g)].map(([, it]) => it);
+const have = readdirSync(join(folder, "node_modules/hidlog"));
+named.forEach((it) => assert.ok(have.includes(it), `README names ${it}`));
+for (const line of ["check session.log", "show --explain session.log"]) {
+    assert.ok(readme.includes(`npx hidlog ${line}`));
+}
+const { snapshot } = { snapshot: readFileSync(join(folder, "session.log"), "utf8") };
+assert.ok(snapshot.startsWith(">"), "the recording");
+assert.ok(ran("node", [command, "show", "--explain", "session.log"]).stdout.includes("GetAssertion"));
+console.log("ok  the lines of the npm README");

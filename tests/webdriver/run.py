@@ -1,0 +1,321 @@
+#!/usr/bin/python3
+"""Runs suites of Selenium, written for Chromium's virtual authenticator, at chromedriver and at the proxy, and compares
+what each test saw; then what the proxy alone has. The recordings are checked by the program that HIDLOG names.
+
+    tests/webdriver/run.py        ends with 3 where chromedriver or python3-selenium is missing
+"""
+
+from __future__ import annotations
+
+import json
+import os
+import shutil
+import socket
+import subprocess
+import sys
+import tempfile
+import threading
+import time
+import urllib.error
+import urllib.request
+from collections.abc import Iterator
+from contextlib import contextmanager
+from functools import partial
+from http.server import BaseHTTPRequestHandler, SimpleHTTPRequestHandler, ThreadingHTTPServer
+from pathlib import Path
+from typing import Any
+
+HERE = Path(__file__).resolve().parent
+TOP = HERE.parents[1]
+PROGRAM = os.environ.get("HIDLOG", str(TOP / "hidlog"))
+SUITES = {"Python": ["/usr/bin/python3", str(HERE / "suite.py")], "Ruby": ["ruby", str(HERE / "suite.rb")]}
+# What ends otherwise at chromedriver, and why.
+DIFFERS = {
+    "test_broken_private_key": "chromedriver answers unknown error, and the standard says invalid argument",
+    "test_two_windows": "Chromium's authenticator is of one window, and the standard's of all in a session",
+}
+LEAST = {"Python": 27, "Ruby": 22}
+
+
+class Files(SimpleHTTPRequestHandler):
+    """The page under test."""
+
+    def log_message(self, *_: Any) -> None:
+        """Says nothing of each request."""
+
+
+def free_port() -> int:
+    with socket.socket() as it:
+        it.bind(("127.0.0.1", 0))
+        port: int = it.getsockname()[1]
+        return port
+
+
+@contextmanager
+def served(handler: Any) -> Iterator[int]:
+    """Returns the port of a server."""
+    server = ThreadingHTTPServer(("127.0.0.1", 0), handler)
+    server.daemon_threads = True
+    threading.Thread(target=server.serve_forever, daemon=True).start()
+    try:
+        yield server.server_address[1]
+    finally:
+        server.shutdown()
+        server.server_close()
+
+
+@contextmanager
+def process(words: list[str], port: int) -> Iterator[str]:
+    """Returns the address of a driver or proxy that is started."""
+    environment = {**os.environ, "PYTHONPATH": str(TOP / "python" / "src"), "PYTHONDONTWRITEBYTECODE": "1"}
+    started = subprocess.Popen([*words, f"--port={port}"], stdout=subprocess.DEVNULL, env=environment)
+    try:
+        for _ in range(300):
+            with socket.socket() as it:
+                if it.connect_ex(("127.0.0.1", port)) == 0:
+                    break
+            time.sleep(0.1)
+        yield f"http://127.0.0.1:{port}"
+    finally:
+        started.terminate()
+        started.wait()
+
+
+def proxy_words(driver: str, folder: Path) -> list[str]:
+    return [sys.executable, "-m", "hidlog.webdriver", "--driver", driver, "--recordings", str(folder)]
+
+
+def call(method: str, url: str, given: Any = None) -> tuple[int, Any]:
+    """Calls a command of WebDriver, and returns the status and the value."""
+    body = None if method in ("GET", "DELETE") else json.dumps(given).encode()
+    request = urllib.request.Request(url, body, {"Content-Type": "application/json"}, method=method)
+    try:
+        with urllib.request.urlopen(request, timeout=60) as answer:
+            return answer.status, json.load(answer)["value"]
+    except urllib.error.HTTPError as error:
+        return error.code, json.load(error)["value"]
+
+
+def saw(language: str, url: str, page: str) -> dict[str, Any]:
+    """Runs a suite, and returns what each of its tests saw."""
+    ran = subprocess.run([*SUITES[language], url, page], capture_output=True, text=True, timeout=300, check=False)
+    if ran.returncode:
+        raise SystemExit(f"FAILED  the suite in {language} at {url}: {ran.stderr[-2000:]}")
+    return dict(json.loads(line) for line in ran.stdout.splitlines())
+
+
+def compare(language: str, at_driver: dict[str, Any], at_proxy: dict[str, Any], kind: str) -> bool:
+    """Says where both aren't the same."""
+    assert len(at_driver) >= LEAST[language], at_driver
+    wrong = {it: (at_driver[it], at_proxy.get(it)) for it in at_driver if at_proxy.get(it) != at_driver[it]}
+    for name in set(wrong) & set(DIFFERS):
+        print(f"    {name}: {DIFFERS[name]}")
+        del wrong[name]
+    unforeseen = [it for it in at_driver.values() if isinstance(it, str) and "NoMethodError" in it]
+    ok = not wrong and not unforeseen
+    print(
+        f"{'ok' if ok else 'FAILED'}  {len(at_driver)} tests in {language} at chromedriver and {kind}: {wrong or 'same'}"
+    )
+    return ok
+
+
+class WithoutDevTools(BaseHTTPRequestHandler):
+    """A driver that has no commands of DevTools and none on virtual authenticators, in front of chromedriver."""
+
+    protocol_version = "HTTP/1.1"
+
+    def __init__(self, driver: str, *rest: Any):
+        self.driver = driver
+        super().__init__(*rest)
+
+    def serve(self) -> None:
+        body = self.rfile.read(int(self.headers.get("Content-Length") or 0))
+        if "/goog/cdp/" in self.path or "/webauthn/" in self.path:
+            status, value = 404, {"error": "unknown command", "message": "", "stacktrace": ""}
+        else:
+            status, value = call(self.command, self.driver + self.path, json.loads(body) if body else {})
+        data = json.dumps({"value": value}).encode()
+        self.send_response(status)
+        self.send_header("Content-Length", str(len(data)))
+        self.end_headers()
+        self.wfile.write(data)
+
+    do_GET = do_POST = do_DELETE = serve
+
+    def log_message(self, *_: Any) -> None:
+        """Says nothing of each request."""
+
+
+class Commands:
+    """What the proxy alone has, command by command."""
+
+    def __init__(self, url: str, page: str):
+        self.page = page
+        options = {"args": ["--headless=new", "--no-sandbox"]}
+        wanted = {"capabilities": {"alwaysMatch": {"goog:chromeOptions": options}}}
+        self.url = f"{url}/session/{call('POST', f'{url}/session', wanted)[1]['sessionId']}"
+        self.post("/url", {"url": page})
+
+    def post(self, path: str, given: Any) -> tuple[int, Any]:
+        return call("POST", self.url + path, given)
+
+    def page_call(self, function: str, **words: Any) -> Any:
+        script = f"{function}(arguments[0]).then(arguments[1])"
+        return self.post("/execute/async", {"script": script, "args": [words]})[1]
+
+    def add(self, **more: Any) -> str:
+        given = {"protocol": "ctap2", "transport": "usb", "hasResidentKey": True, **more}
+        status, name = self.post("/webauthn/authenticator", given)
+        assert status == 200, name
+        return f"/webauthn/authenticator/{name}"
+
+    def refused(self, code: str, said: str, path: str, given: Any) -> None:
+        """Expects an error as WebDriver has it, with a text that says what is right."""
+        status, value = self.post(path, given)
+        assert status >= 400 and value["error"] == code and said in value["message"], (path, given, status, value)
+        assert set(value) == {"error", "message", "stacktrace"}
+
+    def options_are_checked(self) -> None:
+        """Options that the key hasn't are refused by name."""
+        good = {"protocol": "ctap2", "transport": "usb"}
+        at = "/webauthn/authenticator"
+        self.refused("invalid argument", "ctap1/u2f, ctap2, ctap2_1", at, {**good, "protocol": "ctap3"})
+        self.refused("invalid argument", "internal", at, {**good, "transport": "pigeon"})
+        self.refused("invalid argument", "transport", at, {"protocol": "ctap2"})
+        self.refused("invalid argument", "hasUserVerification", at, {**good, "hasUserVerification": 1})
+        self.refused("invalid argument", "ctap1/u2f", at, {**good, "protocol": "ctap1/u2f", "hasResidentKey": True})
+        self.refused("unsupported operation", "prf", at, {**good, "extensions": ["prf", "largeBlob"]})
+        self.refused("invalid argument", "no authenticator", f"{at}/nobody/uv", {"isUserVerified": True})
+        key = self.add()
+        self.refused("unsupported operation", "one", at, good)
+        self.refused("invalid argument", "rpId", f"{key}/credential", {"isResidentCredential": False})
+        self.refused("invalid argument", "isUserVerified", f"{key}/uv", {})
+        self.refused("unknown method", "POST", f"{key}/credentials", {})
+        assert call("DELETE", self.url + key) == (200, None)
+
+    def presence_and_faults(self) -> None:
+        """What a virtual authenticator hasn't: a script of presence, faults, the recording."""
+        key = self.add()
+        made = self.page_call("register", residentKey="required")
+        assert self.post(f"{key}/presence", {"presence": ["denied", "timeout", "granted"]}) == (200, None)
+        assert self.page_call("signIn") == "NotAllowedError"
+        self.post("/refresh", {})
+        assert [self.page_call("signIn"), self.page_call("signIn")["id"]] == ["NotAllowedError", made["id"]]
+        self.refused("invalid argument", "granted, denied", f"{key}/presence", {"presence": "yes"})
+        assert self.post(f"{key}/faults", {"status": "KEY_STORE_FULL"}) == (200, None)
+        assert self.page_call("register") == "NotAllowedError"
+        assert self.post(f"{key}/faults", {}) == (200, None)
+        assert self.page_call("register", name="bob")["flags"] == 0x41
+        self.refused("invalid argument", "cutShort", f"{key}/faults", {"wrong": 1})
+        ((origin, parts),) = call("GET", f"{self.url}{key}/log")[1].items()
+        assert self.page.startswith(origin) and "# fault: the answer is status 0x28" in parts[-1]["log"]
+        assert parts[-1]["log"].count(" denied\n") == 1, parts[-1]["log"]
+        assert call("DELETE", self.url + key) == (200, None)
+
+    def other_origins(self) -> None:
+        """The credentials are those of the session on each origin."""
+        key = self.add()
+        self.page_call("register", residentKey="required")
+        self.post("/url", {"url": self.page.replace("localhost", "a.localhost")})
+        self.page_call("register", residentKey="required", name="bob")
+        status, listed = call("GET", f"{self.url}{key}/credentials")
+        assert status == 200 and sorted(it["rpId"] for it in listed) == ["a.localhost", "localhost"], listed
+        self.post("/url", {"url": self.page})
+        assert self.page_call("signIn")["user"] == "ann"
+        self.post("/execute/sync", {"script": "localStorage.clear()", "args": []})
+        self.post("/refresh", {})
+        assert self.page_call("signIn")["user"] == "ann", "a page that clears its storage"
+        assert call("DELETE", self.url + key) == (200, None)
+
+    def other_commands(self) -> None:
+        """All else goes to the driver as it is, with and without an authenticator."""
+        assert self.post("/nothing", {})[1]["error"] == "unknown command"
+        key = self.add()
+        self.post("/execute/sync", {"script": "setTimeout(() => alert('stop'), 0)", "args": []})
+        time.sleep(0.3)
+        assert call("GET", f"{self.url}/alert/text") == (200, "stop")
+        assert self.post("/alert/accept", {}) == (200, None)
+        assert call("DELETE", self.url + key) == (200, None)
+        text = {
+            "script": "return document.getElementById('at-first').textContent + (hidlogKey.current() ?? '')",
+            "args": [],
+        }
+        self.post("/url", {"url": self.page})
+        assert self.post("/execute/sync", {**text, "script": "return typeof hidlogKey"}) == (200, "undefined")
+        key = self.add()
+        self.post("/url", {"url": self.page})
+        first = {"script": "return document.getElementById('at-first').textContent", "args": []}
+        assert self.post("/execute/sync", first) == (200, "false"), "the key is there before the page's own script"
+        assert call("DELETE", self.url + key) == (200, None)
+
+    def end(self) -> None:
+        call("DELETE", self.url)
+
+
+def run_commands(url: str, page: str) -> bool:
+    commands = Commands(url, page)
+    failed = False
+    for test in (
+        commands.options_are_checked,
+        commands.presence_and_faults,
+        commands.other_origins,
+        commands.other_commands,
+    ):
+        try:
+            test()
+            print(f"ok  {test.__doc__}")
+        except AssertionError as error:
+            print(f"FAILED  {test.__doc__} {error}")
+            failed = True
+    commands.end()
+    return not failed
+
+
+def check_recordings(folder: Path) -> bool:
+    """Checks the logs that were kept, each with its snapshot."""
+    logs = sorted(folder.rglob("*.log"))
+    wrong = []
+    for log in logs:
+        snapshot = log.with_suffix(".snapshot")
+        words = ["--load", str(snapshot)] if snapshot.exists() else []
+        if subprocess.run([PROGRAM, "check", *words, str(log)], capture_output=True, check=False).returncode:
+            wrong.append(str(log))
+    ok = len(logs) > 20 and not wrong
+    print(f"{'ok' if ok else 'FAILED'}  hidlog check of {len(logs)} recordings {wrong or ''}")
+    return ok
+
+
+def run_suites(driver: str, page: str, folder: Path) -> list[bool]:
+    """Runs each suite at the driver, at the proxy, and at a proxy before a driver without DevTools."""
+    results = []
+    with process(proxy_words(driver, folder), free_port()) as proxy, served(partial(WithoutDevTools, driver)) as bare:
+        with process(proxy_words(f"http://127.0.0.1:{bare}", folder), free_port()) as late:
+            for language, words in SUITES.items():
+                if not shutil.which(words[0]):
+                    print(f"    {words[0]} is missing, and its suite wasn't run")
+                    continue
+                at_driver = saw(language, driver, page)
+                results.append(compare(language, at_driver, saw(language, proxy, page), "the proxy"))
+                without = "the proxy before a driver without DevTools"
+                results.append(compare(language, at_driver, saw(language, late, page), without))
+        results.append(run_commands(proxy, page))
+    return results
+
+
+def main() -> int:
+    has_selenium = subprocess.run(
+        ["/usr/bin/python3", "-c", "import selenium, cryptography"], capture_output=True, check=False
+    )
+    if not shutil.which("chromedriver") or has_selenium.returncode:
+        print("tests/webdriver: chromedriver or python3-selenium is missing", file=sys.stderr)
+        return 3
+    with tempfile.TemporaryDirectory() as room, served(partial(Files, directory=str(HERE))) as port:
+        folder = Path(room)
+        with process(["chromedriver", "--log-level=OFF"], free_port()) as driver:
+            results = run_suites(driver, f"http://localhost:{port}/page.html", folder)
+        results.append(check_recordings(folder))
+    return 0 if all(results) else 1
+
+
+if __name__ == "__main__":
+    sys.exit(main())

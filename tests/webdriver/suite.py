@@ -1,0 +1,282 @@
+#!/usr/bin/python3
+"""A suite of Selenium for Chromium's virtual authenticator: suite.py URL PAGE.
+
+It drives the WebDriver at URL, chromedriver or the proxy, and prints for each test what it saw, as a line of JSON.
+"""
+
+from __future__ import annotations
+
+import json
+import sys
+from base64 import urlsafe_b64decode, urlsafe_b64encode
+from collections.abc import Callable
+from typing import Any
+
+from selenium import webdriver
+from selenium.common.exceptions import WebDriverException
+from selenium.webdriver.common.virtual_authenticator import Credential, VirtualAuthenticatorOptions
+
+# A key on P-256, in PKCS #8.
+KEY = (
+    "MIGHAgEAMBMGByqGSM49AgEGCCqGSM49AwEHBG0wawIBAQQg8_zMDQDYAxlU-Qhk1Dwkf0v18GZca1DMF3SaJ9HPdmShRANCAASNYX5lyVCOZLzFZzrIKm"
+    "eZ2jwURmgsJYxGP__fWN_S-j5sN4tT15XEpN_7QZnt14YvI6uvAgO0uJEboFaZlOEB"
+)
+OPTIONS = VirtualAuthenticatorOptions
+
+
+def decoded(text: str) -> bytes:
+    """Returns the bytes of base64url."""
+    return urlsafe_b64decode(text + "=" * (-len(text) % 4))
+
+
+def encoded(data: bytes) -> str:
+    """Returns base64url without padding."""
+    return urlsafe_b64encode(bytes(data)).decode().rstrip("=")
+
+
+class Suite:
+    """The tests, each with an authenticator of its own. What they return is compared."""
+
+    def __init__(self, driver: Any, page: str):
+        self.driver, self.page = driver, page
+
+    # What a page does.
+
+    def call(self, name: str, **words: Any) -> Any:
+        """Calls a function of the page."""
+        return self.driver.execute_async_script(f"{name}(arguments[0]).then(arguments[1])", words)
+
+    def add(self, **words: Any) -> None:
+        """Adds an authenticator with these options, and by default one that verifies and has resident keys."""
+        options = OPTIONS()
+        given = {"has_resident_key": True, "has_user_verification": True, "is_user_verified": True, **words}
+        for name, value in given.items():
+            setattr(options, name, value)
+        self.driver.add_virtual_authenticator(options)
+
+    def credentials(self) -> Any:
+        """Returns the credentials without what is drawn anew, by their user handles."""
+        listed = [it.to_dict() for it in self.driver.get_credentials()]
+        return sorted((it.get("userHandle") or "", it["isResidentCredential"], it["rpId"]) for it in listed)
+
+    def credential(self, resident: bool = True, name: bytes = b"\x01\x02\x03\x04", rp: str = "localhost") -> Any:
+        """Returns a credential to add."""
+        if resident:
+            return Credential.create_resident_credential(name, rp, b"bob", decoded(KEY), 3)
+        return Credential.create_non_resident_credential(name, rp, decoded(KEY), 3)
+
+    def ended(self, call: Callable[..., Any], *words: Any) -> str:
+        """Returns the name of the error with which a call ends."""
+        try:
+            call(*words)
+        except WebDriverException as error:
+            return type(error).__name__
+        return "done"
+
+    # As Selenium's documentation teaches it.
+
+    def test_options(self) -> Any:
+        options = OPTIONS()
+        options.protocol, options.has_resident_key = OPTIONS.Protocol.U2F, False
+        self.driver.add_virtual_authenticator(options)
+        return self.credentials()
+
+    def test_remove_authenticator(self) -> Any:
+        self.add()
+        self.driver.remove_virtual_authenticator()
+        return self.driver.virtual_authenticator_id
+
+    def test_add_resident_credential(self) -> Any:
+        self.add(protocol=OPTIONS.Protocol.CTAP2)
+        self.driver.add_credential(self.credential())
+        return self.credentials()
+
+    def test_add_non_resident_credential(self) -> Any:
+        self.add(
+            protocol=OPTIONS.Protocol.U2F, has_resident_key=False, has_user_verification=False, is_user_verified=False
+        )
+        self.driver.add_credential(self.credential(False))
+        return self.credentials()
+
+    def test_resident_credential_with_u2f(self) -> Any:
+        self.add(
+            protocol=OPTIONS.Protocol.U2F, has_resident_key=False, has_user_verification=False, is_user_verified=False
+        )
+        return self.ended(self.driver.add_credential, self.credential())
+
+    def test_remove_credential(self) -> Any:
+        self.add()
+        self.driver.add_credential(self.credential(False))
+        self.driver.add_credential(self.credential(False, b"\x05"))
+        self.driver.remove_credential(encoded(b"\x05"))
+        return [encoded(decoded(it.id)) for it in self.driver.get_credentials()]
+
+    def test_remove_all_credentials(self) -> Any:
+        self.add()
+        self.driver.add_credential(self.credential())
+        self.driver.remove_all_credentials()
+        return self.credentials()
+
+    def test_set_user_verified(self) -> Any:
+        self.add(is_user_verified=False)
+        before = self.call("register", userVerification="required")
+        self.driver.set_user_verified(True)
+        return before, self.call("register", userVerification="required")["flags"]
+
+    # What suites do.
+
+    def test_register(self) -> Any:
+        self.add()
+        made = self.call("register")
+        (held,) = self.driver.get_credentials()
+        return self.credentials(), encoded(decoded(held.id)) == made["id"], made["flags"], made["transports"]
+
+    def test_register_resident(self) -> Any:
+        self.add()
+        self.call("register", residentKey="required")
+        return self.credentials()
+
+    def test_sign_in(self) -> Any:
+        self.add()
+        made = self.call("register")
+        counts = []
+        for _ in range(2):
+            used = self.call("signIn", allow=[made["id"]])
+            counts.append(self.driver.get_credentials()[0].sign_count)
+        return used["id"] == made["id"], used["flags"], used["user"], counts[1] - counts[0]
+
+    def test_sign_in_discoverable(self) -> Any:
+        self.add()
+        made = self.call("register", residentKey="required")
+        used = self.call("signIn")
+        return used["id"] == made["id"], used["user"], used["flags"]
+
+    def test_sign_in_with_an_added_credential(self) -> Any:
+        self.add()
+        self.driver.add_credential(self.credential())
+        used = self.call("signIn")
+        return used["user"], used["id"], self.driver.get_credentials()[0].sign_count
+
+    def test_sign_in_after_removal(self) -> Any:
+        self.add()
+        made = self.call("register")
+        self.driver.remove_credential(made["id"])
+        return self.call("signIn", allow=[made["id"]])
+
+    def test_user_fails(self) -> Any:
+        self.add()
+        made = self.call("register", userVerification="required")
+        self.driver.set_user_verified(False)
+        required = self.call("signIn", allow=[made["id"]], userVerification="required")
+        return required, self.call("signIn", allow=[made["id"]], userVerification="discouraged")["flags"]
+
+    def test_no_verification(self) -> Any:
+        self.add(has_user_verification=False, is_user_verified=False)
+        return self.call("register", userVerification="required"), self.call("register")["flags"]
+
+    def test_platform(self) -> Any:
+        self.add(transport=OPTIONS.Transport.INTERNAL)
+        made = self.call("register", authenticatorAttachment="platform")
+        return self.call("isPlatform"), made["attachment"], made["transports"], made["flags"]
+
+    def test_no_resident_keys(self) -> Any:
+        self.add(has_resident_key=False)
+        resident = self.ended(self.driver.add_credential, self.credential())
+        return (
+            resident,
+            self.call("register", residentKey="required"),
+            self.call("register", residentKey="preferred")["flags"],
+        )
+
+    def test_exclude(self) -> Any:
+        self.add()
+        made = self.call("register")
+        return self.call("register", exclude=[made["id"]]), self.call("register", exclude=["AQ"])["flags"]
+
+    def test_reload(self) -> Any:
+        self.add()
+        made = self.call("register", residentKey="required")
+        self.driver.refresh()
+        self.driver.get(self.page + "?other")
+        used = self.call("signIn")
+        return used["id"] == made["id"], self.credentials()
+
+    def test_two_windows(self) -> Any:
+        self.add()
+        made = self.call("register", residentKey="required")
+        first = self.driver.current_window_handle
+        self.driver.switch_to.new_window("tab")
+        self.driver.get(self.page)
+        try:
+            return len(self.driver.get_credentials()), len(self.driver.window_handles), bool(made)
+        finally:
+            self.driver.close()
+            self.driver.switch_to.window(first)
+
+    def test_frame(self) -> Any:
+        self.add()
+        self.driver.execute_async_script(
+            "const frame = document.createElement('iframe'); frame.src = location.pathname; frame.onload = arguments[0];"
+            "document.body.append(frame)"
+        )
+        self.driver.switch_to.frame(0)
+        made = self.call("register")
+        self.driver.switch_to.default_content()
+        return self.call("signIn", allow=[made["id"]])["id"] == made["id"], self.credentials()
+
+    def test_unknown_credential(self) -> Any:
+        self.add()
+        return self.ended(self.driver.remove_credential, encoded(b"nothing"))
+
+    def test_broken_private_key(self) -> Any:
+        self.add()
+        it = Credential.create_non_resident_credential(b"\x01", "localhost", b"no key", 0)
+        return self.ended(self.driver.add_credential, it)
+
+    def test_moves_a_credential(self) -> Any:
+        self.add()
+        made = self.call("register", residentKey="required")
+        (held,) = self.driver.get_credentials()
+        self.driver.remove_virtual_authenticator()
+        self.add()
+        words = (decoded(held.id), held.rp_id, decoded(held.user_handle), decoded(held.private_key), 9)
+        self.driver.add_credential(Credential.create_resident_credential(*words))
+        return self.call("signIn")["id"] == made["id"]
+
+    def test_before_a_page(self) -> Any:
+        self.driver.get("about:blank")
+        self.add()
+        self.driver.add_credential(self.credential())
+        held = self.credentials()
+        self.driver.get(self.page)
+        return held, self.call("signIn")["user"]
+
+    def test_without_authenticator(self) -> Any:
+        return self.driver.execute_script("return document.getElementById('at-first').textContent")
+
+
+def main() -> None:
+    url, page = sys.argv[1:3]
+    options = webdriver.ChromeOptions()
+    options.add_argument("--headless=new")
+    options.add_argument("--no-sandbox")
+    driver = webdriver.Remote(url, options=options)
+    driver.set_script_timeout(20)
+    names = [it for it in dir(Suite) if it.startswith("test_")]
+    try:
+        for name in names:
+            driver.get(page)
+            suite = Suite(driver, page)
+            try:
+                saw = getattr(suite, name)()
+            except Exception as error:  # what a test fails with is what it saw
+                saw = f"{type(error).__name__}: {str(error).splitlines()[0] if str(error) else ''}"
+            print(json.dumps([name, saw]), flush=True)
+            if driver.virtual_authenticator_id:
+                driver.remove_virtual_authenticator()
+    finally:
+        driver.quit()
+
+
+if __name__ == "__main__":
+    main()
