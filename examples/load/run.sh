@@ -27,8 +27,8 @@ master=$((port < 60000 ? port + 1 : port - 1000))
 "$python" "$here/service.py" --port "$port" --database "$work/service.db" &
 service=$!
 started+=("$service")
-for _ in {1..100}; do
-    "$python" -c "import socket; socket.create_connection(('127.0.0.1', $port))" 2>/dev/null && break
+until "$python" -c "import socket; socket.create_connection(('127.0.0.1', $port))" 2>/dev/null; do
+    kill -0 "$service" || { echo "FAILED  the service ended before it listened" >&2 && exit 1; }
     sleep 0.1
 done
 

@@ -17,7 +17,7 @@ from selenium.webdriver.support.ui import WebDriverWait
 SCRIPT = Path(__file__).resolve().parents[2] / "web" / "dist" / "security_key.js"
 
 # Only a page that hangs takes so long.
-SECONDS = 60
+SECONDS = 300
 
 # The page under test. A service would verify what the page posts; here the page shows it.
 PAGE = """<!doctype html><title>A service</title>
@@ -59,6 +59,7 @@ def start_browser():
     options = webdriver.ChromeOptions()
     options.add_argument("--headless=new")
     options.add_argument("--no-sandbox")
+    options.add_argument("--disable-dev-shm-usage")
     driver = webdriver.Chrome(options=options)
     driver.set_script_timeout(SECONDS)
     # The lines of web/README.md.

@@ -86,7 +86,7 @@ class Browser:
     def close(self) -> int:
         assert self._process.stdin
         self._process.stdin.close()
-        return self._process.wait(20)
+        return self._process.wait(600)
 
 
 def flags(answer: Json) -> int:

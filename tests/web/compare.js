@@ -13,6 +13,7 @@ const PROTOCOLS = {
 };
 const ROUNDS = 60;
 const MOST_SHOWN = 20;
+const TIMES = 3;
 
 /** The parts of a value by their paths. */
 const partsOf = (value, path = "") => {
@@ -116,11 +117,23 @@ const ofTheKey = async (abilities) => {
     }
 };
 
-/** Compares both with the same abilities, and returns how Chromium's calls ended. */
+/** What both see with the same abilities, and where they differ. */
+const both = async (kind, abilities) => {
+    const [one, other] = [await ofChromium(abilities), await ofTheKey(abilities)];
+    const found = [...one.outcomes].flatMap(([name, outcome]) =>
+        differences(kind, name, outcome, other.outcomes.get(name)));
+    return { one, other, found };
+};
+
+/** Compares both, and returns how Chromium's calls ended. What differs by the machine's moment differs no second time. */
 const compare = async (kind, abilities) => {
-    const [{ outcomes: native, time }, { outcomes: own, time: ownTime }] = [
-        await ofChromium(abilities), await ofTheKey(abilities)];
-    const found = [...native].flatMap(([name, outcome]) => differences(kind, name, outcome, own.get(name)));
+    let seen = await both(kind, abilities);
+    for (let time = 1; time < TIMES && seen.found.some((it) => it.reason === undefined); time += 1) {
+        const what = seen.found.filter((it) => it.reason === undefined).map(({ name, path }) => `${name}: ${path}`);
+        results.figures.push(`${kind}: tried again after ${what.join("; ")}`);
+        seen = await both(kind, abilities);
+    }
+    const { one: { outcomes: native, time }, other: { outcomes: own, time: ownTime }, found } = seen;
     report(kind, found, native.size, textsOf(native, own));
     results.figures.push(`    a registration and a sign-in by the clock: Chromium's ${time} ms, here ${ownTime} ms`);
     const expected = [...native].filter(([name]) => !reasonOf(kind, name, "error"));

@@ -36,7 +36,7 @@ class Driver:
         self._session = ""
 
     def __enter__(self):
-        options = {"args": ["--headless=new", "--no-sandbox"]}
+        options = {"args": ["--headless=new", "--no-sandbox", "--disable-dev-shm-usage"]}
         wanted = {"capabilities": {"alwaysMatch": {"goog:chromeOptions": options}}}
         end = time.monotonic() + START_SECONDS
         while not self._session:

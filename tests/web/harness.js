@@ -22,8 +22,9 @@ export const rejection = async (promise) => {
 
 export const wait = (milliseconds) => new Promise((done) => setTimeout(done, milliseconds));
 
-// Only what hangs takes so long.
-const MOST_MS = 60_000;
+// Only what hangs takes so long, on a machine that does much beside.
+const MOST_MS = 300_000;
+const BEAT_MS = 5000;
 
 /** Waits until a condition holds, for as long as a busy machine takes. */
 export const until = async (holds, text) => {
@@ -46,19 +47,34 @@ export const post = async (path, given) => {
     return said;
 };
 
-/** Runs tests by their names, and posts what came of them. */
+/** Has a thread of its own say that the page's process lives, however long a test takes. */
+const beat = () => {
+    const text = `setInterval(() => fetch("${location.origin}/lives", { method: "POST", body: "{}" }), ${BEAT_MS})`;
+    return new Worker(URL.createObjectURL(new Blob([text], { type: "text/javascript" })));
+};
+
+/** What came of a test: an empty error where it passed. */
+const outcomeOf = async (name, test) => {
+    const begun = performance.now();
+    let error = "";
+    try {
+        await test();
+    } catch (thrown) {
+        error = `${thrown.name}: ${thrown.message}`;
+    }
+    return { name, error, seconds: (performance.now() - begun) / 1000 };
+};
+
+/** Runs tests by their names, or those that the page's address has as `only`, and posts what came of them. */
 export const run = async (tests) => {
-    for (const [name, test] of Object.entries(tests)) {
-        let error = "";
-        const begun = performance.now();
-        try {
-            await test();
-        } catch (thrown) {
-            error = `${thrown.name}: ${thrown.message}`;
-        }
-        results.tests.push({ name, error, seconds: (performance.now() - begun) / 1000 });
+    const only = new URLSearchParams(location.search).getAll("only");
+    const heart = beat();
+    for (const [name, test] of Object.entries(tests).filter(([it]) => !only.length || only.includes(it))) {
+        await post("/begun", { page: location.pathname.split("/").at(-1), test: name });
+        results.tests.push(await outcomeOf(name, test));
     }
     document.body.textContent = JSON.stringify(results.tests, null, 1);
+    heart.terminate();
     const { next } = await post("/done", results);
     if (next) {
         location.href = next;

@@ -2,7 +2,7 @@
 // key's.
 import { SecurityKey } from "../../web/dist/security_key.mjs";
 import { framed, reload } from "./frames.js";
-import { expect, results } from "./harness.js";
+import { expect, results, until } from "./harness.js";
 import { counterOf, creationOptions, named, refuses } from "./options.js";
 
 const getOptions = { publicKey: { challenge: new Uint8Array(32) } };
@@ -78,7 +78,7 @@ const keepsWhatWasUnderWay = async () => {
     await key.create({ publicKey: creationOptions(named("ann")) });
     key.presence = "none";
     const waiting = key.get(getOptions);
-    await new Promise((done) => setTimeout(done, 50));
+    await until(() => key.log().includes("# need presence"), "the request is sent");
     const tab = new SecurityKey({ store: localStorage });
     expect(counterOf(await tab.get(getOptions)) === 1, "the other tab signs in meanwhile");
     key.presence = "granted";

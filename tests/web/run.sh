@@ -19,7 +19,7 @@ run_pages() {
     echo "== $("$1" --version 2>/dev/null)"
     ran=1
     mkdir -p "$room/$browser"
-    "$with_fido2" "$here/serve.py" "$room/$browser" viewer.html,key.html "$@" || failed=1
+    "$with_fido2" "$here/serve.py" "$room/$browser" viewer.html,key.html,long.html "$@" || failed=1
     if [ "$browser" = chromium ]; then
         "$with_fido2" "$here/from_file.py" || [ $? = 3 ] || failed=1
         "$with_fido2" "$here/virtual_authenticator.py" || [ $? = 3 ] || failed=1
@@ -78,7 +78,8 @@ fi
 wanted=${1:-all}
 if [ "$wanted" != firefox ]; then
     if command -v chromium >/dev/null; then
-        run_pages chromium chromium --headless=new --no-sandbox --user-data-dir=PROFILE
+        run_pages chromium chromium --headless=new --no-sandbox --disable-dev-shm-usage --enable-logging=stderr \
+            --user-data-dir=PROFILE
     else
         echo "tests/web: chromium is missing (apt-get install chromium)" >&2
     fi

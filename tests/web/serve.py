@@ -14,6 +14,7 @@ import subprocess
 import sys
 import tempfile
 import threading
+import time
 from base64 import b64decode
 from http.server import SimpleHTTPRequestHandler, ThreadingHTTPServer
 from urllib.parse import parse_qs, urlsplit
@@ -21,8 +22,12 @@ from urllib.parse import parse_qs, urlsplit
 from relying_party import RelyingParty
 
 TOP = os.path.abspath(os.path.join(os.path.dirname(__file__), "..", ".."))
-# Only a browser that hangs takes so long.
-SECONDS = 600
+# Only a page that hangs takes so long for one test.
+TEST_SECONDS = 900
+# Only a page whose process is gone says nothing for so long: a thread of its own says each 5 seconds that it is there.
+SILENT_SECONDS = 180
+# What Chromium and Firefox wrote last before they ended.
+LAST_LINES = 15
 
 
 def is_of(session, process):
@@ -45,6 +50,29 @@ def processor_seconds(session):
     return nanoseconds / 1e9
 
 
+def peak_of(process):
+    """Returns the most memory that a process had so far, in megabytes, as Linux counts it; 0 where it has ended."""
+    try:
+        with open(f"/proc/{process}/status", encoding="ascii", errors="replace") as file:
+            return sum(int(line.split()[1]) for line in file if line.startswith("VmHWM")) // 1024
+    except OSError:
+        return 0
+
+
+def peak_memory(session):
+    """Returns the most that one of a session's processes had so far."""
+    with contextlib.suppress(OSError):
+        return max(peak_of(it) for it in os.listdir("/proc") if it.isdigit() and is_of(session, it))
+    return 0
+
+
+def long_log(name, megabytes):
+    """Returns the packets and replies of an example, over and over."""
+    with open(os.path.join(TOP, "examples", os.path.basename(name)), "rb") as file:
+        part = b"".join(line for line in file if line[:1] not in (b"=", b"#"))
+    return part, megabytes * 1024 * 1024 // len(part)
+
+
 class Handler(SimpleHTTPRequestHandler):
     """The files, the relying party, and the end of the tests."""
 
@@ -65,8 +93,27 @@ class Handler(SimpleHTTPRequestHandler):
     def log_message(self, *_):
         """Says nothing of each request."""
 
+    def do_GET(self):
+        """Serves a file, or a long log that is made of an example."""
+        parts = urlsplit(self.path)
+        if not parts.path.startswith("/long/"):
+            super().do_GET()
+            return
+        part, count = long_log(parts.path, int(parse_qs(parts.query)["megabytes"][0]))
+        self.send_response(200)
+        self.send_header("Content-Length", str(len(part) * count))
+        self.end_headers()
+        for _ in range(count):
+            self.wfile.write(part)
+
     def answer(self, path, given):
         """Answers a call of the page."""
+        self.server.heard = time.monotonic()
+        if path == "/lives":
+            return {}
+        if path == "/begun":
+            self.server.test = (given["page"], given["test"], time.monotonic())
+            return {}
         if path == "/done":
             self.server.results.append(given)
             if self.server.pages:
@@ -94,17 +141,38 @@ class Handler(SimpleHTTPRequestHandler):
             self.wfile.write(body)
 
 
+def why_it_ended(server, started):
+    """Waits for the results. Returns why there are none, or an empty text."""
+    while not server.is_done.wait(1):
+        server.memory = max(server.memory, peak_memory(started.pid))
+        page, test, began = server.test
+        where = f"in {page}, test {test!r}, at a peak of {server.memory} MB in one process"
+        now = time.monotonic()
+        if started.poll() is not None:
+            return f"the browser ended with status {started.returncode} {where}"
+        if now - server.heard > SILENT_SECONDS:
+            return f"the tab is gone (it crashed, or was killed) {where}"
+        if now - began > TEST_SECONDS:
+            return f"the page hangs for more than {TEST_SECONDS} seconds {where}"
+    server.memory = max(server.memory, peak_memory(started.pid))
+    return ""
+
+
 def run_browser(words, url, server):
-    """Starts the browser on a profile of its own, and waits for the results."""
-    with tempfile.TemporaryDirectory(ignore_cleanup_errors=True) as profile:
+    """Starts the browser on a profile of its own, and waits for the results. Returns why there are none, or nothing."""
+    with tempfile.TemporaryDirectory(ignore_cleanup_errors=True) as profile, tempfile.TemporaryFile() as said:
         filled = [word.replace("PROFILE", profile) for word in words]
-        started = subprocess.Popen(
-            [*filled, url], stdout=subprocess.DEVNULL, stderr=subprocess.DEVNULL, start_new_session=True
-        )
+        started = subprocess.Popen([*filled, url], stdout=said, stderr=said, start_new_session=True)
         server.browser = started.pid
-        server.is_done.wait(SECONDS)
-        os.killpg(started.pid, signal.SIGTERM)
+        why = why_it_ended(server, started)
+        with contextlib.suppress(ProcessLookupError):
+            os.killpg(started.pid, signal.SIGTERM)
         started.wait()
+        if why:
+            said.seek(0)
+            last = said.read().decode(errors="replace").splitlines()[-LAST_LINES:]
+            print(*(f"    {line[:300]}" for line in last), sep="\n")
+    return why
 
 
 def report(results, folder):
@@ -128,12 +196,15 @@ def main():
     origin = f"http://localhost:{server.server_address[1]}"
     server.relying_party, server.results, server.is_done = RelyingParty(origin), [], threading.Event()
     server.pages = [f"{origin}/tests/web/{page}" for page in rest]
+    server.heard, server.memory = time.monotonic(), 0
+    server.test = (first, "the first", time.monotonic())
     threading.Thread(target=server.serve_forever, daemon=True).start()
-    run_browser(words, f"{origin}/tests/web/{first}", server)
+    why = run_browser(words, f"{origin}/tests/web/{first}", server)
     passed = [report(it, folder) for it in server.results]
-    if not server.is_done.is_set():
-        print(f"FAILED  a page posted nothing within {SECONDS} seconds")
-    return 0 if server.is_done.is_set() and all(passed) else 1
+    print(f"    the browser's largest process had {server.memory} MB at its peak")
+    if why:
+        print(f"FAILED  {why}")
+    return 0 if not why and all(passed) else 1
 
 
 if __name__ == "__main__":

@@ -1,50 +1,8 @@
 // web/index.html, driven as a user drives it: by files that are dropped, keys and clicks.
 import { expect, results, run, until } from "./harness.js";
+import { at, choose, drop, encode, fetched, fetchedFrom, frame, notice, open, page, press, rows, texts } from "./viewing.js";
 
 const LOGS = ["first", "get_info", "registration", "selection", "sign_in", "sign_in_again", "time_out", "two_hosts"];
-const frame = document.querySelector("iframe");
-const page = () => frame.contentWindow;
-const at = (id) => page().document.getElementById(id);
-const notice = () => at("notice").textContent;
-const rows = () => [...at("space").querySelectorAll(".row")];
-const texts = () => rows().map((row) => row.textContent);
-
-const drop = (name, bytes) => {
-    const transfer = new (page().DataTransfer)();
-    transfer.items.add(new (page().File)([bytes], name));
-    page().document.dispatchEvent(new (page().DragEvent)("drop", { dataTransfer: transfer, cancelable: true }));
-};
-
-const press = (key) => {
-    const event = new (page().KeyboardEvent)("keydown", { key, bubbles: true, cancelable: true });
-    page().document.dispatchEvent(event);
-};
-
-const choose = (id, value) => {
-    at(id).value = value;
-    at(id).dispatchEvent(new (page().Event)(id === "search" ? "input" : "change"));
-};
-
-const fetchedFrom = async (path) => new Uint8Array(await (await fetch(`/${path}`)).arrayBuffer());
-
-const fetched = (name) => fetchedFrom(`examples/${name}`);
-
-const encode = (text) => new TextEncoder().encode(text);
-
-/** Loads the page anew, and drops a file on it. Its lines are shown one by one, unless they are to stay folded. */
-const open = async (name, bytes, isFolded = false) => {
-    const loaded = new Promise((done) => frame.addEventListener("load", done, { once: true }));
-    frame.src = "../../web/index.html";
-    await loaded;
-    await until(() => page().document.documentElement.dataset.ready === "yes", "the page");
-    if (bytes) {
-        drop(name, bytes);
-        await until(() => notice() !== "", "a word on the file");
-        if (!isFolded && !at("fold").disabled) {
-            at("fold").click();
-        }
-    }
-};
 
 /** As many rows as the log has lines, and each row of a packet says its command. */
 const showsALog = (name) => async () => {
@@ -259,7 +217,7 @@ const saysWhatIsFaulty = async () => {
     expect(notice() === "This is no session log: line 1: not a log line.", notice());
     await open("empty.log", new Uint8Array(0));
     expect(notice() === "empty.log is empty: a log has a line at least.", notice());
-    await open("huge.log", new Uint8Array(100 * 1024 * 1024));
+    await open("huge.log", new Uint8Array(16 * 1024 * 1024));
     await until(() => notice() === "This is no session log: line 1: not a log line.", "no text");
     expect(at("story").textContent.startsWith("This file is no text: it begins with the bytes 00 00 00 00."), "why");
     await open("windows.log", encode(text.replaceAll("\n", "\r\n")));
@@ -369,69 +327,6 @@ const refusesOtherCaptures = async () => {
     expect(notice() === "cut.pcapng could not be opened: no key with whole packets is in the capture; hidlog import reads more", notice());
 };
 
-/** The longest time for which the page did nothing else, since this is called. */
-const longestBlock = () => {
-    const { document: inside } = page();
-    let [last, longest] = [performance.now(), 0];
-    const timer = page().setInterval(() => {
-        longest = Math.max(longest, performance.now() - last);
-        last = performance.now();
-    }, 10);
-    return () => {
-        page().clearInterval(timer);
-        return inside ? longest : 0;
-    };
-};
-
-/** Opens a long log, and says how long that took, and for how long the page stopped. */
-const openLong = async (name, parts, lines) => {
-    await open("", null);
-    const file = new (page().File)(parts, name);
-    const block = longestBlock();
-    const begun = performance.now();
-    const data = new (page().DataTransfer)();
-    data.items.add(file);
-    page().document.dispatchEvent(new (page().DragEvent)("drop", { dataTransfer: data, cancelable: true }));
-    await until(() => rows().length > 0, "the first row");
-    const first = performance.now() - begun;
-    await until(() => new RegExp(`^${name}: ${lines} lines`).test(notice()), "all lines");
-    const all = performance.now() - begun;
-    await until(() => at("story").textContent, "the story");
-    const longest = block();
-    results.figures.push(`${name}, ${(file.size / 1024 / 1024).toFixed(0)} MB: the first row after`
-        + ` ${(first / 1000).toFixed(2)} s, all lines after ${(all / 1000).toFixed(1)} s, and the page never stopped for`
-        + ` more than ${longest.toFixed(0)} ms`);
-    expect(first < 5000, `${first} ms to the first row`);
-    return longest;
-};
-
-/** 200 MB of sessions: rows are there at once, and the page never stops. */
-const opensHugeLogs = async () => {
-    const text = new TextDecoder().decode(await fetched("sign_in.log"));
-    const part = encode(text.split("\n").filter((it) => !/^[=#]/.test(it)).join("\n"));
-    const count = Math.floor((200 * 1024 * 1024) / part.length);
-    // Where other processes want the processor, a slice takes longer by the clock: the least of three times counts.
-    let longest = Infinity;
-    for (let time = 0; time < 3 && longest >= 200; time += 1) {
-        longest = Math.min(longest, await openLong("huge.log", Array.from({ length: count }, () => part), "\\d+"));
-    }
-    expect(longest < 1000, `it stopped for ${longest} ms`);
-    const block = longestBlock();
-    choose("search", "no such words");
-    at("cancel").click();
-    expect(notice() === "huge.log: cancelled.", notice());
-    results.figures.push(`a search that is cancelled: ${block().toFixed(0)} ms`);
-};
-
-/** A log of 230,000 channels, which froze the page before. */
-const opensManyChannels = async () => {
-    const packet = (at) => `> ${at} ${(at + 1).toString(16).padStart(8, "0")}8100010${"0".repeat(113)}`;
-    const bytes = encode(Array.from({ length: 230_000 }, (_, at) => packet(at)).join("\n"));
-    const longest = await openLong("channels.log", [bytes], "230000");
-    expect(at("channel").options.length === 201, `${at("channel").options.length} channels are listed`);
-    expect(longest < 1000, `it stopped for ${longest} ms`);
-};
-
 /** After Check the differing row is chosen, in the middle, its transaction is open, and a sentence is on top. */
 const showsTheDifference = async () => {
     const lines = new TextDecoder().decode(await fetched("sign_in.log")).split("\n");
@@ -534,6 +429,4 @@ run({
     "after a check the difference is in sight": showsTheDifference,
     "the page saves itself with the log inside": savesItself,
     "contrast in both themes": keepsItsContrast,
-    "200 MB": opensHugeLogs,
-    "230,000 channels": opensManyChannels,
 });

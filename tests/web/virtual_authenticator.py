@@ -13,7 +13,8 @@ from http.server import ThreadingHTTPServer
 from driver import Driver, is_there
 from serve import Handler
 
-SECONDS = 600
+# Only what hangs takes so long.
+SECONDS = 1500
 OUTCOMES = os.path.join(os.path.dirname(os.path.abspath(__file__)), "chromium_outcomes.json")
 
 

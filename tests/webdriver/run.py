@@ -34,6 +34,8 @@ DIFFERS = {
     "test_broken_private_key": "chromedriver answers unknown error, and the standard says invalid argument",
     "test_two_windows": "Chromium's authenticator is of one window, and the standard's of all in a session",
 }
+# Only what hangs takes so many seconds.
+HANGS = 300
 LEAST = {"Python": 27, "Ruby": 22}
 
 
@@ -64,17 +66,26 @@ def served(handler: Any) -> Iterator[int]:
         server.server_close()
 
 
+def wait_for_port(port: int, started: subprocess.Popen[bytes]) -> None:
+    """Waits until a process that was started listens."""
+    end = time.monotonic() + HANGS
+    while time.monotonic() < end:
+        with socket.socket() as it:
+            if it.connect_ex(("127.0.0.1", port)) == 0:
+                return
+        if started.poll() is not None:
+            raise SystemExit(f"FAILED  {started.args!r} ended with status {started.returncode} before it listened")
+        time.sleep(0.1)
+    raise SystemExit(f"FAILED  {started.args!r} doesn't listen after {HANGS} seconds")
+
+
 @contextmanager
 def process(words: list[str], port: int) -> Iterator[str]:
     """Returns the address of a driver or proxy that is started."""
     environment = {**os.environ, "PYTHONPATH": str(TOP / "python" / "src"), "PYTHONDONTWRITEBYTECODE": "1"}
     started = subprocess.Popen([*words, f"--port={port}"], stdout=subprocess.DEVNULL, env=environment)
     try:
-        for _ in range(300):
-            with socket.socket() as it:
-                if it.connect_ex(("127.0.0.1", port)) == 0:
-                    break
-            time.sleep(0.1)
+        wait_for_port(port, started)
         yield f"http://127.0.0.1:{port}"
     finally:
         started.terminate()
@@ -90,7 +101,7 @@ def call(method: str, url: str, given: Any = None) -> tuple[int, Any]:
     body = None if method in ("GET", "DELETE") else json.dumps(given).encode()
     request = urllib.request.Request(url, body, {"Content-Type": "application/json"}, method=method)
     try:
-        with urllib.request.urlopen(request, timeout=60) as answer:
+        with urllib.request.urlopen(request, timeout=600) as answer:
             return answer.status, json.load(answer)["value"]
     except urllib.error.HTTPError as error:
         return error.code, json.load(error)["value"]
@@ -98,7 +109,7 @@ def call(method: str, url: str, given: Any = None) -> tuple[int, Any]:
 
 def saw(language: str, url: str, page: str) -> dict[str, Any]:
     """Runs a suite, and returns what each of its tests saw."""
-    ran = subprocess.run([*SUITES[language], url, page], capture_output=True, text=True, timeout=300, check=False)
+    ran = subprocess.run([*SUITES[language], url, page], capture_output=True, text=True, timeout=1500, check=False)
     if ran.returncode:
         raise SystemExit(f"FAILED  the suite in {language} at {url}: {ran.stderr[-2000:]}")
     return dict(json.loads(line) for line in ran.stdout.splitlines())
@@ -151,9 +162,10 @@ class Commands:
 
     def __init__(self, url: str, page: str):
         self.page = page
-        options = {"args": ["--headless=new", "--no-sandbox"]}
+        options = {"args": ["--headless=new", "--no-sandbox", "--disable-dev-shm-usage"]}
         wanted = {"capabilities": {"alwaysMatch": {"goog:chromeOptions": options}}}
         self.url = f"{url}/session/{call('POST', f'{url}/session', wanted)[1]['sessionId']}"
+        self.post("/timeouts", {"script": 1000 * HANGS})
         self.post("/url", {"url": page})
 
     def post(self, path: str, given: Any) -> tuple[int, Any]:
@@ -232,8 +244,10 @@ class Commands:
         assert self.post("/nothing", {})[1]["error"] == "unknown command"
         key = self.add()
         self.post("/execute/sync", {"script": "setTimeout(() => alert('stop'), 0)", "args": []})
-        time.sleep(0.3)
-        assert call("GET", f"{self.url}/alert/text") == (200, "stop")
+        end = time.monotonic() + HANGS
+        while (alert := call("GET", f"{self.url}/alert/text")) != (200, "stop") and time.monotonic() < end:
+            time.sleep(0.1)
+        assert alert == (200, "stop"), alert
         assert self.post("/alert/accept", {}) == (200, None)
         assert call("DELETE", self.url + key) == (200, None)
         text = {

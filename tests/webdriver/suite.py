@@ -260,8 +260,9 @@ def main() -> None:
     options = webdriver.ChromeOptions()
     options.add_argument("--headless=new")
     options.add_argument("--no-sandbox")
+    options.add_argument("--disable-dev-shm-usage")
     driver = webdriver.Remote(url, options=options)
-    driver.set_script_timeout(20)
+    driver.set_script_timeout(300)
     names = [it for it in dir(Suite) if it.startswith("test_")]
     try:
         for name in names:

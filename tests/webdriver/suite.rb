@@ -7,9 +7,9 @@ KEY = "MIGHAgEAMBMGByqGSM49AgEGCCqGSM49AwEHBG0wawIBAQQg8_zMDQDYAxlU-Qhk1Dwkf0v18
       "ZzrIKmeZ2jwURmgsJYxGP__fWN_S-j5sN4tT15XEpN_7QZnt14YvI6uvAgO0uJEboFaZlOEB"
 URL, PAGE = ARGV
 
-options = Selenium::WebDriver::Options.chrome(args: ["--headless=new", "--no-sandbox"])
+options = Selenium::WebDriver::Options.chrome(args: ["--headless=new", "--no-sandbox", "--disable-dev-shm-usage"])
 DRIVER = Selenium::WebDriver.for(:remote, url: URL, capabilities: options)
-DRIVER.manage.timeouts.script_timeout = 20
+DRIVER.manage.timeouts.script_timeout = 300
 
 # Calls a function of the page.
 def page(name, words = {})
