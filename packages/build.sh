@@ -1,16 +1,22 @@
 #!/usr/bin/env bash
-# Makes the packages from release/, docs/ and the Python package, with no toolchain: packages/build.sh FOLDER
+# Makes the packages from release/, docs/ and the packages of the languages: packages/build.sh FOLDER
 #
-#     hidlog-VERSION-linux-x86_64.tar.gz   the program, the C library, its header, the man page, the completions
-#     hidlog_VERSION_amd64.deb             the program, its man page, completions for bash, zsh and fish
-#     libhidlog0_VERSION_amd64.deb         the shared library
-#     libhidlog-dev_VERSION_amd64.deb      the header, the static library, and what pkg-config reads
-#     hidlog-VERSION-*.whl, .tar.gz        the Python package, for x86-64 and aarch64
-#     hidlog-VERSION.tgz                   the key in a page, for npm: ES module, CommonJS, one script, types
-#     hidlog-VERSION.spdx.json             what the packages hold, in SPDX 2.3
-#     hidlog-VERSION.provenance.json       what they were made from and by which commands, as in-toto and SLSA say it
+#     hidlog-VERSION-linux-x86_64.tar.gz    the program, hidlog-uhid, the C library, pages, completions, documents
+#     hidlog_VERSION_amd64.deb              the program, its page, completions for bash, zsh and fish, documents
+#     libhidlog0_VERSION_{amd64,arm64}.deb  the shared library
+#     libhidlog-dev_VERSION_{amd64,arm64}.deb  the header, the static library, examples, what pkg-config reads
+#     hidlog-uhid_VERSION_amd64.deb         the key as a device of the kernel
+#     python3-hidlog_VERSION_amd64.deb      the Python package, and the command with what is made in Python
+#     hidlog-VERSION-*.whl, .tar.gz         the Python package, for x86-64 and aarch64
+#     hidlog-VERSION.tgz                    for npm: the key in a page, and the command
+#     hidlog-go-VERSION.zip                 the Go module, as a proxy of modules has it
+#     hidlog-VERSION.crate, hidlog-sys-VERSION.crate  the Rust crates
+#     hidlog-VERSION.spdx.json              what the packages hold, in SPDX 2.3
+#     hidlog-VERSION.provenance.json        what they were made from and by which commands, as in-toto and SLSA say it
 #
-# The same release/ makes the same bytes. It needs tar, gzip, dpkg-deb, Python 3.11 and hatchling.
+# The same files and tools make the same bytes. It needs tar, gzip, dpkg-deb, Python 3.11 and hatchling; for hidlog-uhid
+# gcc and libssl-dev, and for aarch64 a linker (lld, or binutils-aarch64-linux-gnu): where one of these is missing it says
+# which packages aren't made.
 set -euo pipefail
 [ $# = 1 ] || { echo "usage: packages/build.sh FOLDER" >&2; exit 2; }
 top=$(cd "$(dirname "${BASH_SOURCE[0]}")/.." && pwd)
@@ -24,8 +30,8 @@ version=$(sed -n 's/^version: //p' "$top/release/BUILD")
 # One moment for every file, so that the bytes don't depend on when this is run: that of the man page's date.
 SOURCE_DATE_EPOCH=$(date -u -d "$(sed -n 's/^\.Dd //p' "$top/docs/hidlog.1")" +%s)
 export SOURCE_DATE_EPOCH
+# shellcheck disable=SC2034 # debian.sh reads it
 maintainer="Cogtzil maintainers <maintainers@users.noreply.cogtzil.example>"
-libraries=usr/lib/x86_64-linux-gnu
 room=$(mktemp -d)
 trap 'rm -rf "$room"' EXIT
 umask 022
@@ -41,120 +47,70 @@ put_completions() {
     install -D -m 644 "$room/completions/hidlog.fish" "$1/fish/vendor_completions.d/hidlog.fish"
 }
 
+# What people read, with the paths that the man page names: put_documents ROOT
+put_documents() {
+    local name
+    for name in LOG_FORMAT PROFILE TESTING_YOUR_SERVICE WEBDRIVER TOUR TROUBLESHOOTING CAPTURES LIMITS CLIENTS LOAD; do
+        put 644 "docs/$name.md" "$1/docs/$name.md"
+    done
+    for name in "$top"/examples/*.log "$top"/examples/*.snapshot; do
+        put 644 "examples/${name##*/}" "$1/examples/${name##*/}"
+    done
+    put 755 examples/shrink.py "$1/examples/shrink.py"
+}
+
+# The sources of the C examples, which register and sign in: put_c_examples FOLDER
+put_c_examples() {
+    local name
+    for name in "$top"/examples/c/*.[ch]; do
+        put 644 "examples/c/${name##*/}" "$1/${name##*/}"
+    done
+}
+
+# Compiles hidlog-uhid. Returns 1 and says what is missing where it can't be.
+compile_uhid() {
+    local flags=(-std=c11 -O2 -D_FORTIFY_SOURCE=2 -fstack-protector-strong -fPIE -pie -s "-Wl,-z,relro,-z,now")
+    if ! command -v gcc >/dev/null || ! echo '#include <openssl/evp.h>' | gcc -E - >/dev/null 2>&1; then
+        echo "packages: gcc or libssl-dev is missing, hidlog-uhid isn't made (apt-get install gcc libssl-dev)" >&2
+        return 1
+    fi
+    (cd "$top" && gcc "${flags[@]}" -Wl,--build-id=none "-DHIDLOG_VERSION=\"$version\"" -I release -I examples/c \
+        -I examples/ssh -o "$room/hidlog-uhid.program" examples/uhid/*.c examples/ssh/state.c \
+        examples/c/{held_key,private_file,software_keys,snapshot}.c release/libhidlog.a -lcrypto)
+}
+
 # The tarball: everything in one folder, to be unpacked anywhere.
 make_tarball() {
-    local folder=hidlog-$version
-    put 755 release/hidlog "$room/$folder/bin/hidlog"
-    put 644 release/libhidlog.a "$room/$folder/lib/libhidlog.a"
-    put 755 release/libhidlog.so.0 "$room/$folder/lib/libhidlog.so.0"
-    put 644 release/hidlog.h "$room/$folder/include/hidlog.h"
-    put 644 docs/hidlog.1 "$room/$folder/share/man/man1/hidlog.1"
-    put_completions "$room/$folder/share"
+    local folder=hidlog-$version name
+    local root=$room/$folder
+    put 755 release/hidlog "$root/bin/hidlog"
+    put 644 release/libhidlog.a "$root/lib/libhidlog.a"
+    put 755 release/libhidlog.so.0 "$root/lib/libhidlog.so.0"
+    ln -s libhidlog.so.0 "$root/lib/libhidlog.so"
+    put 644 release/hidlog.h "$root/include/hidlog.h"
+    mkdir -p "$root/lib/pkgconfig"
+    sed -e "s|^prefix=.*|prefix=\${pcfiledir}/../..|" -e "s|^Cflags:.*|Cflags: -I\${prefix}/include|" \
+        -e "s|^Libs:.*|Libs: -L\${prefix}/lib -lhidlog|" "$top/release/hidlog.pc" >"$root/lib/pkgconfig/hidlog.pc"
+    put 644 docs/hidlog.1 "$root/share/man/man1/hidlog.1"
+    put_completions "$root/share"
+    put_documents "$root"
+    put_c_examples "$root/examples/c"
+    if [ -e "$room/hidlog-uhid.program" ]; then
+        install -D -m 755 "$room/hidlog-uhid.program" "$root/bin/hidlog-uhid"
+        put 644 docs/hidlog-uhid.8 "$root/share/man/man8/hidlog-uhid.8"
+        put 644 packages/uhid/70-hidlog.rules "$root/share/hidlog-uhid/70-hidlog.rules"
+        put 644 packages/uhid/hidlog-uhid@.service "$root/share/hidlog-uhid/hidlog-uhid@.service"
+    fi
     for name in LICENSE-APACHE LICENSE-MIT packages/NOTICE CHANGELOG.md release/BUILD; do
-        put 644 "$name" "$room/$folder/$(basename "$name")"
+        put 644 "$name" "$root/$(basename "$name")"
     done
+    put 644 packages/readme/tarball.md "$root/README.md"
     tar -C "$room" --sort=name --owner=0 --group=0 --numeric-owner --mtime="@$SOURCE_DATE_EPOCH" -cf - "$folder" |
         gzip -9n >"$to/$folder-linux-x86_64.tar.gz"
 }
 
-# What every Debian package has: its licence and its changelog.
-put_common() {
-    local docs=$room/$1/usr/share/doc/$1
-    mkdir -p "$docs"
-    {
-        echo "Format: https://www.debian.org/doc/packaging-manuals/copyright-format/1.0/"
-        echo "Upstream-Name: hidlog"
-        echo
-        echo "Files: *"
-        echo "Copyright: 2026 Cogtzil maintainers"
-        echo "License: Apache-2.0 or Expat"
-        echo
-        if [ "$1" = hidlog ]; then
-            echo "Files: usr/bin/hidlog"
-            echo "Copyright: 2026 Cogtzil maintainers"
-            echo " 1991-2022 Free Software Foundation, Inc."
-            echo "License: Apache-2.0 or Expat, and LGPL-2.1+"
-            echo "Comment: The program holds parts of the GNU C Library of Debian's libc6-dev, linked statically."
-            echo " Their source is Debian's source package glibc. How the program is linked is in release/build.sh of"
-            echo " hidlog's sources, so that it can be linked with another C library."
-            echo
-        fi
-        echo "License: Apache-2.0"
-        echo " On Debian systems the text is in /usr/share/common-licenses/Apache-2.0."
-        echo
-        echo "License: Expat"
-        sed 1,4d "$top/LICENSE-MIT" | sed 's/^$/./; s/^/ /'
-        if [ "$1" = hidlog ]; then
-            echo
-            echo "License: LGPL-2.1+"
-            echo " On Debian systems the text is in /usr/share/common-licenses/LGPL-2.1."
-        fi
-    } >"$docs/copyright"
-    {
-        echo "hidlog ($version) unstable; urgency=low"
-        echo
-        echo "  * The release $version: see the file CHANGELOG.md of the sources."
-        echo
-        echo " -- $maintainer  $(date -u -R -d "@$SOURCE_DATE_EPOCH")"
-    } | gzip -9n >"$docs/changelog.gz"
-}
-
-# Says to lintian why something is as it is: override NAME WHY TAG
-override() {
-    mkdir -p "$room/$1/usr/share/lintian/overrides"
-    printf '# %s\n%s: %s\n' "$2" "$1" "$3" >"$room/$1/usr/share/lintian/overrides/$1"
-}
-
-# Makes one package of what was put: pack NAME SECTION DEPENDS SUMMARY TEXT
-pack() {
-    local root=$room/$1
-    put_common "$1"
-    mkdir -p "$root/DEBIAN"
-    {
-        printf '%s\n' "Package: $1" "Source: hidlog" "Version: $version" "Architecture: amd64" "Maintainer: $maintainer"
-        printf '%s\n' "Section: $2" "Priority: optional" "Installed-Size: $(du -sk --apparent-size "$root/usr" | cut -f1)"
-        [ -z "$3" ] || echo "Depends: $3"
-        printf 'Description: %s\n %s\n' "$4" "$5"
-    } >"$root/DEBIAN/control"
-    (cd "$root" && find usr -type f -print0 | sort -z | xargs -0 md5sum >DEBIAN/md5sums)
-    find "$root" -exec touch -h -d "@$SOURCE_DATE_EPOCH" {} +
-    dpkg-deb --root-owner-group -Zxz --build "$root" "$to/$1_${version}_amd64.deb" >/dev/null
-}
-
-make_program() {
-    put 755 release/hidlog "$room/hidlog/usr/bin/hidlog"
-    put 644 docs/hidlog.1 "$room/hidlog/usr/share/man/man1/hidlog.1"
-    gzip -9n "$room/hidlog/usr/share/man/man1/hidlog.1"
-    put_completions "$room/hidlog/usr/share"
-    # Of a static program that is position-independent (its ELF type is 3) lintian says that a library lacks others.
-    local tag=statically-linked-binary
-    [ "$(od -An -t u1 -j 16 -N 1 "$top/release/hidlog" | tr -d ' ')" != 3 ] || tag=shared-library-lacks-prerequisites
-    override hidlog "It runs on any Linux, also where the C library is another." "$tag [usr/bin/hidlog]"
-    pack hidlog utils "" "FIDO2 security key as a program, for tests" \
-        "It plays, checks and shows logs of sessions of a security key (CTAP 2.1)."
-}
-
-make_library() {
-    put 644 release/libhidlog.so.0 "$room/libhidlog0/$libraries/libhidlog.so.0"
-    override libhidlog0 "It calls memcpy, memmove and memset of the program that loads it." \
-        "shared-library-lacks-prerequisites [$libraries/libhidlog.so.0]"
-    mkdir -p "$room/libhidlog0/DEBIAN"
-    echo "libhidlog 0 libhidlog0 (>= $version)" >"$room/libhidlog0/DEBIAN/shlibs"
-    echo "activate-noawait ldconfig" >"$room/libhidlog0/DEBIAN/triggers"
-    pack libhidlog0 libs "" "FIDO2 security key as a library, for tests" \
-        "A key that a C program holds: one input a call, packets and needs out."
-}
-
-make_development() {
-    put 644 release/hidlog.h "$room/libhidlog-dev/usr/include/hidlog.h"
-    put 644 release/libhidlog.a "$room/libhidlog-dev/$libraries/libhidlog.a"
-    ln -s libhidlog.so.0 "$room/libhidlog-dev/$libraries/libhidlog.so"
-    mkdir -p "$room/libhidlog-dev/$libraries/pkgconfig"
-    sed -e "s|^prefix=.*|prefix=/usr|" -e "s|^Cflags:.*|Cflags:|" -e "s|^Libs:.*|Libs: -lhidlog|" \
-        "$top/release/hidlog.pc" >"$room/libhidlog-dev/$libraries/pkgconfig/hidlog.pc"
-    pack libhidlog-dev libdevel "libhidlog0 (= $version)" "FIDO2 security key as a library, header and static library" \
-        "What a C program needs to be built with libhidlog."
-}
+# shellcheck disable=SC1091 # it is beside this file
+source "$top/packages/debian.sh"
 
 # The key in a page as npm has it: all in a folder of the name package.
 make_npm() {
@@ -166,6 +122,9 @@ make_npm() {
         put 644 "packages/npm/$name" "$folder/$name"
     done
     put 755 packages/npm/cli.mjs "$folder/cli.mjs"
+    put 644 packages/npm/wasm.mjs "$folder/wasm.mjs"
+    put 755 release/hidlog "$folder/linux-x64/hidlog"
+    put 644 packages/npm/NOTICE "$folder/NOTICE"
     put 644 release/hidlog.wasm "$folder/hidlog.wasm"
     put 644 web/core.js "$folder/core.js"
     put 644 web/dist/bytes.js "$folder/bytes.js"
@@ -177,12 +136,50 @@ make_npm() {
         gzip -9n >"$to/hidlog-$version.tgz"
 }
 
+# The Go module as a proxy of modules has it: a zip whose paths begin with the module and its version.
+make_go() {
+    local folder=$room/go/cogtzil.example/hidlog@v$version
+    mkdir -p "$folder/lib"
+    (cd "$top/go" && git ls-files -co --exclude-standard 2>/dev/null || find . -type f) | sed 's|^\./||' | sort |
+        while read -r name; do put 644 "go/$name" "$folder/$name"; done
+    put 644 release/hidlog.h "$folder/lib/hidlog.h"
+    put 644 release/libhidlog.a "$folder/lib/libhidlog_linux_amd64.a"
+    put 644 release/aarch64/libhidlog.a "$folder/lib/libhidlog_linux_arm64.a"
+    cat "$top/LICENSE-MIT" >"$folder/LICENSE-MIT"
+    cat "$top/LICENSE-APACHE" >"$folder/LICENSE-APACHE"
+    python3 "$top/packages/zip.py" "$room/go" "$to/hidlog-go-$version.zip"
+}
+
+# A crate as cargo has it: make_crate NAME
+make_crate() {
+    local folder=$room/crates/$1-$version
+    mkdir -p "$folder"
+    (cd "$top/rust/$1" && find . -type f -not -path './target/*' -not -name Cargo.lock) | sed 's|^\./||' | sort |
+        while read -r name; do put 644 "rust/$1/$name" "$folder/$name"; done
+    put 644 LICENSE-MIT "$folder/LICENSE-MIT"
+    put 644 LICENSE-APACHE "$folder/LICENSE-APACHE"
+    if [ "$1" = hidlog-sys ]; then
+        put 644 release/hidlog.h "$folder/lib/hidlog.h"
+        put 644 release/libhidlog.a "$folder/lib/x86_64/libhidlog.a"
+        put 644 release/aarch64/libhidlog.a "$folder/lib/aarch64/libhidlog.a"
+    fi
+    sed -i "s/^version = .*/version = \"$version\"/" "$folder/Cargo.toml"
+    sed -i "s|^hidlog-sys = .*|hidlog-sys = { version = \"$version\", path = \"../hidlog-sys-$version\" }|" "$folder/Cargo.toml"
+    tar -C "$room/crates" --sort=name --owner=0 --group=0 --numeric-owner --mtime="@$SOURCE_DATE_EPOCH" -cf - \
+        "$1-$version" | gzip -9n >"$to/$1-$version.crate"
+}
+
 "$top/packages/completions.py" "$top/release/hidlog" "$room/completions"
+! compile_uhid || make_uhid
 make_tarball
 make_program
-make_library
-make_development
+make_library amd64 x86_64-linux-gnu release/libhidlog.so.0 release/libhidlog.a
+! link_aarch64 || make_library arm64 aarch64-linux-gnu "$room/aarch64/libhidlog.so.0" release/aarch64/libhidlog.a
 make_npm
+make_go
+make_crate hidlog-sys
+make_crate hidlog
 "$top/python/build.sh" "$to" >/dev/null
+make_python
 python3 "$top/packages/statements.py" "$to"
 (cd "$to" && sha256sum ./*"$version"* >SHA256SUMS && cat SHA256SUMS)

@@ -36,7 +36,35 @@ CRATES = {
 # Debian's versions of libc6-dev, by the front of the sum of its libc.a, which release/BUILD has.
 LIBC = {"8e5252c4b87e3d58": "2.36-9+deb12u14"}
 # What is packed beside release/: the folders and files of each set of sources.
-OTHERS = {"python": ("python",), "npm": ("web/dist", "web/README.md", "packages/npm"), "docs": ("docs/hidlog.1",)}
+OTHERS = {
+    "python": ("python", "conformance/hidlog_conformance", "web/dist/security_key.js"),
+    "npm": ("web/dist", "web/core.js", "packages/npm"),
+    "uhid": ("examples/uhid", "examples/ssh/state.c", "examples/ssh/state.h", "examples/c", "packages/uhid"),
+    "go": ("go",),
+    "rust": ("rust",),
+    "docs": ("docs", "packages/readme", "examples"),
+}
+# Of which sets each package is made, beside release/, by the front of its name: the first that fits.
+MADE_OF = (
+    ("hidlog-uhid_", ("uhid", "docs")),
+    ("python3-hidlog_", ("python", "docs")),
+    ("libhidlog", ("docs",)),
+    ("hidlog_", ("docs",)),
+    ("hidlog-go-", ("go",)),
+    ("hidlog-sys-", ("rust",)),
+    ("hidlog-VERSION.crate", ("rust",)),
+    ("hidlog-VERSION.tgz", ("npm",)),
+    ("hidlog-VERSION-linux-", ("uhid", "docs")),
+    ("hidlog-VERSION", ("python",)),
+)
+# Packages that have the program, which holds parts of the C library.
+WITH_PROGRAM = (
+    "hidlog_",
+    "hidlog-VERSION.tgz",
+    "hidlog-VERSION-linux-",
+    "hidlog-VERSION-py3-none-manylinux_2_17_x86_64",
+    "hidlog-VERSION.tar.gz",
+)
 # Names of these forms; they lead nowhere.
 BUILD_TYPE, BUILDER = "urn:x-hidlog:packages:1", "urn:x-hidlog:release-build:1"
 COMMANDS = ("rt ci", "release/build.sh", "packages/build.sh FOLDER")
@@ -124,14 +152,25 @@ def materials(facts: dict[str, str]) -> list[Json]:
     return [*sources, spdx_package(kit, facts["kit"], "NOASSERTION"), *crates, glibc]
 
 
-def relationships(packages: list[Json], parts: list[Json]) -> list[Json]:
-    """Returns that the document describes each package, and that each is made from the parts."""
+def parts_of(name: str, version: str, parts: list[Json]) -> list[Json]:
+    """Returns the parts that a package is made from: all crates, its own sources, and the C library with the program."""
+    plain = name.replace(version, "VERSION")
+    sets = next(found for front, found in MADE_OF if plain.startswith(front))
+    own = {f"hidlog-sources-{it}" for it in OTHERS if it not in sets}
+    if not plain.startswith(WITH_PROGRAM) or name.endswith("aarch64.whl"):
+        own.add("glibc")
+    return [it for it in parts if it["name"] not in own]
+
+
+def relationships(packages: list[Json], parts: list[Json], version: str) -> list[Json]:
+    """Returns that the document describes each package, and that each is made from its parts."""
 
     def relation(first: str, kind: str, second: str) -> Json:
         return {"spdxElementId": first, "relationshipType": kind, "relatedSpdxElement": second}
 
     described = [relation("SPDXRef-DOCUMENT", "DESCRIBES", it["SPDXID"]) for it in packages]
-    return described + [relation(it["SPDXID"], "GENERATED_FROM", of["SPDXID"]) for it in packages for of in parts]
+    made = ((it["SPDXID"], of["SPDXID"]) for it in packages for of in parts_of(it["name"], version, parts))
+    return described + [relation(one, "GENERATED_FROM", other) for one, other in made]
 
 
 def spdx(facts: dict[str, str], sums: dict[str, str]) -> Json:
@@ -157,7 +196,7 @@ def spdx(facts: dict[str, str], sums: dict[str, str]) -> Json:
         "documentNamespace": f"urn:x-hidlog:spdx:{version}:{namespace}",
         "creationInfo": {"created": f"{moment:%Y-%m-%dT%H:%M:%SZ}", "creators": ["Tool: packages/statements.py"]},
         "packages": packages + parts,
-        "relationships": relationships(packages, parts),
+        "relationships": relationships(packages, parts, version),
     }
 
 

@@ -1,7 +1,9 @@
 #!/usr/bin/env bash
-# Makes the packages twice, which has to give the same bytes, and uses each as its user would: the program of the tarball
-# and of the Debian package replays a log, a C program is built with the development package, node loads the npm package,
-# and lintian reads the Debian packages where it is there. Ends with 3 where dpkg-deb is missing.
+# Makes the packages twice, which has to give the same bytes, and uses each as its user would: the command of the tarball,
+# of the Debian packages, of the wheel and of npm has the same cases as the program, a C program is built with the tarball
+# and with the development package, node loads the npm package, and lintian reads the Debian packages, where these are
+# there. packages_hold.py reads what they hold, and clients/languages.sh uses those of Go and Rust. Ends with 3 where
+# dpkg-deb is missing.
 set -euo pipefail
 top=$(cd "$(dirname "${BASH_SOURCE[0]}")/.." && pwd)
 for tool in dpkg-deb python3; do
@@ -30,12 +32,43 @@ wait $! || stop "the first build failed"
 diff -r "$room/first" "$room/second" >/dev/null || stop "two builds differ"
 echo "tests/packages.sh: two builds are the same, byte for byte"
 
+# Runs the cases of tests/program over a command, beside the others: has_cases NAME COMMAND [TEST ..]
+waiting=()
+has_cases() {
+    python3 "$top/tests/program/cases.py" "${@:2}" >"$room/cases.$1" 2>&1 &
+    waiting+=("$! $1")
+}
+
+# Whether a program is release/hidlog and replays a log: is_program PROGRAM
+is_program() {
+    cmp "$1" "$top/release/hidlog" || stop "$1 is another program"
+    replays "$1"
+}
+
 tar -C "$room" -xzf "$room"/first/hidlog-*-linux-x86_64.tar.gz
-replays "$(echo "$room"/hidlog-*/bin/hidlog)"
+tarball=$(echo "$room"/hidlog-*)
+is_program "$tarball/bin/hidlog"
+has_cases tarball "$tarball/bin/hidlog"
+# As dpkg does: python3-hidlog has the command, and the program that it diverts has another name.
 for package in "$room"/first/*.deb; do
-    dpkg-deb -x "$package" "$room/root"
+    [[ $package == */python3-hidlog_* ]] || dpkg-deb -x "$package" "$room/root"
 done
-replays "$room/root/usr/bin/hidlog"
+mv "$room/root/usr/bin/hidlog" "$room/root/usr/bin/hidlog.plain"
+is_program "$room/root/usr/bin/hidlog.plain"
+dpkg-deb -x "$room"/first/python3-hidlog_*.deb "$room/root"
+{
+    echo '#!/bin/sh'
+    echo "PYTHONDONTWRITEBYTECODE=1 PYTHONPATH=$room/root/usr/lib/python3/dist-packages exec $room/root/usr/bin/hidlog \"\$@\""
+} >"$room/python3-hidlog"
+chmod +x "$room/python3-hidlog"
+has_cases python3-hidlog "$room/python3-hidlog" cases_of_the_file arguments_are_utf_8
+[ "$("$room/python3-hidlog" mermaid "$log" | head -1)" = sequenceDiagram ] || stop "python3-hidlog has no commands of its own"
+if python3 -c 'import venv, ensurepip' 2>/dev/null; then
+    python3 -m venv "$room/venv"
+    "$room/venv/bin/pip" install --quiet --no-index --no-deps --disable-pip-version-check "$room"/first/*x86_64.whl
+    has_cases wheel "$room/venv/bin/hidlog" cases_of_the_file cases_of_logs arguments_are_utf_8
+    [ "$("$room/venv/bin/hidlog" mermaid "$log" | head -1)" = sequenceDiagram ] || stop "the wheel has no commands of its own"
+fi
 # The completion of bash knows the commands, their options, and where a path follows.
 completes() {
     bash -c 'source "$1"; shift; want=$1; shift; COMP_WORDS=("$@"); COMP_CWORD=$(($# - 1)); _hidlog; [ "${COMPREPLY[*]}" = "$want" ]' \
@@ -43,10 +76,15 @@ completes() {
 }
 completes replay hidlog re
 completes --save hidlog live --s
-completes "$top/docs/hidlog.1" hidlog check --load "$top/docs/hid"
+completes "$top/docs/hidlog.1" hidlog check --load "$top/docs/hidlog."
 # The link of the development package leads to the file of the library's.
 [ -s "$room/root/usr/lib/x86_64-linux-gnu/libhidlog.so" ] || stop "libhidlog.so leads nowhere"
 if command -v gcc >/dev/null; then
+    if command -v pkg-config >/dev/null; then
+        read -ra words < <(PKG_CONFIG_PATH=$tarball/lib/pkgconfig pkg-config --cflags --libs hidlog)
+        gcc -o "$room/key" "$top/tests/c/key.c" "${words[@]}"
+        LD_LIBRARY_PATH=$tarball/lib "$room/key" mistakes || stop "a program with the tarball's library fails"
+    fi
     gcc -I "$room/root/usr/include" -o "$room/key" "$top/tests/c/key.c" -L "$room/root/usr/lib/x86_64-linux-gnu" -lhidlog
     LD_LIBRARY_PATH=$room/root/usr/lib/x86_64-linux-gnu "$room/key" mistakes || stop "a program with the library fails"
     echo "tests/packages.sh: a C program was built with the development package"
@@ -67,46 +105,15 @@ if command -v node >/dev/null; then
         (cd "$room/npm" && tsc --noEmit --module node16 --moduleResolution node16 --lib es2022,dom wrong.mts) >/dev/null &&
             stop "the types of the npm package take any argument"
     fi
+    has_cases npm "$room/npm/node_modules/hidlog/cli.mjs" cases_of_the_file cases_of_logs
     HIDLOG=$top/release/hidlog node "$top/tests/web/npm_package.mjs" "$room/npm" || stop "the npm package's command or README"
     echo "tests/packages.sh: the npm package is loaded"
 fi
-# Each package is named by both statements, with its sum.
-python3 - "$room/first" "$top" <<'END' || stop "the statements don't name the packages"
-import hashlib
-import json
-import re
-import subprocess
-import sys
-from pathlib import Path
-
-folder = Path(sys.argv[1])
-sums = {
-    it.name: hashlib.sha256(it.read_bytes()).hexdigest()
-    for it in folder.iterdir()
-    if it.suffix not in (".json", "") or it.name.endswith(".deb")
-}
-(spdx,), (provenance,) = folder.glob("*.spdx.json"), folder.glob("*.provenance.json")
-listed = json.loads(spdx.read_text())["packages"]
-assert {it["packageFileName"]: it["checksums"][0]["checksumValue"] for it in listed if "packageFileName" in it} == sums
-assert {it["name"]: it["digest"]["sha256"] for it in json.loads(provenance.read_text())["subject"]} == sums
-# Versions are those of crates.txt's names, and nothing leads to a name that doesn't exist.
-uses = {
-    word
-    for line in (Path(sys.argv[2]) / "crates.txt").read_text().splitlines()
-    if not line.startswith("#")
-    for word in line.partition(":")[2].split()
-}
-kit = {it["name"].rpartition("-")[2]: it["versionInfo"] for it in listed if " Rust crate " in it.get("comment", "")}
-assert set(kit) == {it for it in uses if not (Path(sys.argv[2]) / "crates" / it).is_dir()}, sorted(kit)
-assert all(re.fullmatch(r"[0-9]+[.][0-9]+[.][0-9]+", it) for it in kit.values()), kit
-assert ".example" not in spdx.read_text() + provenance.read_text()
-# The commit is the one that git has.
-made = json.loads(provenance.read_text())["predicate"]["buildDefinition"]["resolvedDependencies"]
-head = subprocess.run(["git", "-C", sys.argv[2], "rev-parse", "HEAD"], capture_output=True, text=True).stdout.strip()
-assert [it["digest"]["gitCommit"] for it in made if it["name"] == "commit"] == ([head] if head else []), made
-assert {"sources", "sources-python", "sources-npm"} <= {it["name"] for it in made}
-END
-echo "tests/packages.sh: the statements name each package with its sum, true versions and the commit"
+python3 "$top/tests/packages_hold.py" "$room/first"
+for it in "${waiting[@]}"; do
+    wait "${it% *}" || stop "the command of ${it#* }: $(cat "$room/cases.${it#* }")"
+    echo "tests/packages.sh: the command of ${it#* }: $(tail -1 "$room/cases.${it#* }")"
+done
 if command -v lintian >/dev/null; then
     # The packages aren't Debian's own, so they close no bug of Debian's.
     lintian --fail-on error,warning --suppress-tags initial-upload-closes-no-bugs "$room"/first/*.deb || stop "lintian objects"

@@ -1,12 +1,13 @@
 // A software security key as a device of the Linux kernel: makes /dev/hidrawN by /dev/uhid, so that browsers, libfido2
 // and OpenSSH find it as if it were plugged in.
 //
-//     gcc -I release -I examples/c -I examples/ssh -o uhid examples/uhid/{uhid,turns}.c examples/ssh/state.c
+//     gcc -I release -I examples/c -I examples/ssh -o hidlog-uhid examples/uhid/*.c examples/ssh/state.c
 //         examples/c/{held_key,private_file,software_keys,snapshot}.c release/libhidlog.a -lcrypto
-//     sudo ./uhid -r session.log key.state
+//     sudo ./hidlog-uhid --record session.log key.state
 //
-// For tests: nobody is asked for a touch, and the private keys stand in the file in the clear.
+// For tests: the private keys are in the file, in the clear.
 #define _POSIX_C_SOURCE 200809L
+#include "options.h"
 #include "private_file.h"
 #include "snapshot.h"
 #include "state.h"
@@ -14,7 +15,6 @@
 
 #include <errno.h>
 #include <fcntl.h>
-#include <limits.h>
 #include <linux/input.h>
 #include <linux/uhid.h>
 #include <openssl/crypto.h>
@@ -42,10 +42,9 @@ static struct state state;
 static struct turns turns;
 static int device = -1;
 static int recording = -1;
-static uint64_t asked;       // when the key began to wait for the user
-static uint64_t ticked;      // when time last passed while it waited
-static bool is_asked;        // whether it waits
-static uint64_t touch = 200; // how many milliseconds the user takes
+static struct options options;
+static uint64_t ticked; // when time last passed while the key waited for the user
+static bool is_asked;   // whether it waits
 
 static uint64_t now(void) {
     struct timespec time;
@@ -54,7 +53,7 @@ static uint64_t now(void) {
 }
 
 static bool failed(const char *what) {
-    fprintf(stderr, "uhid: %s: %s\n", what, strerror(errno));
+    fprintf(stderr, "hidlog-uhid: %s: %s\n", what, strerror(errno));
     return false;
 }
 
@@ -96,7 +95,7 @@ static bool play(const char *line) {
     static uint8_t text[TEXT_MOST];
     struct hidlog_outcome outcome;
     if (hidlog_key_lines(&state.held.key, (const uint8_t *)line, strlen(line), text, sizeof text, &outcome) != 0) {
-        fprintf(stderr, "uhid: the key refuses %s", line);
+        fprintf(stderr, "hidlog-uhid: the key refuses %s", line);
         return false;
     }
     if (recording >= 0 && !write_whole(recording, text, outcome.written)) {
@@ -160,14 +159,16 @@ static bool give_signature(const struct hidlog_need *need) {
 
 // Hands the key what it needs. While it waits for the user, who touches it after a while, time passes.
 static bool serve(const struct hidlog_need *need) {
+    const char *word;
     switch (need->kind) {
     case HIDLOG_NEED_KEY:
         return give_key();
     case HIDLOG_NEED_SIGNATURE:
         return give_signature(need);
     case HIDLOG_NEED_PRESENCE:
-        if (now() - asked >= touch) {
-            return play_word('p', "granted");
+        word = user_says(&options.user, now());
+        if (word != NULL) {
+            return play_word('p', word);
         }
         if (now() - ticked >= KEEPALIVE_MS) {
             ticked = now();
@@ -245,8 +246,8 @@ static int patience(uint32_t kind, bool is_idle) {
     if (kind == HIDLOG_NEED_NOTHING) {
         return is_idle ? -1 : MESSAGE_MS;
     }
-    uint64_t moment = now(), keepalive = ticked + KEEPALIVE_MS, touched = asked + touch;
-    uint64_t due = keepalive < touched ? keepalive : touched;
+    uint64_t moment = now(), keepalive = ticked + KEEPALIVE_MS;
+    uint64_t due = keepalive < options.user.due ? keepalive : options.user.due;
     return due <= moment ? 0 : (int)(due - moment);
 }
 
@@ -254,7 +255,8 @@ static int patience(uint32_t kind, bool is_idle) {
 static uint32_t look(struct hidlog_need *need) {
     uint32_t kind = (uint32_t)hidlog_key_need(&state.held.key, need);
     if (kind == HIDLOG_NEED_PRESENCE && !is_asked) {
-        asked = ticked = now();
+        ticked = now();
+        user_asked(&options.user, ticked);
     }
     is_asked = kind == HIDLOG_NEED_PRESENCE;
     return kind;
@@ -263,17 +265,21 @@ static uint32_t look(struct hidlog_need *need) {
 // Serves until a signal comes. In each round the events that are there are taken, one packet is played, and the key
 // gets what it needs: so a program that floods doesn't keep the others from their answers.
 static bool run(int signals) {
-    struct pollfd files[] = {{.fd = device, .events = POLLIN}, {.fd = signals, .events = POLLIN}};
+    struct pollfd files[] = {{.fd = device, .events = POLLIN}, {.fd = signals, .events = POLLIN}, {.events = POLLIN}};
     struct hidlog_need need;
     bool is_idle = true;
     for (;;) {
         uint32_t kind = look(&need);
-        int ready = poll(files, 2, patience(kind, is_idle));
+        files[2].fd = is_asked && user_is_awaited(&options.user) ? STDIN_FILENO : -1;
+        int ready = poll(files, 3, patience(kind, is_idle));
         if (ready < 0) {
             return failed("poll");
         }
         if (files[1].revents != 0) {
             return true;
+        }
+        if (files[2].fd >= 0 && files[2].revents != 0) {
+            user_type(&options.user);
         }
         bool is_quiet = ready == 0 && kind == HIDLOG_NEED_NOTHING && turns.count == 0;
         // A message that doesn't go on ends by the time alone.
@@ -293,7 +299,7 @@ static bool open_device(void) {
         const char *help =
             errno == ENOENT ? "load the kernel's module: modprobe uhid" : "run it as root, or see README.md beside it";
         failed("/dev/uhid");
-        fprintf(stderr, "uhid: %s\n", help);
+        fprintf(stderr, "hidlog-uhid: %s\n", help);
     }
     return device >= 0;
 }
@@ -338,7 +344,7 @@ static bool may_record(const char *path) {
     }
     bool is_one = is_there && has_state && one.st_dev == other.st_dev && one.st_ino == other.st_ino;
     if (is_one || strcmp(path, state.path) == 0) {
-        fprintf(stderr, "uhid: %s: it is the key's file, which a recording would replace\n", path);
+        fprintf(stderr, "hidlog-uhid: %s: it is the key's file, which a recording would replace\n", path);
         return false;
     }
     return true;
@@ -352,7 +358,7 @@ static bool begin(const char *path) {
     size_t len = snapshot_write(&state.held.key, snapshot);
     hidlog_key_free(&state.held.key);
     if (hidlog_key_make(&state.held.key, aaguid, 0, snapshot, len) != 0) {
-        fprintf(stderr, "uhid: the key can't be made\n");
+        fprintf(stderr, "hidlog-uhid: the key can't be made\n");
         return false;
     }
     if (path == NULL) {
@@ -363,40 +369,6 @@ static bool begin(const char *path) {
     }
     recording = open(path, O_WRONLY | O_CREAT | O_TRUNC | O_CLOEXEC, 0666);
     return recording >= 0 || failed(path);
-}
-
-static int usage(void) {
-    fprintf(stderr, "usage: uhid [-t MS] [-r RECORDING] [-f FD] STATE\n"
-                    "  -t MS         the user touches the key after MS milliseconds (200)\n"
-                    "  -r RECORDING  writes the session's log, for hidlog check\n"
-                    "  -f FD         /dev/uhid is open already, as this descriptor\n"
-                    "  STATE         the key's file; a new key where there is none\n");
-    return 2;
-}
-
-// Reads a number of an option. False where it is none.
-static bool number(const char *word, uint64_t most, uint64_t *read) {
-    char *end;
-    errno = 0;
-    *read = strtoull(word, &end, 10);
-    return *word >= '0' && *word <= '9' && *end == 0 && errno == 0 && *read <= most;
-}
-
-// Reads the options. False where they are no options of this program.
-static bool read_options(int count, char **words, const char **recorded) {
-    uint64_t descriptor;
-    for (int option; (option = getopt(count, words, "t:r:f:")) != -1;) {
-        if (option == 't' && number(optarg, INT_MAX, &touch)) {
-            continue;
-        } else if (option == 'r') {
-            *recorded = optarg;
-        } else if (option == 'f' && number(optarg, INT_MAX, &descriptor)) {
-            device = (int)descriptor;
-        } else {
-            return false;
-        }
-    }
-    return optind + 1 == count;
 }
 
 // Returns what a signal that ends the bridge makes readable, or -1.
@@ -417,26 +389,29 @@ static int end_signals(void) {
 
 // Plugs the key in, serves, and saves at the end: a new key too. After a fault nothing more is saved, since what wasn't
 // saved wasn't answered either.
-static bool play_session(const char *recorded) {
+static bool play_session(void) {
     int signals = end_signals();
     if (signals < 0) {
         return failed("signals can't be awaited");
     }
-    if (!begin(recorded) || !plug_in()) {
+    if (!begin(options.recorded) || !plug_in()) {
         return false;
     }
     return run(signals) && save();
 }
 
 int main(int count, char **words) {
-    const char *recorded = NULL;
-    if (!read_options(count, words, &recorded)) {
-        return usage();
+    if (!options_read(&options, count, words)) {
+        return 2;
     }
-    if (setenv("HIDLOG_SK_STATE", words[optind], 1) != 0 || !state_open(&state)) {
+    if (options.is_help) {
+        return 0;
+    }
+    device = options.device;
+    if (setenv("HIDLOG_SK_STATE", options.state, 1) != 0 || !state_open(&state)) {
         return 1;
     }
-    bool is_done = play_session(recorded);
+    bool is_done = play_session();
     if (recording >= 0 && close(recording) != 0) {
         is_done = failed("the recording can't be written");
     }

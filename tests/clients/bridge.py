@@ -53,7 +53,13 @@ class Bridge:
     running: list[Bridge] = []
 
     def __init__(
-        self, words: Sequence[str], *, trace: Sequence[str] = (), user: Optional[int] = None, waits: bool = True
+        self,
+        words: Sequence[str],
+        *,
+        trace: Sequence[str] = (),
+        user: Optional[int] = None,
+        waits: bool = True,
+        stdin: int = subprocess.DEVNULL,
     ) -> None:
         self.device, other = socket.socketpair(socket.AF_UNIX, socket.SOCK_SEQPACKET)
         other.setblocking(waits)
@@ -65,7 +71,7 @@ class Bridge:
         command = [*trace, words[0], "-f", str(other.fileno()), *words[1:]]
         self.process = subprocess.Popen(
             command,
-            stdin=subprocess.DEVNULL,
+            stdin=stdin,
             stdout=subprocess.DEVNULL,
             stderr=subprocess.PIPE,
             pass_fds=[other.fileno()],

@@ -241,10 +241,13 @@ def wrong_words_are_told(room: Path) -> None:
         ["-t", "-1", state],
         ["-t", "", state],
         ["-f", "x", state],
+        ["--state", state, state],
+        ["--presence"],
+        ["--presense", "granted", state],
     ]
     for words in wrong:
         said = subprocess.run([UHID, *words], capture_output=True, text=True)
-        assert said.returncode == 2 and "usage: uhid" in said.stderr, said
+        assert said.returncode == 2 and "usage: hidlog-uhid" in said.stderr, said
     assert not os.listdir(room)
 
 

@@ -16,11 +16,12 @@ room=$(mktemp -d)
 trap 'rm -rf "$room"' EXIT
 chmod 755 "$room" # another user runs the bridge, too
 parts=("$top/examples/ssh/state.c" "$top"/examples/c/{held_key,private_file,software_keys,snapshot}.c)
-bridge=("$top"/examples/uhid/{uhid,turns}.c "${parts[@]}" "$library/libhidlog.a" -lcrypto)
+bridge=("$top"/examples/uhid/{uhid,turns,user,options}.c "${parts[@]}" "$library/libhidlog.a" -lcrypto)
 compile -I "$top/examples/ssh" -o "$room/uhid" "${bridge[@]}"
 compile -g -fsanitize=address,undefined -fno-sanitize-recover=all -I "$top/examples/ssh" -o "$room/uhid_checked" \
     "${bridge[@]}"
 compile -I "$top/examples/ssh" -o "$room/sk_call" "$top/tests/clients/sk_call.c" "$top/examples/ssh/hidlog_sk.c" \
     "$top/examples/c/fido_device.c" "${parts[@]}" "$library/libhidlog.a" -lfido2 -lcrypto
 python3 "$top/tests/clients/bridge_cases.py" "$room/uhid" "$room/uhid_checked"
+python3 "$top/tests/clients/bridge_users.py" "$room/uhid_checked"
 python3 "$top/tests/clients/bridge_faults.py" "$room/uhid" "$room/sk_call" "$@"

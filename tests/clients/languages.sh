@@ -1,5 +1,6 @@
 #!/usr/bin/env bash
-# Makes a key, sends INIT and prints the answer from C, Go, Rust and C++. A language that isn't there is skipped by name.
+# Makes a key, sends INIT and prints the answer from C, Go, Rust and C++; then the Go module and the Rust crates, from
+# their packages, as their READMEs have it. A language that isn't there is skipped by name.
 # shellcheck disable=SC1091,SC2154 # top, name and library are set by common.sh
 set -euo pipefail
 source "$(dirname "${BASH_SOURCE[0]}")/common.sh"
@@ -41,4 +42,15 @@ if has C++ g++ g++; then
     g++ -std=c++17 -O2 -Wall -Wextra -Wpedantic -Werror -I "$library" -o cpp_init "$top/examples/c/init.cpp" \
         "$library/libhidlog.a"
     tried C++ "g++ $(g++ -dumpfullversion)" ./cpp_init
+fi
+
+# From the packages, each by its language's own tool.
+if command -v dpkg-deb >/dev/null && /usr/bin/python3 -c 'import hatchling' 2>/dev/null; then
+    "$top/packages/build.sh" "$room/packages" >/dev/null
+    if has "the Go module" go golang-go; then
+        "$top/tests/clients/go_module.sh" "$room/packages" "$room/go"
+    fi
+    if has "the Rust crates" cargo cargo && { need_header openssl/evp.h libssl-dev; }; then
+        "$top/tests/clients/rust_crates.sh" "$room/packages" "$room/rust"
+    fi
 fi

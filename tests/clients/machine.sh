@@ -2,8 +2,8 @@
 # A virtual machine (software emulation, a Debian kernel, an initramfs made here) in which the bridge of examples/uhid
 # makes the key a device of the kernel. Sourced after common.sh by the scripts that run something in it.
 #
-#     HIDLOG_KERNEL=FOLDER    an unpacked linux-image; by default the one that is installed, else one that
-#                             apt-get download fetches (70 MB)
+#     HIDLOG_KERNEL=FOLDER    an unpacked linux-image; by default the one that is installed, or that tests/run --install
+#                             has unpacked in ~/.cache/hidlog/kernel, else one that apt-get download fetches (70 MB)
 #     HIDLOG_OFFLINE=1        fetches nothing
 # shellcheck disable=SC2154 # top, name and library are set by common.sh
 PATH=$PATH:/usr/sbin:/sbin
@@ -29,8 +29,8 @@ find_kernel() {
     local package
     if [ -n "${HIDLOG_KERNEL-}" ]; then
         has_kernel "$HIDLOG_KERNEL" || nothing "HIDLOG_KERNEL has no kernel with uhid"
-    elif ! has_kernel ""; then
-        [ -z "${HIDLOG_OFFLINE-}" ] || nothing "no kernel with uhid is installed (apt-get install linux-image-amd64)"
+    elif ! has_kernel "" && ! has_kernel "${XDG_CACHE_HOME:-$HOME/.cache}/hidlog/kernel"; then
+        [ -z "${HIDLOG_OFFLINE-}" ] || nothing "no kernel with uhid is installed (tests/run --install)"
         package=$(apt-cache depends linux-image-amd64 2>/dev/null | sed -n 's/^ *Depends: //p' | head -1)
         (cd "$room" && apt-get download "${package:-linux-image-amd64}" && dpkg-deb -x "$package"_*.deb kernel) \
             >"$room/said" 2>&1 || true
@@ -67,7 +67,7 @@ bring_python() {
 build() {
     local parts module file
     find_kernel
-    parts=("$top"/examples/uhid/{uhid,turns}.c "$top/examples/ssh/state.c"
+    parts=("$top"/examples/uhid/{uhid,turns,user,options}.c "$top/examples/ssh/state.c"
         "$top"/examples/c/{held_key,private_file,software_keys,snapshot}.c)
     mkdir -p "$root"/{bin,dev,etc/pam.d,modules,proc,root,sys,tmp}
     # With address and undefined-behaviour checks, which end it by a status of their own.

@@ -1,7 +1,7 @@
 #!/usr/bin/env python3
 """Runs the program on the cases of cases.txt, of the folder logs and of tables.py, on snapshots, and on changed requests.
 
-    tests/program/cases.py [PROGRAM]      release/hidlog where none is named
+    tests/program/cases.py [PROGRAM [TEST ..]]      release/hidlog where none is named, and all tests
 
 A case is a block of lines. The first is the exit status and the words. Of each further line the first sign says where it
 is: `-` in the log, `+` in what is written, `|` in both, `?` in what is said of faults. A line that begins with `#` is a
@@ -31,7 +31,7 @@ from tables import made
 
 HERE = Path(__file__).resolve().parent
 TOP = HERE.parents[1]
-PROGRAM = str(Path(sys.argv[1]).resolve() if len(sys.argv) > 1 else TOP / "release/hidlog")
+PROGRAM = str(Path(sys.argv[1]).absolute() if len(sys.argv) > 1 else TOP / "release/hidlog")
 # The SHA-256 hash of `example.com`.
 RP = bytes.fromhex("a379a6f6eeafb9a55e378c118034e2751e682fab9f2d30ab13d2125586ce1947")
 SIGN_IN = """\
@@ -189,15 +189,19 @@ TESTS = [
 
 
 def main() -> int:
-    failed = 0
-    for test in TESTS:
+    failed, names = 0, sys.argv[2:]
+    tests = [it for it in TESTS if it.__name__ in names or not names]
+    if unknown := set(names) - {it.__name__ for it in TESTS}:
+        print(f"there is no test {', '.join(sorted(unknown))}", file=sys.stderr)
+        return 2
+    for test in tests:
         with tempfile.TemporaryDirectory() as folder:
             try:
                 test(Path(folder))
             except (AssertionError, subprocess.TimeoutExpired) as wrong:
                 print(f"FAILED   {test.__name__}: {wrong}")
                 failed += 1
-    print(f"{len(TESTS) - failed} of {len(TESTS)} tests of the program's cases passed")
+    print(f"{len(tests) - failed} of {len(tests)} tests of the program's cases passed")
     return 1 if failed else 0
 
 

@@ -12,8 +12,9 @@ const command = join(folder, "node_modules/hidlog/cli.mjs");
 const program = process.env.HIDLOG ?? join(TOP, "release/hidlog");
 
 /** How a command ends. */
-const ran = (file, words, input = "") => {
-    const { status, stdout, stderr } = spawnSync(file, words, { input, cwd: folder, maxBuffer: 2 ** 28 });
+const ran = (file, words, input = "", variables = { HIDLOG_CLI: "wasm" }) => {
+    const env = { ...process.env, ...variables };
+    const { status, stdout, stderr } = spawnSync(file, words, { input, env, cwd: folder, maxBuffer: 2 ** 28 });
     return { status, stdout: stdout.toString("latin1"), stderr: stderr.toString() };
 };
 

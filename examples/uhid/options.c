@@ -1,0 +1,106 @@
+#define _POSIX_C_SOURCE 200809L
+#include "options.h"
+
+#include <errno.h>
+#include <getopt.h>
+#include <limits.h>
+#include <stdio.h>
+#include <stdlib.h>
+#include <string.h>
+#include <unistd.h>
+
+#ifndef HIDLOG_VERSION
+#define HIDLOG_VERSION "of a clone"
+#endif
+
+static const char help[] =
+    "usage: hidlog-uhid [OPTIONS] STATE\n"
+    "  -p, --presence WORD  what the user does: granted, ask (at the terminal), or script:FILE, of which\n"
+    "                       each line is granted, denied or timeout, and the last one stays (granted)\n"
+    "  -t, --touch MS       the user touches the key after MS milliseconds (200)\n"
+    "  -r, --record FILE    writes the session's log, for hidlog check\n"
+    "  -s, --state STATE    the key's file; a new key where there is none\n"
+    "  -f, --fd N           /dev/uhid is open already, as descriptor N\n"
+    "  -h, --help  -V, --version\n";
+
+static const struct option longer[] = {
+    {"presence", required_argument, NULL, 'p'}, {"touch", required_argument, NULL, 't'},
+    {"record", required_argument, NULL, 'r'},   {"state", required_argument, NULL, 's'},
+    {"fd", required_argument, NULL, 'f'},       {"help", no_argument, NULL, 'h'},
+    {"version", no_argument, NULL, 'V'},        {0},
+};
+
+// Reads a number of an option. False where it is none.
+static bool number(const char *word, uint64_t *read) {
+    char *end;
+    errno = 0;
+    *read = strtoull(word, &end, 10);
+    return *word >= '0' && *word <= '9' && *end == 0 && errno == 0 && *read <= INT_MAX;
+}
+
+static bool write_help(const char *text) {
+    if (fputs(text, stdout) < 0 || fflush(stdout) != 0) {
+        fprintf(stderr, "hidlog-uhid: standard output: %s\n", strerror(errno));
+        return false;
+    }
+    return true;
+}
+
+static bool usage(void) {
+    fputs(help, stderr);
+    return false;
+}
+
+static bool not_number(const char *option, const char *word) {
+    fprintf(stderr, "hidlog-uhid: %s %s: it has to be a number from 0 to %d\n", option, word, INT_MAX);
+    return usage();
+}
+
+// What the options have before they are looked at as a whole.
+struct words {
+    const char *presence;
+    uint64_t touch, descriptor;
+};
+
+// Reads one option. False where it is wrong.
+static bool take(struct options *options, struct words *read, int option) {
+    switch (option) {
+    case 'p':
+        read->presence = optarg;
+        return true;
+    case 't':
+        return number(optarg, &read->touch) || not_number("--touch", optarg);
+    case 'f':
+        return number(optarg, &read->descriptor) || not_number("--fd", optarg);
+    case 'r':
+        options->recorded = optarg;
+        return true;
+    case 's':
+        options->state = optarg;
+        return true;
+    default:
+        return usage();
+    }
+}
+
+bool options_read(struct options *options, int count, char **words) {
+    struct words read = {"granted", 200, UINT64_MAX};
+    memset(options, 0, sizeof *options);
+    for (int option; (option = getopt_long(count, words, "p:t:r:s:f:hV", longer, NULL)) != -1;) {
+        options->is_help = option == 'h' || option == 'V';
+        if (options->is_help) {
+            return write_help(option == 'h' ? help : "hidlog-uhid " HIDLOG_VERSION "\n");
+        }
+        if (!take(options, &read, option)) {
+            return false;
+        }
+    }
+    int left = count - optind;
+    if (left != (options->state == NULL ? 1 : 0)) {
+        fprintf(stderr, "hidlog-uhid: name one file of the key's, as STATE or by --state\n");
+        return usage();
+    }
+    options->state = left == 1 ? words[optind] : options->state;
+    options->device = read.descriptor <= INT_MAX ? (int)read.descriptor : -1;
+    return user_read(&options->user, read.presence, read.touch);
+}

@@ -1,0 +1,123 @@
+#define _POSIX_C_SOURCE 200809L
+#include "user.h"
+
+#include <errno.h>
+#include <stdio.h>
+#include <stdlib.h>
+#include <string.h>
+#include <unistd.h>
+
+static const char *const words[] = {"granted", "denied", "timeout"};
+
+// Reads a line of a script: a word, and after it how many milliseconds the user takes.
+static bool read_touch(char *line, uint64_t after, struct touch *touch) {
+    char *rest, *word = strtok_r(line, " \t\n", &rest), *number = strtok_r(NULL, " \t\n", &rest), *end = "";
+    errno = 0;
+    touch->word = NULL;
+    touch->after = number == NULL ? after : strtoull(number, &end, 10);
+    for (size_t i = 0; i < sizeof words / sizeof *words; i++) {
+        touch->word = strcmp(word, words[i]) == 0 ? words[i] : touch->word;
+    }
+    bool is_number = number == NULL || (*number >= '0' && *number <= '9' && *end == 0);
+    return touch->word != NULL && is_number && errno == 0 && touch->after <= INT32_MAX &&
+           strtok_r(NULL, " \t\n", &rest) == NULL;
+}
+
+// Reads the lines of a script. Empty lines and those that begin with # are no touches.
+static bool read_lines(struct user *user, FILE *file, const char *path, uint64_t after) {
+    char line[USER_LINE];
+    for (unsigned number = 1; fgets(line, sizeof line, file) != NULL; number++) {
+        if (line[strspn(line, " \t\n")] == 0 || *line == '#') {
+            continue;
+        }
+        if (user->count == USER_TOUCHES || !read_touch(line, after, &user->touches[user->count])) {
+            fprintf(stderr,
+                    "hidlog-uhid: %s, line %u: it isn't granted, denied or timeout, with milliseconds after "
+                    "it or without, or it is the touch after %d\n",
+                    path, number, USER_TOUCHES);
+            return false;
+        }
+        user->count++;
+    }
+    if (ferror(file) || user->count == 0) {
+        fprintf(stderr, "hidlog-uhid: %s: %s\n", path, ferror(file) ? strerror(errno) : "it has no touch");
+        return false;
+    }
+    return true;
+}
+
+static bool read_script(struct user *user, const char *path, uint64_t after) {
+    FILE *file = fopen(path, "re");
+    if (file == NULL) {
+        fprintf(stderr, "hidlog-uhid: %s: %s\n", path, strerror(errno));
+        return false;
+    }
+    user->kind = USER_HAS_SCRIPT;
+    bool is_read = read_lines(user, file, path, after);
+    fclose(file);
+    return is_read;
+}
+
+bool user_read(struct user *user, const char *word, uint64_t after) {
+    memset(user, 0, sizeof *user);
+    if (strncmp(word, "script:", 7) == 0 && word[7] != 0) {
+        return read_script(user, word + 7, after);
+    }
+    if (strcmp(word, "granted") != 0 && strcmp(word, "ask") != 0) {
+        fprintf(stderr, "hidlog-uhid: --presence %s: it has to be granted, ask or script:FILE\n", word);
+        return false;
+    }
+    user->kind = *word == 'a' ? USER_IS_ASKED : USER_SAYS_ONE;
+    user->touches[0] = (struct touch){words[0], after};
+    user->count = 1;
+    return true;
+}
+
+void user_asked(struct user *user, uint64_t now) {
+    if (user->kind == USER_IS_ASKED) {
+        fprintf(stderr,
+                "hidlog-uhid: the key asks for a touch: y and Enter grants it, n denies it, and after %d s it "
+                "times out\n",
+                USER_SECONDS);
+        user->due = now + USER_SECONDS * 1000;
+        return;
+    }
+    user->due = now + user->touches[user->next].after;
+}
+
+void user_type(struct user *user) {
+    size_t room = sizeof user->typed - user->typed_len;
+    ssize_t len = read(STDIN_FILENO, user->typed + user->typed_len, room);
+    // A line that is too long is none.
+    user->typed_len = len > 0 ? user->typed_len + (size_t)len : room == 0 ? 0 : user->typed_len;
+    user->is_gone = room > 0 && (len == 0 || (len < 0 && errno != EINTR && errno != EAGAIN));
+}
+
+bool user_is_awaited(const struct user *user) {
+    return user->kind == USER_IS_ASKED && !user->is_gone;
+}
+
+// Takes the first line that was typed, and returns what it means, or NULL: nothing was typed that means something.
+static const char *take_line(struct user *user) {
+    char *end = memchr(user->typed, '\n', user->typed_len);
+    if (end == NULL) {
+        return NULL;
+    }
+    char first = *user->typed;
+    user->typed_len -= (size_t)(end + 1 - user->typed);
+    memmove(user->typed, end + 1, user->typed_len);
+    return first == 'y' ? words[0] : first == 'n' ? words[1] : NULL;
+}
+
+const char *user_says(struct user *user, uint64_t now) {
+    if (user->kind == USER_IS_ASKED) {
+        const char *word = take_line(user);
+        return word != NULL ? word : now >= user->due ? words[2] : NULL;
+    }
+    if (now < user->due) {
+        return NULL;
+    }
+    const char *word = user->touches[user->next].word;
+    user->next += user->next + 1 < user->count;
+    return word;
+}

@@ -1,0 +1,3 @@
+module cogtzil.example/hidlog
+
+go 1.19

@@ -1,0 +1,31 @@
+#!/usr/bin/env python3
+"""Makes a zip of all files of a folder, the same for the same files: packages/zip.py FOLDER FILE
+
+The moment of each is that of SOURCE_DATE_EPOCH.
+"""
+
+from __future__ import annotations
+
+import os
+import sys
+import time
+import zipfile
+from pathlib import Path
+
+
+def main() -> int:
+    words = sys.argv[1:]
+    if len(words) != 2 or not Path(words[0]).is_dir():
+        print((__doc__ or "").strip(), file=sys.stderr)
+        return 2
+    folder, moment = Path(words[0]), time.gmtime(int(os.environ.get("SOURCE_DATE_EPOCH", "315532800")))
+    with zipfile.ZipFile(words[1], "w", zipfile.ZIP_DEFLATED) as archive:
+        for path in sorted(it for it in folder.rglob("*") if it.is_file()):
+            entry = zipfile.ZipInfo(str(path.relative_to(folder)), moment[:6])
+            entry.external_attr = 0o644 << 16
+            archive.writestr(entry, path.read_bytes(), zipfile.ZIP_DEFLATED, 9)
+    return 0
+
+
+if __name__ == "__main__":
+    sys.exit(main())

@@ -1,0 +1,128 @@
+//! The calls of `hidlog.h`, which documents each of them (`lib/hidlog.h`). Use the crate `hidlog`, which is safe.
+#![no_std]
+#![allow(non_camel_case_types)]
+#![allow(clippy::missing_safety_doc)]
+
+use core::ffi::c_void;
+
+/// A command was done to its end (`enum hidlog_status`).
+pub const HIDLOG_DONE: u32 = 0;
+/// No snapshot is longer.
+pub const HIDLOG_SNAPSHOT_LONGEST: usize = 18125;
+/// `enum hidlog_need_kind`.
+pub const HIDLOG_NEED_NOTHING: u32 = 0;
+pub const HIDLOG_NEED_PRESENCE: u32 = 1;
+pub const HIDLOG_NEED_KEY: u32 = 2;
+pub const HIDLOG_NEED_SIGNATURE: u32 = 3;
+
+/// `struct hidlog_key`.
+#[repr(C)]
+pub struct hidlog_key {
+    pub memory: *mut c_void,
+    pub state: u32,
+}
+
+/// `struct hidlog_outcome`.
+#[repr(C)]
+#[derive(Clone, Copy, Debug, Default)]
+pub struct hidlog_outcome {
+    pub status: u32,
+    pub fault: u32,
+    pub line: u64,
+    pub packet: u64,
+    pub written: u64,
+}
+
+/// `struct hidlog_need`.
+#[repr(C)]
+#[derive(Clone, Copy)]
+pub struct hidlog_need {
+    pub kind: u32,
+    pub signed_len: u32,
+    pub id: [u8; 32],
+    pub signed_bytes: [u8; 196],
+}
+
+/// `struct hidlog_credential`.
+#[repr(C)]
+#[derive(Clone, Copy)]
+pub struct hidlog_credential {
+    pub rp: [u8; 32],
+    pub id: [u8; 32],
+    pub x: [u8; 32],
+    pub y: [u8; 32],
+    pub user: [u8; 64],
+    pub name: [u8; 64],
+    pub user_len: u32,
+    pub name_len: u32,
+    pub discoverable: u32,
+    pub counter: u32,
+}
+
+/// `struct hidlog_meters`.
+#[repr(C)]
+#[derive(Clone, Copy, Debug, Default, PartialEq, Eq)]
+pub struct hidlog_meters {
+    pub requests: u64,
+    pub bytes: u64,
+    pub steps: u64,
+    pub held: u32,
+    pub rows: u32,
+    pub pending: u32,
+    pub zero: u32,
+}
+
+macro_rules! commands {
+    ($($name:ident)*) => { extern "C" { $(
+        pub fn $name(log: *const u8, log_len: usize, snapshot: *const u8, snapshot_len: usize, out: *mut u8, room: usize,
+            outcome: *mut hidlog_outcome);
+    )* } };
+}
+
+commands! { hidlog_replay hidlog_live hidlog_check hidlog_quiet }
+
+extern "C" {
+    pub fn hidlog_show(
+        log: *const u8,
+        log_len: usize,
+        explain: u32,
+        out: *mut u8,
+        room: usize,
+        outcome: *mut hidlog_outcome,
+    );
+    pub fn hidlog_key_size() -> usize;
+    pub fn hidlog_key_make(
+        key: *mut hidlog_key,
+        aaguid: *const u8,
+        at: u64,
+        snapshot: *const u8,
+        snapshot_len: usize,
+    ) -> i32;
+    pub fn hidlog_key_free(key: *mut hidlog_key) -> i32;
+    pub fn hidlog_key_packet(key: *mut hidlog_key, at: u64, packet: *const u8) -> i32;
+    pub fn hidlog_key_tick(key: *mut hidlog_key, at: u64) -> i32;
+    pub fn hidlog_key_presence(key: *mut hidlog_key, at: u64, presence: u32) -> i32;
+    pub fn hidlog_key_new_key(key: *mut hidlog_key, at: u64, id: *const u8, x: *const u8, y: *const u8) -> i32;
+    pub fn hidlog_key_no_key(key: *mut hidlog_key, at: u64) -> i32;
+    pub fn hidlog_key_signature(key: *mut hidlog_key, at: u64, signature: *const u8, signature_len: usize) -> i32;
+    pub fn hidlog_key_no_signature(key: *mut hidlog_key, at: u64) -> i32;
+    pub fn hidlog_key_waiting(key: *mut hidlog_key) -> i32;
+    pub fn hidlog_key_next(key: *mut hidlog_key, packet: *mut u8) -> i32;
+    pub fn hidlog_key_need(key: *mut hidlog_key, need: *mut hidlog_need) -> i32;
+    pub fn hidlog_key_credentials(key: *mut hidlog_key) -> i32;
+    pub fn hidlog_key_credential(key: *mut hidlog_key, place: usize, credential: *mut hidlog_credential) -> i32;
+    pub fn hidlog_key_add(key: *mut hidlog_key, at: u64, credential: *const hidlog_credential) -> i32;
+    pub fn hidlog_key_remove(key: *mut hidlog_key, at: u64, id: *const u8) -> i32;
+    pub fn hidlog_key_clear(key: *mut hidlog_key, at: u64) -> i32;
+    pub fn hidlog_key_save(key: *mut hidlog_key, out: *mut u8, room: usize) -> i32;
+    pub fn hidlog_key_pending(key: *mut hidlog_key) -> i32;
+    pub fn hidlog_key_meters(key: *mut hidlog_key, meters: *mut hidlog_meters) -> i32;
+    pub fn hidlog_key_lines(
+        key: *mut hidlog_key,
+        log: *const u8,
+        log_len: usize,
+        out: *mut u8,
+        room: usize,
+        outcome: *mut hidlog_outcome,
+    ) -> i32;
+}

@@ -1,0 +1,34 @@
+#!/usr/bin/env bash
+# The Rust crates as rust/hidlog/README.md has them: unpacked from their files beside a new crate, with README's own test;
+# then the crate's tests, with and without OpenSSL, and clippy and rustfmt where they are there. Nothing is downloaded.
+#
+#     tests/clients/rust_crates.sh PACKAGES FOLDER
+set -euo pipefail
+top=$(cd "$(dirname "${BASH_SOURCE[0]}")/../.." && pwd)
+packages=$(cd "$1" && pwd)
+mkdir -p "$2"
+room=$(cd "$2" && pwd)
+export CARGO_TARGET_DIR=$room/target CARGO_NET_OFFLINE=true CARGO_BUILD_JOBS=2 HIDLOG=$top/release/hidlog
+cd "$room"
+cp "$packages"/*.crate .
+version=$(basename hidlog-sys-*.crate .crate)
+sed -n '/^## Install/,/^## A test/s/^    //p' "$top/rust/hidlog/README.md" |
+    sed "s/0\.2\.0/${version#hidlog-sys-}/g; s/cargo new/& --quiet --vcs none/" >install.sh
+# shellcheck disable=SC1091 # it is made here
+source install.sh
+awk '/^```/ { n++; next } n == 1' "$top/rust/hidlog/README.md" >src/lib.rs
+cargo test --quiet --offline -- --nocapture >"$room/said" 2>&1 || { cat "$room/said" && exit 1; }
+grep -q 'send it to your service: {' "$room/said"
+cd "$room/hidlog-${version#hidlog-sys-}"
+for words in "" --no-default-features; do
+    # shellcheck disable=SC2086 # no word is no word
+    cargo test --offline $words >"$room/said" 2>&1 || { cat "$room/said" && exit 1; }
+    echo "Rust crate${words:+, $words}: $(grep -c '^test .* ok$' "$room/said") tests passed"
+done
+if cargo clippy --version >/dev/null 2>&1; then
+    cargo clippy --quiet --offline --all-targets -- -D warnings
+fi
+if cargo fmt --version >/dev/null 2>&1; then
+    (cd "$top/rust/hidlog-sys" && cargo fmt --check) && (cd "$top/rust/hidlog" && cargo fmt --check)
+    rm -f "$top"/rust/*/Cargo.lock
+fi

@@ -1,0 +1,164 @@
+#!/usr/bin/env python3
+"""What packages hold: their licences, the files that the man page names, and what the statements beside them say.
+
+    tests/packages_hold.py FOLDER       the folder that packages/build.sh wrote
+
+Exit status: 1 where something isn't as it should be.
+"""
+
+from __future__ import annotations
+
+import hashlib
+import io
+import json
+import re
+import subprocess
+import sys
+import tarfile
+import tempfile
+import zipfile
+from pathlib import Path
+
+TOP = Path(__file__).resolve().parent.parent
+FOLDER = Path(sys.argv[1])
+PROGRAM = (TOP / "release" / "hidlog").read_bytes()
+Files = dict[str, bytes]
+
+
+def in_tar(data: bytes) -> Files:
+    """Returns the files of a tar by their names; those that are links, without bytes."""
+    with tarfile.open(fileobj=io.BytesIO(data)) as archive:
+        found = {it.name.removeprefix("./"): archive.extractfile(it) if it.isfile() else None for it in archive}
+        return {name: file.read() if file else b"" for name, file in found.items()}
+
+
+def holds(path: Path) -> Files:
+    """Returns the files of a package by their names."""
+    data = path.read_bytes()
+    if path.suffix in (".whl", ".zip"):
+        with zipfile.ZipFile(io.BytesIO(data)) as archive:
+            return {it: archive.read(it) for it in archive.namelist()}
+    if path.suffix == ".deb":
+        with tempfile.TemporaryDirectory() as folder:
+            subprocess.run(["dpkg-deb", "-x", str(path), folder], check=True)
+            files = (it for it in Path(folder).rglob("*") if it.is_file() and not it.is_symlink())
+            return {str(it.relative_to(folder)): it.read_bytes() for it in files}
+    return in_tar(data)
+
+
+PACKAGES = {
+    it.name: holds(it) for it in sorted(FOLDER.iterdir()) if it.suffix != ".json" and not it.name.endswith("SUMS")
+}
+
+
+def have_program() -> set[str]:
+    """Returns the packages that have the program, by its bytes."""
+    return {name for name, files in PACKAGES.items() if PROGRAM in files.values()}
+
+
+def licences_are_there() -> None:
+    """Each package has both licences or Debian's copyright file, and one with the program names the C library's."""
+    for name, files in PACKAGES.items():
+        texts = b"".join(data for it, data in files.items() if re.search(r"LICENSE|NOTICE|copyright$", it))
+        assert b"Permission is hereby granted" in texts, f"{name} has no MIT licence"
+        assert b"Apache License" in texts or b"common-licenses/Apache-2.0" in texts, f"{name} has no Apache licence"
+        if name in have_program():
+            assert b"Free Software" in texts and b"LGPL" in texts or b"Lesser General" in texts, f"{name}: no notice"
+    assert {"hidlog_", "hidlog-"} == {it[:7] for it in have_program()} and len(have_program()) == 5, have_program()
+
+
+def page_names_what_is_there() -> None:
+    """The files that the man page names are in the Debian package, and in the tarball."""
+    page = (TOP / "docs" / "hidlog.1").read_text(encoding="utf-8")
+    named = re.findall(
+        r"^\.(?:It )?Pa (\w+/\S+)", page.partition(".Sh FILES")[2].partition(".Sh EXIT")[0], re.MULTILINE
+    )
+    assert len(named) >= 7, named
+    for package, root in (("hidlog_", "usr/share/doc/hidlog/"), ("linux-x86_64", "hidlog-[^/]*/")):
+        files = next(found for name, found in PACKAGES.items() if package in name)
+        for path in named:
+            pattern = re.compile(root + re.escape(path).replace(r"\*", "[^/]*") + "$")
+            assert any(pattern.match(it) for it in files), f"the man page names {path}, which {package} hasn't got"
+
+
+def readmes_are_there() -> None:
+    """Each package that is for people has a README."""
+    readmes = {name: [it for it in files if it.endswith("README.md")] for name, files in PACKAGES.items()}
+    for name in (
+        "hidlog_",
+        "libhidlog-dev_",
+        "hidlog-uhid_",
+        "python3-hidlog_",
+        "linux-x86_64",
+        ".tgz",
+        "-go-",
+        "crate",
+    ):
+        assert any(found for package, found in readmes.items() if name in package), f"{name} has no README"
+
+
+def statements_name_all() -> None:
+    """Each package is named by both statements, with its sum, and made from its own parts."""
+    sums = {it: hashlib.sha256((FOLDER / it).read_bytes()).hexdigest() for it in PACKAGES}
+    (spdx,), (provenance,) = FOLDER.glob("*.spdx.json"), FOLDER.glob("*.provenance.json")
+    document = json.loads(spdx.read_text())
+    listed = document["packages"]
+    assert {
+        it["packageFileName"]: it["checksums"][0]["checksumValue"] for it in listed if "packageFileName" in it
+    } == sums
+    named = {it["name"]: it["digest"]["sha256"] for it in json.loads(provenance.read_text())["subject"]}
+    assert named == sums
+    names = {it["SPDXID"]: it["name"] for it in listed}
+    made: dict[str, set[str]] = {name: set() for name in sums}
+    for it in document["relationships"]:
+        if it["relationshipType"] == "GENERATED_FROM":
+            made[names[it["spdxElementId"]]].add(names[it["relatedSpdxElement"]])
+    assert {name for name, parts in made.items() if "glibc" in parts} == have_program(), made
+    for word, part in (("go-", "go"), (".crate", "rust"), (".tgz", "npm"), (".whl", "python"), ("uhid", "uhid")):
+        for name in (it for it in sums if word in it):
+            assert f"hidlog-sources-{part}" in made[name], (name, made[name])
+    assert "hidlog-sources-npm" not in made[next(it for it in sums if it.endswith(".whl"))]
+    # Versions are those of crates.txt's names, and nothing leads to a name that doesn't exist.
+    uses = {
+        word
+        for line in (TOP / "crates.txt").read_text().splitlines()
+        if not line.startswith("#")
+        for word in line.partition(":")[2].split()
+    }
+    kit = {it["name"].rpartition("-")[2]: it["versionInfo"] for it in listed if " Rust crate " in it.get("comment", "")}
+    assert set(kit) == {it for it in uses if not (TOP / "crates" / it).is_dir()}, sorted(kit)
+    assert all(re.fullmatch(r"[0-9]+[.][0-9]+[.][0-9]+", it) for it in kit.values()), kit
+    assert ".example" not in spdx.read_text() + provenance.read_text()
+
+
+def statements_name_the_commit() -> None:
+    """The commit is the one that git has."""
+    (provenance,) = FOLDER.glob("*.provenance.json")
+    made = json.loads(provenance.read_text())["predicate"]["buildDefinition"]["resolvedDependencies"]
+    head = subprocess.run(["git", "-C", str(TOP), "rev-parse", "HEAD"], capture_output=True, text=True).stdout.strip()
+    assert [it["digest"]["gitCommit"] for it in made if it["name"] == "commit"] == ([head] if head else []), made
+    assert {"sources", *(f"sources-{it}" for it in ("python", "npm", "uhid", "go", "rust", "docs"))} <= {
+        it["name"] for it in made
+    }
+
+
+def main() -> int:
+    failed = 0
+    for test in (
+        licences_are_there,
+        page_names_what_is_there,
+        readmes_are_there,
+        statements_name_all,
+        statements_name_the_commit,
+    ):
+        try:
+            test()
+        except AssertionError as wrong:
+            print(f"FAILED   {test.__name__}: {wrong}")
+            failed += 1
+    print(f"tests/packages_hold.py: {len(PACKAGES)} packages, {failed} faults")
+    return 1 if failed else 0
+
+
+if __name__ == "__main__":
+    sys.exit(main())
