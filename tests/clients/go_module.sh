@@ -7,7 +7,7 @@ packages=$(cd "$1" && pwd)
 mkdir -p "$2"
 room=$(cd "$2" && pwd)
 # What README says, with nothing of the module's sums on any server.
-export GOCACHE=$room/cache GOPATH=$room/path GOFLAGS="-p=2 -modcacherw" GONOSUMDB=cogtzil.example GOTOOLCHAIN=local CGO_ENABLED=1
+export GOCACHE=$room/cache GOPATH=$room/path GOFLAGS="-p=2 -modcacherw" GONOSUMDB=cogtzil.example GOTOOLCHAIN=local CGO_ENABLED=1 GO111MODULE=on
 HIDLOG=$top/release/hidlog
 export HIDLOG
 cd "$room"
