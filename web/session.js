@@ -23,10 +23,12 @@
         return Number.isNaN(value) ? 99 : value;
     });
 
-    /** A line of the log. What it has of its text is read when it is asked for. */
+    /**
+     * A line of the log. What it has of its text is read when it is asked for. A log has millions, so each has what is its
+     * own alone: the less there is, the shorter the browser stops to collect what it no longer needs.
+     */
     class Line {
-        constructor(bytes, number, from, to, kind) {
-            this.bytes = bytes;
+        constructor(number, from, to, kind) {
             this.number = number;
             this.from = from;
             this.to = to;
@@ -37,10 +39,6 @@
             this.packetAt = 0;
             this.message = null;
             this.transaction = null;
-            this.words = null;
-            // Of a quiet log: what stood here before, as a line and as a text.
-            this.source = null;
-            this.went = undefined;
         }
 
         get text() {
@@ -69,6 +67,16 @@
                 ?? (word === "no" ? "no" : "yes");
         }
     }
+
+    // What few lines have: the core's words, and in a quiet log what was there before.
+    Object.assign(Line.prototype, { words: null, source: null, went: undefined });
+
+    /** Lines of one log, which have its bytes in common. */
+    const linesOf = (bytes) => {
+        const Own = class extends Line {};
+        Own.prototype.bytes = bytes;
+        return Own;
+    };
 
     /** The number in decimal digits from a place on, and the place after it; or null. */
     const readMoment = (bytes, from, to) => {
@@ -101,6 +109,7 @@
     class Reader {
         constructor(bytes) {
             this.bytes = bytes;
+            this.Line = linesOf(bytes);
             this.lines = [];
             this.walk = new Walk();
             this.from = 0;
@@ -152,7 +161,7 @@
             if (!kind) {
                 return null;
             }
-            const line = new Line(bytes, this.lines.length + 1, from, to, kind);
+            const line = new this.Line(this.lines.length + 1, from, to, kind);
             if (kind === "key") {
                 return this.withPacket(line, from + 2) ? line : null;
             }

@@ -25,6 +25,12 @@
             this.asks = null;
         }
 
+        /** Takes its next packet. The list is as long as it has to be, where a list that grows has room for more. */
+        take(line) {
+            this.lines = [...this.lines, line];
+            line.message = this;
+        }
+
         get next() {
             return this.lines.length - 1;
         }
@@ -47,14 +53,20 @@
     class Transaction extends Message {
         constructor(line) {
             super(line);
-            Object.assign(this, {
-                end: "", code: null, by: null, answer: null, keepalives: [], cancelled: null, last: 0, after: 0, place: 0,
-                count: 0, until: line.number,
-            });
+            this.end = "";
+            this.by = null;
+            this.answer = null;
+            this.last = 0;
+            this.place = 0;
+            this.count = 0;
+            this.until = line.number;
         }
     }
 
-    const makeChannel = () => ({ held: null, asked: null, inits: [], isStray: false, told: null, status: null });
+    // What few transactions have.
+    Object.assign(Transaction.prototype, { code: null, keepalives: [], cancelled: null, after: 0 });
+
+    const makeChannel = () => ({ held: null, asked: null, inits: [], isStray: false, told: null });
 
     /** Whether a key may send KEEPALIVEs of it: a whole message, but PING and INIT. */
     const works = (it) => Boolean(it) && it.isWhole && it.command !== PING && it.command !== INIT;
@@ -80,6 +92,7 @@
             // The input's line, until a packet of the device stands behind it, and how much later it came.
             this.first = null;
             this.taken = 0;
+            this.isMore = false;
             // Channels on which something is held: replies are theirs.
             this.waiting = new Set();
         }
@@ -105,7 +118,9 @@
                 return;
             }
             this.now = Math.max(this.now, Number(line.at));
-            [this.first, this.taken] = [line, 0];
+            this.first = line;
+            this.taken = 0;
+            this.isMore = false;
             if (line.kind === "host") {
                 const channel = this.channel(line);
                 this[line.byte(4) & 0x80 ? "start" : "more"](line, channel);
@@ -135,7 +150,8 @@
             }
             this.settle(channel);
             const begun = new Transaction(line);
-            Object.assign(begun, { last: this.now, place: this.transactions.length });
+            begun.last = this.now;
+            begun.place = this.transactions.length;
             this.transactions.push(begun);
             line.transaction = begun;
             line.message = begun;
@@ -162,10 +178,9 @@
             }
             line.transaction = message;
             this.taken = this.now - message.last;
-            line.isMore = true;
+            this.isMore = true;
             if (line.byte(4) === message.next) {
-                message.lines.push(line);
-                line.message = message;
+                message.take(line);
                 message.last = this.now;
             }
         }
@@ -174,7 +189,6 @@
 
         hold(channel, message) {
             channel.held = message;
-            channel.status = null;
             this.waiting.add(channel);
         }
 
@@ -185,7 +199,11 @@
         }
 
         end(transaction, how, by = null, code = null) {
-            Object.assign(transaction, { end: how, by, code });
+            transaction.end = how;
+            transaction.by = by;
+            if (code !== null) {
+                transaction.code = code;
+            }
         }
 
         /** A start that wasn't refused before the channel's next one, or was answered, took the channel. */
@@ -199,8 +217,10 @@
                 this.end(held, held.cancelled ? "dropped" : "replaced", held.cancelled ?? asked.line);
                 const behind = asked.lines[asked.lines.length - 1].number;
                 const later = works(asked) ? held.keepalives.filter((it) => it.number > behind) : [];
-                held.keepalives.length -= later.length;
-                asked.keepalives = later;
+                if (later.length) {
+                    held.keepalives.length -= later.length;
+                    asked.keepalives = later;
+                }
                 later.forEach((it) => {
                     it.transaction = asked;
                 });
@@ -215,8 +235,7 @@
             if (line.byte(4) < 0x80) {
                 const { told } = channel;
                 if (told && line.byte(4) === told.next && told.came < told.length) {
-                    told.lines.push(line);
-                    line.message = told;
+                    told.take(line);
                     line.transaction = told.asks;
                 }
                 return;
@@ -251,9 +270,11 @@
             if (!works(held)) {
                 return null;
             }
-            line.isByTime = channel.status === line.byte(7);
-            channel.status = line.byte(7);
-            held.keepalives.push(line);
+            if (Object.hasOwn(held, "keepalives")) {
+                held.keepalives.push(line);
+            } else {
+                held.keepalives = [line];
+            }
             return held;
         }
 
@@ -286,7 +307,7 @@
         /** A continuation that came after the message had timed out isn't in it (section 11.2.5.2). */
         takeBack(held) {
             const { first } = this;
-            if (first && first.transaction === held && first.isMore && this.taken >= NO_TIME_OUT) {
+            if (first && first.transaction === held && this.isMore && this.taken >= NO_TIME_OUT) {
                 if (first.message === held) {
                     held.lines.pop();
                     first.message = null;
