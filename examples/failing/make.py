@@ -232,6 +232,19 @@ def noncanonical_cbor() -> Files:
     return {"noncanonical_cbor.log": session.end()}
 
 
+def changed_request() -> Files:
+    """A sign-in of which one bit of the client data's hash was changed, as by a proxy that loses it on the way."""
+    session = registered()
+    session.ask(GET_ASSERTION, sign_in())
+    # What was to be signed, which a recorder beside the key doesn't see, is no part of it.
+    lines = [it for it in session.end().decode().splitlines(True) if not it.startswith("# signed ")]
+    begin = sha256(b"sign in 1").hexdigest()[:8]
+    place = next(at for at, it in enumerate(lines) if it.startswith(">") and begin in it)
+    changed = f"{int(begin, 16) ^ 1:08x}"
+    lines[place] = lines[place].replace(begin, changed)
+    return {"changed_request.log": "".join(lines).encode()}
+
+
 SESSIONS: list[Callable[[], Files]] = [
     denied_user,
     excluded_credential,
@@ -243,6 +256,7 @@ SESSIONS: list[Callable[[], Files]] = [
     wrong_snapshot,
     two_clients,
     noncanonical_cbor,
+    changed_request,
 ]
 
 

@@ -101,6 +101,7 @@ const FAILING = {
     counter_stays: ["counter_stays.log: line 66 differs: it is packet 2 for line 64.", "signCount 1"],
     truncated: ["The log is shown up to its faulty line: line 49: not a log line.", "line 49: not a log line"],
     two_clients: ["Compared, the key sends just this: same 13 inputs 12 packets.", "ERR_CHANNEL_BUSY"],
+    changed_request: ["Compared, the key sends just this: same 14 inputs 18 packets.", "clientDataHash: h'"],
     noncanonical_cbor: ["Compared, the key sends just this: same 4 inputs 2 packets.", "request 01 fault 6 at 125"],
 };
 

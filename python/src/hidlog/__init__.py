@@ -37,6 +37,7 @@ if TYPE_CHECKING:  # nothing is imported before it is asked for, not even typing
     )
     from .many import Checked, check_many
     from .logs import Result, check, live, quiet, replay, show
+    from .verifying import Signature, signatures
     from .webauthn_errors import (
         AbortError,
         EncodingError,
@@ -79,6 +80,7 @@ __all__ = [
     "ScriptEnded",
     "SecurityError",
     "SecurityKey",
+    "Signature",
     "SnapshotError",
     "UnknownName",
     "WebAuthnError",
@@ -91,6 +93,7 @@ __all__ = [
     "quiet",
     "replay",
     "show",
+    "signatures",
 ]
 # The module that has each name.
 _MODULES = {
@@ -116,6 +119,7 @@ _MODULES = {
     ),
     "key": ("SecurityKey",),
     "many": ("Checked", "check_many"),
+    "verifying": ("Signature", "signatures"),
     "logs": ("Result", "check", "live", "quiet", "replay", "show"),
     "session": ("Recording",),
     "webauthn_errors": (

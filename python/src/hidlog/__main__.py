@@ -14,6 +14,7 @@ from .process import program
 
 # The package's own commands: by its word the module of each, and the function that takes the words behind it.
 COMMANDS = {
+    "check --signatures": ("verifying", "main"),
     "check-many": ("many_command", "check_many_command"),
     "import": ("captures.commands", "import_capture"),
     "export": ("captures.commands", "export_log"),
@@ -26,8 +27,11 @@ COMMANDS = {
 
 def main() -> int:
     """Runs a command of the package, or becomes the program, with the words that this was started with."""
-    if sys.argv[1:] and sys.argv[1] in COMMANDS:
-        module, name = COMMANDS[sys.argv[1]]
+    word = " ".join(sys.argv[1:2])
+    if word == "check" and "--signatures" in sys.argv[2:]:
+        word = "check --signatures"
+    if word in COMMANDS:
+        module, name = COMMANDS[word]
         return int(getattr(importlib.import_module(f".{module}", __package__), name)(sys.argv[2:]))
     return _become_program()
 
