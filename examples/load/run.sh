@@ -1,6 +1,9 @@
 #!/usr/bin/env bash
 # Loads the service beside this with Locust: examples/load/run.sh [SECONDS [USERS [WORKERS]]]
 #
+# With PGHOST set, as pg_virtualenv (of postgresql-common) does for a database of its own, the users are in PostgreSQL:
+# `pg_virtualenv examples/load/run.sh`; else in sqlite. HIDLOG_PROCESSES says how many processes serve, by default 1.
+#
 # The service, a master and the workers run here, by the package of this clone. Two runs follow each other, each of so
 # many seconds (by default 10, 20 users, 2 workers); the second signs in with the users of the first. In between a
 # worker is killed where HIDLOG_KILL is set. Ends with 3 where a package of Debian is missing, and with 1 where a
@@ -24,7 +27,9 @@ trap end EXIT
 export PYTHONPATH=$here/../../python/src PYTHONDONTWRITEBYTECODE=1
 port=$("$python" -c 'import socket; s = socket.socket(); s.bind(("127.0.0.1", 0)); print(s.getsockname()[1])')
 master=$((port < 60000 ? port + 1 : port - 1000))
-"$python" "$here/service.py" --port "$port" --database "$work/service.db" &
+database=$work/service.db
+[ -z "${PGHOST-}" ] || database=postgresql:
+"$python" "$here/service.py" --port "$port" --database "$database" --processes "${HIDLOG_PROCESSES:-1}" &
 service=$!
 started+=("$service")
 until "$python" -c "import socket; socket.create_connection(('127.0.0.1', $port))" 2>/dev/null; do
@@ -48,7 +53,7 @@ load() {
         --users "$users" --spawn-rate "$users" --run-time "${seconds}s" --only-summary --csv "$work/$1" >"$work/said" 2>&1 ||
         { [ -n "${HIDLOG_KILL-}" ] || { cat "$work/said" "$work"/worker* && return 1; }; }
     wait "${ran[@]}" 2>/dev/null || true
-    echo "$1: the service has taken $(ps -o cputimes= -p "$service" | tr -d ' ') s of the processor so far"
+    echo "$1: the service has taken $(ps -o cputimes= -p "$service" --ppid "$service" | awk '{ sum += $1 } END { print sum }') s of the processor so far"
     "$python" "$here/figures.py" "$1" "$work/$1_stats.csv" "${@:2}"
 }
 
