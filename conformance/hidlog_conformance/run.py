@@ -17,7 +17,7 @@ import threading
 from concurrent.futures import ThreadPoolExecutor
 from typing import Dict, List, Tuple
 
-from hidlog_conformance import __version__, keys, report
+from hidlog_conformance import __version__, executor, keys, report
 from hidlog_conformance.client_runner import client_sessions, keep_logs, play_clients, read_client_session
 from hidlog_conformance.devices import Device, HidrawDevice, LiveDevice, PipeDevice
 from hidlog_conformance.known import failing
@@ -107,6 +107,12 @@ def in_order(device: Device, sessions: List[Session], asks: bool) -> List[Sessio
     return sorted(by_touches, key=lambda session: bool(device.lasting and PINS in session.uses))
 
 
+def play_apart(given: Tuple[Session, argparse.Namespace, Offers]) -> Outcome:
+    """Plays a session to a device of its own, in a worker."""
+    session, options, offers = given
+    return play_one(device_of(options), session, options, offers)
+
+
 def play_all(device: Device, sessions: List[Session], options: argparse.Namespace, offers: Offers) -> List[Outcome]:
     """Plays sessions one after another; to commands that share nothing and ask nobody several at a time."""
     hangs, lock = [0], threading.Lock()
@@ -122,7 +128,14 @@ def play_all(device: Device, sessions: List[Session], options: argparse.Namespac
         return outcome
 
     asks = options.touch and not options.touch_line
-    if not isinstance(device, PipeDevice) or options.keeps or asks:
+    alone = not isinstance(device, PipeDevice) or options.keeps or asks
+    if options.executor and not alone:
+        tasks = [(session, options, offers) for session in sessions]
+        folder = os.path.dirname(os.path.dirname(os.path.abspath(__file__)))
+        return list(executor.results(options.executor, [folder], play_apart, tasks))
+    if options.executor:
+        raise ValueError("--executor needs a --device COMMAND that keeps nothing, and --touch-line in place of a person")
+    if alone:
         return [play(session, device) for session in sessions]
     with ThreadPoolExecutor(options.jobs) as pool:
         return list(pool.map(lambda session: play(session, device_of(options)), sessions))
@@ -134,6 +147,7 @@ def device_words(parser: argparse.ArgumentParser) -> None:
     parser.add_argument("--touch", action="store_true", help="a person is there to touch the device")
     parser.add_argument("--touch-line", default="", metavar="LINE", help="what a command reads in place of a touch")
     parser.add_argument("--jobs", type=int, default=4, metavar="N", help="commands at a time; by default 4")
+    parser.add_argument("--executor", default="", metavar="dask://HOST:PORT", help="a Dask scheduler's workers play")
     parser.add_argument("--keeps", action="store_true", help="a command keeps its credentials when it is started anew")
     parser.add_argument("--reset", action="store_true", help="the device may be reset: ALL ITS CREDENTIALS ARE LOST")
     parser.add_argument("--display", action="store_true", help="the device has a display on which accounts are chosen")
@@ -160,6 +174,11 @@ def words_of(arguments: List[str]) -> argparse.Namespace:
     parser.add_argument("--version", action="version", version=f"hidlog-conformance {__version__}")
     parser.add_argument("sessions", nargs="*", metavar="SESSION", help="files; without them the whole corpus")
     options = parser.parse_args(arguments)
+    if options.executor:
+        try:
+            executor.address_of(options.executor)
+        except ValueError as fault:
+            parser.error(str(fault))
     options.touch = options.touch or bool(options.touch_line)
     strict = options.strict or options.device is None and not options.client
     options.should = options.should or strict

@@ -2,6 +2,7 @@
 """Plays hostile logs on the key, and judges each by properties that need no second key (judge.py has them).
 
     tests/fuzz/fuzz.py [--seed N] [--count N] [--only NUMBER] [--program FILE] [--jobs N] [--keep FOLDER]
+                       [--executor dask://HOST:PORT]
 
 It needs Python 3.9 or later and nothing else. Each log comes from the seed and its number alone. At a finding the log
 is kept in FOLDER, its seed and number are printed, and the end is 1. `--only` plays the log of one number, and keeps
@@ -9,7 +10,6 @@ it.
 """
 
 import argparse
-import multiprocessing
 import os
 import subprocess
 import sys
@@ -19,6 +19,7 @@ from functools import partial
 
 sys.dont_write_bytecode = True
 
+import executors
 from hostile import hostile_log, hostile_snapshot
 from judge import COUNTS, Finding, judge, judge_saved, lines_of
 
@@ -34,6 +35,7 @@ def arguments():
     parser.add_argument("--only", type=int, help="the log of this number alone")
     parser.add_argument("--program", default=os.path.join(TOP, "hidlog"), help="by default ./hidlog")
     parser.add_argument("--jobs", type=int, default=2, help="how many processes; by default 2")
+    parser.add_argument("--executor", default="", metavar="dask://HOST:PORT", help="a Dask scheduler's workers play")
     parser.add_argument("--keep", default=".", help="where failing logs are kept; by default here")
     return parser.parse_args()
 
@@ -101,9 +103,9 @@ def main():
     if options.only is not None:
         print(f"the log is {keep(options, options.only)}")
     began, totals, findings = time.monotonic(), [0] * 9, 0
-    with multiprocessing.Pool(options.jobs) as pool:
+    with executors.playing(options.executor, options.jobs) as played:
         tasks = ((program, options.seed, number) for number in numbers)
-        for number, finding, counts in pool.imap_unordered(play, tasks, chunksize=8):
+        for number, finding, counts in played(play, tasks):
             if finding:
                 findings += 1
                 print(f"seed {options.seed} log {number}: {finding}\n  kept as {keep(options, number)}", flush=True)

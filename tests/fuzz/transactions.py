@@ -18,11 +18,11 @@ import os
 import re
 import subprocess
 import sys
-from multiprocessing import Pool
 from typing import Optional
 
 sys.dont_write_bytecode = True
 
+import executors
 from hostile import Maker
 
 TOP = os.path.realpath(os.path.join(os.path.dirname(os.path.abspath(__file__)), "..", ".."))
@@ -336,12 +336,13 @@ def main() -> int:
     parser.add_argument("--count", type=int, default=1000)
     parser.add_argument("--only", type=int)
     parser.add_argument("--jobs", type=int, default=2)
+    parser.add_argument("--executor", default="", metavar="dask://HOST:PORT", help="a Dask scheduler's workers judge")
     parser.add_argument("--program", default=os.path.join(TOP, "release", "hidlog"))
     asked = parser.parse_args()
     numbers = range(asked.count) if asked.only is None else [asked.only]
     found = transactions = 0
-    with Pool(asked.jobs) as pool:
-        for number, finding, count in pool.imap(judge, [(asked.program, asked.seed, it) for it in numbers], 8):
+    with executors.playing(asked.executor, asked.jobs) as played:
+        for number, finding, count in played(judge, [(asked.program, asked.seed, it) for it in numbers]):
             transactions += count
             if finding:
                 found += 1

@@ -1,0 +1,56 @@
+#!/usr/bin/env bash
+# Plays the fuzzers and a part of the corpus on the workers of a Dask scheduler on this machine, one of which is killed
+# meanwhile, and in processes: both say the same. Ends with 3 where Debian's python3-distributed is missing.
+set -euo pipefail
+top=$(cd "$(dirname "${BASH_SOURCE[0]}")/.." && pwd)
+python=/usr/bin/python3
+"$python" -c 'import distributed, cryptography' 2>/dev/null ||
+    { echo "distributed or cryptography is missing (apt-get install python3-distributed python3-cryptography)" >&2 && exit 3; }
+work=$(mktemp -d)
+started=()
+end() {
+    kill "${started[@]}" 2>/dev/null || true
+    wait
+    rm -rf "$work"
+}
+trap end EXIT
+cd "$work" # workers keep what they spill here
+"$python" -m distributed.cli.dask_scheduler --host 127.0.0.1 --port 0 --no-dashboard \
+    --scheduler-file "$work/scheduler.json" >"$work/scheduler" 2>&1 &
+started+=($!)
+until [ -s "$work/scheduler.json" ]; do
+    kill -0 "${started[0]}" || { cat "$work/scheduler" >&2 && exit 1; }
+    sleep 0.1
+done
+for _ in 1 2 3; do
+    "$python" -m distributed.cli.dask_worker --scheduler-file "$work/scheduler.json" --host 127.0.0.1 --nthreads 1 \
+        --no-dashboard --no-nanny >>"$work/workers" 2>&1 &
+    started+=($!)
+done
+address=$(sed -n 's|.*"address": "tcp://\(127[^"]*\)".*|\1|p' "$work/scheduler.json" | head -1)
+executor=dask://$address
+failed=0
+
+# Compares what a command says on the workers with what it says in processes: same NAME PATTERN COMMAND ..
+same() {
+    "${@:3}" 2>/dev/null | grep -E "$2" | sed 's/; [0-9]* s$//' >"$work/here" || true
+    "${@:3}" --executor "$executor" 2>"$work/faults" | grep -E "$2" | sed 's/; [0-9]* s$//' >"$work/there" || true
+    if [ -s "$work/here" ] && cmp -s "$work/here" "$work/there"; then
+        echo "ok  $1: $(tail -1 "$work/here")"
+    else
+        echo "FAILED  $1: $(cat "$work/here") in processes; on the workers $(cat "$work/there" "$work/faults")"
+        failed=1
+    fi
+}
+
+(sleep 2 && kill -KILL "${started[1]}") &
+same "hostile logs" "logs,|findings" "$python" "$top/tests/fuzz/fuzz.py" --program "$top/release/hidlog" --count 200
+same "transactions" "logs," "$python" "$top/tests/fuzz/transactions.py" --count 60
+same "a part of the corpus" "passed," "$python" "$top/conformance/run.py" --only init/ --touch-line touch \
+    --device "$python $top/conformance/as_command.py"
+if "$python" "$top/conformance/run.py" --executor tcp://localhost:1 --touch-line touch --device x 2>"$work/faults" ||
+    ! grep -q "it has to be dask://HOST:PORT" "$work/faults"; then
+    echo "FAILED  a wrong address: $(cat "$work/faults")"
+    failed=1
+fi
+exit "$failed"

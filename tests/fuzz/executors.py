@@ -1,0 +1,32 @@
+"""Where fuzzers play: in processes of this machine, or in the workers of a Dask scheduler."""
+
+from __future__ import annotations
+
+import multiprocessing
+import sys
+from collections.abc import Callable, Iterable, Iterator
+from contextlib import contextmanager
+from pathlib import Path
+from typing import Any
+
+HERE = Path(__file__).resolve().parent
+CONFORMANCE = HERE.parents[1] / "conformance"
+BLOCK = 8
+Played = Callable[[Callable[[Any], Any], Iterable[Any]], Iterator[Any]]
+
+
+@contextmanager
+def playing(executor: str, jobs: int) -> Iterator[Played]:
+    """Returns a function that yields what a call makes of each task, in no order that counts."""
+    if not executor:
+        with multiprocessing.Pool(jobs) as pool:
+            yield lambda play, tasks: pool.imap_unordered(play, tasks, chunksize=BLOCK)
+        return
+    sys.path.insert(0, str(CONFORMANCE))
+    from hidlog_conformance.executor import results
+
+    folders = [str(HERE), str(CONFORMANCE)]
+    try:
+        yield lambda play, tasks: results(executor, folders, play, tasks)
+    except ValueError as fault:
+        sys.exit(f"{Path(sys.argv[0]).name}: {fault}")
