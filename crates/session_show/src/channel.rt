@@ -20,6 +20,22 @@ pub struct Greeting {
     pub nonce: [u8; 8],
 }
 
+impl Greeting {
+    /// Returns that of a packet on a line, at a moment, of a message of so many bytes.
+    pub fn of(line: u64, at: u64, length: u16, part: &[u8]) -> Self {
+        let mut nonce = [0; 8];
+        if let Some(front) = part.get(..8) {
+            nonce.copy_from_slice(front);
+        }
+        Greeting {
+            line,
+            at,
+            length,
+            nonce,
+        }
+    }
+}
+
 /// A message of the device.
 #[derive(Clone, Copy)]
 pub struct Told {

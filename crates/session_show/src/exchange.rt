@@ -31,6 +31,20 @@ pub struct Transaction {
 }
 
 impl Transaction {
+    /// Returns that of a message that begins on a line, with its first packet's length and what that carries.
+    pub fn of(line: u64, channel: u32, message: u8, (length, part): (u16, &[u8])) -> Self {
+        let command = match part {
+            [first, ..] if message == CBOR && length > 0 => Some(*first),
+            _ => None,
+        };
+        Transaction {
+            channel,
+            line,
+            message,
+            command,
+        }
+    }
+
     /// Returns the command's name: that of the authenticator's command, or that of the message.
     pub fn name(&self) -> &'static str {
         let name = match self.command {

@@ -5,6 +5,7 @@
 
 mod authenticator_data;
 mod channel;
+mod channels;
 mod cose;
 mod counts;
 mod der;

@@ -8,6 +8,9 @@ use itoa::Buffer;
 /// The most bytes of a part.
 pub const PART: usize = 8192;
 
+/// How many bytes are written in hexadecimal digits at once.
+const AT_ONCE: usize = 32;
+
 /// Keeps a part of the text that is written: what lies before the part is passed over, and what comes after it is
 /// dropped. So a text of any length is written in parts of a fixed size, by writing it once for each part.
 #[derive(Drop)]
@@ -20,18 +23,6 @@ pub struct Pen {
     is_quoted: bool,
     /// How long a piece is that is written at most once in the text, where that is known from an earlier part.
     known: Option<usize>,
-}
-
-/// Returns the digit of a number below 16.
-fn digit(number: u8) -> u8
-    requires { number < 16 }
-{
-    b"0123456789abcdef"[usize::from(number)]
-}
-
-/// Returns the two hexadecimal digits of a byte.
-fn digits(byte: u8) -> [u8; 2] {
-    [digit(byte / 16), digit(byte % 16)]
 }
 
 impl Pen {
@@ -157,8 +148,12 @@ impl Pen {
         // Most of a long text is digits, which are passed over at once.
         let passed = bytes.len().min(self.before / 2);
         self.before -= 2 * passed;
-        for byte in bytes.split_at(passed).1 {
-            self.bytes(&digits(*byte));
+        for some in bytes.split_at(passed).1.chunks(AT_ONCE) {
+            let mut digits = [0; 2 * AT_ONCE];
+            if let Some(digits) = digits.get_mut(..some.len().saturating_mul(2)) {
+                let _ = hex::encode_to_slice(some, digits);
+                self.bytes(digits);
+            }
         }
     }
 
@@ -171,7 +166,6 @@ impl Pen {
             return;
         }
         self.text("\\u");
-        self.bytes(&digits(high));
-        self.bytes(&digits(low));
+        self.hex(&[high, low]);
     }
 }

@@ -11,7 +11,8 @@ use crate::pen::Pen;
 use crate::putting::{Written, put_written};
 use crate::row::{Rows, write_head, write_row};
 use crate::telling::{Telling, tell_all};
-use crate::walk::{OPEN, Walk};
+use crate::channels::OPEN;
+use crate::walk::Walk;
 use crate::wording::Wording;
 use session_log::{Failed, LogFault, Source, Target, read_line};
 

@@ -1,7 +1,8 @@
 //! One walk over a log: which transaction each line belongs to, which message ends at it, and which transactions end.
-ghost use Rattle.std.specs.Prelude.{◌<◌, IfSome};
+ghost use Rattle.std.specs.Prelude.{◌<◌};
 
-use crate::channel::{Channel, Continuation, Greeting, Told};
+use crate::channel::{Continuation, Greeting, Told};
+use crate::channels::Channels;
 use crate::device::{Answer, NO_TIME_OUT, TIMED_OUT};
 use crate::entry::{Entry, Follows, Message};
 use crate::exchange::{Ended, Ends, Exchange, Transaction, is_whole};
@@ -15,12 +16,6 @@ use token_session::{Input, Timed};
 
 /// authenticatorGetNextAssertion.
 const NEXT: u8 = 0x08;
-
-/// How many channels are followed at once.
-const CHANNELS: usize = 6;
-
-/// The most transactions that are open at once: on each channel four INITs, two other messages, and an answer.
-pub const OPEN: usize = 7 * CHANNELS;
 
 /// What a line is to the transactions.
 #[derive(Clone, Copy, PartialEq, Eq)]
@@ -70,7 +65,7 @@ pub struct Decided {
 /// What the lines of a log so far began.
 #[derive(Drop)]
 pub struct Walk {
-    channels: [Channel; CHANNELS],
+    channels: Channels,
     pool: Pool,
     /// The latest moment.
     now: u64,
@@ -97,14 +92,7 @@ impl Walk {
     /// Returns that of no lines.
     pub fn new() -> Self {
         Walk {
-            channels: [
-                Channel::unused(),
-                Channel::unused(),
-                Channel::unused(),
-                Channel::unused(),
-                Channel::unused(),
-                Channel::unused(),
-            ],
+            channels: Channels::new(),
             pool: Pool::new(),
             now: 0,
             doubtful: None,
@@ -119,9 +107,7 @@ impl Walk {
     /// Becomes one that took the same lines as another one.
     pub fn copy_from(&mut self, other: &Walk) {
         self.clear();
-        for place in 0..CHANNELS {
-            self.channels[place].copy_from(&other.channels[place]);
-        }
+        self.channels.copy_from(&other.channels);
         self.pool.copy_from(&other.pool);
         self.now = other.now;
         self.doubtful = other.doubtful;
@@ -207,6 +193,7 @@ impl Walk {
             Shown::Answer(line, place) => {
                 let told = self
                     .channels
+                    .list
                     .get(place)
                     .and_then(|channel| channel.told.as_ref());
                 let exchange = told.and_then(|told| told.exchange.as_ref());
@@ -220,48 +207,29 @@ impl Walk {
 
     /// Returns the first transaction that is open of those that began after a line.
     pub fn open_after(&self, line: u64) -> Option<Ended> {
-        let mut first: Option<Ended> = None;
-        for channel in self.channels.as_slice() {
-            if let Some(found) = channel.open_after(line) {
-                let began = found.exchange.transaction.line;
-                if first.is_none_or(|first| began < first.exchange.transaction.line) {
-                    first = Some(found);
-                }
-            }
-        }
-        first
+        self.channels.open_after(line)
     }
 
     /// Returns the message that holds a channel.
     pub fn held_on(&self, number: u32) -> Option<&Exchange> {
-        let place = self.find(number)?;
-        self.channels[place].held.as_ref()
+        self.channels.on(number)?.held.as_ref()
     }
 
     /// Returns the device's last message on a channel.
     pub fn told_on(&self, number: u32) -> Option<&Told> {
-        let place = self.find(number)?;
-        self.channels[place].told.as_ref()
+        self.channels.on(number)?.told.as_ref()
     }
 
-    /// Returns a message that holds another channel than this one.
+    /// Returns a message that holds another channel than this one, or else the one that holds it.
     pub fn held_beside(&self, number: u32) -> Option<&Exchange> {
-        for channel in self.channels.as_slice() {
-            if channel.number != number && channel.held.is_some() {
-                return channel.held.as_ref();
-            }
-        }
-        self.held_on(number)
+        self.channels
+            .held_beside(number)
+            .or_else(|| self.held_on(number))
     }
 
     /// Returns whether further packets of the device's last message on a channel are to come.
     pub fn is_answering(&self, number: u32) -> bool {
-        match self.find(number) {
-            Some(place) => self.channels[place]
-                .told
-                .is_some_and(|told| !told.is_whole()),
-            None => false,
-        }
+        self.told_on(number).is_some_and(|told| !told.is_whole())
     }
 
     /// Takes the log's end: what is doubtful belongs to its message.
@@ -289,19 +257,8 @@ impl Walk {
 
     /// Takes a reply: of the one request that waits for its answer, if exactly one does.
     fn take_reply(&mut self, presence: Option<u64>) {
-        let mut waiting = None;
-        let mut count = 0_usize;
-        for place in 0..CHANNELS {
-            if self.channels[place].held.is_some_and(|held| held.waits()) {
-                waiting = Some(place);
-                count = count.saturating_add(1);
-            }
-        }
-        if count == 1
-            && let Some(place) = waiting
-            && place < CHANNELS
-        {
-            self.of = self.channels[place].reply(presence);
+        if let Some(place) = self.channels.waiting() {
+            self.of = self.channels.list[place].reply(presence);
         }
         if self.of.is_none() {
             self.part = Part::Reply;
@@ -310,10 +267,10 @@ impl Walk {
 
     /// Takes a packet of a host.
     fn take_packet(&mut self, number: u64, packet: &Packet) {
-        let place = self.place(channel_of(packet), number);
+        let place = self.channels.place(channel_of(packet), number, &mut self.ends);
         match packet.view() {
             View::Start { cmd: CANCEL, .. } => {
-                self.of = self.channels[place].cancel(number);
+                self.of = self.channels.list[place].cancel(number);
                 if self.of.is_none() {
                     self.part = Part::Cancel;
                 }
@@ -324,13 +281,8 @@ impl Walk {
                 part,
                 ..
             } => {
-                let greeting = Greeting {
-                    line: number,
-                    at: self.now,
-                    length: len,
-                    nonce: nonce_in(part),
-                };
-                self.of = Some(self.channels[place].greet(greeting, &mut self.ends));
+                let greeting = Greeting::of(number, self.now, len, part);
+                self.of = Some(self.channels.list[place].greet(greeting, &mut self.ends));
             }
             View::Start {
                 cid,
@@ -338,12 +290,7 @@ impl Walk {
                 len,
                 part,
             } => {
-                let transaction = Transaction {
-                    channel: cid,
-                    line: number,
-                    message: cmd,
-                    command: command_in(cmd, len, part),
-                };
+                let transaction = Transaction::of(number, cid, cmd, (len, part));
                 self.begin(place, transaction, len, part);
             }
             View::More { seq, part, .. } => self.go_on(place, number, seq, part),
@@ -360,7 +307,7 @@ impl Walk {
             at: self.now,
             ..Exchange::default()
         };
-        self.channels[place].begin(begun, &mut self.ends);
+        self.channels.list[place].begin(begun, &mut self.ends);
         self.of = Some(transaction);
         if transaction.command.is_some() && length <= LONGEST_MESSAGE {
             self.pool.begin(transaction.line, length, part);
@@ -374,7 +321,7 @@ impl Walk {
     fn go_on(&mut self, place: usize, number: u64, sequence: u8, part: &[u8])
         requires { place < 6 }
     {
-        let (of, gap, is_next) = match self.channels[place].go_on(sequence, self.now) {
+        let (of, gap, is_next) = match self.channels.list[place].go_on(sequence, self.now) {
             Continuation::Stray => {
                 self.part = Part::Stray;
                 return;
@@ -386,7 +333,7 @@ impl Walk {
         let mut is_whole = false;
         if is_next {
             self.pool.add(of.line, part);
-            is_whole = self.channels[place].has_whole(of.line) && of.command.is_some();
+            is_whole = self.channels.list[place].has_whole(of.line) && of.command.is_some();
         }
         if gap >= NO_TIME_OUT {
             self.doubtful = Some(Doubtful {
@@ -405,7 +352,7 @@ impl Walk {
         requires { place < 6 }
     {
         let rp_id = self.rp_id_of(place, of);
-        self.channels[place].name(of.line, &rp_id);
+        self.channels.list[place].name(of.line, &rp_id);
         Some(Shown::Request(of.line))
     }
 
@@ -415,7 +362,7 @@ impl Walk {
         requires { place < 6 }
     {
         match (of.command, self.pool.bytes(of.line)) {
-            (Some(NEXT), _) => self.channels[place].asserted,
+            (Some(NEXT), _) => self.channels.list[place].asserted,
             (Some(command), Some([_, item @ ..])) if check(item).result.is_ok() => {
                 RpId::of_request(command, item)
             }
@@ -428,7 +375,7 @@ impl Walk {
         let mut shown = None;
         if doubtful.is_whole
             && !is_late
-            && let Some(place) = self.find(doubtful.of.channel)
+            && let Some(place) = self.channels.find(doubtful.of.channel)
         {
             shown = self.complete(place, &doubtful.of);
         }
@@ -443,7 +390,7 @@ impl Walk {
     // ---- packets of the device
 
     fn take_sent(&mut self, number: u64, packet: &Packet) {
-        let place = self.place(channel_of(packet), number);
+        let place = self.channels.place(channel_of(packet), number, &mut self.ends);
         let doubtful = self.doubtful.take();
         if let View::Start {
             cmd: ERROR,
@@ -460,7 +407,7 @@ impl Walk {
         match packet.view() {
             View::Start { cmd: KEEPALIVE, .. } => {
                 self.cut(place);
-                self.of = self.channels[place].keep_alive(&mut self.ends);
+                self.of = self.channels.list[place].keep_alive(&mut self.ends);
             }
             View::Start { cmd, len, part, .. } => {
                 self.cut(place);
@@ -480,7 +427,7 @@ impl Walk {
     fn cut(&mut self, place: usize)
         requires { place < 6 }
     {
-        if let Some(line) = self.channels[place].cut(&mut self.ends) {
+        if let Some(line) = self.channels.list[place].cut(&mut self.ends) {
             self.pool.release(line);
         }
     }
@@ -494,7 +441,7 @@ impl Walk {
         {
             self.decide(doubtful, false);
         }
-        let (of, is_late) = self.channels[place].refuse(code, doubtful.as_ref(), &mut self.ends);
+        let (of, is_late) = self.channels.list[place].refuse(code, doubtful.as_ref(), &mut self.ends);
         if let Some(doubtful) = &doubtful
             && code == TIMED_OUT
         {
@@ -509,7 +456,7 @@ impl Walk {
     fn take_answer(&mut self, place: usize, answer: &Answer<'_>)
         requires { place < 6 }
     {
-        self.of = self.channels[place].answer(answer, &mut self.ends);
+        self.of = self.channels.list[place].answer(answer, &mut self.ends);
         let is_kept = answer.command == CBOR
             && answer.length > 0
             && answer.length <= LONGEST_MESSAGE;
@@ -525,7 +472,7 @@ impl Walk {
     fn answer_on(&mut self, place: usize, sequence: u8, part: &[u8])
         requires { place < 6 }
     {
-        let Some(answered) = self.channels[place].answer_on(sequence, &mut self.ends) else {
+        let Some(answered) = self.channels.list[place].answer_on(sequence, &mut self.ends) else {
             return;
         };
         self.of = answered.of;
@@ -533,53 +480,6 @@ impl Walk {
         if answered.is_whole && self.pool.bytes(answered.line).is_some() {
             self.shown = Some(Shown::Answer(answered.line, place));
         }
-    }
-
-    // ---- channels
-
-    /// Returns where a channel is, which is used on this line. Where there are too many, the one that was used least
-    /// lately makes way, one on which nothing is open first.
-    fn place(&mut self, number: u32, line: u64) -> usize
-        ensures { result < 6 }
-    {
-        if let Some(place) = self.find(number) {
-            self.channels[place].used = line;
-            return place;
-        }
-        let place = self.oldest();
-        self.channels[place].forget(&mut self.ends);
-        self.channels[place].reset(number);
-        self.channels[place].used = line;
-        place
-    }
-
-    /// Returns where a channel is that is in use.
-    fn find(&self, number: u32) -> Option<usize>
-        ensures { IfSome result (λ place. place < 6) }
-    {
-        for place in 0..CHANNELS {
-            if self.channels[place].used > 0 && self.channels[place].number == number {
-                return Some(place);
-            }
-        }
-        None
-    }
-
-    /// Returns the place of the channel that makes way.
-    fn oldest(&self) -> usize
-        ensures { result < 6 }
-    {
-        let mut oldest = 0;
-        for place in 0..CHANNELS {
-            let (other, found) = (&self.channels[place], &self.channels[oldest]);
-            let is_idle = other.is_idle();
-            if is_idle == found.is_idle() && other.used < found.used
-                || is_idle && !found.is_idle()
-            {
-                oldest = place;
-            }
-        }
-        oldest
     }
 }
 
@@ -595,21 +495,4 @@ impl Follows for Walk {
             ended: self.ended(),
         }
     }
-}
-
-/// Returns the authenticator's command that a message has, by its first packet.
-fn command_in(message: u8, length: u16, part: &[u8]) -> Option<u8> {
-    match part {
-        [first, ..] if message == CBOR && length > 0 => Some(*first),
-        _ => None,
-    }
-}
-
-/// Returns the nonce of an INIT.
-fn nonce_in(part: &[u8]) -> [u8; 8] {
-    let mut nonce = [0; 8];
-    if let Some(front) = part.get(..8) {
-        nonce.copy_from_slice(front);
-    }
-    nonce
 }

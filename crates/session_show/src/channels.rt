@@ -1,0 +1,134 @@
+//! The channels of a log that are followed: a few at once.
+ghost use Rattle.std.specs.Prelude.{◌<◌, IfSome};
+
+use crate::channel::Channel;
+use crate::exchange::{Ended, Ends, Exchange};
+
+/// How many channels are followed at once.
+const CHANNELS: usize = 6;
+
+/// The most transactions that are open at once: on each channel four INITs, two other messages, and an answer.
+pub const OPEN: usize = 7 * CHANNELS;
+
+/// The channels that are followed, in no order.
+#[derive(Drop)]
+pub struct Channels {
+    pub list: [Channel; CHANNELS],
+}
+
+impl Channels {
+    /// Returns those of no lines.
+    pub fn new() -> Self {
+        Channels {
+            list: [
+                Channel::unused(),
+                Channel::unused(),
+                Channel::unused(),
+                Channel::unused(),
+                Channel::unused(),
+                Channel::unused(),
+            ],
+        }
+    }
+
+    /// Becomes the same as others.
+    pub fn copy_from(&mut self, other: &Channels) {
+        for place in 0..CHANNELS {
+            self.list[place].copy_from(&other.list[place]);
+        }
+    }
+
+    /// Returns where a channel is, which is used on this line. Where there are too many, the one that was used least
+    /// lately makes way, one on which nothing is open first.
+    pub fn place(&mut self, number: u32, line: u64, ends: &mut Ends) -> usize
+        ensures { result < 6 }
+    {
+        if let Some(place) = self.find(number) {
+            self.list[place].used = line;
+            return place;
+        }
+        let place = self.oldest();
+        self.list[place].forget(ends);
+        self.list[place].reset(number);
+        self.list[place].used = line;
+        place
+    }
+
+    /// Returns where a channel is that is in use.
+    pub fn find(&self, number: u32) -> Option<usize>
+        ensures { IfSome result (λ place. place < 6) }
+    {
+        for place in 0..CHANNELS {
+            if self.list[place].used > 0 && self.list[place].number == number {
+                return Some(place);
+            }
+        }
+        None
+    }
+
+    /// Returns the place of the channel that makes way.
+    fn oldest(&self) -> usize
+        ensures { result < 6 }
+    {
+        let mut oldest = 0;
+        for place in 0..CHANNELS {
+            let (other, found) = (&self.list[place], &self.list[oldest]);
+            let is_idle = other.is_idle();
+            if is_idle == found.is_idle() && other.used < found.used
+                || is_idle && !found.is_idle()
+            {
+                oldest = place;
+            }
+        }
+        oldest
+    }
+
+    /// Returns a channel that is in use.
+    pub fn on(&self, number: u32) -> Option<&Channel> {
+        let place = self.find(number)?;
+        Some(&self.list[place])
+    }
+
+    /// Returns where the one request is that waits for its answer, if exactly one does.
+    pub fn waiting(&self) -> Option<usize>
+        ensures { IfSome result (λ place. place < 6) }
+    {
+        let mut waiting = None;
+        let mut is_one = true;
+        for place in 0..CHANNELS {
+            if self.list[place]
+                .held
+                .as_ref()
+                .is_some_and(|held| held.waits())
+            {
+                is_one = waiting.is_none();
+                waiting = Some(place);
+            }
+        }
+        waiting.filter(|place| is_one && *place < CHANNELS)
+    }
+
+    /// Returns the first transaction that is open of those that began after a line.
+    pub fn open_after(&self, line: u64) -> Option<Ended> {
+        let mut first: Option<Ended> = None;
+        for channel in self.list.as_slice() {
+            if let Some(found) = channel.open_after(line) {
+                let began = found.exchange.transaction.line;
+                if first.is_none_or(|first| began < first.exchange.transaction.line) {
+                    first = Some(found);
+                }
+            }
+        }
+        first
+    }
+
+    /// Returns a message that holds another channel than this one.
+    pub fn held_beside(&self, number: u32) -> Option<&Exchange> {
+        for channel in self.list.as_slice() {
+            if channel.number != number && channel.held.is_some() {
+                return channel.held.as_ref();
+            }
+        }
+        None
+    }
+}
