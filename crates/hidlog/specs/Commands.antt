@@ -20,7 +20,7 @@ use Rattle.hidlog.specs.CommandLine.{Ask, answers_to, asked_by, explains, named,
 use Rattle.hidlog.specs.declared.remarks.Terminals.{Terminals}
 use Rattle.hidlog.specs.declared.command_line.Form.{Form}
 use Rattle.hidlog.specs.declared.command_line.Form.TheVariants.{Lines}
-use Rattle.hidlog.specs.Program.{Explains, IsTold, IsWhole, LacksMemory, cannot_read_log}
+use Rattle.hidlog.specs.Program.{Explains, IsTold, IsWhole, LacksMemory, SaysMore, cannot_read_log}
 use Rattle.hidlog.specs.Saved.{FailsToOpen, FailsToSave, Opens, Saves}
 use Rattle.hidlog.specs.Several.{AreSame}
 
@@ -118,3 +118,9 @@ module _ {D I O F : Type 0} (holds : D → List ℕ → List ℕ → Type 0) (un
       (explains asked.1 terminals.faults) asked.0 (wording_for (explains asked.1 terminals.output)) status files input output
       faults
       ⊎ ((files.1 ≡ files.0) × (input.1 ≡ input.0) × LacksMemory said unsaid status output faults))
+
+  -- What words ask for is done, and then perhaps one more text is given to the faults.
+  abbrev pub Plays : List (List ℕ) → Terminals → Status → (D × D) → (I × I) → (O × O) → (F × F) → Type 0
+  Plays words terminals status files input output faults =
+      (read : I) × (told : F) × Answers words terminals status files (input.0, read) output (faults.0, told)
+      × SaysMore said unsaid (told, faults.1)

@@ -23,6 +23,11 @@ abbrev pub IsTold : {F : Type 0} → (explained : Bool) → (F → Option (List 
 IsTold explained taken failed target text =
     MatchBool explained (IsExplained taken failed target text) (IsGiven taken failed target text)
 
+-- perhaps one text was given to a target, and nothing else
+abbrev pub SaysMore : {F : Type 0} → (F → Option (List ℕ)) → (F → ℕ) → (F × F) → Type 0
+SaysMore taken failed target = ((taken target.1 ≡ taken target.0) × (failed target.1 ≡ failed target.0))
+    ⊎ ((more : List ℕ) × IsGiven taken failed target more)
+
 -- all of a source was read, and no call of it or of a target failed
 abbrev pub IsWhole : {I O : Type 0} → (I → Option (List ℕ)) → (I → Bool) → (I → ℕ) → (O → ℕ) → (I × I) → (O × O) → Type 0
 IsWhole left ended unread unput input output = IsAllRead left ended input.1

@@ -1,11 +1,10 @@
 //! The files of snapshots.
-ghost use Rattle.std.specs.Prelude.{◌≡◌, ◌⊎◌, ◌≤◌, ℕ, List, None, Option, Some, length, take, IfErr, IfOk, IfSome, MatchResult, OnOk, OnErr};
+ghost use Rattle.std.specs.Prelude.{◌≡◌, ◌⊎◌, ◌^◌, ℕ, List, Some, IfErr, IfOk, IfSome, MatchResult, OnOk};
 ghost use Rattle.std.specs.IoError.{error_kind};
-ghost use Rattle.hidlog.specs.Streams.{over};
+ghost use Rattle.hidlog.specs.Streams.{IsWritten};
 
-use std::fs::{self, File, Metadata, OpenOptions, TryLockError};
-use std::io::{self, Error, ErrorKind, Read, Write};
-use std::os::unix::fs::{FileExt, FileTypeExt, MetadataExt};
+use crate::disk::{Disk, Found, Place};
+use std::io::{self, Error, ErrorKind};
 
 /// Why a file wasn't written, and what it holds then.
 #[derive(Drop)]
@@ -55,42 +54,16 @@ pub trait Files {
             (λ _. unwritten self.old path.now bytes.now self.new) };
 }
 
-/// The files of the system. No clause says what they hold.
+/// The files of a disk. No clause says why one can't be read or written.
 #[derive(Clone, Copy)]
-pub struct HostFiles<'a>(pub &'a HostRuntime);
+pub struct HostFiles<D>(pub D);
 
 /// How many bytes of a snapshot are read: many more than the longest one has, so that one of a key with more capacity is
 /// refused as such.
 const MOST: u64 = 1 << 20;
 
-/// The system's numbers for a path where nothing is, and for a folder.
+/// The system's number for a path where nothing is.
 const ENOENT: i32 = 2;
-
-const EISDIR: i32 = 21;
-
-/// Returns whether a file is the one that another path names, or a stream of the process.
-fn is_stream(rt: &HostRuntime, found: &Metadata, stream: &str) -> bool {
-    match fs::metadata(rt, stream) {
-        Ok(other) => other.ino() == found.ino() && other.dev() == found.dev(),
-        Err(_) => false,
-    }
-}
-
-/// Refuses a folder, and the files that the log is read from and the result is written to.
-fn refuse_found(rt: &HostRuntime, found: &Metadata, log: Option<&str>) -> io::Result<()> {
-    if found.is_dir() {
-        return Err(Error::from_raw_os_error(EISDIR));
-    }
-    if found.is_file() && is_stream(rt, found, log.unwrap_or("/dev/stdin")) {
-        let message = "it is the log, which would be lost";
-        return Err(Error::new(ErrorKind::InvalidInput, message));
-    }
-    if found.is_file() && is_stream(rt, found, "/dev/stdout") {
-        let message = "it is the file that standard output goes to";
-        return Err(Error::new(ErrorKind::InvalidInput, message));
-    }
-    Ok(())
-}
 
 /// What is behind the path of a file in that of the copy beside it, and of the part of one.
 pub const COPY: &str = ".hidlog";
@@ -98,156 +71,25 @@ pub const COPY: &str = ".hidlog";
 const PART: &str = ".hidlog.part";
 
 /// Returns the path of a file beside another one.
-fn beside(rt: &HostRuntime, path: &str, ending: &str) -> io::Result<String> {
-    Ok(format!(in rt.alloc(); "{path}{ending}")?)
-}
-
-/// Makes a new file. One that an earlier call was cut off at makes way; a link isn't followed.
-fn create(rt: &HostRuntime, path: &str) -> io::Result<File> {
-    match File::create_new(rt, path) {
-        Err(error) if error.kind() == ErrorKind::AlreadyExists => {
-            fs::remove_file(rt, path)?;
-            File::create_new(rt, path)
-        }
-        made => made,
-    }
+fn beside<D: Disk>(disk: &D, path: &str, ending: &str) -> io::Result<String> {
+    Ok(format!(in disk.alloc(); "{path}{ending}")?)
 }
 
 /// Looks whether a file can be made at a path where none is, by making another one beside it.
-fn look_beside(rt: &HostRuntime, path: &str) -> io::Result<()> {
+fn look_beside<D: Disk>(disk: &D, path: &str) -> io::Result<()> {
     if path.is_empty() {
         return Err(Error::from_raw_os_error(ENOENT));
     }
-    let part = beside(rt, path, PART)?;
-    create(rt, part.as_str())?;
-    fs::remove_file(rt, part.as_str())
+    let part = beside(disk, path, PART)?;
+    disk.create(part.as_str())?;
+    disk.remove(part.as_str())
 }
 
-/// Hands what was written to a file to the disk. Not each system of files can do that.
-fn sync(file: &File) -> io::Result<()> {
-    match file.sync_all() {
-        Err(error)
-            if matches!(
-                error.kind(),
-                ErrorKind::InvalidInput | ErrorKind::Unsupported
-            ) => Ok(()),
-        done => done,
-    }
-}
-
-/// Writes a new file to the disk.
-fn write_new(rt: &HostRuntime, path: &str, bytes: &[u8]) -> io::Result<()> {
-    let mut file = create(rt, path)?;
-    file.write_all(bytes)?;
-    sync(&file)
-}
-
-/// Writes a file to the disk, and then renames it to a path: whatever happens meanwhile, what is at the path is whole.
-fn write_beside(rt: &HostRuntime, path: &str, to: &str, bytes: &[u8]) -> io::Result<()> {
-    let part = beside(rt, path, PART)?;
-    let written = write_new(rt, part.as_str(), bytes).and_then(|_| fs::rename(
-        rt,
-        part.as_str(),
-        to,
-    ));
-    if written.is_err() {
-        let _ = fs::remove_file(rt, part.as_str());
-    }
-    written
-}
-
-/// Opens a file to write over it. No other program does so meanwhile.
-fn open_alone(rt: &HostRuntime, path: &str) -> io::Result<File> {
-    let file = OpenOptions::new().write(true).open(rt, path)?;
-    match file.try_lock() {
-        Err(TryLockError::WouldBlock) => {
-            let message = "another program is writing to it";
-            Err(Error::new(ErrorKind::WouldBlock, message))
-        }
-        // Not each system of files has locks.
-        Ok(()) | Err(TryLockError::Error(_)) => Ok(file),
-    }
-}
-
-/// Writes over a file, to the disk.
-fn write_through(file: &mut File, bytes: &[u8]) -> io::Result<()> {
-    write_over(file, bytes)?;
-    sync(file)
-}
-
-/// Writes over a file. Until that is done a copy of the bytes is beside it, if the folder allows that; where it fails,
-/// the file gets back what it held.
-fn replace(rt: &HostRuntime, path: &str, bytes: &[u8]) -> Result<(), Unwritten> {
-    let mut file = open_alone(rt, path).map_err(Unwritten::Kept)?;
-    let old = fs::read(rt, path);
-    let copy = beside(rt, path, COPY).map_err(Unwritten::Kept)?;
-    let is_copied = write_beside(rt, path, copy.as_str(), bytes).is_ok();
-    if let Err(error) = write_through(&mut file, bytes) {
-        let is_back = match &old {
-            Ok(old) => write_through(&mut file, old.as_slice()).is_ok(),
-            Err(_) => false,
-        };
-        return Err(match (is_back, is_copied) {
-            (true, false) => Unwritten::Kept(error),
-            (true, true) if fs::remove_file(rt, copy.as_str()).is_ok() => Unwritten::Kept(error),
-            (_, true) => Unwritten::Copied(error),
-            (false, false) => Unwritten::Broken(error),
-        });
-    }
-    if is_copied {
-        return fs::remove_file(rt, copy.as_str()).map_err(Unwritten::Left);
-    }
-    Ok(())
-}
-
-/// Writes a file at a path where none is.
-fn write_first(rt: &HostRuntime, path: &str, bytes: &[u8]) -> io::Result<()> {
-    // A link that leads nowhere is followed, so that what it leads to is made.
-    match fs::symlink_metadata(rt, path) {
-        Ok(_) => fs::write(rt, path, bytes),
-        Err(_) => write_beside(rt, path, path, bytes),
-    }
-}
-
-/// A file that is open.
-pub trait Place {
-    /// The bytes that it has, where they are known.
-    ghost bytes: { Self → Option (List ℕ) };
-
-    /// Returns how many bytes it has.
-    fn size(&self) -> io::Result<u64>
-        ensures { IfOk result (λ n. IfSome (bytes self.now) (λ has. length has ≡ n)) };
-
-    /// Writes a piece whole, from a place on that isn't behind the end.
-    fn put_at(&mut self, piece: &[u8], at: u64) -> io::Result<()>
-        ensures { OnOk result (IfSome (bytes self.old) (λ has. at ≤ length has → bytes self.new ≡ Some (over has at piece.now))) };
-
-    /// Cuts it to so many bytes, where it has more.
-    fn cut(&mut self, size: u64) -> io::Result<()>
-        ensures { OnOk result (IfSome (bytes self.old) (λ has. size ≤ length has → bytes self.new ≡ Some (take size has))) };
-}
-
-/// The files of the system. No clause says what they hold.
-impl Place for File {
-    ghost bytes = { λ _. None };
-
-    fn size(&self) -> io::Result<u64> {
-        Ok(self.metadata()?.len())
-    }
-
-    fn put_at(&mut self, piece: &[u8], at: u64) -> io::Result<()> {
-        self.write_all_at(piece, at)
-    }
-
-    fn cut(&mut self, size: u64) -> io::Result<()> {
-        self.set_len(size)
-    }
-}
-
-/// Writes to a file that is open, and cuts it to what was written. What the file is too short for is written first, so
+/// Writes over a file that is open, and cuts it to what was written. What the file is too short for is written first, so
 /// that a full disk leaves the old bytes.
 fn write_over<F: Place>(file: &mut F, bytes: &[u8]) -> io::Result<()>
-    ensures { OnOk result (IfSome (F.bytes file.old) (λ _. F.bytes file.new ≡ Some bytes.now)) }
+    ensures bytes { OnOk result (IfSome (F.bytes file.old) (λ _. F.bytes file.new ≡ Some bytes.now)) }
+    ensures place { (path : List ℕ) → F.is_at path file.old → F.is_at path file.new }
 {
     let old = file.size()?;
     let shared = usize::try_from(old).unwrap_or(bytes.len()).min(bytes.len());
@@ -261,69 +103,110 @@ fn write_over<F: Place>(file: &mut F, bytes: &[u8]) -> io::Result<()>
     file.cut(bytes.len() as u64)
 }
 
-/// Writes to a pipe. It never waits for a reader: where there is none, it fails.
-fn write_to_pipe(rt: &HostRuntime, path: &str, bytes: &[u8]) -> io::Result<()> {
-    let both = OpenOptions::new().read(true).write(true).open(rt, path)?;
-    let mut end = OpenOptions::new().write(true).open(rt, path)?;
-    drop(both);
-    end.write_all(bytes)
+/// Writes over a file that is open, to the disk.
+fn write_through<F: Place>(file: &mut F, bytes: &[u8]) -> io::Result<()>
+    ensures bytes { OnOk result (IfSome (F.bytes file.old) (λ _. F.bytes file.new ≡ Some bytes.now)) }
+    ensures place { (path : List ℕ) → F.is_at path file.old → F.is_at path file.new }
+{
+    write_over(file, bytes)?;
+    file.sync()
 }
 
-impl Files for HostFiles<'_> {
-    ghost holds = { λ _ _ _. Unit {0} };
+/// Writes a new file to the disk, and then renames it to a path.
+fn write_new<D: Disk>(disk: &D, part: &str, to: &str, bytes: &[u8]) -> io::Result<D::File>
+    ensures { IfOk result (λ file. IsWritten D.File.is_at D.File.is_known D.File.bytes to.now bytes.now file) }
+{
+    let mut file = disk.create(part)?;
+    write_through(&mut file, bytes)?;
+    disk.rename(file, part, to)
+}
+
+/// Writes a file beside a path to the disk, and then renames it to another path: whatever happens meanwhile, what is there
+/// is whole.
+fn write_beside<D: Disk>(disk: &D, path: &str, to: &str, bytes: &[u8]) -> io::Result<D::File>
+    ensures { IfOk result (λ file. IsWritten D.File.is_at D.File.is_known D.File.bytes to.now bytes.now file) }
+{
+    let part = beside(disk, path, PART)?;
+    let written = write_new(disk, part.as_str(), to, bytes);
+    if written.is_err() {
+        let _ = disk.remove(part.as_str());
+    }
+    written
+}
+
+/// Writes over a file. Until that is done a copy of the bytes is beside it, if the folder allows that; where it fails,
+/// the file gets back what it held.
+fn replace<D: Disk>(disk: &D, path: &str, bytes: &[u8]) -> Result<D::File, Unwritten>
+    ensures { IfOk result (λ file. IsWritten D.File.is_at D.File.is_known D.File.bytes path.now bytes.now file) }
+{
+    let mut file = disk.open(path).map_err(Unwritten::Kept)?;
+    let old = disk.read(path, u64::MAX);
+    let copy = beside(disk, path, COPY).map_err(Unwritten::Kept)?;
+    let is_copied = write_beside(disk, path, copy.as_str(), bytes).is_ok();
+    if let Err(error) = write_through(&mut file, bytes) {
+        let is_back = match &old {
+            Ok(old) => write_through(&mut file, old.as_slice()).is_ok(),
+            Err(_) => false,
+        };
+        return Err(match (is_back, is_copied) {
+            (true, false) => Unwritten::Kept(error),
+            (true, true) if disk.remove(copy.as_str()).is_ok() => Unwritten::Kept(error),
+            (_, true) => Unwritten::Copied(error),
+            (false, false) => Unwritten::Broken(error),
+        });
+    }
+    if is_copied {
+        disk.remove(copy.as_str()).map_err(Unwritten::Left)?;
+    }
+    Ok(file)
+}
+
+impl<D: Disk> Files for HostFiles<D> {
+    ghost holds = { λ files path bytes. D.holds files.0 path (2 ^ 20) bytes };
 
     ghost unreadable = { λ _ _. Unit {0} };
 
-    ghost written = { λ _ _ _ _. Unit {0} };
+    ghost written = { λ _ path bytes _. D.handed path bytes
+        ⊎ ((file : D.File) × IsWritten D.File.is_at D.File.is_known D.File.bytes path bytes file) };
 
     ghost unwritten = { λ _ _ _ _. Unit {0} };
 
     ghost unwritable = { λ _ _. Unit {0} };
 
     fn read(&self, path: &str) -> io::Result<Vec<u8>> {
-        let mut bytes = Vec::new(self.0.alloc());
-        File::open(self.0, path)?
-            .take(MOST)
-            .read_to_end(&mut bytes)?;
-        Ok(bytes)
+        self.0.read(path, MOST)
     }
 
     fn has_copy(&self, path: &str) -> bool {
-        match beside(self.0, path, COPY) {
-            Ok(copy) => fs::metadata(self.0, copy.as_str()).is_ok(),
+        match beside(&self.0, path, COPY) {
+            Ok(copy) => self.0.has(copy.as_str()),
             Err(_) => false,
         }
     }
 
     fn look(&self, path: &str, log: Option<&str>) -> io::Result<()> {
-        match fs::metadata(self.0, path) {
-            Ok(found) if found.is_file() => {
-                refuse_found(self.0, &found, log)?;
-                OpenOptions::new().write(true).open(self.0, path)?;
+        match self.0.look(path, log)? {
+            Found::Nothing => look_beside(&self.0, path),
+            Found::File => {
+                self.0.open(path)?;
                 Ok(())
             }
-            Ok(found) => refuse_found(self.0, &found, log),
-            Err(error) if error.kind() == ErrorKind::NotFound => look_beside(self.0, path),
-            Err(error) => Err(error),
+            Found::Pipe | Found::Other => Ok(()),
         }
     }
 
     fn write(&mut self, path: &str, bytes: &[u8], log: Option<&str>) -> Result<(), Unwritten> {
-        match fs::metadata(self.0, path) {
-            Ok(found) if found.file_type().is_fifo() => {
-                write_to_pipe(self.0, path, bytes).map_err(Unwritten::Kept)
+        let found = self.0.look(path, log).map_err(Unwritten::Kept)?;
+        match found {
+            Found::Nothing => {
+                write_beside(&self.0, path, path, bytes).map_err(Unwritten::Kept)?;
+                Ok(())
             }
-            Ok(found) if !found.is_file() => fs::write(self.0, path, bytes).map_err(
-                Unwritten::Kept,
-            ),
-            Ok(found) => {
-                refuse_found(self.0, &found, log).map_err(Unwritten::Kept)?;
-                replace(self.0, path, bytes)
+            Found::File => {
+                replace(&self.0, path, bytes)?;
+                Ok(())
             }
-            Err(error) if error.kind() == ErrorKind::NotFound => {
-                write_first(self.0, path, bytes).map_err(Unwritten::Kept)
-            }
-            Err(error) => Err(Unwritten::Kept(error)),
+            Found::Pipe | Found::Other => self.0.hand(path, bytes, found).map_err(Unwritten::Kept),
         }
     }
 }

@@ -33,6 +33,9 @@ pub trait Logs: Source {
     fn restart(&mut self)
         ensures { Self.failed self.new ≡ Self.failed self.old };
 
+    /// Returns what the log is called: its path, where it has one.
+    fn name(&self) -> &str;
+
     /// Returns the lines that were read last, without the front of one that is remembered in part.
     fn lines(&self) -> &[u8];
 
@@ -203,11 +206,6 @@ impl<'a, S: Opens> HostLog<'a, S> {
         self.ended = false;
     }
 
-    /// Returns what the log is called: its path, where it has one.
-    pub fn name(&self) -> &str {
-        self.name.as_str()
-    }
-
     /// Begins to look at a log, which has so many bytes and this path where it can be read again.
     fn look(&mut self, size: Option<u64>, path: &str)
         ensures counted { self.new.failures ≡ self.old.failures }
@@ -308,6 +306,10 @@ impl<S: Opens> Logs for HostLog<'_, S> {
 
     fn restart(&mut self) {
         self.begin(S::standard(self.rt), true);
+    }
+
+    fn name(&self) -> &str {
+        self.name.as_str()
     }
 
     fn lines(&self) -> &[u8] {

@@ -1,11 +1,14 @@
 //! The program `hidlog`: replays text logs of CTAPHID sessions.
 #![tactic(auto)]
 
-ghost use Rattle.std.specs.Prelude.{◌<◌, ◌-◌, ◌^◌};
+ghost use Rattle.std.specs.Prelude.{◌≡◌, ◌<◌, ◌-◌, ◌^◌, ◌⊎◌, IfErr};
+ghost use Rattle.hidlog.specs.CommandLine.{texts_of};
+ghost use Rattle.hidlog.specs.Commands.{Plays};
 
 mod command_line;
 mod commands;
 mod differing;
+mod disk;
 mod escaped;
 mod files;
 mod logs;
@@ -26,82 +29,86 @@ mod terminal;
 use command_line::{Asked, Task, task_of};
 use differing::{Wish, tell_differences};
 use escaped::Escaped;
-use files::HostFiles;
+use disk::HostDisk;
+use files::{Files, HostFiles};
 use logs::{HostLog, Logs, ProcessLog};
 use misfit::first_reason;
 use process::{Reporting, no_memory, tell, words_of};
 use program::run;
-use remarks::{Remarks, note};
+use remarks::{Remarks, Terminals, note};
 use screen::Screen;
 use session_log::{Target, ToWrite};
 use std::alloc::Global;
-use std::io::{self, Printer};
+use std::io;
 use std::process::ExitCode;
 use streams::{Faults, Noting, Told};
 use terminal::{audience_of, style_of, terminals_of, width_of_faults};
 
-/// What standard output is written by.
-type Output<'a> = Noting<Printer<'a, HostRuntime>>;
-
-/// Says what differs in a log that isn't one of several, where that is explained or all differences are wished for; and,
-/// explained, why a line of the log is none or why reading it failed and, where nothing is wrong, what may be.
-fn say_more<E: Target>(
-    rt: &HostRuntime,
+/// Returns what more is said of a log that isn't one of several: what differs, where that is explained or all
+/// differences are wished for; and, explained, why a line of the log is none or why reading it failed and, where nothing
+/// is wrong, what may be.
+fn more_of<D: Files, L: Logs, E: Target>(
+    files: &D,
+    alloc: Global,
     words: &[&str],
-    input: &mut ProcessLog<'_>,
+    input: &mut L,
     remarks: &Remarks,
     faults: &mut Faults<E>,
-)
-    requires { E.failed faults.old.inner < 2 ^ 64 - 1 }
+) -> Vec<u8>
+    ensures { faults.new.inner ≡ faults.old.inner }
 {
+    let mut more = Vec::new(alloc);
+    let mut target = ToWrite::new(&mut more);
     if let Some(told) = faults.difference() {
-        say_differences(rt, words, input, remarks, &told, faults);
+        say_differences(files, alloc, words, input, remarks, &told, &mut target);
     } else if remarks.explains {
-        say_why(rt.alloc(), input, remarks, faults);
+        say_why(alloc, input, remarks, faults, &mut target);
     }
+    more
 }
 
 /// Says why a line of the log is none or why reading it failed; and, where nothing is wrong, what may be.
-fn say_why<E: Target>(
+fn say_why<L: Logs, E: Target, T: Target>(
     alloc: Global,
-    input: &ProcessLog<'_>,
+    input: &L,
     remarks: &Remarks,
-    faults: &mut Faults<E>,
+    faults: &Faults<E>,
+    target: &mut T,
 )
-    requires { E.failed faults.old.inner < 2 ^ 64 - 1 }
+    requires { T.failed target.old < 2 ^ 64 - 1 }
 {
     if faults.has_bad_line() {
         if let Some(reason) = first_reason(alloc, input.lines()) {
-            tell(faults, reason.as_bytes());
+            tell(target, reason.as_bytes());
         }
     } else if faults.has_failed_read() {
         if let Some(error) = input.failure() {
-            say_failure(alloc, input.name(), error, faults);
+            say_failure(alloc, input.name(), error, target);
         }
     } else if let Some(ending) = &remarks.ending {
-        note(faults, alloc, "hidlog", input.seen(), ending);
+        note(target, alloc, "hidlog", input.seen(), ending);
     }
 }
 
 /// Says why a stream failed.
-fn say_failure<E: Target>(alloc: Global, name: &str, error: &io::Error, faults: &mut Faults<E>)
-    requires { E.failed faults.old.inner < 2 ^ 64 - 1 }
+fn say_failure<T: Target>(alloc: Global, name: &str, error: &io::Error, target: &mut T)
+    requires { T.failed target.old < 2 ^ 64 - 1 }
 {
     if let Ok(text) = format!(in alloc; "  {}: {error}\n", Escaped(name)) {
-        tell(faults, text.as_bytes());
+        tell(target, text.as_bytes());
     }
 }
 
 /// Says what differs in a log that isn't one of several.
-fn say_differences<E: Target>(
-    rt: &HostRuntime,
+fn say_differences<D: Files, L: Logs, T: Target>(
+    files: &D,
+    alloc: Global,
     words: &[&str],
-    input: &mut ProcessLog<'_>,
+    input: &mut L,
     remarks: &Remarks,
     told: &Told,
-    faults: &mut Faults<E>,
+    target: &mut T,
 ) {
-    let alloc = rt.alloc();
     let Ok(
         Asked {
             task: Task::Check { load, all, .. },
@@ -121,20 +128,49 @@ fn say_differences<E: Target>(
         is_all: all,
         width: remarks.width,
     };
-    tell_differences(
-        &HostFiles(rt),
-        &wish,
-        input.again(),
-        told.as_slice(),
-        faults,
-    );
+    tell_differences(files, &wish, input.again(), told.as_slice(), target);
 }
 
 /// Runs the program on these words, and says more of what came of it. An error holds the exit status.
-fn play<'a, E: Target>(
-    rt: &HostRuntime,
+fn play<'a, D, L, O, E>(
+    files: &mut D,
+    alloc: Global,
     words: &'a [&'a str],
-    writer: &mut Output<'_>,
+    terminals: Terminals,
+    input: &mut L,
+    output: &mut O,
+    remarks: &mut Remarks,
+    faults: &mut Faults<E>,
+) -> Result<(), u8>
+where
+    D: Files,
+    L: Logs,
+    O: Target,
+    E: Target,
+    requires reads { L.failed input.old < 2 ^ 64 - 1 }
+    requires writes { O.failed output.old < 2 ^ 64 - 1 }
+    requires tells { E.failed faults.old.inner < 2 ^ 64 - 1 }
+    ensures status { IfErr result (λ code. (code ≡ 1) ⊎ (code ≡ 2)) }
+    // What the words ask for is done. After that one text may be written to the faults, and nothing else.
+    ensures played { Plays D.holds D.unreadable D.written D.unwritten D.unwritable L.opened L.unopenable L.left L.failed L.ended
+        O.taken O.failed ⟦<Faults<E> as Target>⟧.taken ⟦<Faults<E> as Target>⟧.failed (texts_of words.now) terminals result
+        (files.old, files.new) (input.old, input.new) (output.old, output.new) (faults.old, faults.new) }
+{
+    let ended = run(
+        files, alloc, words, terminals, input, output, remarks, faults,
+    );
+    if faults.failures() > 0 || output.failures() > 0 {
+        return ended;
+    }
+    let more = more_of(files, alloc, words, input, remarks, faults);
+    tell(faults, more.as_slice());
+    ended
+}
+
+/// Runs the program on the streams and files of its process. An error holds the exit status.
+fn play_here<E: Target>(
+    rt: &HostRuntime,
+    words: &[&str],
     faults: &mut Faults<E>,
 ) -> Result<(), u8>
     requires { E.failed faults.old.inner < 2 ^ 64 - 1 }
@@ -152,27 +188,23 @@ fn play<'a, E: Target>(
         width: width_of_faults(rt, terminals),
         ending: None,
     };
-    let ended = run(
-        &mut HostFiles(rt),
+    let mut writer = Noting::new(io::writer(rt));
+    let style = style_of(rt, words, terminals);
+    let ended = play(
+        &mut HostFiles(HostDisk(rt)),
         alloc,
         words,
         terminals,
         &mut input,
-        &mut Screen::new(
-            alloc,
-            ToWrite::new(&mut *writer),
-            style_of(rt, words, terminals),
-        ),
+        &mut Screen::new(alloc, ToWrite::new(&mut writer), style),
         &mut remarks,
         faults,
     );
-    if faults.failures() > 0 {
-        return ended;
-    }
-    match writer.failure() {
-        Some(error) if remarks.explains => say_failure(alloc, "standard output", error, faults),
-        Some(_) => {}
-        None => say_more(rt, words, &mut input, &remarks, faults),
+    if let Some(error) = writer.failure()
+        && remarks.explains
+        && faults.failures() == 0
+    {
+        say_failure(alloc, "standard output", error, faults);
     }
     ended
 }
@@ -186,8 +218,7 @@ fn start<E: Target>(rt: &HostRuntime, faults: &mut Faults<E>) -> Result<(), u8>
     let Ok(words) = words else {
         return Err(no_memory(faults));
     };
-    let mut writer = Noting::new(io::writer(rt));
-    play(rt, words.as_slice(), &mut writer, faults)
+    play_here(rt, words.as_slice(), faults)
 }
 
 fn main(rt: HostRuntime) -> ExitCode {
