@@ -172,7 +172,7 @@ write_pkg_config() {
     } >"$made/hidlog.pc"
 }
 
-names=(BUILD hidlog hidlog.h hidlog.pc hidlog.wasm libhidlog.a libhidlog.so.0 aarch64/libhidlog.a)
+names=(BUILD hidlog hidlog.h hidlog_recording.h hidlog.pc hidlog.wasm libhidlog.a libhidlog.so.0 aarch64/libhidlog.a)
 if [ $# -gt 1 ] || [ "${1---check}" != --check ]; then
     stop "usage: release/build.sh [--check]"
 fi
@@ -184,7 +184,7 @@ build_shared
 build_module
 write_build
 write_pkg_config
-cp crates/hidlog_c/hidlog.h "$made/hidlog.h"
+cp crates/hidlog_c/hidlog.h crates/hidlog_c/hidlog_recording.h "$made"
 if [ "$mode" = --check ]; then
     compare
 else

@@ -11,6 +11,7 @@ paths() {
     echo crates.txt
     echo HANDLES
     echo crates/hidlog_c/hidlog.h
+    echo crates/hidlog_c/hidlog_recording.h
     awk '
         /^#/ || !NF { next }
         {

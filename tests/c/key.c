@@ -3,9 +3,11 @@
 //
 //     key                  by the calls of one input each
 //     key lines            by hidlog_key_lines, a line a call
+//     key recorded         by the calls of hidlog_recording.h, which write the recording: no comments and counts
 //     key snapshot FILE    the first, on the credentials of a snapshot
 //     key mistakes         wrong calls; says nothing and returns 0 where each is refused as the header says
 #include "hidlog.h"
+#include "hidlog_recording.h"
 
 #include <inttypes.h>
 #include <stdbool.h>
@@ -59,21 +61,29 @@ static uint32_t presence_of(const char *word) {
     return strcmp(word, "denied") == 0 ? HIDLOG_DENIED : HIDLOG_TIMED_OUT;
 }
 
+// Whether each call is that of hidlog_recording.h, with standard output as the log.
+static bool is_recorded;
+
 // Hands in a new key or a signature, which may be "no".
 static int32_t reply(struct hidlog_key *key, char letter, uint64_t at, char *fields[3]) {
     uint8_t bytes[3][72];
     bool is_no = strcmp(fields[0], "no") == 0;
-    if (letter == 's') {
-        return is_no ? hidlog_key_no_signature(key, at)
-                     : hidlog_key_signature(key, at, bytes[0], bytes_of(fields[0], bytes[0], 72));
+    if (is_no && letter == 's') {
+        return is_recorded ? hidlog_recorded_no_signature(key, stdout, at) : hidlog_key_no_signature(key, at);
     }
     if (is_no) {
-        return hidlog_key_no_key(key, at);
+        return is_recorded ? hidlog_recorded_no_key(key, stdout, at) : hidlog_key_no_key(key, at);
+    }
+    if (letter == 's') {
+        size_t len = bytes_of(fields[0], bytes[0], 72);
+        return is_recorded ? hidlog_recorded_signature(key, stdout, at, bytes[0], len)
+                           : hidlog_key_signature(key, at, bytes[0], len);
     }
     for (int i = 0; i < 3; i++) {
         bytes_of(fields[i], bytes[i], 32);
     }
-    return hidlog_key_new_key(key, at, bytes[0], bytes[1], bytes[2]);
+    return is_recorded ? hidlog_recorded_new_key(key, stdout, at, bytes[0], bytes[1], bytes[2])
+                       : hidlog_key_new_key(key, at, bytes[0], bytes[1], bytes[2]);
 }
 
 // Hands in the input of a line. Returns how many packets wait then, or -1 where the line is no input.
@@ -93,11 +103,12 @@ static int32_t input(struct hidlog_key *key, const char *line) {
     switch (*letter) {
     case '>':
         bytes_of(fields[0], packet, 64);
-        return hidlog_key_packet(key, at, packet);
+        return is_recorded ? hidlog_recorded_packet(key, stdout, at, packet) : hidlog_key_packet(key, at, packet);
     case 't':
-        return hidlog_key_tick(key, at);
+        return is_recorded ? hidlog_recorded_tick(key, stdout, at) : hidlog_key_tick(key, at);
     case 'p':
-        return hidlog_key_presence(key, at, presence_of(fields[0]));
+        return is_recorded ? hidlog_recorded_presence(key, stdout, at, presence_of(fields[0]))
+                           : hidlog_key_presence(key, at, presence_of(fields[0]));
     default:
         return reply(key, *letter, at, fields);
     }
@@ -144,6 +155,23 @@ static void play(struct hidlog_key *key) {
         }
     }
     write_meters(key);
+}
+
+// Writes the recording alone.
+static void play_recorded(struct hidlog_key *key) {
+    char line[LINE];
+    uint8_t packet[64];
+    is_recorded = true;
+    while (fgets(line, sizeof line, stdin) != NULL) {
+        line[strcspn(line, "\n")] = '\0';
+        int32_t waiting = line[0] == '<' || line[0] == '=' ? -1 : input(key, line);
+        while (waiting > 0) {
+            waiting = hidlog_recorded_next(key, stdout, packet);
+        }
+        if (waiting == HIDLOG_NOT_RECORDED) {
+            stop("the recording can't be written");
+        }
+    }
 }
 
 static void play_lines(struct hidlog_key *key) {
@@ -239,6 +267,8 @@ int main(int count, char **words) {
     make(&key, snapshot, snapshot_len);
     if (count == 2 && strcmp(words[1], "lines") == 0) {
         play_lines(&key);
+    } else if (count == 2 && strcmp(words[1], "recorded") == 0) {
+        play_recorded(&key);
     } else {
         play(&key);
     }

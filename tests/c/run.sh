@@ -24,6 +24,9 @@ play_on() {
     "$top/release/hidlog" replay <"$1" >"$room/replayed" 2>/dev/null || return 0
     "${@:2}" "$room/key" <"$1" >"$room/held" || stop "a key that is held fails at $1"
     cmp -s "$room/replayed" "$room/held" || stop "a key that is held differs at $1"
+    "${@:2}" "$room/key" recorded <"$1" >"$room/recorded" || stop "a recording fails at $1"
+    grep '^[>tpks<]' "$room/replayed" | tr A-F a-f | cmp -s - "$room/recorded" || stop "a recording differs at $1"
+    "$top/release/hidlog" check "$room/recorded" >/dev/null || stop "a recording of $1 doesn't pass"
     "$top/release/hidlog" live <"$1" >"$room/lived"
     "${@:2}" "$room/key" lines <"$1" >"$room/held" || stop "the lines of a key fail at $1"
     cmp -s "$room/lived" "$room/held" || stop "the lines of a key differ at $1"
@@ -41,8 +44,7 @@ show_form() {
     "${@:4}" "$room/show" $3 <"$1" >"$room/held" 2>"$room/said" || status=$?
     [ "$status" = "$wanted" ] || stop "showing $1 ends with $status"
     cmp -s "$room/shown" "$room/held" || stop "what is shown differs at $1"
-    [ "$(sed -n 's/^hidlog: line \([0-9]*\):.*/\1/p' "$room/fault")" = "$(sed -n 's/.*line //p' "$room/said")" ] ||
-        stop "the fault of $1 is another"
+    [ "$(head -1 "$room/fault")" = "$(cat "$room/said")" ] || stop "the fault of $1 is another"
     shown=$((shown + 1))
 }
 
@@ -121,7 +123,7 @@ else
     echo "tests/c: pkg-config was not tried (apt-get install pkgconf)"
 fi
 if command -v g++ >/dev/null; then
-    g++ -std=c++17 -Wall -Wextra -Werror -fsyntax-only -x c++ "$top/release/hidlog.h"
+    g++ -std=c++17 -Wall -Wextra -Werror -fsyntax-only -x c++ "$top/release/hidlog_recording.h"
     echo "tests/c: C++ takes the header"
 else
     echo "tests/c: the header was not tried with C++ (apt-get install g++)"

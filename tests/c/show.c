@@ -64,7 +64,7 @@ int main(int count, char **words)
     fwrite(before, 1, known, stdout);
     free(before);
     free(log);
-    if (outcome.status == HIDLOG_FAULT)
-        fprintf(stderr, "fault %u line %llu\n", outcome.fault, (unsigned long long)outcome.line);
+    uint8_t text[64];
+    fwrite(text, 1, hidlog_fault_text(&outcome, text, sizeof text), stderr);
     return outcome.status == HIDLOG_FAULT;
 }

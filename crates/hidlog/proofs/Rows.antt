@@ -3,7 +3,7 @@ use Rattle.std.proofs.Common.{◌≡◌, ℕ, true, false, List, [], ◌∷◌, 
 use Rattle.clap.proofs.OnLiterals.{clap_on_literals}
 use Rattle.clap.specs.Kinds.{Kinds}
 use Rattle.clap.specs.declared.error.kind.ErrorKind.TheVariants.{DisplayVersion}
-use Rattle.hidlog.specs.declared.command_line.Form.TheVariants.{Json, Lines, Summary}
+use Rattle.hidlog.specs.declared.command_line.Form.TheVariants.{Json, JsonSummary, Lines, Summary}
 use Rattle.hidlog.specs.declared.command_line.Manner.{Manner}
 use Rattle.hidlog.specs.declared.command_line.Manner.TheVariants.{ByTerminal, Explained, Fixed}
 use Rattle.hidlog.specs.CommandLine.{Ask, play, check, show, answers_to, asked_by}
@@ -65,14 +65,18 @@ hyphens_end_options : asked (codes "quiet" ∷ codes "--" ∷ codes "-a" ∷ [])
 unfolding asked
 hyphens_end_options = refl
 
--- a summary, and JSON, which comes before it
+-- a summary, JSON, and a summary as JSON
 summary_asked : asked (codes "show" ∷ codes "--summary" ∷ codes "a.log" ∷ []) ≡ Some (show Summary false (Some (codes "a.log")), ByTerminal)
 unfolding asked
 summary_asked = refl
 
-json_asked : asked (codes "show" ∷ codes "--json" ∷ codes "--summary" ∷ []) ≡ Some (show Json false None, ByTerminal)
+json_asked : asked (codes "show" ∷ codes "--json" ∷ []) ≡ Some (show Json false None, ByTerminal)
 unfolding asked
 json_asked = refl
+
+json_summary_asked : asked (codes "show" ∷ codes "--json" ∷ codes "--summary" ∷ []) ≡ Some (show JsonSummary false None, ByTerminal)
+unfolding asked
+json_summary_asked = refl
 
 -- a comparison that goes on after a difference, and lines that aren't cut
 all_asked : asked (codes "check" ∷ codes "--all" ∷ codes "a.log" ∷ []) ≡ Some (check None true (codes "a.log" ∷ []), ByTerminal)

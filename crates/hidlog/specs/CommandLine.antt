@@ -9,7 +9,7 @@ use Rattle.clap.specs.Faults.{fault_of}
 use Rattle.clap.specs.Walk.{Row, Rule, all_of, first_of}
 use Rattle.clap.specs.declared.builder.action.ArgAction.TheVariants.{Append, SetTrue}
 use Rattle.hidlog.specs.declared.command_line.Form.{Form}
-use Rattle.hidlog.specs.declared.command_line.Form.TheVariants.{Json, Lines, Summary}
+use Rattle.hidlog.specs.declared.command_line.Form.TheVariants.{Json, JsonSummary, Lines, Summary}
 use Rattle.hidlog.specs.declared.command_line.Parameter.{Parameter}
 use Rattle.hidlog.specs.declared.command_line.Parameter.TheVariants.{Load, Save, All, Summary as SummaryFlag, Json as JsonFlag, Wide, Explain, Plain, Log, Logs}
 use Rattle.hidlog.specs.declared.command_line.Manner.{Manner}
@@ -119,9 +119,11 @@ asks (Show form wide log) = show form wide (path_of log)
 abbrev pub is_set : List ℕ → List Row → Bool
 is_set name found = option_map_or (λ text. bytes_eq text (codes "true")) (first_of name found) false
 
--- the form that is asked for: JSON before a summary
+-- the form that is asked for
 abbrev pub form_of : List Row → Form
-form_of found = if is_set (codes "json") found then Json else if is_set (codes "summary") found then Summary else Lines
+form_of found =
+    if is_set (codes "json") found then if is_set (codes "summary") found then JsonSummary else Json
+    else if is_set (codes "summary") found then Summary else Lines
 
 -- for whom texts are worded: `--plain` is stronger than `--explain`
 abbrev pub manner_of : List Row → Manner

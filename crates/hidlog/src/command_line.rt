@@ -26,6 +26,8 @@ pub enum Form {
     Summary,
     /// As objects of JSON.
     Json,
+    /// As a summary in objects of JSON.
+    JsonSummary,
 }
 
 /// What the program is asked to do, with the paths of snapshots and logs as they are.
@@ -103,6 +105,33 @@ enum Parameter {
     Logs,
 }
 
+impl Parameter {
+    /// Returns what help says of it.
+    fn help<'a>(self) -> &'a str {
+        match self {
+            Parameter::Load => "Starts with the credentials of the snapshot F, and not with none",
+            Parameter::Save => {
+                "Writes a snapshot of the credentials to F at the end, unless the log has a fault; until that is \
+                 done, a whole copy of it is in F.hidlog"
+            }
+            Parameter::All => "Goes on after a difference, and counts them",
+            Parameter::Summary => {
+                "Writes a summary of the session: its transactions, credentials, noise"
+            }
+            Parameter::Json => "Writes an object of JSON a line, for scripts",
+            Parameter::Wide => {
+                "Writes lines whole at a terminal, where they are cut at its width otherwise"
+            }
+            Parameter::Explain => {
+                "Explains: adds names, members, reasons and notes, as it does at a terminal without this word"
+            }
+            Parameter::Plain => "Explains nothing at a terminal either: writes the fixed texts",
+            Parameter::Log => "The log; standard input where none is named, and for -",
+            Parameter::Logs => "The logs; standard input where none is named, and for -",
+        }
+    }
+}
+
 /// Returns an option with the path of a snapshot.
 fn path_option<'a>(alloc: Global, name: &'a str, help: &'a str) -> Arg<'a>
     ensures rule { rule_of result ≡ path_option name.entry.now }
@@ -130,66 +159,23 @@ fn log<'a>(alloc: Global, help: &'a str) -> Arg<'a>
     Arg::new(alloc, "log").value_name("FILE").help(help)
 }
 
-/// Returns the paths of any number of logs.
-fn logs<'a>(alloc: Global) -> Arg<'a>
-    ensures rule { rule_of result ≡ log_paths }
-    ensures local { result.global ≡ false }
-{
-    log(
-        alloc,
-        "The logs; standard input where none is named, and for -",
-    )
-    .action(ArgAction::Append)
-}
-
 /// Returns a parameter as clap has it.
 fn argument<'a>(alloc: Global, parameter: Parameter) -> Arg<'a>
     ensures rule { rule_of result ≡ rule_for parameter }
     ensures local { result.global ≡ false }
 {
+    let help = parameter.help();
     match parameter {
-        Parameter::Load => path_option(
-            alloc,
-            "load",
-            "Starts with the credentials of the snapshot F, and not with none",
-        ),
-        Parameter::Save => path_option(
-            alloc,
-            "save",
-            "Writes a snapshot of the credentials to F at the end, unless the log has a fault; a kill within that \
-             write can lose the old one, so save to a new file and then mv it to F",
-        ),
-        Parameter::All => flag(alloc, "all", "Goes on after a difference, and counts them"),
-        Parameter::Summary => flag(
-            alloc,
-            "summary",
-            "Writes a summary of the session: its transactions in a table, credentials, noise",
-        ),
-        Parameter::Json => flag(
-            alloc,
-            "json",
-            "Writes an object of JSON a line, for scripts",
-        ),
-        Parameter::Wide => flag(
-            alloc,
-            "wide",
-            "Writes lines whole at a terminal, where they are cut at its width otherwise",
-        ),
-        Parameter::Explain => flag(
-            alloc,
-            "explain",
-            "Explains: adds names, members, reasons and notes, as it does at a terminal without this word",
-        ),
-        Parameter::Plain => flag(
-            alloc,
-            "plain",
-            "Explains nothing at a terminal either: writes the fixed texts",
-        ),
-        Parameter::Log => log(
-            alloc,
-            "The log; standard input where none is named, and for -",
-        ),
-        Parameter::Logs => logs(alloc),
+        Parameter::Load => path_option(alloc, "load", help),
+        Parameter::Save => path_option(alloc, "save", help),
+        Parameter::All => flag(alloc, "all", help),
+        Parameter::Summary => flag(alloc, "summary", help),
+        Parameter::Json => flag(alloc, "json", help),
+        Parameter::Wide => flag(alloc, "wide", help),
+        Parameter::Explain => flag(alloc, "explain", help),
+        Parameter::Plain => flag(alloc, "plain", help),
+        Parameter::Log => log(alloc, help),
+        Parameter::Logs => log(alloc, help).action(ArgAction::Append),
     }
 }
 
@@ -323,12 +309,11 @@ fn is_set(options: &ArgMatches<'_>, name: &str) -> bool
 fn form_in(options: &ArgMatches<'_>) -> Form
     ensures { result ≡ form_of (rows_of (found_of options.now)) }
 {
-    if is_set(options, "json") {
-        Form::Json
-    } else if is_set(options, "summary") {
-        Form::Summary
-    } else {
-        Form::Lines
+    match (is_set(options, "json"), is_set(options, "summary")) {
+        (true, true) => Form::JsonSummary,
+        (true, false) => Form::Json,
+        (false, true) => Form::Summary,
+        (false, false) => Form::Lines,
     }
 }
 

@@ -23,7 +23,7 @@ use clap::Error;
 use clap::error::ErrorKind;
 use session_log::{CAPACITY, Command, LogFault, Target, put_all};
 use session_show::{
-    Objects, Summary, Wording, explain, put_json_fault, show, show_json, summarize,
+    Objects, Summary, SummaryForm, Wording, explain, put_json_fault, show, show_json, summarize,
 };
 use std::alloc::Global;
 use token_session::Session;
@@ -150,14 +150,18 @@ where
     )
 }
 
-/// Writes a summary of the log, also of one with a fault, up to there.
+/// Writes a summary of the log, also of one with a fault, up to there. As JSON, the last object is that of the fault.
 #[inline(never)]
-fn show_summary<L: Logs, O: Target>(input: &mut L, output: &mut O) -> Result<(), LogFault>
+fn show_summary<L: Logs, O: Target>(
+    form: SummaryForm,
+    input: &mut L,
+    output: &mut O,
+) -> Result<(), LogFault>
     requires reads { L.failed input.old < 2 ^ 64 - 1 }
     requires writes { O.failed output.old < 2 ^ 64 - 1 }
     ensures { OnOk result (IsWhole L.left L.ended L.failed O.failed (input.old, input.new) (output.old, output.new)) }
 {
-    let mut summary = Summary::new();
+    let mut summary = Summary::new(form);
     match summarize(input, output, &mut summary) {
         Ok(()) => {
             match summary.put(output) {
@@ -167,8 +171,14 @@ fn show_summary<L: Logs, O: Target>(input: &mut L, output: &mut O) -> Result<(),
         }
         Err(fault) => {
             let is_lost = fault == LogFault::Write || output.failures() == u64::MAX;
-            if !is_lost && summary.put(output).is_err() {
+            if is_lost {
+                return Err(fault);
+            }
+            if summary.put(output).is_err() || output.failures() == u64::MAX {
                 return Err(LogFault::Write);
+            }
+            if form == SummaryForm::Json {
+                let _ = put_json_fault(output, &fault);
             }
             Err(fault)
         }
@@ -279,7 +289,11 @@ where
             shown_to(faults, answer)
         }
         Form::Summary => {
-            let answer = show_summary(input, output);
+            let answer = show_summary(SummaryForm::Table, input, output);
+            shown_to(faults, answer)
+        }
+        Form::JsonSummary => {
+            let answer = show_summary(SummaryForm::Json, input, output);
             shown_to(faults, answer)
         }
         Form::Json => {

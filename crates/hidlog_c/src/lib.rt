@@ -18,15 +18,17 @@ mod reports;
 mod rows;
 mod showing;
 mod started;
+mod telling;
 
 ghost use Rattle.session_log.specs.declared.command.Command.TheVariants as commands;
 ghost use Rattle.hidlog_c.specs.Commands.{Answers};
 ghost use Rattle.hidlog_c.specs.Shown.{IsShown, wording_for};
-ghost use Rattle.std.specs.Prelude.{◌≡◌, ◌==◌, not};
+ghost use Rattle.std.specs.Prelude.{◌≡◌, ◌≤◌, ◌==◌, length, not};
 
 use crate::commands::run;
 use crate::outcome::Outcome;
 use crate::showing::show_log;
+use crate::telling::put_fault;
 use session_log::Command;
 use session_show::Wording;
 
@@ -82,4 +84,13 @@ pub extern "C" fn hidlog_show(log: &[u8], explain: u32, out: &mut [u8], outcome:
     ensures { IsShown (wording_for (not (explain == 0))) log.now out.new outcome.new }
 {
     *outcome = show_log(wording_for(explain), log, out);
+}
+
+/// Writes the line that the program writes for the fault of an outcome, `hidlog: line 3: not a log line`, or for a
+/// snapshot's refusal, to the front of `out`; nothing where there is none. Returns how many bytes it wrote.
+#[unsafe(no_mangle)]
+pub extern "C" fn hidlog_fault_text(outcome: &Outcome, out: &mut [u8]) -> usize
+    ensures { result ≤ length out.new }
+{
+    put_fault(outcome, out)
 }

@@ -6,7 +6,7 @@
 ghost use Rattle.std.specs.Prelude.{◌<◌, ◌-◌, ◌^◌};
 
 use session_log::{LogFault, Source, Target, check, live, quiet, replay};
-use session_show::{Objects, Summary, show, show_json, summarize};
+use session_show::{Objects, Summary, SummaryForm, show, show_json, summarize};
 use std::alloc::{AllocError, Global};
 use token_session::Session;
 
@@ -15,7 +15,7 @@ fn summarized<S: Source, T: Target>(reader: &mut S, writer: &mut T) -> Result<()
     requires read { S.failed reader.old < 2 ^ 64 - 1 }
     requires write { T.failed writer.old < 2 ^ 64 - 1 }
 {
-    let mut summary = Summary::new();
+    let mut summary = Summary::new(SummaryForm::Table);
     match summarize(reader, writer, &mut summary) {
         Err(LogFault::Write) => Err(LogFault::Write),
         result => match summary.put(writer) {

@@ -1,6 +1,7 @@
 //! What a session comes to in numbers.
 
 use crate::exchange::{End, Ended};
+use crate::json::{write_name, write_number, write_some_word};
 use crate::pen::Pen;
 use crate::walk::{Part, Walk};
 use crate::words::{error_name, status_name};
@@ -21,6 +22,20 @@ impl Kind {
         match self {
             Kind::Status => status_name(number).unwrap_or("status"),
             Kind::Error => error_name(number).unwrap_or("ERROR"),
+        }
+    }
+
+    /// Writes a number as members of an object.
+    fn write_json(self, pen: &mut Pen, number: u8) {
+        match self {
+            Kind::Status => {
+                write_number(pen, "status", u64::from(number));
+                write_some_word(pen, "statusName", status_name(number));
+            }
+            Kind::Error => {
+                write_number(pen, "code", u64::from(number));
+                write_some_word(pen, "codeName", error_name(number));
+            }
         }
     }
 }
@@ -64,6 +79,22 @@ impl Tally {
                 write_count(pen, ":", times);
             }
         }
+    }
+
+    /// Writes a member that is an array with an object for each number that came.
+    fn write_json(&self, pen: &mut Pen, name: &str, kind: Kind) {
+        write_name(pen, name);
+        let mut front = "[{\"times\":";
+        for number in 0..=255_u8 {
+            let times = self.times[usize::from(number)];
+            if times > 0 {
+                pen.text(front);
+                pen.decimal(times);
+                kind.write_json(pen, number);
+                front = "},{\"times\":";
+            }
+        }
+        pen.text(if self.sum() > 0 { "}]" } else { "[]" });
     }
 }
 
@@ -174,5 +205,20 @@ impl Counts {
         );
         write_count(pen, "CANCELs for which nothing waited:", self.cancels);
         write_count(pen, "replies for which nothing waited:", self.replies);
+    }
+    /// Writes an object of JSON with all counts.
+    pub fn write_json(&self, pen: &mut Pen) {
+        pen.text("{\"kind\":\"summary\"");
+        write_number(pen, "credentialsMade", self.made);
+        write_number(pen, "credentialsUsed", self.used);
+        write_number(pen, "credentialsExcluded", self.excluded);
+        write_number(pen, "requestsRefused", self.refused.sum());
+        self.refused.write_json(pen, "statuses", Kind::Status);
+        write_number(pen, "messagesRefused", self.errors.sum());
+        self.errors.write_json(pen, "errors", Kind::Error);
+        write_number(pen, "strayContinuations", self.continuations);
+        write_number(pen, "strayCancels", self.cancels);
+        write_number(pen, "strayReplies", self.replies);
+        pen.text("}\n");
     }
 }

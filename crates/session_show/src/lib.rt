@@ -44,5 +44,5 @@ pub use exchange::{Transaction, put_transaction};
 pub use json_showing::{Objects, put_json_fault, show_json};
 pub use reason::Awaited;
 pub use showing::{explain, show};
-pub use summary::{Summary, summarize};
+pub use summary::{Summary, SummaryForm, summarize};
 pub use wording::Wording;

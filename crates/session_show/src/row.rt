@@ -3,7 +3,6 @@
 use crate::escape::write_line;
 use crate::exchange::{End, Ended};
 use crate::pen::Pen;
-use crate::putting::Written;
 use crate::words::{error_name, status_name};
 use itoa::Buffer;
 
@@ -14,23 +13,6 @@ const SPACES: &[u8] = b"                                ";
 const HEAD: &str =
     "  line  channel   command                        status                            \
     user ms  KEEPALIVEs  RP id\n";
-
-/// What a line of the log comes to in the table: the rows of the transactions that it ends.
-#[derive(Clone, Copy)]
-pub struct Rows<'a> {
-    /// Whether the head was written before.
-    pub has_head: bool,
-    pub ended: &'a [Ended],
-}
-
-impl Written for Rows<'_> {
-    fn write(&self, pen: &mut Pen) {
-        write_head(pen, !self.has_head && !self.ended.is_empty());
-        for ended in self.ended {
-            write_row(pen, ended);
-        }
-    }
-}
 
 /// Writes the head of the table before its first row.
 pub fn write_head(pen: &mut Pen, is_first: bool) {

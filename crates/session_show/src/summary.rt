@@ -7,32 +7,48 @@ ghost use Rattle.session_show.specs.Shown.{Shows, reading, unsaid};
 ghost use Rattle.session_show.specs.Written.{Writes};
 
 use crate::counts::Counts;
+use crate::json_line::write_transaction;
 use crate::pen::Pen;
 use crate::putting::{Written, put_written};
-use crate::row::{Rows, write_head, write_row};
+use crate::exchange::Ended;
+use crate::row::{write_head, write_row};
 use crate::telling::{Telling, tell_all};
 use crate::channels::OPEN;
 use crate::walk::Walk;
 use crate::wording::Wording;
 use session_log::{Failed, LogFault, Source, Target, read_line};
 
+/// How a summary is written.
+#[derive(Clone, Copy, PartialEq, Eq)]
+pub enum SummaryForm {
+    /// As a table of transactions, and lines of counts.
+    Table,
+    /// As an object of JSON for each transaction, and one for the counts.
+    Json,
+}
+
 /// What the lines of a log come to.
 #[derive(Drop)]
 pub struct Summary {
+    form: SummaryForm,
     walk: Walk,
     counts: Counts,
     /// Whether the table has a row.
     is_begun: bool,
+    /// The last line.
+    last: u64,
     pen: Pen,
 }
 
 impl Summary {
     /// Returns that of no lines.
-    pub fn new() -> Self {
+    pub fn new(form: SummaryForm) -> Self {
         Summary {
+            form,
             walk: Walk::new(),
             counts: Counts::new(),
             is_begun: false,
+            last: 0,
             pen: Pen::new(Wording::Explained),
         }
     }
@@ -42,10 +58,13 @@ impl Summary {
         requires { T.failed writer.old < 2 ^ 64 - 1 }
         ensures { Writes T.taken T.failed (writer.old, writer.new) result }
     {
+        self.walk.finish();
         let left = Left {
+            form: self.form,
             walk: &self.walk,
             counts: &self.counts,
             is_begun: self.is_begun,
+            last: self.last,
         };
         put_written(writer, &mut self.pen, &left)
     }
@@ -54,26 +73,70 @@ impl Summary {
 /// What is left to write at the log's end.
 #[derive(Clone, Copy)]
 struct Left<'a> {
+    form: SummaryForm,
     walk: &'a Walk,
     counts: &'a Counts,
     /// Whether the table has a row.
     is_begun: bool,
+    /// The last line.
+    last: u64,
 }
 
 impl Written for Left<'_> {
     fn write(&self, pen: &mut Pen) {
-        let mut is_begun = self.is_begun;
+        let mut rows = Rows {
+            form: self.form,
+            number: self.last,
+            has_head: self.is_begun,
+            ended: &[],
+        };
         let mut line = 0;
         for _ in 0..OPEN {
             let Some(open) = self.walk.open_after(line) else {
                 break;
             };
-            write_head(pen, !is_begun);
-            write_row(pen, &open);
-            is_begun = true;
+            rows.write_one(pen, &open);
+            rows.has_head = true;
             line = open.exchange.transaction.line;
         }
-        self.counts.write(pen);
+        match self.form {
+            SummaryForm::Table => self.counts.write(pen),
+            SummaryForm::Json => self.counts.write_json(pen),
+        }
+    }
+}
+
+/// What a line of the log comes to: the transactions that it ends.
+#[derive(Clone, Copy)]
+struct Rows<'a> {
+    form: SummaryForm,
+    /// The number of the line.
+    number: u64,
+    /// Whether the table has its head.
+    has_head: bool,
+    ended: &'a [Ended],
+}
+
+impl Rows<'_> {
+    /// Writes a transaction, after the table's head where it is the first one.
+    fn write_one(&self, pen: &mut Pen, ended: &Ended) {
+        match self.form {
+            SummaryForm::Table => {
+                write_head(pen, !self.has_head);
+                write_row(pen, ended);
+            }
+            SummaryForm::Json => write_transaction(pen, self.number, ended),
+        }
+    }
+}
+
+impl Written for Rows<'_> {
+    fn write(&self, pen: &mut Pen) {
+        let mut rows = *self;
+        for ended in self.ended {
+            rows.write_one(pen, ended);
+            rows.has_head = true;
+        }
     }
 }
 
@@ -91,7 +154,10 @@ impl Telling for Summary {
         };
         self.walk.take(number, &said);
         self.counts.add_line(&self.walk);
+        self.last = number;
         let rows = Rows {
+            form: self.form,
+            number,
             has_head: self.is_begun,
             ended: self.walk.ended(),
         };
@@ -103,7 +169,7 @@ impl Telling for Summary {
     }
 }
 
-/// Writes a session's transactions in a table, each as it ends, and keeps in `summary` what is still to be written: it
+/// Writes a session's transactions as the form of `summary` says, each as it ends, and keeps in `summary` what is still to be written: it
 /// has to be new, and [`Summary::put`] writes that after the lines (docs/LOG_FORMAT.md, "A session's summary").
 ///
 /// It allocates nothing, and what it takes doesn't grow with the log. Faults are those of [`crate::show`].

@@ -46,3 +46,19 @@ returns-in-Json-clause-does g c =
             (rw (sym c.in_ok-open_log.ensures.silent) c.shown_to-in-Json.ensures.silent),
       ),
     )
+
+pub returns-in-JsonSummary-clause-status : goal.returns-in-JsonSummary-clause-status
+returns-in-JsonSummary-clause-status g c =
+    is_status c.show_summary-answer-in-JsonSummary.result c.shown_to-in-JsonSummary.result c.shown_to-in-JsonSummary.ensures.status
+
+pub returns-in-JsonSummary-clause-does : goal.returns-in-JsonSummary-clause-does
+returns-in-JsonSummary-clause-does g c =
+    inr (
+      c.open_log.new.input,
+      c.in_ok-open_log.ensures.opened,
+      rw c.in-JsonSummary.is (
+        refl,
+        both_ok _ _ c.show_summary-answer-in-JsonSummary.result c.shown_to-in-JsonSummary.result c.shown_to-in-JsonSummary.ensures.status c.show_summary-answer-in-JsonSummary.ensures
+            (rw (sym c.in_ok-open_log.ensures.silent) c.shown_to-in-JsonSummary.ensures.silent),
+      ),
+    )
