@@ -144,6 +144,38 @@ static void test_snapshots(void)
     expect(out[0] == CANARY, "nothing is written where the snapshot is refused");
 }
 
+/* The text of each fault that C can see, and of each refusal; its front where there is less room; nothing at 0. The texts
+ * are those of docs/LOG_FORMAT.md, "Faults". */
+static void test_texts(void)
+{
+    static const struct {
+        struct hidlog_outcome outcome;
+        const char *text;
+    } rows[] = {
+        { { HIDLOG_FAULT, HIDLOG_BAD_LINE, 3, 0, 9 }, "hidlog: line 3: not a log line\n" },
+        { { HIDLOG_FAULT, HIDLOG_TOO_LONG, UINT64_MAX, 0, 9 },
+          "hidlog: line 18446744073709551615: longer than 255 bytes\n" },
+        { { HIDLOG_FAULT, HIDLOG_DIFFERS, 12, 130, 9 }, "hidlog: line 12: differs at packet 130\n" },
+        { { HIDLOG_FAULT, HIDLOG_WRITE, 0, 0, 9 }, "hidlog: writing failed\n" },
+        { { HIDLOG_FAULT, HIDLOG_TOO_MANY_LINES, 0, 0, 9 }, "hidlog: too many lines\n" },
+        { { HIDLOG_REFUSED, HIDLOG_NOT_SNAPSHOT, 0, 0, 0 }, "hidlog: snapshot refused: 1\n" },
+        { { HIDLOG_REFUSED, HIDLOG_TOO_MANY_ROWS, 0, 0, 0 }, "hidlog: snapshot refused: 2\n" },
+        { { HIDLOG_REFUSED, HIDLOG_ROW_BROKEN, 0, 0, 0 }, "hidlog: snapshot refused: 3\n" },
+        { { HIDLOG_DONE, 0, 0, 0, 9 }, "" },
+        { { HIDLOG_FAULT, 99, 0, 0, 9 }, "" },
+        { { HIDLOG_REFUSED, 99, 0, 0, 0 }, "" },
+    };
+    for (size_t at = 0; at < sizeof rows / sizeof *rows; at++) {
+        size_t len = strlen(rows[at].text), front = len < 10 ? len : 10;
+        memset(out, CANARY, sizeof out);
+        expect(hidlog_fault_text(&rows[at].outcome, out, 64) == len, "the length of a fault's text");
+        expect(!memcmp(out, rows[at].text, len) && out[64] == CANARY, "a fault's text");
+        memset(out, CANARY, sizeof out);
+        expect(hidlog_fault_text(&rows[at].outcome, out, 10) == front, "the length of a fault's front");
+        expect(!memcmp(out, rows[at].text, front) && out[10] == CANARY, "the front of a fault's text");
+    }
+}
+
 int main(int count, char **words)
 {
     static const char *const logs[] = { "registration.log", "sign_in.log", "selection.log" };
@@ -161,6 +193,7 @@ int main(int count, char **words)
     test_faults();
     test_difference();
     test_snapshots();
+    test_texts();
     printf("%s\n", failures ? "the C tests FAILED" : "the C tests passed");
     return failures != 0;
 }

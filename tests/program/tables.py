@@ -261,3 +261,8 @@ def made() -> Iterator[str]:
     yield long_message(7609, f"+129   answer 00 h'{'0' * 15210}'  CTAP2_OK")
     yield long_message(7610, "")
     yield from [*LINES, *COMMENTS, *SHOWN]
+    # Words that move a terminal's cursor or turn the line around: ESC, and RIGHT-TO-LEFT OVERRIDE.
+    yield (
+        "2 hidlog --a\x1b[2J\u202eb\n?error: unexpected argument '--a\\u001b[2J\\u202eb' found\n?\n"
+        "?Usage: hidlog <COMMAND>\n?\n?For more information, try '--help'."
+    )

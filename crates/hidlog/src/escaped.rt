@@ -1,5 +1,6 @@
 //! Texts from outside, as paths, among words of ours.
 use session_show::is_hidden;
+use std::alloc::{AllocError, Global};
 use std::fmt::{self, Display, Formatter, Write};
 
 /// A text, written so that it can't move what is beside it: a control character, a line break, a mark of direction and one
@@ -21,4 +22,18 @@ impl Display for Escaped<'_> {
         }
         Ok(())
     }
+}
+
+/// Returns lines with what can't be seen in them escaped, and their line feeds as they are.
+pub fn escaped_lines(alloc: Global, text: &str) -> Result<String, AllocError> {
+    let mut lines = String::new(alloc);
+    let mut is_first = true;
+    for line in text.split('\n') {
+        if !is_first {
+            lines.push('\n')?;
+        }
+        write!(lines, "{}", Escaped(line))?;
+        is_first = false;
+    }
+    Ok(lines)
 }

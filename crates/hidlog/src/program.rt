@@ -1,5 +1,5 @@
 //! The program over any source and targets.
-ghost use Rattle.std.specs.Prelude.{◌≡◌, ◌<◌, ◌-◌, ◌^◌, ◌⊎◌, ◌∷◌, [], false, None, Some, Result, IfErr, IsSomeAnd, MatchOption, OnOk, OnErr, codes, option_and_then};
+ghost use Rattle.std.specs.Prelude.{◌≡◌, ◌<◌, ◌-◌, ◌^◌, ◌⊎◌, ◌∷◌, ℕ, List, [], false, None, Some, Result, IfErr, IsSomeAnd, MatchOption, OnOk, OnErr, codes, option_and_then};
 ghost use Rattle.clap.specs.Words.{kind_of};
 ghost use Rattle.session_log.specs.Command.{IsCounted, start_with, status_of};
 ghost use Rattle.session_log.specs.Ending.{ending_of};
@@ -8,12 +8,13 @@ ghost use Rattle.session_log.specs.Streams.{IsAllRead};
 ghost use Rattle.session_show.specs.Shown.{IsLineText, Shows, reading};
 ghost use Rattle.token_session.specs.Meters.{session_of};
 ghost use Rattle.hidlog.specs.CommandLine.{check, named, show as shown, path_of, texts_of};
-ghost use Rattle.hidlog.specs.Program.{Explains, IsTold, IsWhole, cannot_read_log};
+ghost use Rattle.hidlog.specs.Program.{Explains, IsGiven, IsTold, IsWhole, cannot_read_log};
 ghost use Rattle.session_show.specs.declared.wording.Wording.TheVariants.{Fixed as fixed};
 ghost use Rattle.hidlog.specs.Commands.{Answers, Does, RunsCommand, wording_for};
 
 use crate::command_line::{Asked, Form, Task, task_of};
 use crate::commands::{Play, play_on};
+use crate::escaped::escaped_lines;
 use crate::files::Files;
 use crate::logs::Logs;
 use crate::process::{Reporting, WRITING_FAILED, log_fault, no_memory, tell, tell_why};
@@ -46,14 +47,26 @@ fn answer_words<O: Target, E: Target>(
         _ => return Err(no_memory(faults)),
     };
     if error.use_stderr() {
-        tell(faults, text.as_bytes());
-        return Err(2);
+        return Err(refuse_words(alloc, text.as_str(), faults));
     }
     if put_all(output, text.as_bytes()).is_err() {
         tell(faults, WRITING_FAILED);
         return Err(2);
     }
     Ok(())
+}
+
+/// Writes what is wrong with the words, line by line, with what they have that can't be seen escaped. The exit status, 2.
+fn refuse_words<E: Target>(alloc: Global, text: &str, faults: &mut E) -> u8
+    requires { E.failed faults.old < 2 ^ 64 - 1 }
+    ensures status { result ≡ 2 }
+    ensures told { (said : List ℕ) × IsGiven E.taken E.failed (faults.old, faults.new) said }
+{
+    match escaped_lines(alloc, text) {
+        Ok(said) => tell(faults, said.as_bytes()),
+        Err(_) => tell(faults, b"hidlog: no memory\n"),
+    }
+    2
 }
 
 /// Returns the path of the log, where it isn't on standard input.

@@ -6,7 +6,7 @@ ghost use Rattle.hidlog_c.specs.Numbers.{outcome_of};
 use crate::outcome::Outcome;
 use arrayvec::ArrayVec;
 use session_log::LogFault;
-use std::fmt::Write;
+use std::io::Write;
 
 /// Returns the fault of the log that an outcome has.
 fn fault_in(outcome: &Outcome) -> Option<LogFault>
