@@ -28,8 +28,8 @@ mod terminal;
 
 use command_line::{Asked, Task, task_of};
 use differing::{Wish, tell_differences};
-use escaped::Escaped;
 use disk::HostDisk;
+use escaped::Escaped;
 use files::{Files, HostFiles};
 use logs::{HostLog, Logs, ProcessLog};
 use misfit::first_reason;
@@ -168,11 +168,7 @@ where
 }
 
 /// Runs the program on the streams and files of its process. An error holds the exit status.
-fn play_here<E: Target>(
-    rt: &HostRuntime,
-    words: &[&str],
-    faults: &mut Faults<E>,
-) -> Result<(), u8>
+fn play_here<E: Target>(rt: &HostRuntime, words: &[&str], faults: &mut Faults<E>) -> Result<(), u8>
     requires { E.failed faults.old.inner < 2 ^ 64 - 1 }
 {
     let alloc = rt.alloc();

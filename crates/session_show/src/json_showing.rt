@@ -6,12 +6,12 @@ ghost use Rattle.session_log.specs.Streams.{Counts, IsAllRead};
 ghost use Rattle.session_show.specs.Shown.{Shows, reading, unsaid};
 ghost use Rattle.session_show.specs.Written.{Writes};
 
+use crate::channels::OPEN;
 use crate::json::{write_number, write_word};
 use crate::json_line::{JsonLines, Pending, write_transaction};
 use crate::pen::Pen;
 use crate::putting::{Written, put_written};
 use crate::telling::{Telling, tell_all};
-use crate::channels::OPEN;
 use crate::walk::Walk;
 use crate::wording::Wording;
 use session_log::{Failed, LogFault, Source, Target, read_line};

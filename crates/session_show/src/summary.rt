@@ -6,14 +6,14 @@ ghost use Rattle.session_log.specs.Streams.{Counts as CountsFailures, IsAllRead}
 ghost use Rattle.session_show.specs.Shown.{Shows, reading, unsaid};
 ghost use Rattle.session_show.specs.Written.{Writes};
 
+use crate::channels::OPEN;
 use crate::counts::Counts;
+use crate::exchange::Ended;
 use crate::json_line::write_transaction;
 use crate::pen::Pen;
 use crate::putting::{Written, put_written};
-use crate::exchange::Ended;
 use crate::row::{write_head, write_row};
 use crate::telling::{Telling, tell_all};
-use crate::channels::OPEN;
 use crate::walk::Walk;
 use crate::wording::Wording;
 use session_log::{Failed, LogFault, Source, Target, read_line};

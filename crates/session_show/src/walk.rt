@@ -267,7 +267,9 @@ impl Walk {
 
     /// Takes a packet of a host.
     fn take_packet(&mut self, number: u64, packet: &Packet) {
-        let place = self.channels.place(channel_of(packet), number, &mut self.ends);
+        let place = self
+            .channels
+            .place(channel_of(packet), number, &mut self.ends);
         match packet.view() {
             View::Start { cmd: CANCEL, .. } => {
                 self.of = self.channels.list[place].cancel(number);
@@ -390,7 +392,9 @@ impl Walk {
     // ---- packets of the device
 
     fn take_sent(&mut self, number: u64, packet: &Packet) {
-        let place = self.channels.place(channel_of(packet), number, &mut self.ends);
+        let place = self
+            .channels
+            .place(channel_of(packet), number, &mut self.ends);
         let doubtful = self.doubtful.take();
         if let View::Start {
             cmd: ERROR,
@@ -441,7 +445,11 @@ impl Walk {
         {
             self.decide(doubtful, false);
         }
-        let (of, is_late) = self.channels.list[place].refuse(code, doubtful.as_ref(), &mut self.ends);
+        let (of, is_late) = self.channels.list[place].refuse(
+            code,
+            doubtful.as_ref(),
+            &mut self.ends,
+        );
         if let Some(doubtful) = &doubtful
             && code == TIMED_OUT
         {
