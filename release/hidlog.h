@@ -72,6 +72,11 @@ void hidlog_quiet(const uint8_t *log, size_t log_len, const uint8_t *snapshot, s
 void hidlog_show(const uint8_t *log, size_t log_len, uint32_t explain, uint8_t *out, size_t room,
                  struct hidlog_outcome *outcome);
 
+/* Writes the line that the program writes to standard error for an outcome, as `hidlog: line 3: not a log line` or
+ * `hidlog: snapshot refused: 1`, with its line feed, to the front of `out`; of more than `room` bytes the front. Where the
+ * status is HIDLOG_DONE it writes nothing. 64 bytes are enough. Returns how many bytes it wrote. */
+size_t hidlog_fault_text(const struct hidlog_outcome *outcome, uint8_t *out, size_t room);
+
 /* ---- A key that is held: state in, one input, packets out --------------------------------------------------------
  *
  * struct hidlog_key owns a session in memory of the caller's. Begin with a struct of zeros, set `memory` to
