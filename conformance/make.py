@@ -11,11 +11,13 @@ import os
 import sys
 from typing import Dict, List, Tuple
 
+from hidlog_conformance.cases import blobs as cases_blobs
 from hidlog_conformance.cases import cbor as cases_cbor
 from hidlog_conformance.cases import checks as cases_checks
 from hidlog_conformance.cases import flows as cases_flows
 from hidlog_conformance.cases import fuzzed as cases_fuzzed
 from hidlog_conformance.cases import likeness as cases_likeness
+from hidlog_conformance.cases import manage as cases_manage
 from hidlog_conformance.cases import second as cases_second
 from hidlog_conformance.cases import order as cases_order
 from hidlog_conformance.cases import pin as cases_pin
@@ -23,6 +25,7 @@ from hidlog_conformance.cases import power as cases_power
 from hidlog_conformance.cases import recorded as cases_recorded
 from hidlog_conformance.cases import time as cases_time
 from hidlog_conformance.cases import transport as cases_transport
+from hidlog_conformance.cases import user as cases_user
 from hidlog_conformance.client_runner import client_sessions, read_client_session
 from hidlog_conformance.cases.corpus import Case
 from hidlog_conformance.cases.sentence_table import sentence_table
@@ -38,6 +41,9 @@ MODULES = (
     cases_likeness,
     cases_second,
     cases_pin,
+    cases_manage,
+    cases_user,
+    cases_blobs,
     cases_cbor,
     cases_checks,
     cases_flows,

@@ -243,11 +243,10 @@ CREDENTIALS: List[Planted] = [
     ),
     Planted(
         "full_forgets",
-        MAKE,
+        GET,
         "A full store loses the new credential.",
         around("store", small_store),
         Traits(capacity=20),
-        "no case signs in with the newest of a full store",
     ),
     Planted(
         "replaces_never",

@@ -7,6 +7,7 @@ from typing import Dict, Iterator, List, Tuple
 from planted import Planted
 from planted_answers import ANSWERS
 from planted_credentials import CREDENTIALS
+from planted_more import MORE
 from planted_pin import PINS
 from planted_wire import WIRE
 
@@ -15,8 +16,8 @@ from hidlog_conformance.outcome import Outcome
 from hidlog_conformance.reference.device import ReferenceDevice
 from hidlog_conformance.run import all_sessions, play_one, words_of
 
-PLANTED: Dict[str, Planted] = {fault.name: fault for fault in CREDENTIALS + ANSWERS + WIRE + PINS}
-assert len(PLANTED) == len(CREDENTIALS + ANSWERS + WIRE + PINS), "a fault is there twice"
+PLANTED: Dict[str, Planted] = {fault.name: fault for fault in CREDENTIALS + ANSWERS + WIRE + PINS + MORE}
+assert len(PLANTED) == len(CREDENTIALS + ANSWERS + WIRE + PINS + MORE), "a fault is there twice"
 
 
 def outcomes_of(device: ReferenceDevice, section: str) -> Iterator[Outcome]:

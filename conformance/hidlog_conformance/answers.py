@@ -35,6 +35,7 @@ class Credential:
     rp: str
     user: bytes
     counter: int
+    discoverable: bool = False
 
 
 @dataclass
@@ -204,7 +205,8 @@ def judge_made(
     if "counter" in words:
         hold(counter == int(words[words.index("counter") + 1]), "the counter of the expectation", f"counter {counter}")
     judge_attestation(item, auth, cose, asked[1])
-    return Credential(credential, cose, rp, asked[3]["id"], counter)
+    discoverable = asked.get(7, {}).get("rk") is True
+    return Credential(credential, cose, rp, asked[3]["id"], counter, discoverable)
 
 
 def judge_half(cose: Dict[int, Any], signed: bytes, signature: bytes, facts: Facts) -> None:
@@ -224,6 +226,9 @@ def judge_user(item: Dict[Any, Any], words: List[str], facts: Facts) -> None:
         hold(4 not in item, "no user", item)
     if "no-name" in words:
         hold(not {"name", "displayName", "icon"} & set(item.get(4, {})), "no name of a user who wasn't verified", item)
+    if "name" in words:
+        name = words[words.index("name") + 1]
+        hold(item.get(4, {}).get("name") == name, f"the user's name {name}", item)
     if "number" in words:
         wanted = int(words[words.index("number") + 1])
         if item.get(5) is None and (item.get(6) is True or facts.display):

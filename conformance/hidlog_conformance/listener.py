@@ -11,6 +11,7 @@ from hidlog_conformance.answers import Credential, Differs, Facts, hold
 from hidlog_conformance.devices import Device
 from hidlog_conformance.greeting import is_lawful_keepalive
 from hidlog_conformance.hid_packets import Message
+from hidlog_conformance.managed import Listing
 from hidlog_conformance.outcome import derived
 from hidlog_conformance.platform_side import Platform
 from hidlog_conformance.session_file import Session, Step
@@ -33,6 +34,8 @@ REST = 0.1
 FEWEST_CHANNELS = 4
 # A PIN may be wrong so often.
 MOST_RETRIES = 8
+# And a user may fail to be verified so often.
+MOST_USER_RETRIES = 25
 
 
 class Listener:
@@ -46,7 +49,11 @@ class Listener:
         self.session = session
         self.strict = strict
         self.platform = Platform()
+        self.listing = Listing()
         self.most_retries = 0
+        self.user_retries = 0
+        # The hash of the RP whose credentials are listed.
+        self.listed_rp = b""
         self.deadline = time.monotonic() + seconds + (session.steps[-1].at if session.steps else 0) / 1000
         # What came before it was looked for, the channels that were used, and whether the user is asked.
         self.early: List[Message] = []
@@ -255,7 +262,10 @@ class Listener:
             return message
 
     def may_touch_first(self, wanted: str) -> bool:
-        """Says whether a device that names FIDO_2_0 alone may ask the user before it says that it has no credential."""
+        """Says whether a device may ask the user before it refuses: one that names FIDO_2_0 alone before it says that it
+        has no credential, and any where the expectation says so."""
+        if wanted.endswith(" or touch"):
+            return True
         return self.facts.old and not self.strict and wanted.startswith("status 2e") and self.request[:1] == b"\2"
 
     def touch(self) -> None:

@@ -194,6 +194,11 @@ class Offers:
             "pin token": keys.THERE
             and self.options.get("clientPin") is False
             and self.options.get("pinUvAuthToken") is True,
+            "no protection": not self.protected and not self.options.get("alwaysUv"),
+            "verified registrations": self.protected and not self.options.get("makeCredUvNotRqd"),
+            "uv": self.options.get("uv") is True,
+            "uv token": keys.THERE and self.options.get("uv") is True and self.options.get("pinUvAuthToken") is True,
+            "largeBlobs": self.options.get("largeBlobs") is True,
             "no pin": "clientPin" not in self.options,
             "no uv": self.options.get("uv") is not True,
             "no ep": "ep" not in self.options,
@@ -245,7 +250,9 @@ class Offers:
         discoverable = command == 1 and options.get("rk") is True
         if discoverable and self.options.get("rk") is not True and "touch" in session.needs:
             return "the device doesn't offer: rk"
-        if (8 if command == 1 else 6) in asked and "pin token" in session.uses:
+        has_token = (8 if command == 1 else 6) in asked and {"pin token", "uv token"} & set(session.uses)
+        by_device = options.get("uv") is True and self.options.get("uv") is True
+        if has_token or by_device or "verified registrations" in session.uses:
             return ""
         without = command == 1 and self.protected and (discoverable or not self.options.get("makeCredUvNotRqd"))
         if self.options.get("alwaysUv") or without:

@@ -2,7 +2,7 @@
 
 A session's request has byte strings in these places: `=agreement`, the platform's key; `=encrypt:BYTES`; `=hash:PIN`, the
 PIN's hash, encrypted; `=auth:5+6`, the authentication of members; `=token:1`, that of a member by the token; `=manage`,
-that of a subcommand with its parameters.
+that of a subcommand with its parameters; `=blob`, that of a piece of large blobs.
 """
 
 from __future__ import annotations
@@ -137,6 +137,9 @@ class Platform:
             return self.authenticate(self.for_auth, b"".join(parts))
         if value.startswith(b"=token:"):
             return self.authenticate(self.token, item[int(value[7:])])
+        if value == b"=blob":
+            front = b"\xff" * 32 + b"\x0c\0" + item[3].to_bytes(4, "little")
+            return self.authenticate(self.token, front + hashlib.sha256(item[2]).digest())
         if value == b"=manage":
             parameters = ctap_cbor.encode(item[2]) if 2 in item else b""
             return self.authenticate(self.token, bytes([item[1]]) + parameters)

@@ -12,6 +12,8 @@ from hidlog_conformance.answers import Differs, hold
 from hidlog_conformance.devices import Unplayable
 from hidlog_conformance.greeting import judge_greeting
 from hidlog_conformance.listener import ANSWER, FEWEST_CHANNELS, FLOOD, GOES_ON, IN_TIME, Listener, MOST_RETRIES, REST
+from hidlog_conformance.listener import MOST_USER_RETRIES
+from hidlog_conformance.managed import judge_piece
 from hidlog_conformance.outcome import Outcome
 from hidlog_conformance.session_file import Step
 
@@ -33,6 +35,8 @@ class Player(Listener):
                 # One that makes its own keys, or that is full, answers before the session's lines of keys.
                 answers_now = self.device.makes_keys or "capacity 64" in self.session.needs
                 early = answers_now and after is not None and after.kind in ("k", "s")
+                # A user who was there for a token needn't touch again.
+                early = early or ("uv token" in self.session.uses and after is not None and after.kind == "p")
                 if self.device.virtual and not early:
                     self.judge_rest()
             if not self.device.virtual:
@@ -224,6 +228,7 @@ class Player(Listener):
             return
         made = answers.judge_made(data, self.asked[channel, answers.MAKE], words, self.known, self.facts)
         self.known[self.name] = made
+        self.listing.judge_blob_key(answers.map_of(data), 5, words)
 
     def judge_asserted(self, words: List[str], channel: int, wanted: str) -> None:
         """Judges an assertion by the authenticatorGetAssertion that began it."""
@@ -231,7 +236,12 @@ class Player(Listener):
         identity: Any = None
         if "id" in words:
             identity = self.known[bytes.fromhex(words[words.index("id") + 1])].id
+        if "newest" in words:
+            rp = answers.parameters(self.asked[channel, answers.GET])[1]
+            made = [one for one in self.known.values() if one.discoverable and one.rp == rp]
+            identity, words = made[-1].id, [*words, "number", str(len(made))]
         answers.judge_asserted(data, self.asked[channel, answers.GET], words, self.known, identity, self.facts)
+        self.listing.judge_blob_key(answers.map_of(data), 7, words)
         if "secret" in words:
             behind = ctap_cbor.decode(answers.map_of(data)[2][37:])
             hold("hmac-secret" in behind, "an answer of the extension hmac-secret", behind)
@@ -253,6 +263,32 @@ class Player(Listener):
         hold(
             left == self.most_retries - MOST_RETRIES + int(words[0]) and left <= MOST_RETRIES, wanted, f"{left} retries"
         )
+
+    def judge_user_retries(self, words: List[str], channel: int, wanted: str) -> None:
+        """Judges how often a user may still fail to be verified: `user_retries`, or `user_retries less` than before."""
+        left = answers.member(answers.map_of(self.whole(hid.CBOR, channel, wanted)), 5, int, "the retries")
+        hold(1 <= left <= MOST_USER_RETRIES, f"1 to {MOST_USER_RETRIES} retries", f"{left} retries")
+        hold(not words or left == self.user_retries - 1, f"{self.user_retries - 1} retries", f"{left} retries")
+        self.user_retries = left
+
+    def judge_managed(self, words: List[str], channel: int, wanted: str) -> None:
+        """Judges an answer of authenticatorCredentialManagement: `count 2`, `rps 2`, `rp`, `credentials 2`,
+        `credential`. Of a list the first names how many there are."""
+        item = answers.map_of(self.whole(hid.CBOR, channel, wanted))
+        known, total = list(self.known.values()), int(words[1]) if words[0] in ("count", "rps", "credentials") else None
+        if words[0] == "count":
+            self.listing.judge_count(item, int(words[1]))
+        elif words[0] in ("rps", "rp"):
+            self.listing.judge_rp(item, known, total)
+        else:
+            asked = answers.parameters(self.request)
+            self.listed_rp = asked[2][1] if words[0] == "credentials" else self.listed_rp
+            self.listing.judge_credential(item, known, self.listed_rp, total)
+            self.listing.judge_words(item, words)
+
+    def judge_piece(self, words: List[str], channel: int, wanted: str) -> None:
+        """Judges a piece of the array of large blobs: `piece HEX`."""
+        judge_piece(answers.map_of(self.whole(hid.CBOR, channel, wanted)), bytes.fromhex("".join(words)))
 
     def judge_option(self, words: List[str], channel: int, wanted: str) -> None:
         """Judges an option of authenticatorGetInfo: `option clientPin true`."""

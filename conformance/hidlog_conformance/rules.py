@@ -21,10 +21,13 @@ COMMANDS: Dict[int, str] = {
     0x06: "6.5",
     0x07: "6.6",
     0x08: "6.3",
+    0x0A: "6.8",
     0x0B: "6.9",
+    0x0C: "6.10",
 }
 # The rule of a request that no command has, and those of the transport's messages.
 COMMANDS_OTHER = "8.1"
+RESET = "6.6"
 MSG, WINK = "11.2.9.1.1", "11.2.9.2.1"
 OF_COMMAND: Dict[int, str] = {
     hid.PING: PING,
@@ -36,7 +39,7 @@ OF_COMMAND: Dict[int, str] = {
     hid.KEEPALIVE: KEEPALIVE,
     hid.ERROR: ERROR,
 }
-MAPS = ("made", "asserted", "info")
+MAPS = ("made", "asserted", "info", "managed", "piece", "user_retries")
 # What answers a CBOR request, and the commands that may come for one.
 ANSWERS = (*MAPS, "status", "refused")
 LAWFUL = (hid.CBOR, hid.ERROR, hid.KEEPALIVE)
@@ -105,7 +108,12 @@ def of_answer(kind: str, seen: Seen) -> str:
     """Returns the rule that a wrong answer of a request breaks, or one that came too early or not at all."""
     if kind == "status" and seen.cancelled and "2d" in seen.expected:
         return CANCEL
-    if seen.own.startswith("12.") and {"extension", "secret"} & set(seen.expected.split(" ")):
+    if seen.own.startswith("12.") and {"extension", "secret", "blob-key", "no-blob-key"} & set(
+        seen.expected.split(" ")
+    ):
+        return seen.own
+    if seen.own == RESET and kind in ("managed", "piece"):
+        # What is still there after a reset.
         return seen.own
     if kind == "keepalive":
         return seen.of_request if seen.answered else KEEPALIVE if seen.came is None else seen.own

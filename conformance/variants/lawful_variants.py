@@ -19,8 +19,9 @@ def of(says: str, **traits: Any) -> Variant:
     return Variant(says, Traits(**traits))
 
 
-OLD: Dict[str, Any] = {"versions": ("U2F_V2", "FIDO_2_0"), "extensions": (), "management": False, "selection": False}
-BARE: Dict[str, Any] = {"extensions": (), "has_pin": False, "management": False, "u2f": False}
+WITHOUT: Dict[str, Any] = {"extensions": (), "management": False, "large_blobs": False}
+OLD: Dict[str, Any] = {"versions": ("U2F_V2", "FIDO_2_0"), "selection": False, **WITHOUT}
+BARE: Dict[str, Any] = {"has_pin": False, "u2f": False, **WITHOUT}
 
 USERS: Dict[str, Variant] = {
     "plain": of("The reference authenticator as it is."),
@@ -32,6 +33,8 @@ USERS: Dict[str, Variant] = {
     "fingerprint": of("It verifies the user itself (6.1.2, step 8).", built_in_uv=True),
     "fingerprint_make_without": of("The same with makeCredUvNotRqd.", built_in_uv=True, make_without_uv=True),
     "fingerprint_and_pin": of("A fingerprint and a PIN.", built_in_uv=True, pin="123456"),
+    "fingerprint_and_touch": of("A touch for a token counts for what comes.", built_in_uv=True, present_by_token=True),
+    "fingerprint_without_pin": of("A fingerprint without PINs.", built_in_uv=True, has_pin=False, management=False),
     "fingerprint_always": of("A fingerprint with alwaysUv.", built_in_uv=True, always_uv=True),
     "protocol_1": of("PIN protocol 1 alone.", protocols=(1,)),
     "protocol_2": of("PIN protocol 2 alone.", protocols=(2,)),
@@ -51,6 +54,13 @@ ANSWERS: Dict[str, Variant] = {
     "protect_unasked_1": of("credProtect is answered unasked (WebAuthn 9).", unasked_protection=1),
     "protect_unasked_2": of("The same with level 2.", unasked_protection=2, **{"extensions": ("credProtect",)}),
     "no_extensions": of("No extensions.", extensions=()),
+    "blob_key_alone": of("largeBlobKey alone.", extensions=("largeBlobKey",)),
+    "blob_key_first": of("largeBlobKey is looked at before the touch.", blob_key_first=True),
+    "no_large_blobs": of("No large blobs.", large_blobs=False, extensions=("credBlob", "credProtect", "hmac-secret")),
+    "no_management": of("No credential management.", management=False),
+    "array_of_1024": of("1,024 bytes of large blobs.", largest_array=1024),
+    "array_of_8192": of("8,192 bytes of large blobs.", largest_array=8192),
+    "blobs_in_small_pieces": of("Large blobs with messages of 1,200 bytes.", longest_message=1200),
     "protect_alone": of("credProtect alone.", extensions=("credProtect",)),
     "secret_alone": of("hmac-secret alone.", extensions=("hmac-secret",)),
     "blob_alone": of("credBlob alone.", extensions=("credBlob",)),
@@ -97,6 +107,7 @@ INFOS: Dict[str, Variant] = {
     "messages_of_2048": of("maxMsgSize 2048.", longest_message=2048),
     "more_info": of(
         "getInfo's other members.",
+        largest_array=1024,
         more_info={11: 1024, 12: False, 13: 4, 14: 0x050403, 16: 1, 17: 3, 18: 2, 19: {"FIDO": 1}, 20: 99, 21: [1]},
     ),
     "unknown_info": of(
@@ -106,7 +117,7 @@ INFOS: Dict[str, Variant] = {
     "platform": of("Option plat true.", more_options={"plat": True}),
     "bare": of("As little as may be.", **BARE),
     "bare_old": of("As little as may be, FIDO_2_0.", **{**BARE, "versions": ("FIDO_2_0",), "selection": False}),
-    "large_blobs": of("largeBlobs and authnrCfg are named.", more_options={"largeBlobs": True, "authnrCfg": True}),
+    "configured": of("authnrCfg is named.", more_options={"authnrCfg": True}),
 }
 WIRE: Dict[str, Variant] = {
     "time_out_100": of("A time-out of 100 ms.", time_out=100),

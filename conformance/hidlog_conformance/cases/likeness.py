@@ -86,7 +86,11 @@ def counters() -> List[Case]:
     case.greet().register(1)
     for _ in range(3):
         case.get(p3=[descriptor(1)], p5={"up": False}).asserted("no-up counter-rises", presence=False)
-    return cases + [case]
+    mixed = Case("get/counter_rises_with_and_without_touch", "get", "So it does between touches.", **TOUCH, uses=["up"])
+    mixed.greet().register(1)
+    for word, options in (("up", {}), ("no-up", {"up": False}), ("up", {}), ("no-up", {"up": False})):
+        mixed.get(p3=[descriptor(1)], p5=options or None).asserted(f"{word} counter-rises", presence=word == "up")
+    return cases + [case, mixed]
 
 
 def whole() -> List[Case]:
@@ -125,7 +129,19 @@ def whole() -> List[Case]:
     for number in range(70):
         case.make(p7={"rk": True}, p3=user(number)).presence().key(number).sign().expect("made up or 28")
     cases.append(case.get(p3=[descriptor(0)]).asserted("up counter-rises user 00"))
-    return cases
+    return cases + [all_of_many("", 1), all_of_many("_of_two_rps", 2)]
+
+
+def all_of_many(name: str, rps: int) -> Case:
+    """Asks a full store for all that it took of one of so many RPs, the newest first."""
+    case = Case(f"get/newest_of_many{name}", "get", "Of a full store all sign that were made, the newest first.")
+    for line in ("needs: reset", "needs: capacity 64", "uses: rk"):
+        case.comment(line)
+    case.greet()
+    for number in range(66):
+        rp = {"id": ("example.com", "example.org")[number % rps], "name": "x"}
+        case.make(p2=rp, p7={"rk": True}, p3=user(number)).presence().key(number).sign().expect("made up or 28")
+    return case.get().asserted("up counter-rises newest")
 
 
 def algorithms() -> List[Case]:

@@ -55,7 +55,8 @@ class PinCase(Case):
 
     def ask_token(self, pin: bytes = RIGHT, permissions: int = MAKE | GET, rp: str = "example.com") -> Self:
         """Exchanges the PIN for a token."""
-        return self.agree().pin(9, p3=b"=agreement", p6=b"=hash:" + pin, p9=permissions, p10=rp)
+        more = {"p10": rp} if rp else {}
+        return self.agree().pin(9, p3=b"=agreement", p6=b"=hash:" + pin, p9=permissions, **more)
 
     def token(self, **more: Any) -> Self:
         """Gets a token."""

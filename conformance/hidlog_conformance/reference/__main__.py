@@ -1,4 +1,5 @@
-"""Serves the reference authenticator as a command of packets: python3 -m hidlog_conformance.reference [--pin PIN].
+"""Serves the reference authenticator as a command of packets: python3 -m hidlog_conformance.reference [--pin PIN]
+[--fingerprint].
 
 It reads a packet a line, 128 hexadecimal digits, and writes such lines. The line `touch` is the user's touch.
 """
@@ -31,7 +32,9 @@ def main(words: List[str]) -> int:
         prog="hidlog_conformance.reference", description="Serves a reference authenticator."
     )
     parser.add_argument("--pin", default="", help="a PIN that is set from the start")
-    authenticator = Authenticator(Traits(pin=parser.parse_args(words).pin))
+    parser.add_argument("--fingerprint", action="store_true", help="a touch verifies the user too")
+    options = parser.parse_args(words)
+    authenticator = Authenticator(Traits(pin=options.pin, built_in_uv=options.fingerprint))
     start, rest = time.monotonic(), b""
     while True:
         ready, _, _ = select.select([sys.stdin], [], [], 0.02)

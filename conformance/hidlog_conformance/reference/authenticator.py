@@ -13,8 +13,10 @@ from hidlog_conformance.ctap_cbor import encode
 from hidlog_conformance.reference import requests
 from hidlog_conformance.reference.credential import Attestor, Credential, new_key
 from hidlog_conformance.reference.extensions import Extensions
+from hidlog_conformance.reference.large_blobs import LargeBlobs
 from hidlog_conformance.reference.management import Management
-from hidlog_conformance.reference.pin import AUTH_INVALID, GET, MAKE, NOT_SET, Pin, Refused
+from hidlog_conformance.reference.pin import AUTH_INVALID, GET, GET_USER_RETRIES, MAKE, MANAGE, NOT_SET
+from hidlog_conformance.reference.pin import USER_TOKEN, WRITE, Pin, Refused
 from hidlog_conformance.reference.requests import Requests
 from hidlog_conformance.reference.traits import Traits
 from hidlog_conformance.reference.transport import Transport, Work
@@ -55,9 +57,10 @@ class Authenticator:
         self.traits = traits
         self.transport = Transport(traits, self.serve)
         self.requests = Requests(traits)
-        self.pin = Pin(traits.protocols, traits.pin)
+        self.pin = self.new_pin(traits.pin)
         self.extensions = Extensions(self)
         self.management = Management(self)
+        self.large_blobs = LargeBlobs(self)
         self.u2f = U2f(self)
         self.transport.serve_message = self.u2f.serve
         self.attestor = Attestor()
@@ -65,11 +68,18 @@ class Authenticator:
         self.pending: Optional[Pending] = None
         self.counter = traits.first_counter
 
+    def new_pin(self, pin: str) -> Pin:
+        """Returns a PIN whose tokens permit what is served."""
+        traits = self.traits
+        more = (MANAGE if traits.management else 0) | (WRITE if traits.large_blobs else 0)
+        return Pin(traits.protocols, pin, MAKE | GET | more)
+
     def power_cycle(self) -> None:
         """Forgets what isn't kept without power."""
         self.transport = Transport(self.traits, self.serve)
         self.transport.serve_message = self.u2f.serve
         self.pending = None
+        self.large_blobs.coming = b""
         self.pin.in_a_row = 0
         self.pin.token, self.pin.permissions = os.urandom(32), 0
 
@@ -98,17 +108,27 @@ class Authenticator:
         if command == 4:
             return self.info()
         if command == 6 and self.traits.has_pin:
-            return self.pin.serve(self.requests.read(data, requests.PIN))
+            return (yield from self.serve_pin(self.requests.read(data, requests.PIN)))
         if command == 7:
             return (yield from self.reset(at))
         if command == 8:
             return self.next(at, channel)
         if command == 10 and self.traits.management and self.traits.has_pin:
             return self.management.serve(self.requests.read(data, requests.MANAGE))
+        if command == 12 and self.traits.large_blobs:
+            return self.large_blobs.serve(self.requests.read(data, requests.BLOBS))
         if command == 11 and self.traits.selection:
             yield from self.consent(TIMEOUT)
             return {}
         raise Refused(INVALID_COMMAND)
+
+    def serve_pin(self, asked: Dict[int, Any]) -> Any:
+        """Serves authenticatorClientPIN, and what a device has that verifies users itself."""
+        if asked.get(2) == USER_TOKEN and self.traits.built_in_uv:
+            return (yield from self.pin.user_token(asked))
+        if asked.get(2) == GET_USER_RETRIES and self.traits.built_in_uv:
+            return self.pin.get_user_retries(asked)
+        return self.pin.serve(asked)
 
     def asked(self, at: int, channel: int, item: Dict[Any, Any], place: int) -> Asked:
         """Returns a request with its options."""
@@ -136,6 +156,8 @@ class Authenticator:
             found.update({"clientPin": bool(self.pin.hash), "pinUvAuthToken": True})
             if traits.management:
                 found["credMgmt"] = True
+        if traits.large_blobs:
+            found["largeBlobs"] = True
         if traits.built_in_uv:
             found["uv"] = True
         if traits.always_uv:
@@ -161,6 +183,8 @@ class Authenticator:
         answer[9] = ["usb"]
         if traits.says_algorithms:
             answer[10] = [{"alg": alg, "type": "public-key"} for alg in traits.algorithms]
+        if traits.large_blobs:
+            answer[11] = max(1024, traits.largest_array)
         if "credBlob" in traits.extensions:
             answer[15] = 32
         answer.update(traits.more_info)
@@ -181,8 +205,10 @@ class Authenticator:
         if 10 in item:
             raise Refused(INVALID_PARAMETER)
         self.verify(asked, 8, 9, MAKE, item[2]["id"])
+        self.extensions.first(asked)
         yield from self.exclude(asked)
-        yield from self.consent()
+        if not asked.present:
+            yield from self.consent()
         asked.present = True
         return self.made(asked, algorithm)
 
@@ -228,12 +254,14 @@ class Authenticator:
     def verify(self, asked: Asked, key: int, protocol: int, permission: int, rp: str) -> None:
         """Verifies the user by a token, or by the device itself."""
         if key in asked.item and self.traits.has_pin:
-            if not self.pin.hash:
+            if not self.protected:
                 raise Refused(AUTH_INVALID)
             found = self.pin.protocol(asked.item, protocol)
             given = asked.item[1] if permission == MAKE else asked.item[2]
             self.pin.check(found, given, asked.item[key], permission, rp)
             asked.verified = True
+            asked.present = self.traits.present_by_token and self.pin.present
+            self.pin.present = False
         elif asked.options.get("uv"):
             asked.verified = True
 
@@ -303,7 +331,10 @@ class Authenticator:
             statement = {"alg": -7, "sig": signature, "x5c": [self.attestor.certificate]}
         else:
             statement = {"alg": new.algorithm, "sig": new.sign(auth + client_hash)}
-        return {1: kind, 2: auth, 3: statement}
+        answer: Dict[int, Any] = {1: kind, 2: auth, 3: statement}
+        if new.blob_key is not None:
+            answer[5] = new.blob_key
+        return answer
 
     # Sign-ins (6.2.2, 6.3).
 
@@ -338,7 +369,8 @@ class Authenticator:
                 yield from self.consent()
             raise Refused(NO_CREDENTIALS)
         if asked.options.get("up", True):
-            yield from self.consent()
+            if not asked.present:
+                yield from self.consent()
             asked.present = True
         return self.first(asked, found)
 
@@ -406,6 +438,9 @@ class Authenticator:
         answer[3] = self.sign(one, auth + asked.item[2])
         if one.discoverable or self.traits.user_with_any:
             answer[4] = self.user(asked, one)
+        blob_key = self.extensions.blob_key_of(asked, one)
+        if blob_key is not None:
+            answer[7] = blob_key
         return answer
 
     def sign(self, one: Credential, data: bytes) -> bytes:
@@ -437,4 +472,5 @@ class Authenticator:
         """Forgets credentials and the PIN."""
         self.credentials = []
         self.pending = None
-        self.pin = Pin(self.traits.protocols, "")
+        self.pin = self.new_pin("")
+        self.large_blobs.forget()

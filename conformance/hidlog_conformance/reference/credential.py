@@ -34,6 +34,7 @@ class Credential:
     counter: int = 0
     protection: int = 1
     blob: Optional[bytes] = None
+    blob_key: Optional[bytes] = None
     # The keys of hmac-secret: without a verified user, and with one.
     random: bytes = field(default_factory=lambda: os.urandom(32))
     random_verified: bytes = field(default_factory=lambda: os.urandom(32))

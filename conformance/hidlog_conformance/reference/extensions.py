@@ -4,7 +4,8 @@ from __future__ import annotations
 
 import hashlib
 import hmac
-from typing import TYPE_CHECKING, Any, Dict
+import os
+from typing import TYPE_CHECKING, Any, Dict, Optional
 
 from hidlog_conformance.reference.credential import Credential
 from hidlog_conformance.reference.pin import AUTH_INVALID, INVALID_PARAMETER, MISSING, Refused
@@ -12,7 +13,7 @@ from hidlog_conformance.reference.pin import AUTH_INVALID, INVALID_PARAMETER, MI
 if TYPE_CHECKING:
     from hidlog_conformance.reference.authenticator import Asked, Authenticator
 
-LONGEST_BLOB = 32
+LONGEST_BLOB, INVALID_OPTION = 32, 0x2C
 
 
 class Extensions:
@@ -38,7 +39,33 @@ class Extensions:
             outputs["credBlob"] = self.keep_blob(new, given["credBlob"])
         if given.get("hmac-secret") is True:
             outputs["hmac-secret"] = True
+        if "largeBlobKey" in given:
+            self.blob_key_wanted(given["largeBlobKey"], new.discoverable)
+            new.blob_key = self.new_blob_key()
         return outputs
+
+    def first(self, asked: Asked) -> None:
+        """Refuses before the user is asked, where a device does so."""
+        given = self.asked_for(asked, 6)
+        if self.authenticator.traits.blob_key_first and "largeBlobKey" in given:
+            self.blob_key_wanted(given["largeBlobKey"], bool(asked.options.get("rk")))
+
+    def blob_key_wanted(self, value: Any, discoverable: bool = True) -> None:
+        """Refuses to ask for a key of large blobs in another way than by true, or for a credential that isn't stored."""
+        if value is not True or not discoverable:
+            raise Refused(INVALID_OPTION)
+
+    def new_blob_key(self) -> bytes:
+        """Returns a new key of large blobs."""
+        return os.urandom(32)
+
+    def blob_key_of(self, asked: Asked, one: Credential) -> Optional[bytes]:
+        """Returns a credential's key of large blobs, where a sign-in asks for it."""
+        given = self.asked_for(asked, 4)
+        if "largeBlobKey" not in given:
+            return None
+        self.blob_key_wanted(given["largeBlobKey"])
+        return one.blob_key
 
     def protect(self, new: Credential, policy: Any) -> int:
         """Takes the protection of a credential."""

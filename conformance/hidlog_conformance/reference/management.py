@@ -60,8 +60,17 @@ class Management:
         data = bytes([asked[1]]) + (encode(asked[2]) if 2 in asked else b"")
         if not pin.hash or not pin.verified(protocol, data, asked[4]):
             raise Refused(AUTH_INVALID)
-        if not pin.permissions & MANAGE:
+        if not pin.permissions & MANAGE or not self.of_token(asked[1], asked.get(2, {}), pin.rp):
             raise Refused(AUTH_INVALID)
+
+    def of_token(self, command: int, asked: Dict[int, Any], rp: str) -> bool:
+        """Says whether a token that is for one RP may do this: nothing about all RPs, and nothing about others."""
+        if not rp or command in (METADATA, RPS):
+            return not rp
+        if command == OF_RP:
+            return asked.get(1) in (None, hashlib.sha256(rp.encode()).digest())
+        named = asked[2].get("id") if isinstance(asked.get(2), dict) else None
+        return all(one.rp == rp for one in self.stored() if one.id == named)
 
     def metadata(self, asked: Dict[int, Any]) -> Dict[int, Any]:
         """Answers how many credentials are stored, and how many more fit."""
@@ -96,7 +105,10 @@ class Management:
             raise Refused(NOT_ALLOWED)
         one = self.left.pop(0)
         descriptor = {"id": one.id, "type": "public-key"}
-        return {6: one.user, 7: descriptor, 8: one.cose(), 10: one.protection}
+        found = {6: one.user, 7: descriptor, 8: one.cose(), 10: one.protection}
+        if one.blob_key is not None:
+            found[11] = one.blob_key
+        return found
 
     def named(self, asked: Dict[int, Any]) -> Credential:
         """Returns the credential that a request names."""

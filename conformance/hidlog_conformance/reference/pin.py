@@ -5,7 +5,7 @@ from __future__ import annotations
 import hashlib
 import hmac
 import os
-from typing import Any, Dict, Tuple
+from typing import Any, Dict, Generator, Tuple
 
 from cryptography.hazmat.primitives import hashes
 from cryptography.hazmat.primitives.asymmetric import ec
@@ -15,8 +15,11 @@ from cryptography.hazmat.primitives.kdf.hkdf import HKDF
 INVALID_PARAMETER, MISSING, PIN_INVALID, PIN_BLOCKED, AUTH_INVALID = 0x02, 0x14, 0x31, 0x32, 0x33
 AUTH_BLOCKED, NOT_SET, POLICY, UNAUTHORIZED = 0x34, 0x35, 0x37, 0x40
 NOT_ALLOWED, INVALID_SUBCOMMAND = 0x30, 0x3E
-MAKE, GET, MANAGE = 0x01, 0x02, 0x04
-RETRIES, IN_A_ROW = 8, 3
+USER_INVALID, USER_BLOCKED, USER_TIMEOUT = 0x3F, 0x3C, 0x2F
+MAKE, GET, MANAGE, WRITE = 0x01, 0x02, 0x04, 0x10
+RETRIES, IN_A_ROW, USER_RETRIES = 8, 3, 5
+# The subcommand that exchanges a verified user for a token, and that which says how often it may fail.
+USER_TOKEN, GET_USER_RETRIES = 6, 7
 
 
 class Refused(Exception):
@@ -88,14 +91,18 @@ class Protocol:
 class Pin:
     """Holds the PIN and the tokens that it was exchanged for."""
 
-    def __init__(self, numbers: Tuple[int, ...], pin: str) -> None:
+    def __init__(self, numbers: Tuple[int, ...], pin: str, permitted: int = MAKE | GET | MANAGE) -> None:
+        self.permitted = permitted
         self.protocols = {number: Protocol(number) for number in numbers}
         self.hash = hashlib.sha256(pin.encode()).digest()[:16] if pin else b""
         self.retries = RETRIES
+        self.user_retries = USER_RETRIES
         self.in_a_row = 0
         self.token = os.urandom(32)
         self.permissions = 0
         self.rp = ""
+        # Whether the user was there when the token was made, and it wasn't used yet.
+        self.present = False
 
     def protocol(self, asked: Dict[int, Any], key: int) -> Protocol:
         """Returns the protocol that a request names."""
@@ -194,7 +201,7 @@ class Pin:
     def grant(self, protocol: Protocol, key: bytes, permissions: int, rp: str) -> Dict[int, Any]:
         """Returns a new token."""
         self.token = os.urandom(32)
-        self.permissions, self.rp = permissions, rp
+        self.permissions, self.rp, self.present = permissions, rp, False
         return {2: protocol.encrypt(key, self.token)}
 
     def old_token(self, asked: Dict[int, Any]) -> Dict[int, Any]:
@@ -212,15 +219,46 @@ class Pin:
         """Exchanges the PIN for a token with permissions."""
         protocol = self.protocol(asked, 1)
         self.needed(asked, 3, 6, 9)
-        permissions = asked[9]
-        if not permissions or permissions & (MAKE | GET) and 10 not in asked:
-            raise Refused(INVALID_PARAMETER if not permissions else MISSING)
-        if permissions & ~(MAKE | GET | MANAGE):
-            raise Refused(UNAUTHORIZED)
+        self.permissible(asked)
         self.unblocked()
         key = protocol.shared(asked[3])
         self.compare(protocol, key, asked[6])
-        return self.grant(protocol, key, permissions, asked.get(10, ""))
+        return self.grant(protocol, key, asked[9], asked.get(10, ""))
+
+    def permissible(self, asked: Dict[int, Any]) -> None:
+        """Refuses permissions that there aren't, or that need an RP."""
+        permissions = asked[9]
+        if not permissions or permissions & (MAKE | GET) and 10 not in asked:
+            raise Refused(INVALID_PARAMETER if not permissions else MISSING)
+        if permissions & ~self.permitted:
+            raise Refused(UNAUTHORIZED)
+
+    def user_token(self, asked: Dict[int, Any]) -> Generator[None, str, Dict[int, Any]]:
+        """Exchanges a user whom the device verifies for a token with permissions."""
+        protocol = self.protocol(asked, 1)
+        self.needed(asked, 3, 9)
+        self.permissible(asked)
+        key = protocol.shared(asked[3])
+        if not self.user_retries:
+            raise Refused(USER_BLOCKED)
+        reply = yield
+        self.user_seen(reply)
+        answer = self.grant(protocol, key, asked[9], asked.get(10, ""))
+        self.present = True
+        return answer
+
+    def user_seen(self, reply: str) -> None:
+        """Counts how often a user wasn't verified; one who is brings the retries back."""
+        if reply == "timeout":
+            raise Refused(USER_TIMEOUT)
+        if reply != "granted":
+            self.user_retries -= 1
+            raise Refused(USER_INVALID if self.user_retries else USER_BLOCKED)
+        self.user_retries = USER_RETRIES
+
+    def get_user_retries(self, asked: Dict[int, Any]) -> Dict[int, Any]:
+        """Answers how often a user may still fail to be verified."""
+        return {5: self.user_retries}
 
     def check(self, protocol: Protocol, data: bytes, given: bytes, permission: int, rp: str) -> None:
         """Refuses a request whose token doesn't verify, or doesn't permit it at this RP."""

@@ -42,6 +42,8 @@ PIN: Types = {
 }
 PIN.update({9: (int, False), 10: (str, False)})
 MANAGE: Types = {1: (int, False), 2: (dict, False), 3: (int, False), 4: (bytes, False)}
+BLOBS: Types = {1: (int, False), 2: (bytes, False), 3: (int, False), 4: (int, False)}
+BLOBS.update({5: (bytes, False), 6: (int, False)})
 
 
 class LooseReader(ctap_cbor.Reader):

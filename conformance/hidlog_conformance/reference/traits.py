@@ -15,7 +15,7 @@ class Traits:
 
     # What getInfo says.
     versions: Tuple[str, ...] = ("U2F_V2", "FIDO_2_0", "FIDO_2_1")
-    extensions: Tuple[str, ...] = ("credBlob", "credProtect", "hmac-secret")
+    extensions: Tuple[str, ...] = ("credBlob", "credProtect", "hmac-secret", "largeBlobKey")
     aaguid: bytes = AAGUID
     protocols: Tuple[int, ...] = (2, 1)
     algorithms: Tuple[int, ...] = (ES256, EDDSA)
@@ -34,6 +34,8 @@ class Traits:
     make_without_uv: bool = False
     selection: bool = True
     management: bool = True
+    large_blobs: bool = True
+    largest_array: int = 2048
     u2f: bool = True
     wink: bool = False
     display: bool = False
@@ -73,3 +75,5 @@ class Traits:
     pending_time: int = 30000
     pending_outlasts_commands: bool = False
     one_state: bool = False
+    present_by_token: bool = False
+    blob_key_first: bool = False
