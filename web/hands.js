@@ -9,7 +9,7 @@
     const { Shown } = globalThis.hidlogShown;
     const { HEAD } = globalThis.hidlogDrawing;
     const difference = globalThis.hidlogDifference;
-    const TOOLS = ["view", "check", "download", "save", "search", "channel", "fold"];
+    const TOOLS = ["view", "check", "judge", "download", "save", "search", "channel", "fold"];
 
     // ---- opening
 
@@ -113,6 +113,7 @@
 
     const play = () => {
         state.job.end();
+        globalThis.hidlogJudge.clear();
         Object.assign(state, { difference: null, reason: "", view: "recorded", sessions: {}, texts: {} });
         if (state.bytes.length > AT_ONCE) {
             playLong();
@@ -273,6 +274,7 @@
         Enter: () => toggleFold(state.chosen),
         "/": () => at("search").focus(),
         c: check,
+        j: globalThis.hidlogJudge.press,
         v: nextView,
         t: () => setDrawn(!state.isDrawn),
         d: download,

@@ -6,14 +6,16 @@ import hashlib
 from dataclasses import dataclass, field
 from typing import Any, Dict, List, Optional, Tuple
 
-from hidlog_conformance import ctap_cbor, keys
-from hidlog_conformance.devices import Unplayable
+from hidlog_conformance import ctap_cbor, curve, keys
+from hidlog_conformance.unplayable import Unplayable
 
 UP, UV, BE, BS, AT, ED = 0x01, 0x04, 0x08, 0x10, 0x40, 0x80
 # Bits that the standard keeps for later.
 RESERVED = 0x22
 # The formats of attestation that WebAuthn registers.
 FORMATS = ("packed", "tpm", "android-key", "android-safetynet", "fido-u2f", "apple", "none", "compound")
+# A PIN may be wrong so often, and a user may fail to be verified by the device.
+MOST_RETRIES, MOST_USER_RETRIES = 8, 25
 MAKE, GET, INFO, RESET, NEXT, SELECTION = 0x01, 0x02, 0x04, 0x07, 0x08, 0x0B
 
 
@@ -136,10 +138,20 @@ def cose_key(data: bytes) -> Tuple[Dict[int, Any], bytes]:
         hold(
             all(isinstance(key[part], bytes) and len(key[part]) == 32 for part in (-2, -3)), "x and y of 32 bytes", key
         )
-        hold(keys.is_point(key), "x and y of a point on P-256", key)
+        hold(curve.is_point(key), "x and y of a point on P-256", key)
     if key[3] == -8:
         hold(set(key) == {1, 3, -1, -2} and key[1] == 1 and key[-1] == 6, "an OKP key on Ed25519", key)
     return dict(key), data[reader.place :]
+
+
+def agreement_key(item: Dict[Any, Any]) -> Dict[Any, Any]:
+    """Judges a device's key for key agreement (6.5.6), and returns it."""
+    key = member(item, 1, dict, "the key for key agreement")
+    hold(key.get(1) == 2 and key.get(3) == -25 and key.get(-1) == 1, "a key of kty 2, alg -25, crv 1", key)
+    hold(set(key) == {1, 3, -1, -2, -3}, "the members 1, 3, -1, -2, -3 alone", key)
+    right = all(isinstance(key[part], bytes) for part in (-2, -3))
+    hold(right and curve.is_point(key), "a point on P-256", key)
+    return dict(key)
 
 
 def judge_attestation(item: Dict[Any, Any], auth: bytes, cose: Dict[int, Any], client_hash: bytes) -> None:

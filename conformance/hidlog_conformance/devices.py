@@ -15,13 +15,10 @@ from typing import Any, Deque, List, Optional, Tuple
 
 from hidlog_conformance.keys import KeyMaker
 from hidlog_conformance.places import PROGRAM
+from hidlog_conformance.unplayable import Unplayable
 
 # Lines that no log has: switched off and on again; and so that the credentials are lost, as no device should.
 POWER_CYCLE, POWER_LOSS = "power cycle", "power loss"
-
-
-class Unplayable(Exception):
-    """Says why a case can't be played: the way to the device, or what it has space for, doesn't let it."""
 
 
 class Unread(OSError):

@@ -5,11 +5,12 @@ from __future__ import annotations
 from dataclasses import dataclass, field
 from typing import Any, Dict, List, Optional, Set, Tuple
 
-from hidlog_conformance import answers, rules
+from hidlog_conformance import answers, ctap_cbor, rules
 from hidlog_conformance import hid_packets as hid
 from hidlog_conformance.answers import GET, INFO, MAKE, NEXT, RESET, SELECTION, UP, UV, Credential, Differs, Facts, hold
 from hidlog_conformance.judged_log import KEY, MUST, SHOULD, Recording, seen
-from hidlog_conformance.judged_parts import ExtensionDiffers, Pins, judge_extension_answers
+from hidlog_conformance.judged_parts import USER_TOKEN, ExtensionDiffers, Kept, Pending, Pins, judge_extension_answers
+from hidlog_conformance.judged_stored import BLOB_KEY, BLOBS, MANAGE, StoredJudge
 from hidlog_conformance.requests import FORM, MISSING, PIN, UNKNOWN, fault_of, parameters_of, unknown_parts
 from hidlog_conformance.walk import NO_TIME_OUT, Entry, Transaction
 
@@ -32,27 +33,9 @@ FIT = {
 EXPECTED = {MAKE: "made", GET: "asserted", NEXT: "asserted", INFO: "info"}
 
 
-@dataclass
-class Pending:
-    """What authenticatorGetNextAssertion may answer: how many assertions are left, and since when."""
-
-    request: bytes
-    left: int
-    at: int
-    channel: int = 0
-    # Whether nothing came in between that may end it, and which credentials signed.
-    is_sure: bool = True
-    signed: List[bytes] = field(default_factory=list)
-    flags: int = 0
-
-
-@dataclass
-class Kept:
-    """What the log knows of a credential beside its key."""
-
-    credential: Credential
-    discoverable: bool
-    extensions: Dict[str, Any] = field(default_factory=dict)
+def said_of(fault: Exception) -> str:
+    """Says for people what was wrong with an answer that has another shape than any that was looked for."""
+    return f"none that has {ctap_cbor.shown(fault.args[0])}" if isinstance(fault, KeyError) else "another one"
 
 
 class AnswerJudge:
@@ -70,6 +53,7 @@ class AnswerJudge:
         self.strangers: Dict[Tuple[str, bytes], Credential] = {}
         self.pending: Optional[Pending] = None
         self.pins = Pins()
+        self.stored = StoredJudge()
         # Whether all that the key holds is in the log, since a reset.
         self.is_complete = False
         self.started = recording.start or 0
@@ -79,12 +63,13 @@ class AnswerJudge:
         """Forgets what ends with the power."""
         self.pending = Pending(b"", 0, 0)
         self.pins.retries, self.pins.wrong = None, 0
+        self.stored.power_cycle()
         self.started = at
 
     def passed(self, it: Transaction) -> None:
         """Takes an answer that can't be read: what it leaves behind isn't known."""
         self.pending, self.is_complete = None, False
-        self.pins = Pins()
+        self.pins, self.stored = Pins(), StoredJudge()
 
     def user_needed(self, entry: Entry, it: Transaction) -> None:
         """Judges that the user isn't asked for a request which has to be refused before, or which needs no user."""
@@ -121,6 +106,9 @@ class AnswerJudge:
                 getattr(self, "judge_" + EXPECTED[command])(transaction, data)
             if command == PIN:
                 self.pins.judge(request, data)
+            elif command in (MANAGE, BLOBS):
+                self.stored.judge(request, data, self.kept, self.pins, self.info)
+                self.known = {name: one for name, one in self.known.items() if name in self.kept}
         except ExtensionDiffers as differs:
             self.recording.find(entry.line, KEY, differs.section, differs.wanted, differs.came)
         except Differs as differs:
@@ -128,7 +116,7 @@ class AnswerJudge:
             level = SHOULD if fault is not None and fault.section == "8" else MUST
             self.recording.judged(self.seen(transaction, expected, message), entry.line, differs, level)
         except (KeyError, TypeError, ValueError, IndexError, AttributeError) as fault:
-            shape = Differs("an answer of the standard's shape", repr(fault))
+            shape = Differs("an answer of the standard's shape", said_of(fault))
             self.recording.judged(self.seen(transaction, expected, message), entry.line, shape)
         self.follow(entry, transaction, data)
 
@@ -175,6 +163,7 @@ class AnswerJudge:
         asked = parameters_of(it.data) or {}
         needs = command in (RESET, SELECTION) and status == 0
         needs = needs or (command == MAKE and status in (0, EXCLUDED))
+        needs = needs or (command == PIN and asked.get(2) == USER_TOKEN and status == 0)
         if command == GET and status == 0:
             auth = (parameters_of(data) or {}).get(2)
             needs = isinstance(auth, bytes) and len(auth) > 32 and bool(auth[32] & UP)
@@ -278,6 +267,9 @@ class AnswerJudge:
             and not own.get("alwaysUv")
         ):
             hold(status != 0, "status 36, since a PIN is set", "status 00")
+        alone = 8 not in asked and not options.get("uv") and not own.get("makeCredUvNotRqd")
+        if own.get("uv") and alone and not self.facts.old:
+            hold(status != 0, "status 36, since the key verifies users", "status 00")
         if 8 in asked and status == 0:
             self.pins.judge_use(1, asked[2]["id"])
 
@@ -305,7 +297,8 @@ class AnswerJudge:
         if asked.get(3):
             return self.listed(asked, 3, asked[1])
         of_rp = [one for one in self.kept.values() if one.credential.rp == asked[1] and one.discoverable]
-        return [one for one in of_rp if "credProtect" not in one.extensions]
+        verified = 6 in asked or bool(asked.get(5, {}).get("uv"))
+        return [one for one in of_rp if verified or "credProtect" not in one.extensions]
 
     def has_hidden_of(self, asked: Dict[Any, Any]) -> bool:
         """Says whether extensions may hide a credential of the RP."""
@@ -352,6 +345,11 @@ class AnswerJudge:
         self.known[made.id] = made
         extensions = {name: value for name, value in asked.get(6, {}).items()}
         self.kept[made.id] = Kept(made, bool(asked.get(7, {}).get("rk")), extensions)
+        self.stored.judge_key(data, self.served(extensions), made.id, 5, True)
+
+    def served(self, extensions: Dict[str, Any]) -> Dict[str, Any]:
+        """Returns the extensions that getInfo names."""
+        return {name: value for name, value in extensions.items() if name in self.info.get(2, [])}
 
     def replace(self, made: Credential, asked: Dict[Any, Any]) -> None:
         """Forgets the discoverable credential that a new one of the same RP and user takes the place of."""
@@ -382,6 +380,7 @@ class AnswerJudge:
                 transaction.by or transaction.line, KEY, "6.6", "no credential from before the reset", identity.hex()
             )
         hold(identity not in self.replaced, "no credential that another one took the place of", identity)
+        hold(identity not in self.stored.deleted, "no credential that was deleted", identity)
         self.judge_series(item, follows, identity)
         listed = [one["id"] for one in asked.get(3, []) if one["type"] == "public-key"]
         hold(not asked.get(3) or identity in listed, "a credential of the allow list", identity)
@@ -394,6 +393,8 @@ class AnswerJudge:
         answers.judge_asserted(data, request, words, known, None, self.facts)
         extensions = self.kept[identity].extensions if identity in self.kept else {}
         judge_extension_answers(GET, data, asked, self.info, extensions)
+        if identity in self.kept:
+            self.stored.judge_key(data, self.served(asked.get(4, {})), identity, 7, BLOB_KEY in extensions)
         self.judge_account(asked, item, follows, identity)
 
     def judge_series(self, item: Dict[Any, Any], follows: bool, identity: bytes) -> None:
@@ -465,6 +466,7 @@ class AnswerJudge:
             self.forgotten.update({name: one.credential.rp for name, one in self.kept.items()})
             self.kept, self.known, self.is_complete = {}, {}, True
             self.pins, self.pending = Pins(is_set=False), Pending(b"", 0, entry.at)
+            self.stored.reset()
         elif command == GET and status == 0:
             item = parameters_of(data) or {}
             number, auth = item.get(5), item.get(2)

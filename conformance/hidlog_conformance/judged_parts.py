@@ -2,19 +2,44 @@
 
 from __future__ import annotations
 
-from dataclasses import dataclass
-from typing import Any, Dict, Optional
+from dataclasses import dataclass, field
+from typing import Any, Dict, List, Optional
 
-from hidlog_conformance import answers, ctap_cbor, keys
-from hidlog_conformance.answers import ED, MAKE, Differs, hold
-from hidlog_conformance.listener import MOST_RETRIES
-from hidlog_conformance.platform_side import Platform
+from hidlog_conformance import answers, ctap_cbor
+from hidlog_conformance.answers import ED, MAKE, MOST_RETRIES, Credential, Differs, hold
 from hidlog_conformance.requests import parameters_of
 
 PROTECT, BLOB, SECRET = "credProtect", "credBlob", "hmac-secret"
 GET_RETRIES, GET_AGREEMENT, SET_PIN, CHANGE_PIN, GET_TOKEN, TOKENS = 1, 2, 3, 4, 5, (5, 6, 9)
+USER_TOKEN, GET_USER_RETRIES = 6, 7
 # After so many wrong PINs in a row the power has to be switched off (6.5.5.7).
 WRONG_IN_A_ROW = 3
+USER_INVALID = 0x3F
+
+
+@dataclass
+class Pending:
+    """What authenticatorGetNextAssertion may answer: how many assertions are left, and since when."""
+
+    request: bytes
+    left: int
+    at: int
+    channel: int = 0
+    # Whether nothing came in between that may end it, and which credentials signed.
+    is_sure: bool = True
+    signed: List[bytes] = field(default_factory=list)
+    flags: int = 0
+
+
+@dataclass
+class Kept:
+    """What the log knows of a credential beside its key."""
+
+    credential: Credential
+    discoverable: bool
+    extensions: Dict[str, Any] = field(default_factory=dict)
+    # The user's name, where it was changed.
+    name: Optional[str] = None
 
 
 class ExtensionDiffers(Differs):
@@ -90,6 +115,8 @@ class Pins:
 
     is_set: Optional[bool] = None
     retries: Optional[int] = None
+    # How often a user may still fail to be verified by the key.
+    user_retries: Optional[int] = None
     # Wrong PINs in a row, the key for key agreement, and whether a wrong PIN came since it was answered.
     wrong: int = 0
     agreement: Any = None
@@ -109,6 +136,8 @@ class Pins:
             self.is_stale = True
             self.retries = None if self.retries is None else self.retries - 1
             hold(self.wrong < WRONG_IN_A_ROW, f"status 34 after {WRONG_IN_A_ROW} wrong PINs", "status 31")
+        elif status == USER_INVALID and self.user_retries is not None:
+            self.user_retries -= 1
         elif status in (0x32, 0x33, 0x34):
             self.retries = None
         elif status == 0:
@@ -121,6 +150,10 @@ class Pins:
             hold(0 <= left <= MOST_RETRIES, f"0 to {MOST_RETRIES} retries", str(left))
             hold(self.retries is None or left == self.retries, f"{self.retries} retries", f"{left} retries")
             self.retries = left
+        elif kind == GET_USER_RETRIES:
+            left = answers.member(answers.map_of(data), 5, int, "the retries")
+            hold(self.user_retries in (None, left), f"{self.user_retries} retries", f"{left} retries")
+            self.user_retries = left
         elif kind == GET_AGREEMENT:
             self.take_agreement(asked, data)
         elif kind == SET_PIN:
@@ -129,6 +162,8 @@ class Pins:
         elif kind == CHANGE_PIN:
             self.retries, self.wrong = None, 0
         elif kind in TOKENS:
+            hold(kind == GET_TOKEN or asked.get(9) != 0, "status 02, since nothing is permitted", "status 00")
+            self.user_retries = None if kind == USER_TOKEN else self.user_retries
             token = answers.member(answers.map_of(data), 2, bytes, "the token")
             lengths = (16, 32) if asked.get(1) == 1 else (48,)
             hold(len(token) in lengths, f"an encrypted token of {' or '.join(map(str, lengths))} bytes", token)
@@ -138,8 +173,7 @@ class Pins:
     def take_agreement(self, asked: Dict[Any, Any], data: bytes) -> None:
         """Judges a key for key agreement: its form, and that it is a new one after a wrong PIN."""
         found = answers.map_of(data)
-        if keys.THERE:
-            Platform().agree(found, asked)
+        answers.agreement_key(found)
         hold(not self.is_stale or found.get(1) != self.agreement, "a new key after a wrong PIN", found)
         self.agreement, self.is_stale = found.get(1), False
 

@@ -8,7 +8,7 @@ from xml.sax.saxutils import escape, quoteattr
 
 from hidlog_conformance.judged_log import KEY, MUST, SHOULD, Finding, Recording
 from hidlog_conformance.keys import THERE
-from hidlog_conformance.report import clean
+from hidlog_conformance.plain import clean
 
 SIDES = {KEY: "the key", "host": "the host"}
 

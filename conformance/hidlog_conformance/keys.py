@@ -45,18 +45,6 @@ class KeyMaker:
         return signature
 
 
-def is_point(cose: Any) -> bool:
-    """Says whether an ES256 key is a point on its curve; true where that can't be checked."""
-    if not THERE:
-        return True
-    x, y = int.from_bytes(cose[-2], "big"), int.from_bytes(cose[-3], "big")
-    try:
-        ec.EllipticCurvePublicNumbers(x, y, ec.SECP256R1()).public_key()
-    except ValueError:
-        return False
-    return True
-
-
 def public_of(cose: Any) -> Any:
     """Returns the public key of a COSE key: ES256, EdDSA or RS256; None for another algorithm."""
     if cose.get(3) == -7:

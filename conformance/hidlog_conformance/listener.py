@@ -32,10 +32,6 @@ CASE, FLOOD = 60.0, 5000
 REST = 0.1
 # A device has at least so many channels.
 FEWEST_CHANNELS = 4
-# A PIN may be wrong so often.
-MOST_RETRIES = 8
-# And a user may fail to be verified so often.
-MOST_USER_RETRIES = 25
 
 
 class Listener:

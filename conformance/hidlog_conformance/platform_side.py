@@ -13,7 +13,7 @@ import os
 from typing import Any, Dict
 
 from hidlog_conformance import ctap_cbor
-from hidlog_conformance.answers import Differs, hold, member
+from hidlog_conformance.answers import agreement_key, hold, member
 
 try:
     from cryptography.hazmat.primitives.asymmetric import ec
@@ -41,16 +41,11 @@ class Platform:
 
     def agree(self, item: Dict[Any, Any], asked: Dict[Any, Any]) -> None:
         """Takes the device's key for key agreement."""
-        key = member(item, 1, dict, "the key for key agreement")
-        hold(key.get(1) == 2 and key.get(3) == -25 and key.get(-1) == 1, "a key of kty 2, alg -25, crv 1", key)
-        hold(set(key) == {1, 3, -1, -2, -3}, "the members 1, 3, -1, -2, -3 alone", key)
+        key = agreement_key(item)
         self.protocol = asked[1]
         self.private = ec.generate_private_key(ec.SECP256R1())
-        try:
-            x, y = int.from_bytes(key[-2], "big"), int.from_bytes(key[-3], "big")
-            public = ec.EllipticCurvePublicNumbers(x, y, ec.SECP256R1()).public_key()
-        except (TypeError, ValueError):
-            raise Differs("a point on P-256", ctap_cbor.shown(key)) from None
+        x, y = int.from_bytes(key[-2], "big"), int.from_bytes(key[-3], "big")
+        public = ec.EllipticCurvePublicNumbers(x, y, ec.SECP256R1()).public_key()
         z = self.private.exchange(ec.ECDH(), public)
         if self.protocol == 1:
             self.for_auth = self.for_encryption = hashlib.sha256(z).digest()

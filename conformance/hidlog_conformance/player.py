@@ -8,11 +8,10 @@ from typing import Any, List, Optional
 from hidlog_conformance import answers, ctap_cbor
 from hidlog_conformance import hid_packets as hid
 from hidlog_conformance import rules
-from hidlog_conformance.answers import Differs, hold
-from hidlog_conformance.devices import Unplayable
+from hidlog_conformance.answers import MOST_RETRIES, MOST_USER_RETRIES, Differs, hold
+from hidlog_conformance.unplayable import Unplayable
 from hidlog_conformance.greeting import judge_greeting
-from hidlog_conformance.listener import ANSWER, FEWEST_CHANNELS, FLOOD, GOES_ON, IN_TIME, Listener, MOST_RETRIES, REST
-from hidlog_conformance.listener import MOST_USER_RETRIES
+from hidlog_conformance.listener import ANSWER, FEWEST_CHANNELS, FLOOD, GOES_ON, IN_TIME, Listener, REST
 from hidlog_conformance.managed import judge_piece
 from hidlog_conformance.outcome import Outcome
 from hidlog_conformance.session_file import Step

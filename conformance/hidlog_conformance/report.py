@@ -3,34 +3,21 @@
 from __future__ import annotations
 
 import time
-import unicodedata
 from typing import Callable, Dict, List
 from xml.sax.saxutils import escape, quoteattr
 
 from hidlog_conformance import __version__, ctap_cbor, report_page
 from hidlog_conformance.offers import Offers
 from hidlog_conformance.outcome import Outcome
+from hidlog_conformance.plain import clean
 from hidlog_conformance.sections import SECTIONS
 
 TITLES = {title.split(" ")[0]: "CTAP 2.1, " + title for title in SECTIONS.values()}
 Header = Dict[str, str]
-# Unicode's categories of characters that aren't shown, or that change how others are.
-HIDDEN = ("Cc", "Cf", "Cs", "Co", "Cn", "Zl", "Zp")
 NOT_SAID = (
     "This is no certification of FIDO's. The corpus was written from knowledge of the standard, and its text wasn't "
     "compared sentence by sentence. What was skipped wasn't tested."
 )
-
-
-def clean(text: str) -> str:
-    """Returns a text of a device or a client without characters that a terminal or XML would obey."""
-    parts = []
-    for letter in text:
-        if unicodedata.category(letter) in HIDDEN:
-            parts.append(f"\\u{ord(letter):04x}" if ord(letter) < 0x10000 else f"\\U{ord(letter):08x}")
-        else:
-            parts.append(letter)
-    return "".join(parts)
 
 
 def header_of_device(name: str, offers: Offers) -> Header:

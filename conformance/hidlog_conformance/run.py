@@ -25,6 +25,7 @@ from hidlog_conformance.offers import Offers, prepare
 from hidlog_conformance.places import PROGRAM, SESSIONS
 from hidlog_conformance.outcome import Outcome
 from hidlog_conformance.listener import CASE, GOES_ON, IN_TIME
+from hidlog_conformance.plain import clean
 from hidlog_conformance.player import Player
 from hidlog_conformance.session_file import Session, read_session, sends_reset
 
@@ -251,7 +252,7 @@ def main(arguments: List[str]) -> int:
     except BrokenPipeError:
         raise
     except (OSError, ValueError) as fault:
-        print(f"hidlog-conformance: {report.clean(str(fault))}", file=sys.stderr)
+        print(f"hidlog-conformance: {clean(str(fault))}", file=sys.stderr)
         return 2
 
 
