@@ -19,11 +19,12 @@ HERE = os.path.dirname(os.path.abspath(__file__))
 for folder in ("self_tests", "others"):
     sys.path.insert(0, os.path.join(HERE, folder))
 
+import kept_device  # noqa: E402
 import odd_clients  # noqa: E402
 import odd_devices  # noqa: E402
 import ways  # noqa: E402
 
-TESTS = {**ways.TESTS, **odd_devices.TESTS, **odd_clients.TESTS}
+TESTS = {**ways.TESTS, **kept_device.TESTS, **odd_devices.TESTS, **odd_clients.TESTS}
 
 
 # So many processes wait beside each other. What is played in real time, the ways to a device, is one of them.

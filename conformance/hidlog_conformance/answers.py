@@ -16,7 +16,7 @@ RESERVED = 0x22
 FORMATS = ("packed", "tpm", "android-key", "android-safetynet", "fido-u2f", "apple", "none", "compound")
 # A PIN may be wrong so often, and a user may fail to be verified by the device.
 MOST_RETRIES, MOST_USER_RETRIES = 8, 25
-MAKE, GET, INFO, RESET, NEXT, SELECTION = 0x01, 0x02, 0x04, 0x07, 0x08, 0x0B
+MAKE, GET, INFO, RESET, NEXT, SELECTION, BLOBS = 0x01, 0x02, 0x04, 0x07, 0x08, 0x0B, 0x0C
 
 
 class Differs(Exception):

@@ -197,6 +197,8 @@ class AnswerJudge:
             taken = status in (0, NO_CREDENTIALS, EXCLUDED)
             hold(not taken, f"a refusal (2b or 2c) of the option {wrong}", f"status {status:02x}")
             return
+        if self.stored.is_refused(asked, status, it.data[0] == MAKE, self.info):
+            return
         strange = unknown_parts(it.data[0], asked)
         # A PIN, enterprise attestation and what a key can't serve have refusals of their own.
         own = {8, 9, 10} if it.data[0] == MAKE else {6, 7}

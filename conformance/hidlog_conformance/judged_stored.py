@@ -182,6 +182,17 @@ class StoredJudge:
             hold(array_of(whole[:-16]) == whole, "status 3d, since the hash is wrong", "status 00")
             self.array, self.is_reset = whole, False
 
+    def is_refused(self, asked: Dict[Any, Any], status: int, makes: bool, info: Dict[Any, Any]) -> bool:
+        """Judges that a key of large blobs is asked for as it may be; says whether that was refused."""
+        extensions = asked.get(6 if makes else 4, {})
+        if BLOB_KEY not in extensions or BLOB_KEY not in info.get(2, []):
+            return False
+        right = extensions[BLOB_KEY] is True and (not makes or asked.get(7, {}).get("rk") is True)
+        if not right and status == 0:
+            due = "status 2c, since a key of large blobs is true, and of a discoverable credential"
+            raise ExtensionDiffers("12.3", due, "status 00")
+        return not right
+
     def judge_key(self, data: bytes, extensions: Dict[Any, Any], identity: bytes, key: int, made: bool) -> None:
         """Judges the key of large blobs of a registration or a sign-in; made says whether the credential has one."""
         has_it = extensions.get(BLOB_KEY) is True and made

@@ -15,6 +15,7 @@ from hidlog_conformance.managed import Listing
 from hidlog_conformance.outcome import derived
 from hidlog_conformance.platform_side import Platform
 from hidlog_conformance.session_file import Session, Step
+from hidlog_conformance.sparing import Sparing, with_rp
 
 # What is expected of any device, whatever a session is about.
 GOES_ON = "a device that goes on"
@@ -38,8 +39,20 @@ class Listener:
     """Speaks with a device in one session."""
 
     def __init__(
-        self, device: Device, session: Session, strict: bool, facts: Optional[Facts] = None, seconds: float = CASE
+        self,
+        device: Device,
+        session: Session,
+        strict: bool,
+        facts: Optional[Facts] = None,
+        seconds: float = CASE,
+        sparing: Optional[Sparing] = None,
+        front: str = "",
     ) -> None:
+        # What other cases left, and what comes before each RP's id, so that theirs are others.
+        self.sparing, self.front = sparing, front
+        # By request how many of those were taken, and the request whose credential is left for other cases.
+        self.taken: Dict[bytes, int] = {}
+        self.keeps = b""
         self.device = device
         self.facts = facts or Facts()
         self.session = session
@@ -180,6 +193,7 @@ class Listener:
         for name, identity in self.names():
             data = data.replace(ctap_cbor.encode(name), ctap_cbor.encode(identity))
         data = self.platform.fill(data)
+        data = with_rp(data, self.front) if self.front else data
         if data == messages[0].data:
             return packets
         return hid.packets_of(messages[0].channel, hid.CBOR, data)

@@ -2,6 +2,7 @@
 
 from __future__ import annotations
 
+import hashlib
 import time
 from dataclasses import dataclass, field
 from typing import Any, Dict, List, Optional
@@ -81,6 +82,18 @@ def prepare(device: Device, again: bool) -> str:
         came = answer.data.hex() if answer else "nothing"
         return f"the reset was answered by {came}: plug the device in again and start with this case"
     return ""
+
+
+def empty_blobs(device: Device) -> bool:
+    """Writes an empty array of large blobs; says whether it was taken."""
+    array = b"\x80" + hashlib.sha256(b"\x80").digest()[:16]
+    try:
+        channel = int.from_bytes(greet(device)[8:12], "big")
+        request = ctap_cbor.encode({2: array, 3: 0, 4: len(array)})
+        answer = ask(device, channel, hid.CBOR, bytes([answers.BLOBS]) + request)
+        return answer is not None and answer.data == b"\0"
+    finally:
+        device.close()
 
 
 def requests_of(session: Session) -> List[bytes]:

@@ -15,6 +15,7 @@ from hidlog_conformance.listener import ANSWER, FEWEST_CHANNELS, FLOOD, GOES_ON,
 from hidlog_conformance.managed import judge_piece
 from hidlog_conformance.outcome import Outcome
 from hidlog_conformance.session_file import Step
+from hidlog_conformance.sparing import REGISTRATION
 
 
 class Player(Listener):
@@ -27,7 +28,12 @@ class Player(Listener):
             self.device.saves = "power cycle" in self.session.needs
             self.device.start()
             steps = self.session.steps
-            for step, after in zip(steps, steps[1:] + [None]):
+            passed = 0
+            for number, (step, after) in enumerate(zip(steps, steps[1:] + [None])):
+                passed = passed or self.served(number)
+                if passed:
+                    passed -= 1
+                    continue
                 self.do(step)
                 for expected in step.expects:
                     self.judge(expected)
@@ -55,6 +61,20 @@ class Player(Listener):
             self.leave()
             self.device.close()
         return Outcome(self.session, "ok")
+
+    def served(self, number: int) -> int:
+        """Lets a credential of another case serve in place of a registration; returns how many steps that spares."""
+        request = self.sparing.serves(self.session, number) if self.sparing is not None else b""
+        if self.sparing is None or not request:
+            return 0
+        place = self.taken.get(request, 0)
+        self.taken[request] = place + 1
+        found = self.sparing.credential(request, place)
+        if found is None:
+            self.keeps = request
+            return 0
+        self.known[bytes.fromhex(self.session.steps[number + 2].words[0])] = found
+        return len(REGISTRATION)
 
     def failed(self, wanted: str, came: str, step: Optional[Step]) -> Outcome:
         """Returns the outcome of a difference, with the rule that it breaks."""
@@ -221,12 +241,15 @@ class Player(Listener):
     def judge_made(self, words: List[str], channel: int, wanted: str) -> None:
         """Judges a registration, and keeps its credential under the id of the session's key line."""
         data = self.whole(hid.CBOR, channel, wanted)
-        if data == b"\x28" and not self.device.fresh and "reset" not in self.session.needs:
+        if data == b"\x28" and not self.device.fresh and ("reset" not in self.session.needs or self.front):
             raise Unplayable("the device has no space for another credential (28): --reset, or another device")
         if data == b"\x28" and "or" in words:
             return
         made = answers.judge_made(data, self.asked[channel, answers.MAKE], words, self.known, self.facts)
         self.known[self.name] = made
+        if self.sparing is not None and self.keeps:
+            self.sparing.made.setdefault(self.keeps, []).append(made)
+            self.keeps = b""
         self.listing.judge_blob_key(answers.map_of(data), 5, words)
 
     def judge_asserted(self, words: List[str], channel: int, wanted: str) -> None:

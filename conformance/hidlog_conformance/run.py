@@ -15,19 +15,20 @@ import os
 import sys
 import threading
 from concurrent.futures import ThreadPoolExecutor
-from typing import Dict, List, Tuple
+from typing import Dict, List, Optional, Tuple
 
 from hidlog_conformance import __version__, executor, keys, report
 from hidlog_conformance.client_runner import client_sessions, keep_logs, play_clients, read_client_session
 from hidlog_conformance.devices import Device, HidrawDevice, LiveDevice, PipeDevice
 from hidlog_conformance.known import failing
-from hidlog_conformance.offers import Offers, prepare
+from hidlog_conformance.offers import Offers, empty_blobs, prepare
 from hidlog_conformance.places import PROGRAM, SESSIONS
 from hidlog_conformance.outcome import Outcome
 from hidlog_conformance.listener import CASE, GOES_ON, IN_TIME
 from hidlog_conformance.plain import clean
 from hidlog_conformance.player import Player
 from hidlog_conformance.session_file import Session, read_session, sends_reset
+from hidlog_conformance.sparing import Sparing
 
 # After so many cases that end by their deadline nothing more is played.
 HANGS = 3
@@ -77,18 +78,29 @@ def judged(outcome: Outcome, options: argparse.Namespace, offers: Offers) -> Out
     return outcome
 
 
-def play_one(device: Device, session: Session, options: argparse.Namespace, offers: Offers) -> Outcome:
-    """Plays a session, or skips it with its reason."""
+def play_one(
+    device: Device, session: Session, options: argparse.Namespace, offers: Offers, sparing: Optional[Sparing] = None
+) -> Outcome:
+    """Plays a session, or skips it with its reason. Where touches are spared it may go without a reset."""
     reason = offers.lacking(session, device, options.touch, options.reset)
-    if not reason and "reset" in session.needs and not device.fresh:
+    front = sparing.front(session) if sparing is not None and not reason else ""
+    is_empty = sparing is not None and not reason and sparing.empties(session) and empty_blobs(device)
+    if not reason and "reset" in session.needs and not device.fresh and not front and not is_empty:
         print(f"resetting the device for {session.name}", file=sys.stderr)
         try:
             reason = prepare(device, any(map(sends_reset, session.steps)))
         except OSError as fault:
             return Outcome(session, "not ok", "", GOES_ON, f"at the reset before the case: {fault}")
+        if sparing is not None:
+            sparing.forget()
     if reason:
         return Outcome(session, "skip", reason)
-    outcome = Player(device, session, options.choices, offers.facts(), options.deadline).play()
+    outcome = Player(device, session, options.choices, offers.facts(), options.deadline, sparing, front).play()
+    if sparing is not None:
+        sparing.played(session)
+    if front and outcome.status == "skip":
+        # There is no space beside other cases' credentials.
+        return play_one(device, session, options, offers)
     return judged(outcome, options, offers)
 
 
@@ -117,18 +129,19 @@ def play_apart(given: Tuple[Session, argparse.Namespace, Offers]) -> Outcome:
 def play_all(device: Device, sessions: List[Session], options: argparse.Namespace, offers: Offers) -> List[Outcome]:
     """Plays sessions one after another; to commands that share nothing and ask nobody several at a time."""
     hangs, lock = [0], threading.Lock()
+    asks = options.touch and not options.touch_line
+    sparing = Sparing() if asks and device.lasting and not options.alone else None
 
     def play(session: Session, own: Device) -> Outcome:
         if hangs[0] >= HANGS:
             return Outcome(session, "not ok", "", IN_TIME, f"not played: {HANGS} cases ended by their deadline")
         if options.device and options.report == "text":
             print(f"playing {session.name}", file=sys.stderr)
-        outcome = play_one(own, session, options, offers)
+        outcome = play_one(own, session, options, offers, sparing)
         with lock:
             hangs[0] += outcome.hung
         return outcome
 
-    asks = options.touch and not options.touch_line
     alone = not isinstance(device, PipeDevice) or options.keeps or asks
     if options.executor and not alone:
         tasks = [(session, options, offers) for session in sessions]
@@ -151,6 +164,7 @@ def device_words(parser: argparse.ArgumentParser) -> None:
     parser.add_argument("--executor", default="", metavar="dask://HOST:PORT", help="a Dask scheduler's workers play")
     parser.add_argument("--keeps", action="store_true", help="a command keeps its credentials when it is started anew")
     parser.add_argument("--reset", action="store_true", help="the device may be reset: ALL ITS CREDENTIALS ARE LOST")
+    parser.add_argument("--alone", action="store_true", help="no case uses what another one registered")
     parser.add_argument("--display", action="store_true", help="the device has a display on which accounts are chosen")
     parser.add_argument("--deadline", type=float, default=CASE, metavar="SECONDS", help="for a case; by default 60")
 
