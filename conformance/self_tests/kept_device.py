@@ -64,7 +64,8 @@ def played(words: List[str]) -> Tuple[Dict[str, str], KeptKey]:
 
 def spared() -> None:
     """One touch serves several cases: the same outcomes by fewer touches and less unplugging."""
-    for words in ([], ["--reset", "--only", "lists/"], ["--reset", "--only", "blobs/"]):
+    runs: List[List[str]] = [[], ["--reset", "--only", "lists/"], ["--reset", "--only", "blobs/"]]
+    for words in runs:
         sparing, device = played(words)
         alone, other = played([*words, "--alone"])
         assert sparing == alone, {name: it for name, it in sparing.items() if alone[name] != it}
