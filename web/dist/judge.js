@@ -1368,7 +1368,7 @@ return { Unplayable };
 };
 
 $.modules["answers"] = () => {
-let AT, BE, BS, ED, FORMATS, GET, INFO, MAKE, MOST_RETRIES, MOST_USER_RETRIES, NEXT, RESERVED, RESET, SELECTION, UP, UV, Unplayable, ctap_cbor, curve, hashlib, keys, $t1, $t2, $t3, $t4, $t5, $t6;
+let AT, BE, BLOBS, BS, ED, FORMATS, GET, INFO, MAKE, MOST_RETRIES, MOST_USER_RETRIES, NEXT, RESERVED, RESET, SELECTION, UP, UV, Unplayable, ctap_cbor, curve, hashlib, keys, $t1, $t2, $t3, $t4, $t5, $t6;
 hashlib = $.module("hashlib");
 ctap_cbor = $.module("ctap_cbor");
 curve = $.module("curve");
@@ -1378,7 +1378,7 @@ $t1 = $.Tuple.of(1, 4, 8, 16, 64, 128); $t2 = $.unpacked($t1, 6); UP = $t2[0]; U
 RESERVED = 34; 
 FORMATS = $.Tuple.of("packed", "tpm", "android-key", "android-safetynet", "fido-u2f", "apple", "none", "compound"); 
 $t3 = $.Tuple.of(8, 25); $t4 = $.unpacked($t3, 2); MOST_RETRIES = $t4[0]; MOST_USER_RETRIES = $t4[1]; 
-$t5 = $.Tuple.of(1, 2, 4, 7, 8, 11); $t6 = $.unpacked($t5, 6); MAKE = $t6[0]; GET = $t6[1]; INFO = $t6[2]; RESET = $t6[3]; NEXT = $t6[4]; SELECTION = $t6[5]; 
+$t5 = $.Tuple.of(1, 2, 4, 7, 8, 11, 12); $t6 = $.unpacked($t5, 7); MAKE = $t6[0]; GET = $t6[1]; INFO = $t6[2]; RESET = $t6[3]; NEXT = $t6[4]; SELECTION = $t6[5]; BLOBS = $t6[6]; 
 class Differs extends Exception {
 __init__(wanted, came) {
 const self = this;
@@ -1735,7 +1735,7 @@ return item;
 return null;
 }
 judge_info.$names = ["data"];
-return { AT, BE, BS, Credential, Differs, ED, FORMATS, Facts, GET, INFO, MAKE, MOST_RETRIES, MOST_USER_RETRIES, NEXT, RESERVED, RESET, SELECTION, UP, UV, agreement_key, cose_key, hold, judge_algorithm, judge_asserted, judge_attestation, judge_extensions, judge_half, judge_id, judge_info, judge_lists, judge_made, judge_start, judge_user, map_of, member, parameters };
+return { AT, BE, BLOBS, BS, Credential, Differs, ED, FORMATS, Facts, GET, INFO, MAKE, MOST_RETRIES, MOST_USER_RETRIES, NEXT, RESERVED, RESET, SELECTION, UP, UV, agreement_key, cose_key, hold, judge_algorithm, judge_asserted, judge_attestation, judge_extensions, judge_half, judge_id, judge_info, judge_lists, judge_made, judge_start, judge_user, map_of, member, parameters };
 };
 
 $.modules["greeting"] = () => {
@@ -3368,6 +3368,21 @@ $t10 = $.Tuple.of(whole, false); $t11 = $.unpacked($t10, 2); self.array = $t11[0
 }
 return null;
 }
+is_refused(asked, status, makes, info) {
+const self = this;
+let due, extensions, right, $t1, $t2;
+extensions = $.call(asked, "get", [($.isTrue(makes) ? 6 : 4), $.dictOf([])]); 
+if (((!$.has(extensions, BLOB_KEY)) || (!$.has($.call(info, "get", [2, []]), BLOB_KEY)))) {
+return false;
+}
+right = ($.isTrue($t2 = ($.item(extensions, BLOB_KEY) === true)) ? ($.isTrue($t1 = !$.isTrue(makes)) ? $t1 : ($.call($.call(asked, "get", [7, $.dictOf([])]), "get", ["rk"]) === true)) : $t2); 
+if ((!$.isTrue(right) && ($.eq(status, 0)))) {
+due = "status 2c, since a key of large blobs is true, and of a discoverable credential"; 
+throw $.apply(ExtensionDiffers, ["12.3", due, "status 00"]);
+}
+return !$.isTrue(right);
+return null;
+}
 judge_key(data, extensions, identity, key, made) {
 const self = this;
 let differs, has_it, words, $t1, $t2;
@@ -3384,7 +3399,7 @@ throw $.apply(ExtensionDiffers, ["12.3", $.attribute(differs, "wanted"), $.attri
 return null;
 }
 }
-StoredJudge.$names = {"__init__": [], "power_cycle": [], "reset": [], "judge": ["request", "data", "kept", "pins", "info"], "judge_managed": ["asked", "data", "kept", "pins"], "judge_next": ["follows", "key"], "judge_token": ["asked", "param", "permission", "pins"], "judge_rp": ["command", "parameters", "kept", "pins"], "judge_listed": ["command", "parameters", "data", "stored", "kept"], "judge_change": ["command", "parameters", "kept"], "judge_read": ["asked", "data", "info"], "judge_written": ["asked", "pins", "info"], "judge_key": ["data", "extensions", "identity", "key", "made"]};
+StoredJudge.$names = {"__init__": [], "power_cycle": [], "reset": [], "judge": ["request", "data", "kept", "pins", "info"], "judge_managed": ["asked", "data", "kept", "pins"], "judge_next": ["follows", "key"], "judge_token": ["asked", "param", "permission", "pins"], "judge_rp": ["command", "parameters", "kept", "pins"], "judge_listed": ["command", "parameters", "data", "stored", "kept"], "judge_change": ["command", "parameters", "kept"], "judge_read": ["asked", "data", "info"], "judge_written": ["asked", "pins", "info"], "is_refused": ["asked", "status", "makes", "info"], "judge_key": ["data", "extensions", "identity", "key", "made"]};
 return { BLOBS, BLOB_KEY, COUNT, DELETE, EMPTY, LENGTH, LIST, LIST_RPS, MANAGE, MAY_MANAGE, MAY_WRITE, NEXT, NEXT_RP, OFFSET, PARAM, READ, SET, SHORTEST, StoredJudge, UPDATE, array_of };
 };
 
@@ -3648,6 +3663,9 @@ wrong = $.call(self, "wrong_option", [$.item($.attribute(it, "data"), 0), asked,
 if ($.isTrue(wrong)) {
 taken = $.has($.Tuple.of(0, NO_CREDENTIALS, EXCLUDED), status); 
 $.apply(hold, [!$.isTrue(taken), ("" + "a refusal (2b or 2c) of the option " + $.format(wrong, "")), ("" + "status " + $.format(status, "02x"))]);
+return null;
+}
+if ($.isTrue($.call($.own(self, "stored"), "is_refused", [asked, status, $.eq($.item($.attribute(it, "data"), 0), MAKE), $.own(self, "info")]))) {
 return null;
 }
 strange = $.apply(unknown_parts, [$.item($.attribute(it, "data"), 0), asked]); 
