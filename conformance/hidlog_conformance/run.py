@@ -148,7 +148,9 @@ def play_all(device: Device, sessions: List[Session], options: argparse.Namespac
         folder = os.path.dirname(os.path.dirname(os.path.abspath(__file__)))
         return list(executor.results(options.executor, [folder], play_apart, tasks))
     if options.executor:
-        raise ValueError("--executor needs a --device COMMAND that keeps nothing, and --touch-line in place of a person")
+        raise ValueError(
+            "--executor needs a --device COMMAND that keeps nothing, and --touch-line in place of a person"
+        )
     if alone:
         return [play(session, device) for session in sessions]
     with ThreadPoolExecutor(options.jobs) as pool:
