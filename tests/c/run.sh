@@ -25,7 +25,7 @@ play_on() {
     "${@:2}" "$room/key" <"$1" >"$room/held" || stop "a key that is held fails at $1"
     cmp -s "$room/replayed" "$room/held" || stop "a key that is held differs at $1"
     "${@:2}" "$room/key" recorded <"$1" >"$room/recorded" || stop "a recording fails at $1"
-    grep '^[>tpks<]' "$room/replayed" | tr A-F a-f | cmp -s - "$room/recorded" || stop "a recording differs at $1"
+    sed -n '/^[>tpks<]/p' "$room/replayed" | tr A-F a-f | cmp -s - "$room/recorded" || stop "a recording differs at $1"
     "$top/release/hidlog" check "$room/recorded" >/dev/null || stop "a recording of $1 doesn't pass"
     "$top/release/hidlog" live <"$1" >"$room/lived"
     "${@:2}" "$room/key" lines <"$1" >"$room/held" || stop "the lines of a key fail at $1"
