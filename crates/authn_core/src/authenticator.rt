@@ -214,9 +214,7 @@ impl<T: Table<C>, const C: usize> Core<T, C> {
                 self.last_steps = steps;
                 self.serve(*cid, request)
             }
-            Event::Presence(reply) => self.take_presence(*reply),
-            Event::Key(key) => self.take_key(key),
-            Event::Signature(signature) => self.take_signature(signature),
+            Event::Presence(_) | Event::Key(_) | Event::Signature(_) => self.reply(event),
             Event::Cancel => self.refuse_all(Status::KEEPALIVE_CANCEL),
             Event::Drop => {
                 self.pending.clear();
@@ -251,12 +249,10 @@ impl<T: Table<C>, const C: usize> Core<T, C> {
         let Some(Job { cid, task }) = &self.work else {
             return None;
         };
-        let status = match task {
-            Task::WantsKey(_) | Task::SignsMake(..) | Task::SignsAssert(..) =>
-                KeepaliveStatus::Processing,
-            _ => KeepaliveStatus::PresenceNeeded,
-        };
-        Some(Work { cid: *cid, status })
+        Some(Work {
+            cid: *cid,
+            status: task.status(),
+        })
     }
 
     /// The table.

@@ -1,5 +1,10 @@
 //! What work is at.
 
+ghost use Rattle.std.specs.Prelude.{◌≡◌};
+ghost use Rattle.authn_core.specs.State.{status};
+ghost use Rattle.authn_core.specs.Views.{status_number, task_of};
+
+use crate::work::KeepaliveStatus;
 use arrayvec::ArrayVec;
 use cred_table::Name;
 
@@ -33,6 +38,20 @@ pub(crate) enum Task {
     SignsMake(Making, crate::replies::NewKey, ArrayVec<u8, 196>),
     AsksAssert(Asserting),
     SignsAssert(Asserting, u32, ArrayVec<u8, 196>),
+}
+
+impl Task {
+    /// Returns what a KEEPALIVE says while it waits.
+    pub(crate) fn status(&self) -> KeepaliveStatus
+        ensures { status_number result ≡ status (task_of self.now) }
+    {
+        match self {
+            Task::WantsKey(_) | Task::SignsMake(..) | Task::SignsAssert(..) =>
+                KeepaliveStatus::Processing,
+            Task::Resets | Task::Selects | Task::AsksMake(..) | Task::AsksAssert(_) =>
+                KeepaliveStatus::PresenceNeeded,
+        }
+    }
 }
 
 /// Waiting work, with the channel that asked.

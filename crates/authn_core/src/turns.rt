@@ -2,12 +2,13 @@
 
 ghost use Rattle.std.specs.Prelude.{None};
 ghost use Rattle.ctap_message.specs.Shown.{shown, IsFresh, HasLengths};
-ghost use Rattle.authn_core.specs.State.{PresenceIs, SignatureIs, refuses};
+ghost use Rattle.authn_core.specs.State.{refuses, waits};
+ghost use Rattle.authn_core.specs.Ready.{TaskReady};
 ghost use Rattle.authn_core.specs.Turn.{requested, reply_turn};
-ghost use Rattle.authn_core.specs.Views.{Takes};
+ghost use Rattle.authn_core.specs.Views.{Takes, event_of, task_of};
 
 use crate::authenticator::{Core, Turn};
-use crate::replies::{Presence, Signature};
+use crate::event::Event;
 use crate::task::{Job, Task};
 use cred_table::Table;
 use ctap_message::{Request, Status, write_status};
@@ -63,38 +64,39 @@ impl<T: Table<C>, const C: usize> Core<T, C> {
         self.refuse(status)
     }
 
-    /// Goes on by the reply of a test of user presence.
-    pub(crate) fn take_presence(&mut self, reply: Presence) -> Turn
-        ensures { Takes self.old self.new result (reply_turn self.old.core.setup self.old.core.state self.old.latest
-            self.old.core.state.work (PresenceIs reply)) }
+    /// Lets work begin or go on.
+    pub(crate) fn wait(&mut self, cid: u32, task: Task) -> Turn
+        requires { TaskReady self.old.core.setup.room self.old.core.state.rows (task_of task) }
+        ensures { Takes self.old self.new result (waits self.old.core.state.rows self.old.core.state.pending cid
+            (task_of task)) }
     {
-        let Some(Job { cid, task }) = self.work.take() else {
-            return Turn::Ignored;
-        };
-        match task {
-            Task::Resets => self.reset(reply),
-            Task::Selects => self.select(reply),
-            Task::AsksMake(making, excluded) => self.make_presence(cid, making, excluded, reply),
-            Task::AsksAssert(a) => self.assert_presence(cid, a, reply),
-            task => {
-                self.work = Some(Job { cid, task });
-                Turn::Ignored
-            }
-        }
+        let status = task.status();
+        self.work = Some(Job { cid, task });
+        Turn::Waits(status)
     }
 
-    /// Goes on by a signature.
-    pub(crate) fn take_signature(&mut self, signature: &Option<Signature>) -> Turn
+    /// Goes on by a reply, where the waiting work needs it.
+    pub(crate) fn reply(&mut self, reply: &Event<'_>) -> Turn
         ensures { Takes self.old self.new result (reply_turn self.old.core.setup self.old.core.state self.old.latest
-            self.old.core.state.work (SignatureIs signature.now)) }
+            self.old.core.state.work (event_of reply.now)) }
     {
         let Some(Job { cid, task }) = self.work.take() else {
             return Turn::Ignored;
         };
-        match task {
-            Task::SignsMake(making, key, _) => self.make_signature(making, key, signature),
-            Task::SignsAssert(a, counter, _) => self.assert_signature(a, counter, signature),
-            task => {
+        match (task, reply) {
+            (Task::Resets, Event::Presence(reply)) => self.reset(*reply),
+            (Task::Selects, Event::Presence(reply)) => self.select(*reply),
+            (Task::AsksMake(making, excluded), Event::Presence(reply)) => self.make_presence(
+                cid, making, excluded, *reply,
+            ),
+            (Task::AsksAssert(a), Event::Presence(reply)) => self.assert_presence(cid, a, *reply),
+            (Task::WantsKey(making), Event::Key(key)) => self.make_key(cid, making, key),
+            (Task::SignsMake(making, key, _), Event::Signature(signature)) => self.make_signature(
+                making, key, signature,
+            ),
+            (Task::SignsAssert(a, counter, _), Event::Signature(signature)) =>
+                self.assert_signature(a, counter, signature),
+            (task, _) => {
                 self.work = Some(Job { cid, task });
                 Turn::Ignored
             }

@@ -110,28 +110,29 @@ impl Channel {
         true
     }
 
+    /// Ends the unfinished message that began before one that is refused with this code, where that ends it too.
+    fn end_before(&mut self, refused: &Transaction, code: u8, ends: &mut Ends) {
+        let (cause, by) = if refused.message == INIT {
+            (INVALID_LENGTH, End::Dropped(refused.line))
+        } else {
+            (INVALID_SEQUENCE, End::Replaced(refused.line))
+        };
+        let is_ended = self.held.is_some_and(|held| {
+            !held.is_whole() && held.transaction.line < refused.line
+        });
+        if is_ended
+            && code == cause
+            && let Some(held) = self.free(ends)
+        {
+            ends.add(held, by);
+        }
+    }
+
     /// Takes an ERROR that is no time-out of an open message.
     fn refuse_one(&mut self, code: u8, ends: &mut Ends) -> Option<Transaction> {
         if let Some(refused) = self.refused_start(code) {
-            let is_init = refused.transaction.message == INIT;
-            let line = refused.transaction.line;
             ends.add(refused, End::Refused(code));
-            let by = if is_init {
-                End::Dropped(line)
-            } else {
-                End::Replaced(line)
-            };
-            let cause = if is_init {
-                INVALID_LENGTH
-            } else {
-                INVALID_SEQUENCE
-            };
-            let ends_held = self.held.is_some_and(|held| !held.is_whole()
-                && held.transaction.line < line
-                && code == cause);
-            if ends_held && let Some(held) = self.free(ends) {
-                ends.add(held, by);
-            }
+            self.end_before(&refused.transaction, code, ends);
             return Some(refused.transaction);
         }
         let is_of_stray = match &self.held {

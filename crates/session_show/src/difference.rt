@@ -3,10 +3,11 @@ ghost use Rattle.std.specs.Prelude.{◌<◌, ◌-◌, ◌^◌};
 
 use crate::entry::{MessageLines, PacketLine};
 use crate::exchange::Transaction;
+use crate::packet_line::channel_of;
 use crate::pen::Pen;
 use crate::putting::put_written;
 use crate::reason::{Awaited, Reason};
-use crate::walk::{Walk, channel_of};
+use crate::walk::Walk;
 use crate::wording::Wording;
 use hid_packet::{Outbox, Packet};
 use session_log::{Failed, Line, LogFault, Source, Target, Window, next_line, read_line};

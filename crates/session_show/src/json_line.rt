@@ -9,11 +9,11 @@ use crate::json::{
 };
 use crate::json_item::write_item_json;
 use crate::member_names::Map;
-use crate::packet_line::name_of;
+use crate::packet_line::{channel_of, name_of};
 use crate::pen::Pen;
 use crate::putting::Written;
 use crate::rp_id::RpId;
-use crate::walk::{Walk, channel_of};
+use crate::walk::Walk;
 use crate::words::{command_name, error_name, keepalive_name, status_name};
 use authn_core::Presence;
 use ctap_cbor::check;

@@ -5,6 +5,13 @@ use crate::words::{error_name, keepalive_name, write_name};
 use hid_packet::command::{CANCEL, CBOR, ERROR, INIT, KEEPALIVE, LOCK, MSG, PING, WINK};
 use hid_packet::{Packet, View};
 
+/// Returns a packet's channel.
+pub fn channel_of(packet: &Packet) -> u32 {
+    match packet.view() {
+        View::Start { cid, .. } | View::More { cid, .. } => cid,
+    }
+}
+
 /// Returns the name of a command, where it has one.
 pub fn name_of(command: u8) -> Option<&'static str> {
     match command {

@@ -2,9 +2,10 @@
 
 use crate::difference::Difference;
 use crate::exchange::Exchange;
+use crate::packet_line::channel_of;
 use crate::pen::Pen;
 use crate::putting::Written;
-use crate::walk::{Walk, channel_of};
+use crate::walk::Walk;
 use authn_core::Need;
 use hid_packet::command::ERROR;
 use hid_packet::{Packet, View};

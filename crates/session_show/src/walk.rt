@@ -6,6 +6,7 @@ use crate::channels::Channels;
 use crate::device::{Answer, NO_TIME_OUT, TIMED_OUT};
 use crate::entry::{Entry, Follows, Message};
 use crate::exchange::{Ended, Ends, Exchange, Transaction, is_whole};
+use crate::packet_line::channel_of;
 use crate::pool::Pool;
 use crate::rp_id::RpId;
 use ctap_cbor::check;
@@ -79,13 +80,6 @@ pub struct Walk {
     shown: Option<Shown>,
     /// .. and what it shows of a doubtful one before it.
     decided: Option<Decided>,
-}
-
-/// Returns a packet's channel.
-pub fn channel_of(packet: &Packet) -> u32 {
-    match packet.view() {
-        View::Start { cid, .. } | View::More { cid, .. } => cid,
-    }
 }
 
 impl Walk {

@@ -8,8 +8,7 @@ ghost use Rattle.authn_core.specs.Views.{Takes};
 use crate::authenticator::{Core, Turn};
 use crate::refusals;
 use crate::replies::Presence;
-use crate::task::{Job, Task};
-use crate::work::KeepaliveStatus;
+use crate::task::Task;
 use cred_table::Table;
 use ctap_message::Status;
 
@@ -26,9 +25,7 @@ impl<T: Table<C>, const C: usize> Core<T, C> {
             return self.refuse_all(refusals::NOT_ALLOWED);
         }
         self.pending.clear();
-        let task = Task::Resets;
-        self.work = Some(Job { cid, task });
-        Turn::Waits(KeepaliveStatus::PresenceNeeded)
+        self.wait(cid, Task::Resets)
     }
 
     /// Takes all rows out where the user consents, and answers what the user did.
@@ -49,9 +46,7 @@ impl<T: Table<C>, const C: usize> Core<T, C> {
         ensures { Takes self.old self.new result (waits self.old.core.state.rows None cid Selects) }
     {
         self.pending.clear();
-        let task = Task::Selects;
-        self.work = Some(Job { cid, task });
-        Turn::Waits(KeepaliveStatus::PresenceNeeded)
+        self.wait(cid, Task::Selects)
     }
 
     /// Answers what the user did.

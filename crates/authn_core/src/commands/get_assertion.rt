@@ -16,8 +16,7 @@ ghost use Rattle.authn_core.specs.Ready.{AllThere};
 use crate::authenticator::{Core, Turn};
 use crate::refusals;
 use crate::replies::{Presence, Signature};
-use crate::task::{Asserting, Job, Task};
-use crate::work::KeepaliveStatus;
+use crate::task::{Asserting, Task};
 use arrayvec::ArrayVec;
 use cred_table::Table;
 use ctap_message::{Descriptors, write_assertion};
@@ -129,9 +128,7 @@ impl<T: Table<C>, const C: usize> Core<T, C> {
         if !presence {
             return self.sign(cid, &a);
         }
-        let task = Task::AsksAssert(a);
-        self.work = Some(Job { cid, task });
-        Turn::Waits(KeepaliveStatus::PresenceNeeded)
+        self.wait(cid, Task::AsksAssert(a))
     }
 
     /// Lets an assertion go on: its row's counter is raised, and it waits for the signature.
@@ -141,11 +138,10 @@ impl<T: Table<C>, const C: usize> Core<T, C> {
         ensures { Takes self.old self.new result (signs self.old.core.state.rows self.old.core.state.pending cid
             (asserting_of a.now)) }
     {
+        self.work = None;
         let counter = self.table.raise(&a.id);
         let data = AuthData::assertion(&a.rp, a.presence, counter);
-        let task = Task::SignsAssert(*a, counter, to_sign(&data, &a.hash));
-        self.work = Some(Job { cid, task });
-        Turn::Waits(KeepaliveStatus::Processing)
+        self.wait(cid, Task::SignsAssert(*a, counter, to_sign(&data, &a.hash)))
     }
 
     /// Lets the row sign where the user consents.

@@ -5,16 +5,13 @@ ghost use Rattle.std.specs.List.{find};
 ghost use Rattle.cred_table.specs.Rows.{has_id, stored};
 ghost use Rattle.ctap_message.specs.Descriptors.{ids_of};
 ghost use Rattle.ctap_message.specs.DescriptorWalk.{left_of};
-ghost use Rattle.authn_core.specs.State.{KeyIs};
-ghost use Rattle.authn_core.specs.Turn.{reply_turn};
 ghost use Rattle.authn_core.specs.MakeCredential as make;
 ghost use Rattle.authn_core.specs.Views.{Takes, making_of};
 
 use crate::authenticator::{Core, Turn};
 use crate::refusals;
 use crate::replies::{NewKey, Presence, Signature};
-use crate::task::{Job, Making, Task};
-use crate::work::KeepaliveStatus;
+use crate::task::{Making, Task};
 use arrayvec::ArrayVec;
 use cred_table::{Name, Row, Table};
 use ctap_message::{Descriptors, write_created};
@@ -97,9 +94,7 @@ impl<T: Table<C>, const C: usize> Core<T, C> {
         making.user.try_extend_from_slice(user_id).unwrap();
         let excluded = names_one(&self.table, &making.rp, exclude);
         self.pending.clear();
-        let task = Task::AsksMake(making, excluded);
-        self.work = Some(Job { cid, task });
-        Turn::Waits(KeepaliveStatus::PresenceNeeded)
+        self.wait(cid, Task::AsksMake(making, excluded))
     }
 
     /// Asks for a key where the user consents and there is capacity.
@@ -124,23 +119,15 @@ impl<T: Table<C>, const C: usize> Core<T, C> {
         if is_full && !(making.discoverable && self.table.same_user(&making.rp, user).is_some()) {
             return self.refuse(refusals::KEY_STORE_FULL);
         }
-        let task = Task::WantsKey(making);
-        self.work = Some(Job { cid, task });
-        Turn::Waits(KeepaliveStatus::Processing)
+        self.wait(cid, Task::WantsKey(making))
     }
 
-    /// Asks for a signature by a key with a new id, where a key is waited for.
-    pub(crate) fn take_key(&mut self, key: &Option<NewKey>) -> Turn
-        ensures { Takes self.old self.new result (reply_turn self.old.core.setup self.old.core.state self.old.latest
-            self.old.core.state.work (KeyIs key.now)) }
+    /// Asks for a signature by a key with a new id.
+    pub(crate) fn make_key(&mut self, cid: u32, making: Making, key: &Option<NewKey>) -> Turn
+        requires { make.fits C (making_of making) self.old.core.state.rows ≡ true }
+        ensures { Takes self.old self.new result (make.key_wanted self.old.core.setup.aaguid
+            self.old.core.state.rows self.old.core.state.pending cid (making_of making) key.now) }
     {
-        let Some(Job { cid, task }) = self.work.take() else {
-            return Turn::Ignored;
-        };
-        let Task::WantsKey(making) = task else {
-            self.work = Some(Job { cid, task });
-            return Turn::Ignored;
-        };
         let Some(key) = key else {
             return self.refuse(refusals::OTHER);
         };
@@ -149,9 +136,7 @@ impl<T: Table<C>, const C: usize> Core<T, C> {
         }
         let data = AuthData::created(&making.rp, &self.config.aaguid, &key.id, &key.x, &key.y);
         let signed = to_sign(&data, &making.hash);
-        let task = Task::SignsMake(making, *key, signed);
-        self.work = Some(Job { cid, task });
-        Turn::Waits(KeepaliveStatus::Processing)
+        self.wait(cid, Task::SignsMake(making, *key, signed))
     }
 
     /// Stores the row once it is signed.

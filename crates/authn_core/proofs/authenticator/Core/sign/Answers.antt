@@ -6,4 +6,7 @@ pub returns : goal.returns
 returns g c = let signed = rw c.assertion-data.ensures.value at c.to_sign.ensures.value in search rules
 
 pub invariant_of-self : goal.invariant_of-self
-invariant_of-self g c = grind (arith, pending_raised, find_raised)
+invariant_of-self g c = grind (arith, pending_raised)
+
+pub wait-requires : goal.wait-requires
+wait-requires g c = grind (arith, find_raised)
