@@ -142,13 +142,13 @@ def saving_replaces(room: Path) -> None:
 
 
 def a_failed_write_keeps(room: Path) -> None:
-    """A write of the snapshot that fails, or a kill at it, leaves the old file as it was."""
+    """A write of the snapshot that fails, or a kill at it, leaves the old file as it was. The first one is the copy's."""
     for old in (SNAPSHOT.read_bytes(), bytes.fromhex("a201020280")):
         for fault in ("error=ENOSPC", "error=EIO", "signal=KILL"):
             keys = room / "keys"
             keys.write_bytes(old)
             words = ["replay", "--load", str(SNAPSHOT), "--save", str(keys)]
-            trace = ["-e", f"inject=pwrite64:{fault}:when=1"]
+            trace = ["-e", f"inject=pwrite64:{fault}:when=2"]
             said = run(words, AGAIN.read_bytes(), trace=trace)
             assert said.returncode != 0, f"{fault}: nothing was injected"
             assert keys.read_bytes() == old, f"{fault}: the file has {len(keys.read_bytes())} bytes"
@@ -516,17 +516,21 @@ def several_are_checked(room: Path) -> None:
 
 
 def forms_are_shown(room: Path) -> None:
-    """`show --summary` and `show --json` say other things than lines, of a log with a fault too; JSON comes first."""
+    """`show --summary` and `show --json` say other things than lines, of a log with a fault too; with both words the
+    summary is JSON."""
     log = EXAMPLES / "sign_in.log"
     lines = explained(["show", str(log)]).stdout
     summary = explained(["show", "--summary", str(log)])
     wants(summary, 0, b"")
     assert b"authenticatorGetAssertion" in summary.stdout and summary.stdout != lines
-    for words in (["show", "--json"], ["show", "--summary", "--json"]):
-        said = explained([*words, str(log)])
-        wants(said, 0, b"")
-        objects = [json.loads(line) for line in said.stdout.splitlines()]
-        assert len(objects) > 20 and all(isinstance(it, dict) for it in objects)
+    said = explained(["show", "--json", str(log)])
+    wants(said, 0, b"")
+    objects = [json.loads(line) for line in said.stdout.splitlines()]
+    assert len(objects) > 20 and all(isinstance(it, dict) for it in objects)
+    said = explained(["show", "--summary", "--json", str(log)])
+    wants(said, 0, b"")
+    *ended, counts = [json.loads(line) for line in said.stdout.splitlines()]
+    assert ended == [it for it in objects if it["kind"] == "transaction"] and counts["kind"] == "summary"
     bad = room / "bad.log"
     bad.write_bytes(log.read_bytes() + b"t 5x\n")
     count = len(bad.read_bytes().splitlines())
