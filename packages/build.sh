@@ -88,6 +88,7 @@ make_tarball() {
     put 755 release/libhidlog.so.0 "$root/lib/libhidlog.so.0"
     ln -s libhidlog.so.0 "$root/lib/libhidlog.so"
     put 644 release/hidlog.h "$root/include/hidlog.h"
+    put 644 release/hidlog_recording.h "$root/include/hidlog_recording.h"
     mkdir -p "$root/lib/pkgconfig"
     sed -e "s|^prefix=.*|prefix=\${pcfiledir}/../..|" -e "s|^Cflags:.*|Cflags: -I\${prefix}/include|" \
         -e "s|^Libs:.*|Libs: -L\${prefix}/lib -lhidlog|" "$top/release/hidlog.pc" >"$root/lib/pkgconfig/hidlog.pc"

@@ -124,6 +124,7 @@ make_library() {
         "A key that a C program holds: one input a call, packets and needs out."
     root=$room/$1/libhidlog-dev
     put 644 release/hidlog.h "$root/usr/include/hidlog.h"
+    put 644 release/hidlog_recording.h "$root/usr/include/hidlog_recording.h"
     install -D -m 644 "$top/$4" "$root/$libraries/libhidlog.a"
     ln -s libhidlog.so.0 "$root/$libraries/libhidlog.so"
     mkdir -p "$root/$libraries/pkgconfig"
