@@ -9,7 +9,7 @@ import { test } from "node:test";
 import { fileURLToPath } from "node:url";
 import vm from "node:vm";
 import { webcrypto } from "node:crypto";
-import { install } from "../../web/dist/security_key.mjs";
+import { install, SecurityKey } from "../../web/dist/security_key.mjs";
 
 const SCRIPT = fileURLToPath(new URL("../../web/dist/security_key.js", import.meta.url));
 const JSDOM = "/usr/share/nodejs/jsdom";
@@ -120,4 +120,51 @@ test("through a bundler", { skip: !hasEsbuild && "esbuild is missing" }, () => {
     } finally {
         rmSync(room, { recursive: true });
     }
+});
+
+/** Registers, and signs in so many times. */
+const signsIn = async (key, times) => {
+    const publicKey = { challenge: new Uint8Array(32), rpId: "example.com" };
+    await key.create({ publicKey: {
+        ...publicKey, rp: { name: "A" }, user: { id: Uint8Array.of(1), name: "ann", displayName: "Ann" },
+        pubKeyCredParams: [{ type: "public-key", alg: -7 }], authenticatorSelection: { residentKey: "required" },
+    } });
+    for (let count = 0; count < times; count += 1) {
+        await key.get({ publicKey });
+    }
+};
+
+const origin = "https://example.com";
+
+test("with record: false nothing is recorded, and the key is the same", async () => {
+    const store = { text: null, getItem: () => store.text, setItem: (_, text) => { store.text = text; } };
+    const key = new SecurityKey({ origin, record: false, store });
+    key.faults.delay = 1;
+    await signsIn(key, 3);
+    assert.equal(key.log(), "");
+    assert.deepEqual(key.recordings(), []);
+    assert.equal("recordings" in JSON.parse(store.text), false);
+    const next = new SecurityKey({ origin, store });
+    await next.get({ publicKey: { challenge: new Uint8Array(32), rpId: "example.com" } });
+    const [{ signCount }] = await next.getCredentials();
+    assert.equal(signCount, 4);
+    assert.equal(next.recordings().length, 1);
+    assert.ok(next.recordings()[0].snapshot.length > 0, "its recording begins with the credential");
+    assert.throws(() => new SecurityKey({ origin, record: "no" }), /record.*true or false/s);
+});
+
+test("a long recording is in parts, each of which passes check", async () => {
+    const key = new SecurityKey({ origin });
+    await signsIn(key, 7000);
+    const parts = key.recordings();
+    assert.equal(parts.length, 2);
+    const folder = mkdtempSync(join(tmpdir(), "hidlog"));
+    for (const { snapshot, log } of parts) {
+        writeFileSync(join(folder, "snapshot"), snapshot);
+        const words = snapshot.length ? ["--load", join(folder, "snapshot")] : [];
+        const program = process.env.HIDLOG ?? fileURLToPath(new URL("../../hidlog", import.meta.url));
+        const said = execFileSync(program, ["check", ...words], { input: log, encoding: "utf8" });
+        assert.match(said, /^same \d+ inputs/);
+    }
+    rmSync(folder, { recursive: true });
 });

@@ -104,6 +104,8 @@ export interface Options extends Abilities {
     state?: State;
     /** Holds the state, so that it survives reloads: sessionStorage, or localStorage for several tabs. */
     store?: Pick<Kept, "getItem" | "setItem">;
+    /** Whether sessions are recorded, which they are unless it is false. Of a recording the newest 32 MB are held. */
+    record?: boolean;
     /** The page's origin, where there is no location. */
     origin?: string;
     /** Origins that the key is put into too, beside localhost, *.localhost, *.test, *.example and file pages. */

@@ -3514,6 +3514,14 @@ const commentLines = (text) =>
 class Recording {
     /** @type {string[]} an input's lines, or a comment */
     #entries = [];
+    #keeps;
+    // Letters of the entries.
+    length = 0;
+
+    /** @param {boolean} keeps whether anything is recorded */
+    constructor(keeps = true) {
+        this.#keeps = keeps;
+    }
 
     /** How many inputs and comments are recorded. */
     get size() {
@@ -3527,20 +3535,30 @@ class Recording {
      * @param {import("./held.js").Need} need
      */
     add(input, packets, need) {
+        if (!this.#keeps) {
+            return [];
+        }
         const sent = packets.map((packet) => `< ${toHex(packet)}`);
         const lines = [input, ...sent, ...needLines(need)];
-        this.#entries.push(lines.join("\n"));
+        this.#push(lines.join("\n"));
         return lines;
     }
 
     /** @param {string} text */
     note(text) {
-        this.#entries.push(...commentLines(text));
+        commentLines(text).forEach((line) => this.#push(line));
     }
 
     /** Adds a line that is a comment already. @param {string} line */
     keep(line) {
-        this.#entries.push(line);
+        this.#push(line);
+    }
+
+    #push(entry) {
+        if (this.#keeps) {
+            this.#entries.push(entry);
+            this.length += entry.length;
+        }
     }
 
     /** The lines so far, without an end of the last one. */
@@ -3605,11 +3623,12 @@ class Session {
     /**
      * @param {Uint8Array} snapshot the credentials to begin with
      * @param {(passed?: number) => number} clock returns the moment of the next input
+     * @param {boolean} [records] whether anything is recorded
      */
-    constructor(snapshot, clock) {
+    constructor(snapshot, clock, records = true) {
         this.held = new HeldKey(snapshot);
         this.clock = clock;
-        this.recording = new Recording();
+        this.recording = new Recording(records);
         this.need = this.held.need();
         this.isOpen = false;
     }
@@ -3727,6 +3746,9 @@ const { Session } = parts["session.js"];
 // Letters: so much of the session under way is kept in a store, and so much of all. The oldest parts go first.
 const SESSION_MOST = 512 * 1024;
 const ALL_MOST = 1024 * 1024;
+// So much of all is held in memory, and so much of the session under way.
+const HELD_MOST = 32 * 1024 * 1024;
+const HELD_SESSION_MOST = 8 * 1024 * 1024;
 
 /** @typedef {{ part: number, snapshot: Uint8Array, log: string }} Part */
 /** @typedef {{ part: number, snapshot: string, log: string }} KeptPart its snapshot is base64url */
@@ -3755,18 +3777,20 @@ class Recordings {
      * @param {Uint8Array} snapshot the credentials
      * @param {(passed?: number) => number} clock
      * @param {Kept | null} kept what a store has of these credentials' history
+     * @param {boolean} records whether anything is recorded
      */
-    constructor(snapshot, clock, kept) {
+    constructor(snapshot, clock, kept, records) {
         this.clock = clock;
+        this.records = records;
         this.#start(snapshot);
-        if (kept) {
+        if (kept && records) {
             this.take(kept, snapshot);
         }
     }
 
     #start(snapshot) {
         this.#snapshot = snapshot;
-        this.session = new Session(snapshot, this.clock);
+        this.session = new Session(snapshot, this.clock, this.records);
         this.#kept = 0;
     }
 
@@ -3840,11 +3864,22 @@ class Recordings {
 
     /** All sessions, the last of them so far. @returns {Part[]} */
     list() {
-        return [...this.#ended.map(({ isKept, ...part }) => part), this.#last()];
+        return this.records ? [...this.#ended.map(({ isKept, ...part }) => part), this.#last()] : [];
     }
 
-    /** What a store keeps. @param {Uint8Array} snapshot the credentials now @returns {Kept} */
+    /** Drops the oldest recordings where memory has too much of them. @param {() => Uint8Array} snapshot */
+    bound(snapshot) {
+        if (this.session.recording.length > HELD_SESSION_MOST) {
+            this.begin(snapshot());
+            this.#ended = this.#ended.slice(-newest(this.#ended, HELD_MOST) || this.#ended.length);
+        }
+    }
+
+    /** What a store keeps. @param {Uint8Array} snapshot the credentials now @returns {Kept | undefined} */
     kept(snapshot) {
+        if (!this.records) {
+            return undefined;
+        }
         if (this.session.recording.lines().length > SESSION_MOST) {
             this.begin(snapshot);
         }
@@ -3927,14 +3962,14 @@ class Authenticator {
      * @param {import("./private_keys.js").PrivateKeys} privateKeys
      * @param {import("./faults.js").Faults} faults
      * @param {(passed?: number) => number} clock
-     * @param {{ snapshot: Uint8Array, kept: import("./recordings.js").Kept | null }} begun the credentials to begin
-     * with, and what a store has of their history
+     * @param {{ snapshot: Uint8Array, kept: import("./recordings.js").Kept | null, records: boolean }} begun the
+     * credentials to begin with, what a store has of their history, and whether anything is recorded
      */
-    constructor(privateKeys, faults, clock, { snapshot, kept }) {
+    constructor(privateKeys, faults, clock, { snapshot, kept, records }) {
         this.privateKeys = privateKeys;
         this.faults = faults;
         this.clock = clock;
-        this.#recordings = new Recordings(snapshot, clock, kept);
+        this.#recordings = new Recordings(snapshot, clock, kept, records);
     }
 
     get session() {
@@ -5494,7 +5529,7 @@ const { checkState, rowsIn, stateOf } = parts["state.js"];
 const { checkStore, Store } = parts["store.js"];
 const { User } = parts["user.js"];
 
-const OPTIONS = ["presence", "delay", "account", "clock", "state", "store", "origin", "crypto", "allowOrigins",
+const OPTIONS = ["presence", "delay", "account", "clock", "state", "store", "origin", "crypto", "allowOrigins", "record",
     ...ABILITIES];
 const EVENTS = ["credentialAdded", "credentialAsserted", "credentialDeleted", "credentialUpdated"];
 const CREDENTIAL_EXCLUDED = 0x19;
@@ -5529,6 +5564,7 @@ class SecurityKey extends EventTarget {
     #store;
     #time = { moment: 0 };
     #user;
+    #records;
 
     static {
         for (const name of ABILITIES) {
@@ -5547,7 +5583,9 @@ class SecurityKey extends EventTarget {
     constructor(options = {}) {
         super();
         checkMembers("option", options, OPTIONS);
-        const { presence = "granted", delay = 0, account = 0, clock, state, store, crypto, origin } = options;
+        const { presence = "granted", delay = 0, account = 0, record = true, clock, state, store, crypto, origin } = options;
+        checkKind("record", record, typeof record === "boolean", "true or false");
+        this.#records = record;
         checkKind("clock", clock, ["undefined", "function"].includes(typeof clock), "a function of milliseconds");
         this.#user = new User({ presence, delay });
         this.account = account;
@@ -5584,7 +5622,7 @@ class SecurityKey extends EventTarget {
     /** The proved key, which is made when it is asked for first. */
     get #key() {
         if (!this.#authenticator) {
-            const begun = { snapshot: snapshotOf(this.#start), kept: this.#kept };
+            const begun = { snapshot: snapshotOf(this.#start), kept: this.#kept, records: this.#records };
             this.#authenticator = new Authenticator(this.#privateKeys, this.#faults, this.#clock, begun);
             this.#kept = null;
         }
@@ -5622,9 +5660,12 @@ class SecurityKey extends EventTarget {
 
     // What is recorded and kept.
 
-    /** The recording since the last change of credentials by hand: a log that `hidlog check` passes. */
+    /**
+     * The recording since the last change of credentials by hand: a log that `hidlog check` passes. It is empty where
+     * nothing is recorded.
+     */
     log() {
-        return this.recordings().at(-1).log;
+        return this.recordings().at(-1)?.log ?? "";
     }
 
     /** All recordings: each with the snapshot that it began with, for `hidlog check --load`. */
@@ -5649,7 +5690,7 @@ class SecurityKey extends EventTarget {
     /** Goes on with other credentials, and with the recording that led to them, where there is one. */
     #take(rows, recordings = undefined) {
         const snapshot = snapshotOf(rows);
-        if (recordings) {
+        if (recordings && this.#records) {
             this.#key.take(recordings, snapshot);
         } else if (!isSame(snapshot, snapshotOf(this.#rows))) {
             this.#key.begin(snapshot);
@@ -5685,6 +5726,7 @@ class SecurityKey extends EventTarget {
 
     /** Writes what is recorded and not in the store yet. */
     async #keep() {
+        this.#authenticator?.recordings.bound(() => snapshotOf(this.#rows));
         if (this.#store.isThere && this.#authenticator?.recordings.isAhead) {
             await (await this.#hold())();
         }

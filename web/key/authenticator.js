@@ -41,14 +41,14 @@ export class Authenticator {
      * @param {import("./private_keys.js").PrivateKeys} privateKeys
      * @param {import("./faults.js").Faults} faults
      * @param {(passed?: number) => number} clock
-     * @param {{ snapshot: Uint8Array, kept: import("./recordings.js").Kept | null }} begun the credentials to begin
-     * with, and what a store has of their history
+     * @param {{ snapshot: Uint8Array, kept: import("./recordings.js").Kept | null, records: boolean }} begun the
+     * credentials to begin with, what a store has of their history, and whether anything is recorded
      */
-    constructor(privateKeys, faults, clock, { snapshot, kept }) {
+    constructor(privateKeys, faults, clock, { snapshot, kept, records }) {
         this.privateKeys = privateKeys;
         this.faults = faults;
         this.clock = clock;
-        this.#recordings = new Recordings(snapshot, clock, kept);
+        this.#recordings = new Recordings(snapshot, clock, kept, records);
     }
 
     get session() {

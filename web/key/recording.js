@@ -27,6 +27,14 @@ const commentLines = (text) =>
 export class Recording {
     /** @type {string[]} an input's lines, or a comment */
     #entries = [];
+    #keeps;
+    // Letters of the entries.
+    length = 0;
+
+    /** @param {boolean} keeps whether anything is recorded */
+    constructor(keeps = true) {
+        this.#keeps = keeps;
+    }
 
     /** How many inputs and comments are recorded. */
     get size() {
@@ -40,20 +48,30 @@ export class Recording {
      * @param {import("./held.js").Need} need
      */
     add(input, packets, need) {
+        if (!this.#keeps) {
+            return [];
+        }
         const sent = packets.map((packet) => `< ${toHex(packet)}`);
         const lines = [input, ...sent, ...needLines(need)];
-        this.#entries.push(lines.join("\n"));
+        this.#push(lines.join("\n"));
         return lines;
     }
 
     /** @param {string} text */
     note(text) {
-        this.#entries.push(...commentLines(text));
+        commentLines(text).forEach((line) => this.#push(line));
     }
 
     /** Adds a line that is a comment already. @param {string} line */
     keep(line) {
-        this.#entries.push(line);
+        this.#push(line);
+    }
+
+    #push(entry) {
+        if (this.#keeps) {
+            this.#entries.push(entry);
+            this.length += entry.length;
+        }
     }
 
     /** The lines so far, without an end of the last one. */

@@ -6,6 +6,9 @@ import { Session } from "./session.js";
 // Letters: so much of the session under way is kept in a store, and so much of all. The oldest parts go first.
 const SESSION_MOST = 512 * 1024;
 const ALL_MOST = 1024 * 1024;
+// So much of all is held in memory, and so much of the session under way.
+const HELD_MOST = 32 * 1024 * 1024;
+const HELD_SESSION_MOST = 8 * 1024 * 1024;
 
 /** @typedef {{ part: number, snapshot: Uint8Array, log: string }} Part */
 /** @typedef {{ part: number, snapshot: string, log: string }} KeptPart its snapshot is base64url */
@@ -34,18 +37,20 @@ export class Recordings {
      * @param {Uint8Array} snapshot the credentials
      * @param {(passed?: number) => number} clock
      * @param {Kept | null} kept what a store has of these credentials' history
+     * @param {boolean} records whether anything is recorded
      */
-    constructor(snapshot, clock, kept) {
+    constructor(snapshot, clock, kept, records) {
         this.clock = clock;
+        this.records = records;
         this.#start(snapshot);
-        if (kept) {
+        if (kept && records) {
             this.take(kept, snapshot);
         }
     }
 
     #start(snapshot) {
         this.#snapshot = snapshot;
-        this.session = new Session(snapshot, this.clock);
+        this.session = new Session(snapshot, this.clock, this.records);
         this.#kept = 0;
     }
 
@@ -119,11 +124,22 @@ export class Recordings {
 
     /** All sessions, the last of them so far. @returns {Part[]} */
     list() {
-        return [...this.#ended.map(({ isKept, ...part }) => part), this.#last()];
+        return this.records ? [...this.#ended.map(({ isKept, ...part }) => part), this.#last()] : [];
     }
 
-    /** What a store keeps. @param {Uint8Array} snapshot the credentials now @returns {Kept} */
+    /** Drops the oldest recordings where memory has too much of them. @param {() => Uint8Array} snapshot */
+    bound(snapshot) {
+        if (this.session.recording.length > HELD_SESSION_MOST) {
+            this.begin(snapshot());
+            this.#ended = this.#ended.slice(-newest(this.#ended, HELD_MOST) || this.#ended.length);
+        }
+    }
+
+    /** What a store keeps. @param {Uint8Array} snapshot the credentials now @returns {Kept | undefined} */
     kept(snapshot) {
+        if (!this.records) {
+            return undefined;
+        }
         if (this.session.recording.lines().length > SESSION_MOST) {
             this.begin(snapshot);
         }

@@ -24,7 +24,7 @@ import { checkState, rowsIn, stateOf } from "./state.js";
 import { checkStore, Store } from "./store.js";
 import { User } from "./user.js";
 
-const OPTIONS = ["presence", "delay", "account", "clock", "state", "store", "origin", "crypto", "allowOrigins",
+const OPTIONS = ["presence", "delay", "account", "clock", "state", "store", "origin", "crypto", "allowOrigins", "record",
     ...ABILITIES];
 const EVENTS = ["credentialAdded", "credentialAsserted", "credentialDeleted", "credentialUpdated"];
 const CREDENTIAL_EXCLUDED = 0x19;
@@ -59,6 +59,7 @@ export class SecurityKey extends EventTarget {
     #store;
     #time = { moment: 0 };
     #user;
+    #records;
 
     static {
         for (const name of ABILITIES) {
@@ -77,7 +78,9 @@ export class SecurityKey extends EventTarget {
     constructor(options = {}) {
         super();
         checkMembers("option", options, OPTIONS);
-        const { presence = "granted", delay = 0, account = 0, clock, state, store, crypto, origin } = options;
+        const { presence = "granted", delay = 0, account = 0, record = true, clock, state, store, crypto, origin } = options;
+        checkKind("record", record, typeof record === "boolean", "true or false");
+        this.#records = record;
         checkKind("clock", clock, ["undefined", "function"].includes(typeof clock), "a function of milliseconds");
         this.#user = new User({ presence, delay });
         this.account = account;
@@ -114,7 +117,7 @@ export class SecurityKey extends EventTarget {
     /** The proved key, which is made when it is asked for first. */
     get #key() {
         if (!this.#authenticator) {
-            const begun = { snapshot: snapshotOf(this.#start), kept: this.#kept };
+            const begun = { snapshot: snapshotOf(this.#start), kept: this.#kept, records: this.#records };
             this.#authenticator = new Authenticator(this.#privateKeys, this.#faults, this.#clock, begun);
             this.#kept = null;
         }
@@ -152,9 +155,12 @@ export class SecurityKey extends EventTarget {
 
     // What is recorded and kept.
 
-    /** The recording since the last change of credentials by hand: a log that `hidlog check` passes. */
+    /**
+     * The recording since the last change of credentials by hand: a log that `hidlog check` passes. It is empty where
+     * nothing is recorded.
+     */
     log() {
-        return this.recordings().at(-1).log;
+        return this.recordings().at(-1)?.log ?? "";
     }
 
     /** All recordings: each with the snapshot that it began with, for `hidlog check --load`. */
@@ -179,7 +185,7 @@ export class SecurityKey extends EventTarget {
     /** Goes on with other credentials, and with the recording that led to them, where there is one. */
     #take(rows, recordings = undefined) {
         const snapshot = snapshotOf(rows);
-        if (recordings) {
+        if (recordings && this.#records) {
             this.#key.take(recordings, snapshot);
         } else if (!isSame(snapshot, snapshotOf(this.#rows))) {
             this.#key.begin(snapshot);
@@ -215,6 +221,7 @@ export class SecurityKey extends EventTarget {
 
     /** Writes what is recorded and not in the store yet. */
     async #keep() {
+        this.#authenticator?.recordings.bound(() => snapshotOf(this.#rows));
         if (this.#store.isThere && this.#authenticator?.recordings.isAhead) {
             await (await this.#hold())();
         }

@@ -25,11 +25,12 @@ export class Session {
     /**
      * @param {Uint8Array} snapshot the credentials to begin with
      * @param {(passed?: number) => number} clock returns the moment of the next input
+     * @param {boolean} [records] whether anything is recorded
      */
-    constructor(snapshot, clock) {
+    constructor(snapshot, clock, records = true) {
         this.held = new HeldKey(snapshot);
         this.clock = clock;
-        this.recording = new Recording();
+        this.recording = new Recording(records);
         this.need = this.held.need();
         this.isOpen = false;
     }

@@ -1,0 +1,22 @@
+// Signs in so many times with the key in node, and says what a sign-in took, and how much memory the key holds then.
+//
+//     node --expose-gc bench/page_key.mjs COUNT [no]      with `no` nothing is recorded
+import { SecurityKey } from "../web/dist/security_key.mjs";
+
+const [count = "10000", record] = process.argv.slice(2);
+const key = new SecurityKey({ origin: "https://example.com", ...(record === "no" ? { record: false } : {}) });
+const publicKey = { challenge: new Uint8Array(32), rpId: "example.com" };
+const user = { id: Uint8Array.of(1), name: "ann", displayName: "Ann" };
+await key.create({ publicKey: { ...publicKey, rp: { name: "A" }, user, pubKeyCredParams: [{ type: "public-key", alg: -7 }],
+    authenticatorSelection: { residentKey: "required" } } });
+globalThis.gc();
+const before = process.memoryUsage();
+const begun = process.cpuUsage();
+for (let time = 0; time < Number(count); time += 1) {
+    await key.get({ publicKey });
+}
+const { user: took } = process.cpuUsage(begun);
+globalThis.gc();
+const after = process.memoryUsage();
+const held = (after.heapUsed + after.external - before.heapUsed - before.external) / 1024 / 1024;
+console.log(`${count} sign-ins, ${key.recordings().length} recordings: ${(took / Number(count)).toFixed(0)} us each, ${held.toFixed(1)} MB more are held`);
