@@ -1,5 +1,5 @@
 #!/usr/bin/env python3
-"""Makes the README's pictures anew, docs/web_light.png and docs/web_dark.png, from the page as it is.
+"""Makes the pages' pictures anew, docs/web_light.png, web_dark.png and web_phone.png, from the page as it is.
 
     tests/web/pictures.py
 
@@ -16,6 +16,7 @@ from driver import Driver, is_there
 
 TOP = Path(__file__).resolve().parents[2]
 WIDTH, HEIGHT = 1200, 720
+PHONE = {"width": 390, "height": 780, "deviceScaleFactor": 1, "mobile": True}
 COUNTER_LINE, RAISED, SAME = 35, "470100000002", "470100000001"
 
 
@@ -61,6 +62,12 @@ def main():
         driver.wait_for("/differs/.test(document.getElementById('notice').textContent)")
         for scheme in ("light", "dark"):
             picture(driver, scheme, TOP / "docs" / f"web_{scheme}.png")
+        driver.devtools("Emulation.setDeviceMetricsOverride", **PHONE)
+        driver.open(f"file://{TOP}/web/index.html")
+        open_log(driver, log)
+        driver.run("document.getElementById('check').click(); arguments[arguments.length - 1]()")
+        driver.wait_for("/differs/.test(document.getElementById('notice').textContent)")
+        picture(driver, "dark", TOP / "docs" / "web_phone.png")
     return 0
 
 

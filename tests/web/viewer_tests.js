@@ -399,6 +399,11 @@ const keepsItsContrast = async () => {
                 faint.push(`${element.tagName}.${element.className} ${ratio.toFixed(2)}`);
             }
         }
+        const hint = page().getComputedStyle(at("search"), "::placeholder").color;
+        const [one, other] = [hint, behind(at("search"))].map(brightness);
+        if ((Math.max(one, other) + 0.05) / (Math.min(one, other) + 0.05) < 4.5) {
+            faint.push("the hint of the search");
+        }
         expect(!faint.length, `${theme}: ${[...new Set(faint)].join("; ")}`);
     }
 };
