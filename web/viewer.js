@@ -7,8 +7,10 @@
     const AT_ONCE = 4 * 1024 * 1024;
     const MOST_BYTES = 1024 * 1024 * 1024;
     const MOST_CHANNELS = 200;
-    // Milliseconds in which most logs are sought through at once.
-    const SOUGHT = 150;
+    // Milliseconds that a letter of a search may stop the page.
+    const SOUGHT = 30;
+    // Lines whose words are asked for at once in a search.
+    const SHOWN_AT_ONCE = 128;
     const CALLER_KINDS = ["presence", "new key", "signature"];
     const SHOWN_KINDS = ["host", "key", "comment", "need"];
     const ARROWS = { host: "→", key: "←", caller: "⇠", need: "?", time: "·", comment: "#", fault: "!" };
@@ -105,7 +107,7 @@
         const row = rowOf(number);
         if (words && !(row.line.source ?? row.line).words && !row.line.isFault) {
             const from = row.line.number - 1;
-            state.shown.showAll(session().lines.slice(from, from + 400).filter((line) => !line.isFault));
+            state.shown.showAll(session().lines.slice(from, from + SHOWN_AT_ONCE).filter((line) => !line.isFault));
         }
         return row.has(words, channel);
     };
@@ -223,7 +225,7 @@
         state.making = drive(steps, part, (rows) => {
             setRows(rows);
             after();
-        }, isLong() ? undefined : isFound ? SOUGHT : Infinity);
+        }, isFound ? (isLong() ? 0 : SOUGHT) : isLong() ? undefined : Infinity);
     };
 
     // ---- the log, played

@@ -1,7 +1,7 @@
 // web/index.html on long logs: rows are there while the rest is read, and the page never stops. Times are printed. They
 // fail the tests where the page's address has `quiet`, on a machine that does nothing else (bench/page.sh); elsewhere
 // only a page that hangs fails.
-import { expect, results, run, until } from "./harness.js";
+import { expect, results, run, until, wait } from "./harness.js";
 import { at, choose, encode, notice, open, page, rows } from "./viewing.js";
 
 const isQuiet = new URLSearchParams(location.search).has("quiet");
@@ -74,6 +74,26 @@ const opensHugeLogs = async () => {
     await open("", null);
 };
 
+/** Words are typed into the search over 30 MB: each letter is taken at once, and the last one finds what there is. */
+const seeks = async () => {
+    await open("", null);
+    await opens(await fileOf("sought.log", "sign_in.log", 30), "\\d+");
+    let longest = 0;
+    const stop = longestBlock();
+    for (const words of ["s", "si", "sig", "signc", "signcount 7"]) {
+        const begun = performance.now();
+        choose("search", words);
+        longest = Math.max(longest, performance.now() - begun);
+        await wait(50);
+    }
+    const blocked = stop();
+    at("cancel").click();
+    results.figures.push(`30 MB, a letter in the search: ${longest.toFixed(0)} ms at most; meanwhile the page never stopped`
+        + ` for more than ${blocked.toFixed(0)} ms`);
+    expect(longest < MOST_A_LETTER, `a letter took ${longest} ms`);
+    await open("", null);
+};
+
 /** A log of 230,000 channels. */
 const opensManyChannels = async () => {
     const packet = (at) => `> ${at} ${(at + 1).toString(16).padStart(8, "0")}8100010${"0".repeat(113)}`;
@@ -84,4 +104,4 @@ const opensManyChannels = async () => {
     await open("", null);
 };
 
-run({ "200 MB": opensHugeLogs, "230,000 channels": opensManyChannels });
+run({ "200 MB": opensHugeLogs, "a search in 30 MB": seeks, "230,000 channels": opensManyChannels });

@@ -1,6 +1,8 @@
 // web/index.html, driven as a user drives it: by files that are dropped, keys and clicks.
 import { expect, results, run, until } from "./harness.js";
-import { at, choose, drop, encode, fetched, fetchedFrom, frame, notice, open, page, press, rows, texts } from "./viewing.js";
+import {
+    at, choose, drop, encode, fetched, fetchedFrom, frame, notice, open, page, press, rows, seek, texts,
+} from "./viewing.js";
 
 const LOGS = ["first", "get_info", "registration", "selection", "sign_in", "sign_in_again", "time_out", "two_hosts"];
 
@@ -18,11 +20,11 @@ const showsALog = (name) => async () => {
 
 const decodesAMessage = async () => {
     await open("registration.log", await fetched("registration.log"));
-    choose("search", "makecredential");
+    await seek("search", "makecredential");
     rows()[0].click();
     const said = at("detail-text").textContent;
     expect(said.includes('\n  2 rp: {"id": "example.com"}\n'), `the request is decoded: ${said}`);
-    choose("search", "packed");
+    await seek("search", "packed");
     rows()[0].click();
     expect(at("detail-text").textContent.includes("\n    flags 41 UP AT\n"), "the authenticator data are decoded");
 };
@@ -46,13 +48,13 @@ const keepsTheWaitingRequest = async () => {
     const has = (title) => texts().some((text) => text.includes(title));
     expect(has("authenticatorGetInfo → ERR_CHANNEL_BUSY"), "the one that is refused");
     expect(has("authenticatorMakeCredential → CTAP2_OK"), "the one that waits");
-    choose("search", "signcount 0");
+    await seek("search", "signcount 0");
     expect(rows().length > 0, "the answer's members are those of a registration");
 };
 
 const filtersByChannel = async () => {
     await open("two_hosts.log", await fetched("two_hosts.log"));
-    choose("channel", "00000002");
+    await seek("channel", "00000002");
     expect(rows().length > 0 && texts().every((text) => text.includes("00000002")), "one channel alone");
 };
 
@@ -110,7 +112,7 @@ const readsFailingSessions = async () => {
         await open(`${name}.log`, await fetched(`failing/${name}.log`));
         press("c");
         expect(notice() === told, `${name}: ${notice()}`);
-        choose("search", sought.toLowerCase());
+        await seek("search", sought.toLowerCase());
         expect(rows().length > 0, `${name}: no row says ${sought}`);
         rows()[0].click();
         expect(texts()[0].includes(sought) || at("detail-text").textContent.includes(sought), `${name}: ${sought}`);
@@ -295,7 +297,7 @@ const opensALongLog = async () => {
     await until(() => / inputs are noise/.test(notice()), "the quiet view");
     results.figures.push(`30 MB opened and made quiet in ${((performance.now() - begun) / 1000).toFixed(1)} s`);
     const searched = performance.now();
-    choose("search", "cancel");
+    await seek("search", "cancel");
     await until(() => /^\d+ of \d+ lines$/.test(at("count").textContent) && rows().length > 0, "what is found");
     results.figures.push(`and searched in ${((performance.now() - searched) / 1000).toFixed(1)} s`);
 };
@@ -317,7 +319,7 @@ const opensCaptures = async () => {
         expect(found.length === 1 && packets === packetsOf(log), `${name}: ${found.length} keys`);
     }
     await open("python_cancel.pcapng", await fetchedFrom("tests/captures/data/python_cancel.pcapng"));
-    choose("search", "cancel");
+    await seek("search", "cancel");
     expect(texts().some((text) => text.includes("CANCEL")), `${notice()} ${texts()}`);
 };
 

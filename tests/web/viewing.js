@@ -24,6 +24,12 @@ export const choose = (id, value) => {
     at(id).dispatchEvent(new (page().Event)(id === "search" ? "input" : "change"));
 };
 
+/** Chooses what is sought, or a channel, and waits until all rows were looked at. */
+export const seek = async (id, value) => {
+    choose(id, value);
+    await until(() => !at("count").textContent.includes("found, at"), `all rows for ${value}`);
+};
+
 export const fetchedFrom = async (path) => new Uint8Array(await (await fetch(`/${path}`)).arrayBuffer());
 
 export const fetched = (name) => fetchedFrom(`examples/${name}`);
