@@ -150,7 +150,8 @@ def test_each_message_is_the_same(both: Both) -> None:
     compared, more = 0, 0
     for path, rows, objects in both:
         seen = [message_of_row(it) for it in rows if it["ctap2.request"] or it["ctap2.status"]]
-        said = [message(it) for it in objects if it["kind"] in ("request", "answer")]
+        of_messages = [it for it in objects if it["kind"] in ("request", "answer")]
+        said = [message(it) for it in of_messages if it["channel"] != "00000000"]
         rest = iter(seen)
         for it in said:
             found = next((row for row in rest if same(row, it)), None)
