@@ -1,5 +1,6 @@
 #!/usr/bin/env python3
-"""Lets python-fido2 and libfido2 set a PIN at the reference authenticator, and sign in with it: they judge its PIN."""
+"""Lets python-fido2 and libfido2 set a PIN at the reference authenticator, sign in with it, manage credentials, write large
+blobs, and be verified by the device: they judge it."""
 
 from __future__ import annotations
 
@@ -9,7 +10,7 @@ import subprocess
 import sys
 import tempfile
 import time
-from typing import List
+from typing import Dict, List, Tuple
 
 from hidlog_conformance.reference.authenticator import Authenticator
 from hidlog_conformance.reference.traits import Traits
@@ -18,9 +19,9 @@ HERE = os.path.dirname(os.path.abspath(__file__))
 KEEPALIVE = 0xBB
 
 
-def bridged(words: List[str], protocols: "tuple[int, ...]") -> str:
+def bridged(words: List[str], traits: Traits) -> str:
     """Plays a client's command to the authenticator, touches as soon as it asks, and returns the client's last line."""
-    authenticator = Authenticator(Traits(protocols=protocols))
+    authenticator = Authenticator(traits)
     pipe, start = subprocess.PIPE, time.monotonic()
     client = subprocess.Popen(words, stdin=pipe, stdout=pipe, text=True)
     assert client.stdin is not None and client.stdout is not None
@@ -41,31 +42,50 @@ def bridged(words: List[str], protocols: "tuple[int, ...]") -> str:
         client.communicate()
 
 
-def compiled(folder: str) -> str:
-    """Compiles the client in C; empty where the compiler or libfido2's header is missing."""
+def compiled(folder: str, name: str) -> str:
+    """Compiles a client in C; empty where the compiler or libfido2's header is missing."""
     if not shutil.which("gcc") or not os.path.exists("/usr/include/fido.h"):
         return ""
-    program, source = os.path.join(folder, "libfido2_pin"), os.path.join(HERE, "pin", "libfido2.c")
+    program, source = os.path.join(folder, name), os.path.join(HERE, "pin", f"{name}.c")
     warnings = ["-Wall", "-Wextra", "-Werror", "-Wno-unused-function"]
     subprocess.run(["gcc", "-O2", *warnings, "-o", program, source, "-lfido2"], check=True)
     return program
 
 
+def runs_in(folder: str) -> Dict[str, Tuple[List[str], Traits]]:
+    """Returns the clients' commands, by their names, each with the authenticator that it is played to."""
+    found: Dict[str, Tuple[List[str], Traits]] = {}
+    python, pin, stored = [sys.executable], compiled(folder, "libfido2"), compiled(folder, "libfido2_stored")
+    for number in (1, 2):
+        words = [str(number)]
+        commands = {
+            "python-fido2": [*python, f"{HERE}/pin/python_client.py", *words],
+            "libfido2": [pin],
+            "python-fido2, what is stored": [*python, f"{HERE}/pin/python_stored.py", *words],
+            "libfido2, what is stored": [stored],
+            "python-fido2, by the user": [*python, f"{HERE}/pin/python_stored.py", *words, "uv"],
+            "libfido2, by the user": [stored, "uv"],
+        }
+        for name, command in commands.items():
+            # libfido2 1.12 manages by the command that was there before CTAP 2.1.
+            traits = Traits(protocols=(number,), built_in_uv=name.endswith("user"), management_preview=True)
+            traits.more_options["credentialMgmtPreview"] = True
+            found[f"{name}, protocol {number}"] = (command, traits)
+    return found
+
+
 def main() -> int:
-    """Plays both clients by each protocol."""
-    failed = 0
+    """Plays the clients by each protocol."""
+    good = failed = 0
     with tempfile.TemporaryDirectory() as folder:
-        program = compiled(folder)
-        runs = {f"python-fido2, protocol {n}": [sys.executable, f"{HERE}/pin/python_client.py", str(n)] for n in (1, 2)}
-        if program:
-            runs.update({f"libfido2, protocol {number}": [program] for number in (1, 2)})
-        else:
-            print("libfido2: skipped, gcc or libfido2-dev is missing")
-        for name, words in runs.items():
-            said = bridged(words, (int(name[-1]),))
-            failed += said != "ok"
+        for name, (words, traits) in runs_in(folder).items():
+            if not words[0]:
+                print(f"{name}: skipped, gcc or libfido2-dev is missing")
+                continue
+            said = bridged(words, traits)
+            good, failed = good + (said == "ok"), failed + (said != "ok")
             print(f"{name}: {said}")
-    print(f"{len(runs) - failed} passed, {failed} failed")
+    print(f"{good} passed, {failed} failed")
     return 1 if failed else 0
 
 

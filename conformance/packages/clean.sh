@@ -1,6 +1,7 @@
 #!/usr/bin/env bash
 # Installs the packages of the corpus in a clean machine, and runs them there as a user who isn't root, against the
-# reference authenticator, with a PIN unset and set: conformance/packages/clean.sh FOLDER
+# reference authenticator: the whole corpus without a PIN, with one that is set, and with a fingerprint:
+# conformance/packages/clean.sh FOLDER
 #
 # FOLDER is made by debootstrap, or used again; it has Debian's base system, and nothing of this repository. Needs root,
 # debootstrap and its mirror. Ends with 3 where one is missing.
@@ -24,16 +25,16 @@ inside() {
         DEBIAN_FRONTEND=noninteractive bash -euc "$2"
 }
 
-# What a maker does who has the command: its version, its cases, those of registrations, with and without a PIN, and a run
-# with each report. The command is $1, and the authenticator's is $2.
+# What a maker does who has the command: its version, its cases, all of them to each kind of authenticator, and a run with
+# each report. The command is $1, and the authenticator's is $2.
 # shellcheck disable=SC2016 # the shell in the machine expands it
 played='
     $1 --version
     $1 --list | tail -1
-    for cases in make/ pin/; do
-        $1 --device "$2" --touch-line touch --reset --jobs 2 --only $cases 2>/dev/null >report || true
+    for kind in "" "--pin 1234" "--fingerprint"; do
+        $1 --device "$2 $kind" --touch-line touch --reset --jobs 8 2>/dev/null >report || true
         grep -A 3 ^failed report || true
-        echo "$cases $(tail -1 report)"
+        echo "all cases ${kind:-without a PIN}: $(tail -1 report)"
         [[ $(tail -1 report) =~ ^[1-9][0-9]*\ passed,\ 0\ failed ]]
     done
     for kind in tap junit json html; do

@@ -27,6 +27,8 @@ ALGORITHM, DENIED, FULL, UNSUPPORTED, INVALID_OPTION = 0x26, 0x27, 0x28, 0x2B, 0
 NO_CREDENTIALS, TIMEOUT, NOT_ALLOWED, PIN_REQUIRED = 0x2E, 0x2F, 0x30, 0x36
 UP, UV, AT, ED = 0x01, 0x04, 0x40, 0x80
 RESET_TIME = 10000
+# Credential management as it was before 2.1.
+PREVIEW = 0x41
 
 
 class Asked:
@@ -113,7 +115,8 @@ class Authenticator:
             return (yield from self.reset(at))
         if command == 8:
             return self.next(at, channel)
-        if command == 10 and self.traits.management and self.traits.has_pin:
+        manages = command == 10 or command == PREVIEW and self.traits.management_preview
+        if manages and self.traits.management and self.traits.has_pin:
             return self.management.serve(self.requests.read(data, requests.MANAGE))
         if command == 12 and self.traits.large_blobs:
             return self.large_blobs.serve(self.requests.read(data, requests.BLOBS))

@@ -58,7 +58,7 @@ class Management:
         pin = self.authenticator.pin
         protocol = pin.protocol(asked, 3)
         data = bytes([asked[1]]) + (encode(asked[2]) if 2 in asked else b"")
-        if not pin.hash or not pin.verified(protocol, data, asked[4]):
+        if not self.authenticator.protected or not pin.verified(protocol, data, asked[4]):
             raise Refused(AUTH_INVALID)
         if not pin.permissions & MANAGE or not self.of_token(asked[1], asked.get(2, {}), pin.rp):
             raise Refused(AUTH_INVALID)

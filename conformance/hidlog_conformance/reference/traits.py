@@ -34,6 +34,7 @@ class Traits:
     make_without_uv: bool = False
     selection: bool = True
     management: bool = True
+    management_preview: bool = False
     large_blobs: bool = True
     largest_array: int = 2048
     u2f: bool = True

@@ -1,0 +1,132 @@
+// libfido2 manages what is stored: it registers with keys of large blobs,
+// lists, renames and deletes credentials, and writes a large blob, by a PIN.
+// With a word it verifies the user by the device, registers and signs in. It
+// writes packets as lines and reads the device's, and ends with a line `ok` or
+// `refused`.
+//
+//     gcc -o libfido2_stored conformance/pin/libfido2_stored.c -lfido2
+#define main main_without_pin
+#include "../clients/libfido2.c"
+#undef main
+#include <fido/credman.h>
+
+static const char pin[] = "1234";
+static const unsigned char blob[] = "a large blob of libfido2's";
+
+static void same(const char *what, unsigned long found, unsigned long wanted) {
+  if (found != wanted) {
+    printf("refused %s: %lu in place of %lu\n", what, found, wanted);
+    exit(1);
+  }
+}
+
+static fido_cred_t *stored(fido_dev_t *device, const char *at, const char *name,
+                           const char *given) {
+  fido_cred_t *cred = fido_cred_new();
+  must("type", fido_cred_set_type(cred, COSE_ES256));
+  must("hash", fido_cred_set_clientdata_hash(cred, hash, sizeof hash));
+  must("rp", fido_cred_set_rp(cred, at, "Example"));
+  must("user", fido_cred_set_user(cred, (const unsigned char *)name,
+                                  strlen(name), name, name, NULL));
+  must("rk", fido_cred_set_rk(cred, FIDO_OPT_TRUE));
+  must("uv",
+       fido_cred_set_uv(cred, given == NULL ? FIDO_OPT_TRUE : FIDO_OPT_OMIT));
+  must("extensions", fido_cred_set_extensions(cred, FIDO_EXT_LARGEBLOB_KEY));
+  must("register", fido_dev_make_cred(device, cred, given));
+  must("uv", fido_cred_set_uv(cred, FIDO_OPT_TRUE));
+  must("verify the registration", fido_cred_verify_self(cred));
+  same("a key of large blobs", fido_cred_largeblob_key_len(cred), 32);
+  return cred;
+}
+
+static void listed(fido_dev_t *device, const fido_cred_t *first) {
+  fido_credman_metadata_t *metadata = fido_credman_metadata_new();
+  fido_credman_rp_t *rps = fido_credman_rp_new();
+  fido_credman_rk_t *found = fido_credman_rk_new();
+  must("metadata", fido_credman_get_dev_metadata(device, metadata, pin));
+  same("credentials", fido_credman_rk_existing(metadata), 3);
+  must("the RPs", fido_credman_get_dev_rp(device, rps, pin));
+  same("RPs", fido_credman_rp_count(rps), 2);
+  must("the credentials", fido_credman_get_dev_rk(device, rp, found, pin));
+  same("credentials of the RP", fido_credman_rk_count(found), 2);
+  const fido_cred_t *one = fido_credman_rk(found, 0);
+  int is_first = memcmp(fido_cred_id_ptr(one), fido_cred_id_ptr(first),
+                        fido_cred_id_len(first)) == 0;
+  one = fido_credman_rk(found, is_first ? 0 : 1);
+  same("the id",
+       memcmp(fido_cred_id_ptr(one), fido_cred_id_ptr(first),
+              fido_cred_id_len(first)),
+       0);
+  same("the key",
+       memcmp(fido_cred_pubkey_ptr(one), fido_cred_pubkey_ptr(first),
+              fido_cred_pubkey_len(first)),
+       0);
+  same("the key of large blobs",
+       memcmp(fido_cred_largeblob_key_ptr(one),
+              fido_cred_largeblob_key_ptr(first), 32),
+       0);
+}
+
+static void changed(fido_dev_t *device, fido_cred_t *first,
+                    const fido_cred_t *second) {
+  fido_cred_t *renamed = fido_cred_new();
+  fido_credman_rk_t *found = fido_credman_rk_new();
+  must("id", fido_cred_set_id(renamed, fido_cred_id_ptr(first),
+                              fido_cred_id_len(first)));
+  must("user", fido_cred_set_user(renamed, (const unsigned char *)"alice", 5,
+                                  "renamed", "Renamed", NULL));
+  must("rename", fido_credman_set_dev_rk(device, renamed, pin));
+  must("delete", fido_credman_del_dev_rk(device, fido_cred_id_ptr(second),
+                                         fido_cred_id_len(second), pin));
+  must("the credentials", fido_credman_get_dev_rk(device, rp, found, pin));
+  same("credentials that are left", fido_credman_rk_count(found), 1);
+  same("the name",
+       (unsigned long)strcmp(fido_cred_user_name(fido_credman_rk(found, 0)),
+                             "renamed"),
+       0);
+}
+
+static void blobs(fido_dev_t *device, const fido_cred_t *first) {
+  unsigned char *found = NULL;
+  size_t length = 0;
+  const unsigned char *key = fido_cred_largeblob_key_ptr(first);
+  must("write a blob",
+       fido_dev_largeblob_set(device, key, 32, blob, sizeof blob, pin));
+  must("read a blob", fido_dev_largeblob_get(device, key, 32, &found, &length));
+  same("the blob's length", length, sizeof blob);
+  same("the blob", (unsigned long)memcmp(found, blob, sizeof blob), 0);
+}
+
+static void by_user(fido_dev_t *device) {
+  int left;
+  must("retries", fido_dev_get_uv_retry_count(device, &left));
+  fido_cred_t *cred = stored(device, rp, "alice", NULL);
+  fido_assert_t *found = fido_assert_new();
+  es256_pk_t *key = es256_pk_new();
+  must("key", es256_pk_from_ptr(key, fido_cred_pubkey_ptr(cred),
+                                fido_cred_pubkey_len(cred)));
+  must("hash", fido_assert_set_clientdata_hash(found, hash, sizeof hash));
+  must("rp", fido_assert_set_rp(found, rp));
+  must("uv", fido_assert_set_uv(found, FIDO_OPT_TRUE));
+  must("sign in", fido_dev_get_assert(device, found, NULL));
+  must("verify the sign-in", fido_assert_verify(found, 0, COSE_ES256, key));
+}
+
+int main(int count, char **words) {
+  (void)words;
+  fido_init(0);
+  fido_dev_t *device = opened();
+  if (count > 1) {
+    by_user(device);
+  } else {
+    must("set a PIN", fido_dev_set_pin(device, pin, NULL));
+    fido_cred_t *first = stored(device, rp, "alice", pin),
+                *second = stored(device, rp, "bob", pin);
+    stored(device, "example.org", "alice", pin);
+    listed(device, first);
+    changed(device, first, second);
+    blobs(device, first);
+  }
+  printf("ok\n");
+  return 0;
+}
