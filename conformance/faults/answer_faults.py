@@ -203,7 +203,8 @@ def names_excluded(request: bytes) -> bool:
 def uv_and_algorithm(request: bytes) -> bool:
     """Says whether a registration wants verification and an algorithm that isn't there."""
     asked = parts_of(request)
-    return request[0] == MAKE and asked.get(7) == {"uv": True} and asked.get(4, [{}])[0].get("alg") == -65535
+    wants_user = isinstance(asked.get(7), dict) and asked[7].get("uv") is True
+    return request[0] == MAKE and wants_user and asked.get(4, [{}])[0].get("alg") == -65535
 
 
 def next_again(device: Faulty, message: Message) -> Optional[Sent]:

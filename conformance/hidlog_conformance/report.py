@@ -15,8 +15,9 @@ from hidlog_conformance.sections import SECTIONS
 TITLES = {title.split(" ")[0]: "CTAP 2.1, " + title for title in SECTIONS.values()}
 Header = Dict[str, str]
 NOT_SAID = (
-    "This is no certification of FIDO's. The corpus was written from knowledge of the standard, and its text wasn't "
-    "compared sentence by sentence. What was skipped wasn't tested."
+    "This is no certification of FIDO's, whose tools test more: metadata, biometric enrolment, configuration, NFC and BLE "
+    "among others. The corpus was written from knowledge of the standard, and its text wasn't compared sentence by "
+    "sentence. What was skipped wasn't tested."
 )
 
 
@@ -92,6 +93,7 @@ def text(outcomes: List[Outcome], header: Header) -> None:
         print(line)
     for word, said in header.items():
         print(f"{word}: {said}")
+    print(f"note: {NOT_SAID}")
     print(totals(outcomes))
 
 

@@ -45,7 +45,7 @@ ABOUT = """Sessions of a host and of a device, and what CTAP 2.1 fixes of each a
 authenticator or a client, and says which rule is broken.
 
 The corpus was written from knowledge of the standard, and its text wasn't compared sentence by sentence. It is no
-certification of FIDO's, whose tools test more: metadata, biometric enrolment, large blobs, NFC and BLE among others.
+certification of FIDO's, whose tools test more: metadata, biometric enrolment, configuration, NFC and BLE among others.
 """
 SCRIPT = "#!/usr/bin/python3\nimport sys\n\nfrom hidlog_conformance.run import installed\n\nsys.exit(installed())\n"
 

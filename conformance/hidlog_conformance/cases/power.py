@@ -22,6 +22,14 @@ def kept() -> List[Case]:
     for _ in range(2):
         case.get(p3=[descriptor(1)]).asserted(RISES).get(p3=[descriptor(1)]).asserted(RISES).power_cycle().greet()
     cases.append(case.get(p3=[descriptor(1)]).asserted(RISES))
+    case = Case("power/counters_of_two_go_on", "get", "So is that of each of two.", **CYCLE)
+    case.greet().register(1).register(2)
+    for number in (1, 2, 1, 2, 2):
+        case.get(p3=[descriptor(number)]).asserted(RISES)
+    case.power_cycle().greet()
+    for number in (1, 2):
+        case.get(p3=[descriptor(number)]).asserted(RISES)
+    cases.append(case)
     case = Case(
         "power/discoverable_stays", "get", "A discoverable credential is found after the power was off.", **FOUND
     )
@@ -62,6 +70,11 @@ def forgotten() -> List[Case]:
     """Pending assertions, channels, messages and requests."""
     cases = []
     case = three(Case("power/pending_is_gone", "next", "Assertions that were pending are forgotten.", **FOUND))
+    cases.append(case.power_cycle().greet().cbor(NEXT).expect("status 30").alive())
+    case = three(
+        Case("power/pending_is_gone_behind_the_first", "next", "So are those behind one that followed.", **FOUND)
+    )
+    case.cbor(NEXT).asserted(f"{RISES} user 02", presence=False)
     cases.append(case.power_cycle().greet().cbor(NEXT).expect("status 30").alive())
     case = Case("power/channel_is_gone", "channels", "A channel from before isn't given out any more.")
     case.comment("needs: power cycle")

@@ -5,7 +5,7 @@ from __future__ import annotations
 from typing import Any, Dict, List
 
 from hidlog_conformance import hid_packets as hid
-from hidlog_conformance.cases.corpus import NEXT, RESET, Case, descriptor
+from hidlog_conformance.cases.corpus import KIND, NEXT, RESET, SELECTION, Case, descriptor
 from hidlog_conformance.cases.flows import ANEW, EMPTY, RISES, TOUCH, three, user
 from hidlog_conformance.cases.likeness import LONG, VERSION
 
@@ -166,6 +166,27 @@ def transport() -> List[Case]:
     return cases + [case.alive()]
 
 
+def others() -> List[Case]:
+    """Time-outs of messages and of the user, and the order of checks."""
+    cases = []
+    case = Case("time/host_hears_of_each", "timeout", "So it should each time.", level="should").greet()
+    for _ in range(2):
+        case.begin(1).tick(4000).expect("error 05")
+    cases.append(case.alive())
+    case = Case("selection/timeout_twice", "selection", "Each selection has its own answer.", needs=["denial"])
+    case.comment("uses: selection")
+    case.greet()
+    for _ in range(2):
+        case.cbor(SELECTION).presence("timeout").expect("status 2f")
+    cases.append(case.alive())
+    case = Case("make/first_algorithms_then_uv_and_rk", "make", "Algorithms are looked at before options.")
+    for use in ("no uv", "rk"):
+        case.comment(f"uses: {use}")
+    listed = [{"alg": number, "type": KIND} for number in (-65535, -65534)]
+    cases.append(case.greet().make(p4=listed, p7={"rk": True, "uv": True}).expect("status 26").alive())
+    return cases
+
+
 def cases() -> List[Case]:
     """Returns the cases of this file."""
-    return lists() + replaced() + pending() + registrations() + transport()
+    return lists() + replaced() + pending() + registrations() + transport() + others()

@@ -52,7 +52,7 @@ TRANSPORT: Dict[str, Rows] = {
     ],
     "11.2.5.2 Transaction timeout": [
         ("a message whose packets stop coming is dropped", "time/message_is_given_up time/just_*"),
-        ("the host hears of it by an ERROR", "time/host_hears_of_it"),
+        ("the host hears of it by an ERROR", "time/host_hears_*"),
         ("it isn't taken up again", "time/late_packet*"),
         ("each of its packets renews the time, and no other", "time/each_packet_renews time/*_renew*_nothing"),
         ("others are served afterwards", "time/other_host* time/init_after_time time/idle_channel_stays"),
@@ -236,7 +236,7 @@ AUTHENTICATOR: Dict[str, Rows] = {
         ("the counters of those that follow rise", "next/counter_rises"),
         ("flags are those of the first", "next/without_presence*"),
         ("what comes between", "next/*_between next/another_channel"),
-        ("nothing is pending after a power cycle", "power/pending_is_gone"),
+        ("nothing is pending after a power cycle", "power/pending_is_gone*"),
     ],
     "6.4 authenticatorGetInfo": [
         ("versions, AAGUID, options, sizes and algorithms by their shape", "info/* client:info/* client:plain/info"),
@@ -274,7 +274,7 @@ AUTHENTICATOR: Dict[str, Rows] = {
         ("a subcommand that isn't known is refused", "manage/unknown_*"),
     ],
     "6.9 authenticatorSelection": [
-        ("a touch is 00, a no 27, no time 2f", "selection/granted selection/denied selection/timeout"),
+        ("a touch is 00, a no 27, no time 2f", "selection/granted selection/denied selection/timeout*"),
         ("the user is asked, and nothing changes", "selection/asks_* selection/changes_nothing"),
     ],
     "6.10 authenticatorLargeBlobs": [
