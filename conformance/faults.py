@@ -6,8 +6,8 @@
 
 Some are filters between the runner and hidlog live: these play the whole corpus without this project's own choices, and
 no case of another rule may name them, but those in `implies`. Others are wrong methods of the reference authenticator:
-these are played until two cases name the rule; `--whole` plays on, and says how many name which. A fault that no case
-names is listed with the reason.
+these are played until two cases name the rule; `--whole` plays on, and says how many name which. Each fault has to be
+named by two cases; one that no case names is listed with the reason.
 """
 
 from __future__ import annotations
@@ -73,12 +73,14 @@ def judged(name: str) -> Tuple[bool, str]:
     own = [outcome for outcome in found.get(fault.section, []) if fault.by in ("", outcome.session.name)]
     strange = {rule: cases for rule, cases in found.items() if rule not in (fault.section, *fault.implies)}
     lacking = [rule for rule in fault.implies if rule not in found]
-    good = bool(own) and not strange and not lacking
+    alone = len(found.get(fault.section, [])) == 1
+    good = bool(own) and not strange and not lacking and not alone
     text = f"{'found ' if good else 'MISSED'}  {fault.name} ({fault.section}): {fault.says}"
     for outcome in own[:1]:
         text += f"\n        by {outcome.session.name}: {outcome.wanted}; came: {outcome.came}"[:208]
     counts = ", ".join(f"{rule}: {len(cases)}" for rule, cases in sorted(found.items()))
     text += f"\n        cases that name a rule: {counts or 'none'}"
+    text += "\n        one case alone names it" if alone else ""
     for rule, cases in strange.items():
         text += f"\n        another rule: {rule} by {cases[0].session.name}: {cases[0].wanted}; came: {cases[0].came}"
     return good, text + "".join(f"\n        implied, but not named: {rule}" for rule in lacking)

@@ -42,7 +42,7 @@ def judged(name: str, whole: bool = False) -> Tuple[bool, str]:
     except OSError as ended:
         return True, f"found   {text}\n        before any case: {ended}"
     own = [outcome for outcome in failed if outcome.broken == fault.section]
-    good = bool(own) != bool(fault.missed)
+    good = not own if fault.missed else len(own) > 1
     word = "found " if own else "listed" if good else "MISSED"
     for outcome in (own or failed)[:1]:
         text += f"\n        by {outcome.session.name}: {outcome.wanted}; came: {outcome.came}"[:208]

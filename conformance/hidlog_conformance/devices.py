@@ -78,6 +78,8 @@ class Device:
     lasting = False
     # Whether the session that comes needs what is kept without power.
     saves = False
+    # How many seconds the runner was late at worst with an input of the session: the device may have timed out.
+    late = 0.0
 
     def start(self) -> None:
         """Begins a session."""
@@ -246,16 +248,23 @@ class RealTimeDevice(Device):
         # The line that stands for a touch in the input of a command.
         self.touch_line = b""
         self.latest: Optional[int] = None
+        # When the input before was handed in.
+        self.before = 0.0
 
     def start(self) -> None:
         """Begins a session."""
         self.latest = None
+        self.late = 0.0
 
     def wait_until(self, at: int) -> None:
         """Sleeps from the moment of the input before to this one's."""
-        if self.latest is not None and at > self.latest:
-            time.sleep((at - self.latest) / 1000)
-        self.latest = at
+        pause = max(0, at - self.latest) / 1000 if self.latest is not None else 0.0
+        if pause:
+            time.sleep(pause)
+        now = time.monotonic()
+        if self.latest is not None:
+            self.late = max(self.late, now - self.before - pause)
+        self.latest, self.before = at, now
 
     def tick(self, at: int) -> None:
         """Lets time pass."""

@@ -32,6 +32,8 @@ from hidlog_conformance.sparing import Sparing
 
 # After so many cases that end by their deadline nothing more is played.
 HANGS = 3
+# A device may drop a message whose packets come so many seconds late.
+LATE = 0.05
 # What a session uses that sets a PIN.
 PINS = "pin token"
 
@@ -78,10 +80,22 @@ def judged(outcome: Outcome, options: argparse.Namespace, offers: Offers) -> Out
     return outcome
 
 
+def may_be_late(device: Device, outcome: Outcome, options: argparse.Namespace) -> bool:
+    """Says whether a case may have failed since the runner was late, on a machine that has much to do."""
+    asks = options.touch and not options.touch_line and "touch" in outcome.session.needs
+    return outcome.status == "not ok" and not outcome.hung and device.late > LATE and not asks
+
+
 def play_one(
-    device: Device, session: Session, options: argparse.Namespace, offers: Offers, sparing: Optional[Sparing] = None
+    device: Device,
+    session: Session,
+    options: argparse.Namespace,
+    offers: Offers,
+    sparing: Optional[Sparing] = None,
+    again: bool = True,
 ) -> Outcome:
-    """Plays a session, or skips it with its reason. Where touches are spared it may go without a reset."""
+    """Plays a session, or skips it with its reason. Where touches are spared it may go without a reset; where the runner
+    was late a case that failed is played once more."""
     reason = offers.lacking(session, device, options.touch, options.reset)
     front = sparing.front(session) if sparing is not None and not reason else ""
     is_empty = sparing is not None and not reason and sparing.empties(session) and empty_blobs(device)
@@ -98,6 +112,8 @@ def play_one(
     outcome = Player(device, session, options.choices, offers.facts(), options.deadline, sparing, front).play()
     if sparing is not None:
         sparing.played(session)
+    if may_be_late(device, outcome, options) and again:
+        return play_one(device, session, options, offers, sparing, False)
     if front and outcome.status == "skip":
         # There is no space beside other cases' credentials.
         return play_one(device, session, options, offers)

@@ -32,7 +32,7 @@ played='
     $1 --version
     $1 --list | tail -1
     for kind in "" "--pin 1234" "--fingerprint"; do
-        $1 --device "$2 $kind" --touch-line touch --reset --jobs 8 2>/dev/null >report || true
+        $1 --device "$2 $kind" --touch-line touch --reset --jobs 4 2>/dev/null >report || true
         grep -A 3 ^failed report || true
         echo "all cases ${kind:-without a PIN}: $(tail -1 report)"
         [[ $(tail -1 report) =~ ^[1-9][0-9]*\ passed,\ 0\ failed ]]

@@ -24,7 +24,7 @@ from typing import List
 
 
 from hidlog_conformance import run
-from hidlog_conformance.devices import LiveDevice
+from hidlog_conformance.devices import LiveDevice, PipeDevice
 from python_key import Key
 
 HERE = os.path.join(os.path.dirname(os.path.abspath(__file__)), "..")
@@ -168,7 +168,34 @@ def order() -> None:
     assert run.in_order(LiveDevice(), sessions, False) == sessions
 
 
+class LateDevice(PipeDevice):
+    """Sends one packet of the first session late, as on a machine that has much to do."""
+
+    slept = False
+
+    def write(self, packet: bytes) -> None:
+        """Writes a packet."""
+        if not packet[4] & 0x80 and not LateDevice.slept:
+            LateDevice.slept = True
+            time.sleep(0.8)
+            self.late = 0.8
+        super().write(packet)
+
+
+def late_runner() -> None:
+    """A case that failed since the runner was late is played once more."""
+    command = f"env PYTHONPATH={os.path.abspath(HERE)} {sys.executable} -m hidlog_conformance.reference"
+    (session,) = run.all_sessions("ping/bytes_0058")
+    options = run.words_of(["--device", command])
+    offers = run.Offers.ask(PipeDevice(command, False), False)
+    for again, wanted in ((False, "not ok"), (True, "ok")):
+        LateDevice.slept = False
+        played = run.play_one(LateDevice(command, False), session, options, offers, None, again)
+        assert played.status == wanted, (again, played)
+
+
 TESTS = {
+    "ways/late": late_runner,
     "ways/order": order,
     "ways/hidraw": hidraw,
     "ways/pipe": pipe,
