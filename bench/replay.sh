@@ -1,6 +1,6 @@
 #!/usr/bin/env bash
 # Counts what a line costs that `hidlog replay` plays: instructions (callgrind), system calls (strace) and processor
-# time, for logs of PINGs, authenticatorGetInfo, ticks and comments, of 1,000 and 100,000 lines, from a file to a file;
+# time, for logs of PINGs of 5 and of 57 bytes, authenticatorGetInfo, ticks and comments, of 1,000 and 100,000 lines, from a file to a file;
 # beside bench/replay_c.c, a C program of the same promises for these lines. Needs rt, gcc, valgrind, strace and
 # Python 3.
 #
@@ -20,7 +20,7 @@ log() {
     python3 - "$1" "$2" <<'PYTHON'
 import sys
 kind, count = sys.argv[1], int(sys.argv[2])
-packet = {"ping": "00000001810005" + b"hello".hex(), "get_info": "0000000190000104"}.get(kind)
+packet = {"ping": "00000001810005" + b"hello".hex(), "long_ping": "00000001810039" + "61" * 57, "get_info": "0000000190000104"}.get(kind)
 line = f"> 5 {packet.ljust(128, '0')}\n" if packet else {
     "tick": "t 5\n", "long_tick": "t 12345\n", "comment": "# a comment\n"}[kind]
 print("> 0 " + "ffffffff8600080001020304050607".ljust(128, "0"))
@@ -70,7 +70,7 @@ per_line() {
 }
 
 printf '%-9s %7s  %21s  %21s  %21s\n' lines '' 'instructions (C)' 'system calls (C)' 'ns (C)'
-for kind in ping get_info tick long_tick comment; do
+for kind in ping long_ping get_info tick long_tick comment; do
     log "$kind" 0 >"$work/$kind.0"
     for count in 1000 100000; do
         log "$kind" "$count" >"$work/$kind.$count"
