@@ -1,6 +1,7 @@
 #!/usr/bin/env bash
 # Counts what a line costs that `hidlog replay` plays: instructions (callgrind), system calls (strace) and processor
-# time, for logs of PINGs of 5 and of 57 bytes, authenticatorGetInfo, ticks and comments, of 1,000 and 100,000 lines, from a file to a file;
+# time, for logs of PINGs of 5 and of 57 bytes, authenticatorGetInfo, ticks and comments, of 1,000 and 100,000 lines,
+# from a file to a file;
 # beside bench/replay_c.c, a C program of the same promises for these lines. Needs rt, gcc, valgrind, strace and
 # Python 3.
 #
