@@ -89,6 +89,17 @@ if command -v gcc >/dev/null; then
     LD_LIBRARY_PATH=$room/root/usr/lib/x86_64-linux-gnu "$room/key" mistakes || stop "a program with the library fails"
     echo "tests/packages.sh: a C program was built with the development package"
 fi
+# Those for arm64, by its compiler and qemu: a C program of the development package plays a session.
+if command -v aarch64-linux-gnu-gcc >/dev/null && command -v qemu-aarch64-static >/dev/null; then
+    for package in "$room"/first/*_arm64.deb; do
+        dpkg-deb -x "$package" "$room/arm64"
+    done
+    other=$room/arm64/usr/lib/aarch64-linux-gnu
+    aarch64-linux-gnu-gcc -I "$room/arm64/usr/include" -o "$room/key_arm64" "$top/tests/c/key.c" -L "$other" -lhidlog
+    qemu-aarch64-static -L /usr/aarch64-linux-gnu -E "LD_LIBRARY_PATH=$other" "$room/key_arm64" <"$log" | cmp - "$log" ||
+        stop "a program with the library for arm64 fails"
+    echo "tests/packages.sh: a C program with the packages for arm64 plays a session, by qemu"
+fi
 # The npm package is found by its name, as a module, by `require`, and by a compiler of TypeScript.
 if command -v node >/dev/null; then
     mkdir -p "$room/npm/node_modules/hidlog"

@@ -1,9 +1,9 @@
 #!/usr/bin/env bash
 # Runs the C library from C programs: the commands on logs (commands.c), a log that is shown (show.c), a key that is held
 # (key.c), which have to write of each worked log what the program writes, and its credentials (credentials.c), saved as
-# the program saves them. Linked with the static and with the shared library of release/; with the sanitizers of gcc; and for aarch64 where its compiler and qemu are there. Looks too at what the libraries call: no
-# allocator, and nothing else but three functions that move bytes; and whether C++ takes the header. Ends with 3 where
-# gcc is missing.
+# the program saves them. Linked with the static and with the shared library of release/; with the sanitizers of gcc; with
+# musl, and for aarch64, where their compilers and qemu are there. Looks too at what the libraries call: no allocator, and
+# nothing else but three functions that move bytes; and whether C++ takes the header. Ends with 3 where gcc is missing.
 set -euo pipefail
 top=$(cd "$(dirname "${BASH_SOURCE[0]}")/../.." && pwd)
 command -v gcc >/dev/null || { echo "tests/c: gcc is missing (apt-get install gcc libc6-dev); nothing was run" >&2; exit 3; }
@@ -127,6 +127,12 @@ if command -v g++ >/dev/null; then
     echo "tests/c: C++ takes the header"
 else
     echo "tests/c: the header was not tried with C++ (apt-get install g++)"
+fi
+if command -v musl-gcc >/dev/null; then
+    build musl-gcc -static "$top/release/libhidlog.a"
+    run "the static library with musl"
+else
+    echo "tests/c: not run with musl (apt-get install musl-tools)"
 fi
 if command -v aarch64-linux-gnu-gcc >/dev/null && command -v qemu-aarch64-static >/dev/null; then
     build aarch64-linux-gnu-gcc -static "$top/release/aarch64/libhidlog.a"

@@ -1,6 +1,8 @@
 #!/usr/bin/env bash
 # The Go module as go/README.md has it: from its file, by a proxy that is a folder, into a new module, with README's own
-# test; then the module's tests, vetted. tests/clients/go_module.sh PACKAGES FOLDER . Nothing is downloaded.
+# test; then the module's tests, vetted. Nothing is downloaded.
+#
+#     tests/clients/go_module.sh PACKAGES FOLDER [arm64]      with the last word also built for arm64, and run by qemu
 set -euo pipefail
 top=$(cd "$(dirname "${BASH_SOURCE[0]}")/../.." && pwd)
 packages=$(cd "$1" && pwd)
@@ -27,3 +29,8 @@ grep -q 'send it to your service: {' "$room/said"
 unformatted=$(gofmt -l "$top/go")
 [ -z "$unformatted" ] || { echo "gofmt: $unformatted" && exit 1; }
 (cd "$(go list -m -f '{{.Dir}}' cogtzil.example/hidlog)" && go vet . && go test -count=1 ./... | sed 's/^/Go module: /')
+if [ "${3-}" = arm64 ]; then
+    cd "$(go list -m -f '{{.Dir}}' cogtzil.example/hidlog)"
+    GOARCH=arm64 CC=aarch64-linux-gnu-gcc go test -count=1 -exec "qemu-aarch64-static -L /usr/aarch64-linux-gnu" ./... |
+        sed 's/^/Go module for arm64: /'
+fi

@@ -1,0 +1,85 @@
+#!/usr/bin/env bash
+# The Dockerfile's image without Docker: its files in a folder of their own, where the program plays a log by chroot. And
+# the action without GitHub: the commands of action.yml in a new environment, with a test that fails and whose recording is
+# kept. The foreign action, which uploads, is looked at alone: it is pinned by a commit. Ends with 3 where nothing could
+# be run.
+set -euo pipefail
+top=$(cd "$(dirname "${BASH_SOURCE[0]}")/.." && pwd)
+room=$(mktemp -d)
+trap 'rm -rf "$room"' EXIT
+log=$top/examples/sign_in.log
+ran=0
+
+stop() {
+    echo "tests/outside.sh: $*"
+    exit 1
+}
+
+# Makes the image's files, by the lines COPY.
+make_image() {
+    local word words target
+    mkdir "$room/image"
+    while read -r word words; do
+        [ "$word" = COPY ] || continue
+        target=${words##* }
+        for word in ${words% *}; do
+            grep -qx "!$word" "$top/.dockerignore" || stop ".dockerignore hides $word"
+            case $target in
+            */) install -D "$top/$word" "$room/image$target${word##*/}" ;;
+            *) install -D "$top/$word" "$room/image$target" ;;
+            esac
+        done
+    done <"$top/Dockerfile"
+}
+
+make_image
+entry=$(sed -n 's/^ENTRYPOINT \["\(.*\)"\]/\1/p' "$top/Dockerfile")
+user=$(sed -n 's/^USER //p' "$top/Dockerfile")
+chmod 755 "$room" "$room/image"
+if [ "$(id -u)" = 0 ]; then
+    said=$(chroot --userspec="$user" "$room/image" "$entry" check <"$log")
+    [ "$said" = "same 14 inputs 22 packets" ] || stop "the image says: $said"
+    [ "$(find "$room/image" -type f | wc -l)" = 4 ] || stop "the image has other files"
+    echo "tests/outside.sh: the image of 4 files plays a log, as the user $user"
+    ran=1
+fi
+
+grep -E '^ *(- )?uses: ' "$top/action.yml" "$top"/.github/workflows/*.yml | while read -r line; do
+    [[ $line =~ @[0-9a-f]{40}( |$) ]] || stop "it isn't pinned by a commit: $line"
+done
+# Debian's names of packages are only in jobs that run in a Debian container.
+! grep -q 'apt-get' "$top/action.yml" || stop "the action names packages of Debian, and runs anywhere"
+for workflow in "$top"/.github/workflows/*.yml; do
+    ! grep -q 'apt-get' "$workflow" || grep -q 'container: debian:' "$workflow" || stop "$workflow is outside of Debian"
+done
+if /usr/bin/python3 -c 'import yaml, hatchling, venv, pytest, cryptography' 2>/dev/null; then
+    /usr/bin/python3 -m venv --system-site-packages "$room/venv"
+    /usr/bin/python3 -c 'import sys, yaml
+steps = yaml.safe_load(open(sys.argv[1]))["runs"]["steps"]
+print(next(it["run"] for it in steps if it.get("id") == "install"))' "$top/action.yml" >"$room/install.sh"
+    mkdir "$room/temp"
+    touch "$room/path" "$room/env" "$room/output"
+    RUNNER_TEMP=$room/temp GITHUB_PATH=$room/path GITHUB_ENV=$room/env GITHUB_OUTPUT=$room/output ACTION=$top \
+        PYTHON=$room/venv/bin/python PIP_NO_INDEX=1 PIP_NO_BUILD_ISOLATION=0 PIP_NO_DEPS=1 \
+        bash -e "$room/install.sh" >"$room/said" || stop "the action doesn't install"
+    grep -q '^hidlog [0-9]' "$room/said" || stop "the action says: $(cat "$room/said")"
+    PATH=$(cat "$room/path"):$PATH
+    [ "$(hidlog check "$log")" = "same 14 inputs 22 packets" ] || stop "the action's program isn't on the path"
+    # shellcheck disable=SC1091 # it is made here
+    set -a && source "$room/env" && set +a
+    mkdir "$room/suite"
+    cat >"$room/suite/test_it.py" <<'END'
+def test_that_fails(security_key):
+    user = {"id": "YW5u", "name": "ann", "displayName": "Ann"}
+    options = {"rp": {"name": "Example"}, "user": user, "challenge": "AAECAwQFBgc", "pubKeyCredParams": []}
+    assert not security_key.browser("http://localhost:5000").create(options)
+END
+    (cd "$room/suite" && "$room/venv/bin/python" -m pytest -q -p no:cacheprovider \
+        --security-key-log "$HIDLOG_RECORDINGS" .) >"$room/said" && stop "the test should have failed"
+    kept=("$HIDLOG_RECORDINGS"/*.log)
+    [ -s "${kept[0]}" ] || stop "no recording was kept: $(cat "$room/said")"
+    [[ $(hidlog check "${kept[0]}") = same\ * ]] || stop "the recording differs"
+    echo "tests/outside.sh: the action installs, and a failed test's recording is kept"
+    ran=1
+fi
+[ "$ran" = 1 ] || { echo "tests/outside.sh: root, or python3-yaml and hatchling, are missing; nothing was run" >&2; exit 3; }

@@ -1,0 +1,117 @@
+#!/usr/bin/env bash
+# Installs each package by its own tool in a clean Debian, and follows its README there to the letter, until it has
+# registered and signed in: Python, node, C, Go, Rust, Ruby and Java. Says how many seconds each took, with what Debian's
+# packages take to come. Needs root, debootstrap and its mirror. Ends with 3 where one is missing.
+#
+#     tests/packages/clean.sh FOLDER [PACKAGES]    FOLDER is made by debootstrap, or used again; PACKAGES, else made anew
+set -euo pipefail
+top=$(cd "$(dirname "${BASH_SOURCE[0]}")/../.." && pwd)
+folder=${1:?usage: tests/packages/clean.sh FOLDER [PACKAGES]}
+[ "$(id -u)" = 0 ] || { echo "root is needed for a folder of debootstrap; nothing was run" >&2 && exit 3; }
+[ -d "$folder/usr" ] || debootstrap --variant=minbase bookworm "$folder" >"${folder%/}.log" || exit 3
+room=$(mktemp -d)
+trap 'rm -rf "$room"' EXIT
+packages=${2-}
+if [ -z "$packages" ]; then
+    packages=$room/packages
+    "$top/packages/build.sh" "$packages" >/dev/null
+fi
+version=$(sed -n 's/^version: //p' "$top/release/BUILD")
+failed=0
+
+# Runs commands in a new copy of the system, which has the packages in /packages: clean NAME LIMIT COMMANDS
+clean() {
+    local began=$SECONDS system=$room/system
+    rm -rf "$system"
+    cp -a "$folder" "$system"
+    mkdir -p "$system/packages" "$system/work"
+    cp "$packages"/* "$system/packages"
+    cp /etc/resolv.conf "$system/etc/resolv.conf"
+    mount --bind /dev "$system/dev"
+    mount -t proc proc "$system/proc"
+    chroot "$system" /usr/bin/env -i PATH=/usr/sbin:/usr/bin:/sbin:/bin HOME=/root LANG=C.UTF-8 \
+        DEBIAN_FRONTEND=noninteractive bash -euo pipefail -c "$start
+$2" >"$room/said" 2>&1 </dev/null && status=ok || status=FAILED
+    umount "$system/proc" "$system/dev"
+    echo "$status $1, $((SECONDS - began)) s: $(tail -1 "$room/said")"
+    if [ "$status" = FAILED ]; then
+        tail -25 "$room/said" | sed 's/^/    /'
+        failed=1
+    fi
+}
+
+# What is there first: no sudo, which READMEs name, and a list of packages. readme FILE [HEADING] runs a README's lines.
+# shellcheck disable=SC2016 # the shell in the system expands it
+start='
+sudo() { "$@"; }
+apt-get() { command apt-get -qq -o Dpkg::Use-Pty=0 -y --no-install-recommends "$@"; }
+readme() {
+    awk -v heading="${2-}" "
+        /^## / { is_on = heading == \"\" || \$0 == \"## \" heading }
+        NR == 1 { is_on = heading == \"\" }
+        is_on && /^    / { sub(\"    \", \"\"); print }" "$1" >/work/lines.sh
+    [ -s /work/lines.sh ]
+    source /work/lines.sh
+}
+cd /work
+apt-get update'
+debs="/packages/hidlog_${version}_amd64.deb /packages/libhidlog0_${version}_amd64.deb"
+
+clean "C, of libhidlog-dev" "apt-get install $debs /packages/libhidlog-dev_${version}_amd64.deb
+readme /usr/share/doc/libhidlog-dev/README.md | tee out
+grep -q 'sign in' out"
+clean "C, of the tarball" "tar -xzf /packages/hidlog-$version-linux-x86_64.tar.gz && cd hidlog-$version
+bin/hidlog check examples/sign_in.log
+apt-get install gcc libc6-dev pkgconf libfido2-dev libssl-dev
+readme README.md 'Register and sign in from C' | tee out
+grep -q 'sign in' out"
+clean "Python, of python3-hidlog" "apt-get install $debs /packages/python3-hidlog_${version}_amd64.deb
+readme /usr/share/doc/python3-hidlog/README.md Python"
+clean "Ruby and Java, of python3-hidlog" "mkdir -p /usr/share/man/man1
+apt-get install $debs /packages/python3-hidlog_${version}_amd64.deb ruby openjdk-17-jdk-headless
+readme /usr/share/doc/python3-hidlog/README.md 'Ruby, Java, Go, Perl, PHP' | tee out
+[ \"\$(grep -c '^ok\$' out)\" = 2 ] && tail -1 out"
+clean "the command, as dpkg diverts it" "apt-get install $debs
+cmp /usr/bin/hidlog <(dpkg-deb --fsys-tarfile /packages/hidlog_${version}_amd64.deb | tar -xO ./usr/bin/hidlog)
+apt-get install /packages/python3-hidlog_${version}_amd64.deb
+cd /usr/share/doc/hidlog && hidlog check examples/sign_in.log && hidlog.plain check examples/sign_in.log
+hidlog mermaid examples/sign_in.log | head -1
+apt-get install --reinstall $debs
+hidlog mermaid examples/sign_in.log | head -1
+apt-get purge python3-hidlog
+! hidlog mermaid examples/sign_in.log && ! [ -e /usr/bin/hidlog.plain ] && ! [ -d /usr/lib/python3/dist-packages/hidlog ]
+hidlog check examples/sign_in.log
+dpkg -i /packages/hidlog-uhid_${version}_amd64.deb || apt-get install -f
+hidlog-uhid --version"
+clean "Python, of the wheel" "apt-get install python3-venv python3-cryptography python3-pytest
+python3 -m venv --system-site-packages venv
+venv/bin/pip install --quiet --no-index /packages/*x86_64.whl
+venv/bin/python -c 'import importlib.metadata; print(importlib.metadata.metadata(\"hidlog\").get_payload())' |
+    awk '/^\`\`\`/ { n++; next } n == 1' >test_it.py
+venv/bin/python -m pytest -q"
+clean "node, of npm's package" "apt-get install nodejs npm
+npm init -y >/dev/null && npm i -D --offline --no-audit --no-fund /packages/hidlog-$version.tgz
+awk '/^\`\`\`js/ { n++; next } /^\`\`\`/ { n += n % 2 } n % 2 && n < 2' node_modules/hidlog/README.md >/dev/null
+{ awk '/^\`\`\`js\$/ { is_on = 1; next } /^\`\`\`/ { is_on = 0 } is_on' node_modules/hidlog/README.md; } >all.mjs
+{ grep '^import' all.mjs; grep -v '^import' all.mjs; } >readme.mjs
+node readme.mjs
+readme node_modules/hidlog/README.md Recordings"
+clean "Go" "apt-get install golang-go gcc libc6-dev unzip ca-certificates
+cp /packages/hidlog-go-$version.zip .
+unzip -p hidlog-go-$version.zip cogtzil.example/hidlog@v$version/README.md >README.md
+mkdir -p proxy/cogtzil.example/hidlog/@v
+awk '/^## Install/ { is_on = 1 } /^## A test/ { is_on = 0 } is_on && /^    / { sub(\"    \", \"\"); print }' README.md |
+    grep -v '^go get' >install.sh
+source install.sh
+mkdir example && cd example && go mod init example
+go get cogtzil.example/hidlog@\$version
+awk '/^\`\`\`/ { n++; next } n == 1' ../README.md >sign_in_test.go
+go test -v"
+clean "Rust" "apt-get install cargo gcc libc6-dev libssl-dev git
+cp /packages/*.crate . && tar -xzf hidlog-$version.crate && cp hidlog-$version/README.md .
+awk '/^## Install/ { is_on = 1 } /^## A test/ { is_on = 0 } is_on && /^    / { sub(\"    \", \"\"); print }' README.md >install.sh
+source install.sh
+awk '/^\`\`\`/ { n++; next } n == 1' ../README.md >src/lib.rs
+cargo test --offline -- --nocapture | tee out
+grep '^test result: ok. 1 passed' out"
+exit "$failed"
