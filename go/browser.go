@@ -70,7 +70,6 @@ type options struct {
 	Exclude                []descriptor `json:"excludeCredentials"`
 	Allow                  []descriptor `json:"allowCredentials"`
 	UserVerification       string
-	Attestation            string
 	AuthenticatorSelection struct {
 		ResidentKey, UserVerification string
 		RequireResidentKey            bool
@@ -197,11 +196,11 @@ func (it *Browser) Create(optionsJSON []byte) ([]byte, error) {
 	if err != nil {
 		return nil, err
 	}
-	return it.registration(given, text, hash, answer)
+	return it.registration(text, hash, answer)
 }
 
 // registration returns what a page sends of a new credential.
-func (it *Browser) registration(given options, text, hash []byte, answer map[any]any) ([]byte, error) {
+func (it *Browser) registration(text, hash []byte, answer map[any]any) ([]byte, error) {
 	data, _ := answer[2].([]byte)
 	statement, _ := answer[3].(map[any]any)
 	if len(data) < 164 || statement == nil {
@@ -214,11 +213,9 @@ func (it *Browser) registration(given options, text, hash []byte, answer map[any
 	if err != nil {
 		return nil, err
 	}
-	attestation := []entry{{"fmt", "none"}, {"attStmt", []entry{}}, {"authData", data}}
-	if given.Attestation == "direct" || given.Attestation == "enterprise" {
-		packed := []entry{{"alg", -7}, {"sig", signature}}
-		attestation = []entry{{"fmt", "packed"}, {"attStmt", packed}, {"authData", data}}
-	}
+	// A self attestation with an AAGUID of zeros is handed on whatever the service asks for (WebAuthn, section 5.1.3).
+	packed := []entry{{"alg", -7}, {"sig", signature}}
+	attestation := []entry{{"fmt", "packed"}, {"attStmt", packed}, {"authData", data}}
 	public, err := x509.MarshalPKIXPublicKey(&pair.PublicKey)
 	if err != nil {
 		return nil, err

@@ -121,6 +121,18 @@ func TestRegisterAndSignIn(t *testing.T) {
 	if data := decoded(t, registered.Response.AuthenticatorData); !bytes.Equal(data[:32], rp[:]) || data[32] != 0x41 {
 		t.Fatalf("authenticator data %x", data)
 	}
+	// {"fmt": "packed", "attStmt": {"alg": -7, "sig": a signature over the authenticator data and the hash}, ..}
+	front := []byte("\xa3\x63fmt\x66packed\x67attStmt\xa2\x63alg\x26\x63sig\x58")
+	attestation := decoded(t, registered.Response.AttestationObject)
+	if !bytes.HasPrefix(attestation, front) {
+		t.Fatalf("attestation %x", attestation)
+	}
+	rest := attestation[len(front):]
+	signed := registered
+	signed.Response.Signature = base64.RawURLEncoding.EncodeToString(rest[1 : 1+rest[0]])
+	if !isVerified(t, registered, signed) {
+		t.Fatal("the self attestation is wrong")
+	}
 	for expected := uint32(1); expected < 4; expected++ {
 		used, err := browser.Get(get)
 		signedIn := parsed(t, used, err)

@@ -29,4 +29,4 @@ cp -r "$top/conformance/hidlog_conformance" "$top/conformance/sessions" "$root/c
 [ "$*" != all ] || set --
 printf '%s\n' "$@" >"$root/words"
 echo "$name: ${image##*/}, $(/usr/bin/python3 --version), run.py --device /dev/hidrawN --touch --reset $*"
-boot "${HIDLOG_SECONDS:-290}"
+boot "${HIDLOG_SECONDS:-1500}"

@@ -9,9 +9,9 @@ mount -t devtmpfs dev /dev
 cd /root || exit
 bridge=
 
-# Waits at most ten seconds until a command works.
+# Waits at most a minute until a command works.
 soon() {
-    for _ in $(seq 100); do
+    for _ in $(seq 600); do
         "$@" >/dev/null 2>&1 && return
         usleep 100000
     done

@@ -30,7 +30,7 @@ bring "$(command -v fido2-token)" "$(command -v fido2-cred)" "$(command -v fido2
 cp "$top/conformance/recorded/python_fido2.py" "$root/root"
 echo "$name: ${image##*/}, libfido2 $(version libfido2-1), python-fido2 $(version python3-fido2)," \
     "OpenSSH $(version openssh-client), pam-u2f $(version libpam-u2f)"
-boot "${HIDLOG_SECONDS:-290}"
+boot "${HIDLOG_SECONDS:-1500}"
 mkdir -p "$folder"
 for log in $(tr -d '\r' <"$room/console" | sed -n 's/^@log \([a-z0-9_]*\) .*/\1/p' | sort -u); do
     tr -d '\r' <"$room/console" | sed -n "s/^@log $log //p" >"$folder/$log.log"

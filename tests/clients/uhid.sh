@@ -1,8 +1,8 @@
 #!/usr/bin/env bash
 # The key as a device of the Linux kernel: builds the bridge of examples/uhid and runs it in a virtual machine (software
 # emulation, a Debian kernel, an initramfs made here), where libfido2's tools, ssh-keygen and pam-u2f register and sign
-# in; the cases are in uhid_vm.sh. So also on a machine that has /dev/uhid: nothing is plugged in there. Takes a minute,
-# at most five. Ends with 3 where something is missing. The machine and its variables are in machine.sh.
+# in; the cases are in uhid_vm.sh. So also on a machine that has /dev/uhid: nothing is plugged in there. Takes a minute
+# and a half where nothing else runs. Ends with 3 where something is missing. machine.sh has the machine.
 # shellcheck disable=SC1091,SC2154 # top, name, library, root and image are set by common.sh and machine.sh
 set -euo pipefail
 source "$(dirname "${BASH_SOURCE[0]}")/common.sh"
@@ -21,4 +21,4 @@ else
     echo "$name: pam-u2f was not run (apt-get install libpam-u2f pamtester pamu2fcfg)"
 fi
 echo "$name: ${image##*/}, libfido2 $(version libfido2-1), OpenSSH $(version openssh-client)${versions-}"
-boot 290
+boot 1500

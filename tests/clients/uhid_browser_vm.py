@@ -56,6 +56,7 @@ class Service(http.server.BaseHTTPRequestHandler):
     """Serves the page, and takes what it sends."""
 
     def do_GET(self) -> None:
+        print("asked for", self.path, flush=True)
         self.answer(PAGE.encode() if self.path == "/" else b"")
 
     def do_POST(self) -> None:
@@ -80,7 +81,12 @@ def command_of(browser: str) -> list[str]:
     os.chown(home, 1234, 1234)
     if browser == "chromium":
         words = ["chromium", "--headless=new", "--no-sandbox", "--disable-gpu", "--no-first-run"]
-        return [*words, f"--user-data-dir={home}", "--enable-logging=stderr", "--vmodule=*fido*=1,*u2f*=1,*hid*=1"]
+        return [
+            *words,
+            f"--user-data-dir={home}",
+            "--enable-logging=stderr",
+            "--vmodule=device_event_log*=2,*authenticator*=1,*/webauthn/*=2",
+        ]
     return ["firefox-esr", "--headless", "--no-remote", "--profile", str(home)]
 
 
@@ -126,7 +132,8 @@ def main() -> int:
             counters = [verify(public, said(process)) for _ in range(2)]
         except AssertionError as wrong:
             print(wrong)
-            print(Path("browser.err").read_text(errors="replace")[-6000:])
+            lines = Path("browser.err").read_text(errors="replace").splitlines()
+            print(*[it for it in lines if "dbus" not in it][-50:], sep="\n")
             return 1
         finally:
             process.kill()

@@ -10,7 +10,7 @@ said() {
         echo "@@ ok $2, $(cut -d. -f1 /proc/uptime) s after the start"
     else
         echo "@@ FAILED $2"
-        tail -25 out | sed 's/^/    /'
+        tail -60 out | sed 's/^/    /'
     fi
 }
 
@@ -107,23 +107,30 @@ check_recording() {
 
 rm -f /home/tester/out
 touch out && chown tester /home/tester /home/tester/*
-works "systemctl start hidlog-uhid@alice, of the package" start alice
-works "udev hands the device to the group plugdev" is_for_plugdev
-works "fido2-token -L, as a user" is_listed
-works "fido2-cred registers" registers
-works "fido2-assert signs in" signs_in
-works "ssh-keygen -t ecdsa-sk, -Y sign and -Y verify" ssh_signs
-works "systemctl stop" stop alice
-works "the recording is as the program plays it" check_recording alice
-works "systemctl start again" start alice
-works "fido2-assert signs in with the credential of before" signs_in
-works "systemctl stop again" stop alice
-works "the second recording begins with a snapshot" check_recording alice
-works "--presence script denies once, as a user sees" denied_once
-works "its recording" check_recording bob
-works "--presence ask" asks_a_person
+# What the package does without a browser.
+package() {
+    works "systemctl start hidlog-uhid@alice, of the package" start alice
+    works "udev hands the device to the group plugdev" is_for_plugdev
+    works "fido2-token -L, as a user" is_listed
+    works "fido2-cred registers" registers
+    works "fido2-assert signs in" signs_in
+    works "ssh-keygen -t ecdsa-sk, -Y sign and -Y verify" ssh_signs
+    works "systemctl stop" stop alice
+    works "the recording is as the program plays it" check_recording alice
+    works "systemctl start again" start alice
+    works "fido2-assert signs in with the credential of before" signs_in
+    works "systemctl stop again" stop alice
+    works "the second recording begins with a snapshot" check_recording alice
+    works "--presence script denies once, as a user sees" denied_once
+    works "its recording" check_recording bob
+    works "--presence ask" asks_a_person
+}
+
+read -ra parts </etc/hidlog-cases
+[[ " ${parts[*]} " != *" package "* ]] || package
 start carol
-for browser in firefox chromium; do
+for browser in "${parts[@]}"; do
+    [ "$browser" != package ] || continue
     works "$browser registers and signs in" browses "$browser"
     [ ! -e versions ] || sed 's/^/@@ /' versions
 done

@@ -40,9 +40,9 @@ refused() {
     fi
 }
 
-# Waits at most ten seconds until a command works.
+# Waits at most a minute until a command works.
 soon() {
-    for _ in $(seq 100); do
+    for _ in $(seq 600); do
         "$@" >/dev/null 2>&1 && return
         usleep 100000
     done
@@ -128,7 +128,7 @@ waits() {
     [ "$(tail -1 second.log)" = "# need presence" ]
 }
 
-# Begins to sign in, up to the user, who takes four seconds.
+# Begins to sign in, up to the user, who takes eight seconds.
 begin_sign_in() {
     sign_in alice >first.out 2>&1 &
     first=$!
@@ -230,7 +230,7 @@ all() {
     fi
     sign_in alice >/dev/null 2>&1
     works "unplugged: the bridge ends, the device goes" unplug TERM
-    works "plugged in again" plug_in second.log -t 4000
+    works "plugged in again" plug_in second.log -t 8000
     works "fido2-assert signs in after it, the counter one higher" sign_in_counted
     works "two programs: libfido2's second one waits for the first" two_programs
     works "two programs without a lock: the second one is told that the key is busy" without_lock

@@ -1,14 +1,18 @@
 """The program hidlog that is in the package: `hidlog` and `python -m hidlog` are the same, with every word of it.
 
-Some commands are the package's own: `COMMANDS` names them. All other words are the program's.
+Some commands are the package's own: `COMMANDS` names them. All other words are the program's; where the package has none,
+as on aarch64, the library serves those that need no more. At a terminal the help of the program is followed by the
+package's own commands.
 """
 
 from __future__ import annotations
 
 import importlib
 import os
+import subprocess
 import sys
 
+from . import by_library
 from .errors import MissingPart
 from .process import program
 
@@ -25,6 +29,18 @@ COMMANDS = {
 }
 
 
+HELP = """
+Commands of the Python package:
+  webdriver   Serves WebDriver's virtual authenticators, in front of any driver
+  browser     Serves registrations and sign-ins as JSON lines, at an origin
+  import      Makes logs of captures of real keys
+  export      Writes a log as a capture that Wireshark reads
+  judge       Says which rules of CTAP 2.1 a session breaks
+  check-many  Checks many logs, in many processes
+  mermaid     Writes a session as a sequence diagram
+"""
+
+
 def main() -> int:
     """Runs a command of the package, or becomes the program, with the words that this was started with."""
     word = " ".join(sys.argv[1:2])
@@ -36,13 +52,24 @@ def main() -> int:
     return _become_program()
 
 
+def _is_help(words: list[str]) -> bool:
+    """Returns whether the program's help is asked for, at a terminal: elsewhere it is the program's alone."""
+    return words in (["--help"], ["-h"], ["help"]) and sys.stdout.isatty()
+
+
 def _become_program() -> int:
     try:
         path = program()
     except MissingPart as error:
+        if "HIDLOG" not in os.environ and by_library.takes(sys.argv[1:]):
+            return by_library.run(sys.argv[1:])
         print(f"hidlog: {error}", file=sys.stderr)
         return 2
     sys.stdout.flush()
+    if _is_help(sys.argv[1:]):
+        status = subprocess.run([path, *sys.argv[1:]], check=False).returncode
+        print(HELP, end="", flush=True)
+        return status
     try:
         os.execv(path, ["hidlog", *sys.argv[1:]])
     except OSError as error:

@@ -18,8 +18,6 @@ pub struct Creation {
     pub discoverable: bool,
     /// Credentials of which none may be on the key.
     pub exclude: Vec<Id>,
-    /// Whether the attestation is the key's own, as `attestation` "direct" says, or none.
-    pub direct: bool,
 }
 
 impl Creation {
@@ -32,7 +30,6 @@ impl Creation {
             user_name: user_name.into(),
             discoverable: true,
             exclude: Vec::new(),
-            direct: false,
         }
     }
 }
@@ -213,12 +210,11 @@ impl Browser {
             parameters.push((Item::Number(7), Item::map([("rk", Item::Bool(true))])));
         }
         let answer = self.ask(1, parameters)?;
-        self.registration(given, client_data, &hash, &answer).ok_or(Error::Answer)?
+        self.registration(client_data, &hash, &answer).ok_or(Error::Answer)?
     }
 
     fn registration(
         &mut self,
-        given: &Creation,
         client_data: Vec<u8>,
         hash: &[u8],
         answer: &Item,
@@ -229,11 +225,10 @@ impl Browser {
         let public_key = self.key.private_key(&id)?.public_key();
         Some(self.altered(&id, data, hash, signature).and_then(|(authenticator_data, signature)| {
             let mut attestation_object = Vec::new();
-            let packed = [("alg", Item::Number(-7)), ("sig", Item::Bytes(signature))];
-            let (form, statement) =
-                if given.direct { ("packed", Item::map(packed)) } else { ("none", Item::Map(Vec::new())) };
+            // A self attestation with an AAGUID of zeros is handed on whatever the service asks for (WebAuthn, 5.1.3).
+            let packed = Item::map([("alg", Item::Number(-7)), ("sig", Item::Bytes(signature))]);
             let data = Item::Bytes(authenticator_data.clone());
-            Item::map([("fmt", Item::text(form)), ("attStmt", statement), ("authData", data)])
+            Item::map([("fmt", Item::text("packed")), ("attStmt", packed), ("authData", data)])
                 .encode(&mut attestation_object);
             Ok(Registration { id, client_data, attestation_object, authenticator_data, public_key: public_key? })
         }))

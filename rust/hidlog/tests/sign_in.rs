@@ -57,9 +57,14 @@ fn check(recordings: &[Recording]) {
 #[test]
 fn registers_and_signs_in() {
     let mut browser = browser();
-    let made = browser.create(&Creation { direct: true, ..creation() }).unwrap();
+    let made = browser.create(&creation()).unwrap();
     assert_eq!(made.authenticator_data[..32], sha256(b"example.com"));
     assert_eq!(made.authenticator_data[32], 0x41);
+    // {"fmt": "packed", "attStmt": {"alg": -7, "sig": a signature over the authenticator data and the hash}, ..}
+    let (front, rest) = made.attestation_object.split_at(31);
+    assert_eq!(front, b"\xa3\x63fmt\x66packed\x67attStmt\xa2\x63alg\x26\x63sig\x58");
+    let signed = [&made.authenticator_data[..], &sha256(&made.client_data)].concat();
+    assert!(browser.key.private_key(&made.id).unwrap().verifies(&signed, &rest[1..=usize::from(rest[0])]));
     for expected in 1..4 {
         let used = browser.get(&request()).unwrap();
         assert_eq!((used.id, used.user_handle.as_deref(), counter(&used)), (made.id, Some(&b"ann"[..]), expected));

@@ -1,0 +1,70 @@
+"""The command `hidlog` where the package has no program, as on aarch64: the library writes what the program writes."""
+
+from __future__ import annotations
+
+import subprocess
+import sys
+from pathlib import Path
+from typing import Callable
+
+import pytest
+
+from hidlog.process import program
+
+# The package as it is without a program.
+WITHOUT = """
+import sys
+from pathlib import Path
+import hidlog.process
+hidlog.process.program_paths = lambda: [Path("/nowhere/hidlog")]
+from hidlog.__main__ import main
+sys.exit(main())
+"""
+
+
+def ends(words: list[str], given: bytes, folder: Path) -> tuple[int, bytes, bytes]:
+    """Returns how a command ends."""
+    ran = subprocess.run(words, input=given, capture_output=True, cwd=folder)
+    return ran.returncode, ran.stdout, ran.stderr
+
+
+def both(words: list[str], given: bytes, folder: Path) -> tuple[tuple[int, bytes, bytes], tuple[int, bytes, bytes]]:
+    """Returns how a command ends without the program, and with it."""
+    own = ends([sys.executable, "-c", WITHOUT, *words], given, folder)
+    return own, ends([program(), *words], given, folder)
+
+
+@pytest.mark.parametrize("command", ["check", "replay", "quiet", "live", "show", "show --explain"])
+def test_logs_are_as_the_program_writes_them(example: Callable[[str], bytes], tmp_path: Path, command: str) -> None:
+    good, changed = example("sign_in.log"), example("sign_in.log").replace(b"granted", b"denied")
+    for log in (good, changed, b"", b"t 1\nt x\n", b"t " + b"1" * 300 + b"\n"):
+        own, theirs = both(command.split(), log, tmp_path)
+        if command != "show --explain":
+            assert own == theirs
+        else:  # the program explains faults too
+            assert (own[:2], own[2].splitlines()[:1]) == (theirs[:2], theirs[2].splitlines()[:1])
+
+
+def test_files_and_snapshots(example: Callable[[str], bytes], tmp_path: Path) -> None:
+    (tmp_path / "log").write_bytes(example("sign_in_again.log"))
+    (tmp_path / "other").write_bytes(b"t 05\n")
+    (tmp_path / "key").write_bytes(example("example_com.snapshot"))
+    (tmp_path / "bad").write_bytes(b"\xa0")
+    for words in (
+        ["check", "--load", "key", "log"],
+        ["check", "--load=key", "-"],
+        ["replay", "log"],
+        ["check", "log", "other"],
+        ["check", "nothing"],
+        ["replay", "--load", "nothing", "log"],
+        ["replay", "--load", "bad", "log"],
+        ["show", "--plain", "log"],
+    ):
+        own, theirs = both(words, example("sign_in_again.log"), tmp_path)
+        assert own == theirs, words
+
+
+@pytest.mark.parametrize("words", [["check", "--all"], ["show", "--json"], ["replay", "--save", "x"], ["chek"], []])
+def test_other_words_are_the_programs(tmp_path: Path, words: list[str]) -> None:
+    status, output, said = ends([sys.executable, "-c", WITHOUT, *words], b"", tmp_path)
+    assert (status, output, said.count(b"\n")) == (2, b"", 1) and b"the program is missing" in said
