@@ -119,7 +119,7 @@ make_npm() {
     for name in security_key.js security_key.mjs security_key.d.ts security_key.d.mts; do
         put 644 "web/dist/$name" "$folder/$name"
     done
-    for name in security_key.cjs security_key.d.cts browser.mjs README.md; do
+    for name in security_key.cjs security_key.d.cts browser.mjs node.mjs node.cjs node18.mjs README.md; do
         put 644 "packages/npm/$name" "$folder/$name"
     done
     put 755 packages/npm/cli.mjs "$folder/cli.mjs"

@@ -1,7 +1,7 @@
 // A browser and its key as one process: JSON lines in, JSON lines out, for languages that have neither
 // (docs/WEBDRIVER.md has the lines).
 import { createInterface } from "node:readline";
-import { install } from "./security_key.mjs";
+import { install } from "./node.mjs";
 
 /** The options for a public key, as services send them: as they are, or inside of a member publicKey. */
 const publicKeyOf = (options) => {

@@ -55,6 +55,8 @@ def npm_package(room: Path) -> list[str]:
         "release/hidlog.wasm",
         "packages/npm/cli.mjs",
         "packages/npm/browser.mjs",
+        "packages/npm/node.mjs",
+        "packages/npm/node18.mjs",
     ]
     names += [f"web/dist/security_key.{it}" for it in ("js", "mjs")] + ["packages/npm/package.json"]
     for name in names:

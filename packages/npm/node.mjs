@@ -1,0 +1,4 @@
+// The key in node.
+import "./node18.mjs";
+
+export * from "./security_key.mjs";
