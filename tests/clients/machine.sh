@@ -93,7 +93,7 @@ boot() {
     local machine=(-accel tcg -cpu max -m 512 -nic none -display none -monitor none -serial stdio -no-reboot)
     (cd "$root" && find . | cpio -o -H newc --quiet -R 0:0 | gzip -1) >"$room/initramfs"
     timeout "$1" qemu-system-x86_64 "${machine[@]}" -kernel "$image" -initrd "$room/initramfs" \
-        -append "console=ttyS0 quiet panic=-1" </dev/null >"$room/console" 2>&1 ||
+        -append "console=ttyS0 quiet panic=-1 no_timer_check" </dev/null >"$room/console" 2>&1 ||
         { tail -40 "$room/console" && fail "the machine didn't end by itself"; }
     tr -d '\r' <"$room/console" | sed -n "s,^@@ ,$name: ,p"
     if grep -q '^@@ FAILED' "$room/console" || ! grep -q '^@@ end' "$room/console"; then

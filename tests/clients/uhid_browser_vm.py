@@ -19,6 +19,7 @@ import queue
 import subprocess
 import sys
 import threading
+import urllib.request
 from pathlib import Path
 
 from cryptography.hazmat.primitives import hashes, serialization
@@ -50,6 +51,7 @@ const run = async () => {
 run().catch((error) => send({ error: `${error}` }));
 </script>"""
 SAID: queue.Queue[dict[str, str]] = queue.Queue()
+ASKED = threading.Event()
 
 
 class Service(http.server.BaseHTTPRequestHandler):
@@ -57,6 +59,7 @@ class Service(http.server.BaseHTTPRequestHandler):
 
     def do_GET(self) -> None:
         print("asked for", self.path, flush=True)
+        ASKED.set()
         self.answer(PAGE.encode() if self.path == "/" else b"")
 
     def do_POST(self) -> None:
@@ -80,7 +83,9 @@ def command_of(browser: str) -> list[str]:
     home.mkdir(exist_ok=True)
     os.chown(home, 1234, 1234)
     if browser == "chromium":
+        # Emulated, its network process is ended for being slow to begin, and the first page is lost with it.
         words = ["chromium", "--headless=new", "--no-sandbox", "--disable-gpu", "--no-first-run"]
+        words += ["--enable-features=NetworkServiceInProcess2", "--remote-debugging-port=9222"]
         return [
             *words,
             f"--user-data-dir={home}",
@@ -90,12 +95,23 @@ def command_of(browser: str) -> list[str]:
     return ["firefox-esr", "--headless", "--no-remote", "--profile", str(home)]
 
 
+def open_again() -> None:
+    """Opens the page in another tab, where Chromium is there and has lost the first."""
+    address = "http://127.0.0.1:9222/json/new?http://localhost:8000/"
+    try:
+        urllib.request.urlopen(urllib.request.Request(address, method="PUT"), timeout=60).close()
+    except OSError as error:
+        print("no tab was opened:", error, flush=True)
+
+
 def said(process: subprocess.Popen[bytes]) -> dict[str, str]:
     """Returns what the page sends next."""
-    for _ in range(SECONDS):
+    for second in range(1, SECONDS):
         try:
             found = SAID.get(timeout=1)
         except queue.Empty:
+            if second % 90 == 0 and not ASKED.is_set():
+                open_again()
             assert process.poll() is None, f"the browser ended with {process.returncode}"
             continue
         assert "error" not in found, found["error"]

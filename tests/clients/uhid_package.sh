@@ -92,7 +92,7 @@ echo "$name: ${image##*/}, $("$system/usr/bin/dpkg-query" --admindir="$system/va
 machine=(-accel "tcg,thread=multi" -cpu max -smp 2 -m 3072 -nic none -display none -monitor none -serial stdio -no-reboot)
 timeout "${HIDLOG_SECONDS:-2700}" qemu-system-x86_64 "${machine[@]}" -kernel "$image" -initrd "$room/initramfs" \
     -drive "file=$folder/disk,if=virtio,format=raw" \
-    -append "console=ttyS0 quiet systemd.show_status=0 systemd.mask=serial-getty@ttyS0.service rw panic=-1" </dev/null >"$folder/console" 2>&1 || true
+    -append "console=ttyS0 quiet systemd.show_status=0 no_timer_check systemd.mask=serial-getty@ttyS0.service rw panic=-1" </dev/null >"$folder/console" 2>&1 || true
 tr -d '\r' <"$folder/console" | sed -n "s,^@@ ,$name: ,p"
 rm -f "$folder/disk"
 if grep -q '^@@ FAILED' "$folder/console" || ! grep -q '^@@ end' "$folder/console"; then
