@@ -21,7 +21,7 @@ const ran = (file, words, input = "", variables = { HIDLOG_CLI: "wasm" }) => {
 const logsIn = (path) =>
     readdirSync(join(TOP, path)).filter((it) => it.endsWith(".log")).map((it) => join(TOP, path, it));
 const logs = [join(TOP, "examples/registration.log"), ...logsIn("examples/failing"),
-    ...logsIn("crates/hidlog/data/capacity_64")];
+    ...logsIn("crates/hidlog/data/capacity_64").filter((_, place) => place % 3 === 0)];
 const calls = logs.flatMap((log) => [["check", log], ["replay", log], ["quiet", log], ["show", log],
     ["show", "--explain", log]]);
 const failing = (name) => join(TOP, "examples/failing", name);

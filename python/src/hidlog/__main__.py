@@ -12,7 +12,6 @@ import os
 import subprocess
 import sys
 
-from . import by_library
 from .errors import MissingPart
 from .process import program
 
@@ -61,8 +60,9 @@ def _become_program() -> int:
     try:
         path = program()
     except MissingPart as error:
+        by_library = importlib.import_module(".by_library", __package__)  # where there is a program it isn't loaded
         if "HIDLOG" not in os.environ and by_library.takes(sys.argv[1:]):
-            return by_library.run(sys.argv[1:])
+            return int(by_library.run(sys.argv[1:]))
         print(f"hidlog: {error}", file=sys.stderr)
         return 2
     sys.stdout.flush()
