@@ -113,7 +113,7 @@ def statements_name_all() -> None:
     for it in document["relationships"]:
         if it["relationshipType"] == "GENERATED_FROM":
             made[names[it["spdxElementId"]]].add(names[it["relatedSpdxElement"]])
-    assert {name for name, parts in made.items() if "glibc" in parts} == have_program(), made
+    assert {name for name, parts in made.items() if "glibc" in parts} == have_program(), have_program()
     for word, part in (("go-", "go"), (".crate", "rust"), (".tgz", "npm"), (".whl", "python"), ("uhid", "uhid")):
         for name in (it for it in sums if word in it):
             assert f"hidlog-sources-{part}" in made[name], (name, made[name])
