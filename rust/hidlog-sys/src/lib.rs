@@ -90,6 +90,7 @@ extern "C" {
         room: usize,
         outcome: *mut hidlog_outcome,
     );
+    pub fn hidlog_fault_text(outcome: *const hidlog_outcome, out: *mut u8, room: usize) -> usize;
     pub fn hidlog_key_size() -> usize;
     pub fn hidlog_key_make(
         key: *mut hidlog_key,

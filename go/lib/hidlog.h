@@ -1,0 +1,1 @@
+../../release/hidlog.h
