@@ -1,8 +1,9 @@
 package hidlog
 
-// #cgo CFLAGS: -I${SRCDIR}/lib
-// #cgo linux,amd64 LDFLAGS: ${SRCDIR}/lib/libhidlog_linux_amd64.a
-// #cgo linux,arm64 LDFLAGS: ${SRCDIR}/lib/libhidlog_linux_arm64.a
+// /* The module has the library in lib; in a clone of the repository it is in release. */
+// #cgo CFLAGS: -I${SRCDIR}/lib -I${SRCDIR}/../release
+// #cgo linux,amd64 LDFLAGS: -L${SRCDIR}/lib/amd64 -L${SRCDIR}/../release -l:libhidlog.a
+// #cgo linux,arm64 LDFLAGS: -L${SRCDIR}/lib/arm64 -L${SRCDIR}/../release/aarch64 -l:libhidlog.a
 // #include <stdlib.h>
 // #include "hidlog.h"
 import "C"

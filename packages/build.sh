@@ -144,8 +144,8 @@ make_go() {
     (cd "$top/go" && git ls-files -co --exclude-standard 2>/dev/null || find . -type f) | sed 's|^\./||' | sort |
         while read -r name; do put 644 "go/$name" "$folder/$name"; done
     put 644 release/hidlog.h "$folder/lib/hidlog.h"
-    put 644 release/libhidlog.a "$folder/lib/libhidlog_linux_amd64.a"
-    put 644 release/aarch64/libhidlog.a "$folder/lib/libhidlog_linux_arm64.a"
+    put 644 release/libhidlog.a "$folder/lib/amd64/libhidlog.a"
+    put 644 release/aarch64/libhidlog.a "$folder/lib/arm64/libhidlog.a"
     cat "$top/LICENSE-MIT" >"$folder/LICENSE-MIT"
     cat "$top/LICENSE-APACHE" >"$folder/LICENSE-APACHE"
     python3 "$top/packages/zip.py" "$room/go" "$to/hidlog-go-$version.zip"

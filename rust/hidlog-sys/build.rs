@@ -5,8 +5,13 @@ use std::env::var;
 fn main() {
     println!("cargo:rerun-if-env-changed=HIDLOG_LIBRARY_FOLDER");
     let (system, processor) = (var("CARGO_CFG_TARGET_OS").unwrap(), var("CARGO_CFG_TARGET_ARCH").unwrap());
-    let folder = var("HIDLOG_LIBRARY_FOLDER")
-        .unwrap_or_else(|_| format!("{}/lib/{processor}", var("CARGO_MANIFEST_DIR").unwrap()));
+    // The crate has the library in lib; in a clone of the repository it is in release.
+    let crate_folder = var("CARGO_MANIFEST_DIR").unwrap();
+    let release = if processor == "x86_64" { "" } else { &processor };
+    let folders = [format!("{crate_folder}/lib/{processor}"), format!("{crate_folder}/../../release/{release}")];
+    let has_library = |it: &&String| std::path::Path::new(it).join("libhidlog.a").exists();
+    let found = folders.iter().find(has_library).unwrap_or(&folders[0]).clone();
+    let folder = var("HIDLOG_LIBRARY_FOLDER").unwrap_or(found);
     if system != "linux" || !std::path::Path::new(&folder).join("libhidlog.a").exists() {
         panic!("hidlog-sys has no library for {system} on {processor}: it has Linux on x86_64 and aarch64");
     }

@@ -1,1 +1,0 @@
-../../release/hidlog.h
