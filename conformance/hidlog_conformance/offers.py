@@ -44,10 +44,10 @@ def heard(device: Device, channel: int, nonce: bytes, seconds: float, until_aske
         end = time.monotonic() + seconds
 
 
-def greet(device: Device) -> bytes:
+def greet(device: Device, seconds: float = ANSWER) -> bytes:
     """Asks for a channel; returns the answer's data."""
     device.start()
-    answer = ask(device, hid.BROADCAST, hid.INIT, NONCE)
+    answer = ask(device, hid.BROADCAST, hid.INIT, NONCE, seconds)
     if answer is None or answer.command != hid.INIT or len(answer.data) != 17:
         raise OSError(
             "the device doesn't answer INIT: "
@@ -57,8 +57,9 @@ def greet(device: Device) -> bytes:
 
 
 def reset(device: Device) -> Optional[hid.Message]:
-    """Sends authenticatorReset and returns its answer; the user is asked to touch."""
-    channel = int.from_bytes(greet(device)[8:12], "big")
+    """Sends authenticatorReset and returns its answer; the user is asked to touch. The device answered INIT before, so
+    that one which doesn't yet may still be starting."""
+    channel = int.from_bytes(greet(device, LAST)[8:12], "big")
     answer = ask(device, channel, hid.CBOR, bytes([answers.RESET]), until_asked=True)
     if answer is not None and answer.command == hid.KEEPALIVE:
         device.presence(0, "granted")
