@@ -529,8 +529,8 @@ def forms_are_shown(room: Path) -> None:
     assert len(objects) > 20 and all(isinstance(it, dict) for it in objects)
     said = explained(["show", "--summary", "--json", str(log)])
     wants(said, 0, b"")
-    *ended, counts = [json.loads(line) for line in said.stdout.splitlines()]
-    assert ended == [it for it in objects if it["kind"] == "transaction"] and counts["kind"] == "summary"
+    *closed, counts = [json.loads(line) for line in said.stdout.splitlines()]
+    assert closed == [it for it in objects if it["kind"] == "transaction"] and counts["kind"] == "summary"
     bad = room / "bad.log"
     bad.write_bytes(log.read_bytes() + b"t 5x\n")
     count = len(bad.read_bytes().splitlines())
