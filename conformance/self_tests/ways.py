@@ -101,8 +101,10 @@ def power() -> None:
         words = ["--device", command, "--touch-line", "touch", "--only", "power/c"]
         text = said([*words, "--keeps"])
         print(f"by a pipe, power/c*: {text.splitlines()[-1]}")
-        assert text.endswith("4 passed, 0 failed, 0 warned, 0 skipped\n"), text
-        assert said(words).endswith("0 passed, 0 failed, 0 warned, 4 skipped\n"), "a power cycle without --keeps"
+        count = len(glob.glob(os.path.join(HERE, "sessions", "power", "c*.log")))
+        assert count >= 4 and text.endswith(f"\n{count} passed, 0 failed, 0 warned, 0 skipped\n"), text
+        text = said(words)
+        assert text.endswith(f"\n0 passed, 0 failed, 0 warned, {count} skipped\n"), text
 
 
 def reports() -> None:

@@ -122,7 +122,11 @@ def test_a_read_ends_at_its_time_out(make: Make) -> None:
     assert key.read_packet()[:8].hex() == "00000001bb000102"
     assert 0.09 < time.monotonic() - began < HANGS
     key.presence = "granted"
-    assert [key.read_packet()[4:8].hex() for _ in range(2)] == ["bb000102", "90000100"]
+    # How many KEEPALIVEs come before the answer is a matter of time.
+    packets = [key.read_packet()[4:8].hex()]
+    while packets[-1] == "bb000102":
+        packets.append(key.read_packet()[4:8].hex())
+    assert packets[-1] == "90000100"
     assert client.request(4)[1] == ["FIDO_2_0"]
 
 
