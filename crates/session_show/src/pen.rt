@@ -165,7 +165,11 @@ impl Pen {
             self.before -= len;
             return;
         }
-        self.text("\\u");
-        self.hex(&[high, low]);
+        if self.is_quoted {
+            self.bytes(b"\\");
+        }
+        let mut piece = *b"\\u0000";
+        let _ = hex::encode_to_slice([high, low].as_slice(), &mut piece[2..]);
+        self.bytes(&piece);
     }
 }
