@@ -1,5 +1,5 @@
 #!/usr/bin/env python3
-"""Writes the sessions of the corpus into conformance/sessions, and their table into docs/CONFORMANCE.md.
+"""Writes the sessions of the corpus into conformance/sessions, and their table into docs/use/CONFORMANCE.md.
 
     conformance/make.py            writes them
     conformance/make.py --check    fails where the folder or the table isn't what it would write
@@ -32,7 +32,7 @@ from hidlog_conformance.cases.sentence_table import sentence_table
 
 HERE = os.path.dirname(os.path.abspath(__file__))
 SESSIONS = os.path.join(HERE, "sessions")
-PAGE_NAME = "docs/CONFORMANCE.md"
+PAGE_NAME = "docs/use/CONFORMANCE.md"
 PAGE = os.path.join(HERE, "..", PAGE_NAME)
 MODULES = (
     cases_transport,

@@ -1,5 +1,5 @@
 #!/usr/bin/env python3
-"""Plays the corpus from this repository, without an installation; docs/CONFORMANCE.md has the words."""
+"""Plays the corpus from this repository, without an installation; docs/use/CONFORMANCE.md has the words."""
 
 from __future__ import annotations
 

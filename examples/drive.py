@@ -6,7 +6,7 @@
 It greets the key (CTAPHID_INIT), sends it a PING on the channel that it is given, asks what the authenticator can do
 (authenticatorGetInfo), asks for a command that is not served, lets time pass, and prints what comes back. It ends with
 0 where the key answered as CTAPHID says.
-docs/LOG_FORMAT.md has the lines.
+docs/use/LOG_FORMAT.md has the lines.
 """
 
 import os

@@ -28,7 +28,7 @@ done
 (cd "$top/release" && sha256sum --quiet --check SHA256SUMS) || { echo "packages: release/ isn't whole" >&2; exit 1; }
 version=$(sed -n 's/^version: //p' "$top/release/BUILD")
 # One moment for every file, so that the bytes don't depend on when this is run: that of the man page's date.
-SOURCE_DATE_EPOCH=$(date -u -d "$(sed -n 's/^\.Dd //p' "$top/docs/hidlog.1")" +%s)
+SOURCE_DATE_EPOCH=$(date -u -d "$(sed -n 's/^\.Dd //p' "$top/docs/use/hidlog.1")" +%s)
 export SOURCE_DATE_EPOCH
 # shellcheck disable=SC2034 # debian.sh reads it
 maintainer="Cogtzil maintainers <maintainers@users.noreply.cogtzil.example>"
@@ -51,7 +51,7 @@ put_completions() {
 put_documents() {
     local name
     for name in LOG_FORMAT PROFILE TESTING_YOUR_SERVICE WEBDRIVER TOUR TROUBLESHOOTING CAPTURES LIMITS CLIENTS LOAD; do
-        put 644 "docs/$name.md" "$1/docs/$name.md"
+        put 644 "docs/use/$name.md" "$1/docs/use/$name.md"
     done
     for name in "$top"/examples/*.log "$top"/examples/*.snapshot; do
         put 644 "examples/${name##*/}" "$1/examples/${name##*/}"
@@ -92,13 +92,13 @@ make_tarball() {
     mkdir -p "$root/lib/pkgconfig"
     sed -e "s|^prefix=.*|prefix=\${pcfiledir}/../..|" -e "s|^Cflags:.*|Cflags: -I\${prefix}/include|" \
         -e "s|^Libs:.*|Libs: -L\${prefix}/lib -lhidlog|" "$top/release/hidlog.pc" >"$root/lib/pkgconfig/hidlog.pc"
-    put 644 docs/hidlog.1 "$root/share/man/man1/hidlog.1"
+    put 644 docs/use/hidlog.1 "$root/share/man/man1/hidlog.1"
     put_completions "$root/share"
     put_documents "$root"
     put_c_examples "$root/examples/c"
     if [ -e "$room/hidlog-uhid.program" ]; then
         install -D -m 755 "$room/hidlog-uhid.program" "$root/bin/hidlog-uhid"
-        put 644 docs/hidlog-uhid.8 "$root/share/man/man8/hidlog-uhid.8"
+        put 644 docs/use/hidlog-uhid.8 "$root/share/man/man8/hidlog-uhid.8"
         put 644 packages/uhid/70-hidlog.rules "$root/share/hidlog-uhid/70-hidlog.rules"
         put 644 packages/uhid/hidlog-uhid@.service "$root/share/hidlog-uhid/hidlog-uhid@.service"
     fi

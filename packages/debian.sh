@@ -86,7 +86,7 @@ pack() {
 make_program() {
     local root=$room/amd64/hidlog
     put 755 release/hidlog "$root/usr/bin/hidlog"
-    put 644 docs/hidlog.1 "$root/usr/share/man/man1/hidlog.1"
+    put 644 docs/use/hidlog.1 "$root/usr/share/man/man1/hidlog.1"
     gzip -9n "$root/usr/share/man/man1/hidlog.1"
     put_completions "$root/usr/share"
     put_documents "$root/usr/share/doc/hidlog"
@@ -140,7 +140,7 @@ make_library() {
 make_uhid() {
     local root=$room/amd64/hidlog-uhid
     install -D -m 755 "$room/hidlog-uhid.program" "$root/usr/bin/hidlog-uhid"
-    put 644 docs/hidlog-uhid.8 "$root/usr/share/man/man8/hidlog-uhid.8"
+    put 644 docs/use/hidlog-uhid.8 "$root/usr/share/man/man8/hidlog-uhid.8"
     gzip -9n "$root/usr/share/man/man8/hidlog-uhid.8"
     put 644 packages/uhid/70-hidlog.rules "$root/lib/udev/rules.d/70-hidlog.rules"
     put 644 packages/uhid/hidlog-uhid@.service "$root/lib/systemd/system/hidlog-uhid@.service"

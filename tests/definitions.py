@@ -1,4 +1,6 @@
-"""The index of definitions by section of the public standards, docs/DEFINITIONS.md, which tests/reading.py writes.
+"""The index of definitions by section of the public standards, docs/believe/DEFINITIONS.md.
+
+It is written by tests/reading.py.
 
 A definition is listed under a section where the comment above it names the section. A file is, where the comment at its
 top does.
@@ -12,7 +14,7 @@ from dataclasses import dataclass, field
 from pathlib import Path
 
 TOP = Path(__file__).resolve().parent.parent
-INDEX = TOP / "docs" / "DEFINITIONS.md"
+INDEX = TOP / "docs" / "believe" / "DEFINITIONS.md"
 STANDARDS = ("CTAP 2.1", "WebAuthn Level 2", "RFC 8949", "RFC 8152")
 NUMBER = r"\d+(?:\.\d+)*"
 CITES = re.compile(rf"({'|'.join(map(re.escape, STANDARDS))}), sections? ({NUMBER}(?:(?:, | and |, and ){NUMBER})*)")
@@ -75,7 +77,7 @@ def line(section: str, entries: dict[Path, Entry]) -> str:
     cells = []
     for path, entry in entries.items():
         crate, file = path.relative_to(TOP / "crates").parts[0], path.name.removesuffix(".antt")
-        link = f"[{crate}, {file}](../{path.relative_to(TOP)})"
+        link = f"[{crate}, {file}](../../{path.relative_to(TOP)})"
         names = ", ".join(f"`{it}`" for it in dict.fromkeys(entry.names))
         cells.append(f"{link}: {names}" if names else link)
     return f"| {section} | {'; '.join(cells)} |\n"

@@ -1,7 +1,7 @@
 #!/usr/bin/env python3
 """Runs the commands of README and docs/ and compares what they print with what the page says.
 
-    tests/docs.py [PAGE ..]        by default README.md, docs/*.md and the README of each folder
+    tests/docs.py [PAGE ..]        by default README.md, the pages of docs/ and the README of each folder
 
 A command is a line of a code block that begins with `$ `; the lines after it, up to the next command or the block's
 end, are what it prints. There a line that ends in ` ..` stands for any line with that beginning, and a line `..` for any
@@ -127,7 +127,7 @@ def broken_links_of(page: Path) -> list[str]:
 
 def main() -> int:
     given = [Path(it).resolve() for it in sys.argv[1:]]
-    pages = given or sorted(it for pattern in ("*.md", "docs/*.md", "*/README.md") for it in TOP.glob(pattern))
+    pages = given or sorted(it for pattern in ("*.md", "docs/**/*.md", "*/README.md") for it in TOP.glob(pattern))
     passed = failed = 0
     for page in pages:
         failures = broken_links_of(page)

@@ -1,6 +1,6 @@
 #!/usr/bin/env python3
-"""Compares docs/EXAMPLES.md with the proofs: each computed example that the page names is there, and each one that is
-there is named. Prints how many rows have an example. Ends with 1 at a difference.
+"""Compares docs/believe/EXAMPLES.md with the proofs: each computed example that the page names is there, and each one
+that is there is named. Prints how many rows have an example. Ends with 1 at a difference.
 
     tests/examples.py
 """
@@ -26,7 +26,7 @@ def computed(path: str) -> set[str]:
 
 
 def main() -> int:
-    page = (TOP / "docs/EXAMPLES.md").read_text(encoding="utf-8")
+    page = (TOP / "docs/believe/EXAMPLES.md").read_text(encoding="utf-8")
     files = dict(FILE.findall(page))
     there = {(letter, name) for letter, path in files.items() for name in computed(path)}
     rows = [(row, examples) for row, examples in ROW.findall(page) if row not in files and row != "Letter"]
@@ -35,7 +35,7 @@ def main() -> int:
     wrong += [f"{letter} {name} is in no row" for letter, name in sorted(there - named)]
     wrong += [f"this row has neither an example nor `none`: {row}" for row, it in rows if not is_told(it)]
     for line in wrong:
-        print(f"docs/EXAMPLES.md: {line}")
+        print(f"docs/believe/EXAMPLES.md: {line}")
     without = sum(examples.startswith("none: ") for _, examples in rows)
     print(f"{len(there)} examples, {len(rows)} rows, {without} without an example, {len(wrong)} faults")
     return 1 if wrong else 0

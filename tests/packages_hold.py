@@ -69,7 +69,7 @@ def licences_are_there() -> None:
 
 def page_names_what_is_there() -> None:
     """The files that the man page names are in the Debian package, and in the tarball."""
-    page = (TOP / "docs" / "hidlog.1").read_text(encoding="utf-8")
+    page = (TOP / "docs" / "use" / "hidlog.1").read_text(encoding="utf-8")
     named = re.findall(
         r"^\.(?:It )?Pa (\w+/\S+)", page.partition(".Sh FILES")[2].partition(".Sh EXIT")[0], re.MULTILINE
     )

@@ -1,6 +1,6 @@
 #!/usr/bin/env python3
-"""Compares docs/READING.md and docs/READING_MORE.md with the definitions that the headline theorem needs, and the index
-docs/DEFINITIONS.md.
+"""Compares READING.md and READING_MORE.md of docs/believe with the definitions that the headline theorem needs, and the
+index DEFINITIONS.md beside them.
 
     tests/reading.py            ends with 1 where the pages miss a definition, show one that isn't needed, or twice,
                                 where a text, a count or the index isn't that of today, where the first page is longer
@@ -50,8 +50,8 @@ from pathlib import Path
 import definitions
 
 TOP = Path(__file__).resolve().parent.parent
-PAGE = TOP / "docs" / "READING.md"
-MORE_PAGE = TOP / "docs" / "READING_MORE.md"
+PAGE = TOP / "docs" / "believe" / "READING.md"
+MORE_PAGE = TOP / "docs" / "believe" / "READING_MORE.md"
 HEADLINE = TOP / "crates" / "token_session" / "src" / "driving.rt"
 RECORD = "IsAnswered"
 # Fields of the headline's record, in the order of their sections.
@@ -610,11 +610,11 @@ def main() -> int:
         return 0
     found = faults(needs, page)
     if definitions.INDEX.read_text(encoding="utf-8") != definitions.page(comments()):
-        found.append("docs/DEFINITIONS.md isn't what the comments of the definitions say: tests/reading.py --write")
+        found.append("docs/believe/DEFINITIONS.md isn't what the definitions' comments say: tests/reading.py --write")
     for line in found:
         print(line)
     counted = count(needs.parts[0].definitions).strip("*")
-    print(f"docs/READING.md: {counted}; {extent(texts[0])} words in all; {len(found)} faults")
+    print(f"docs/believe/READING.md: {counted}; {extent(texts[0])} words in all; {len(found)} faults")
     return 1 if found else 0
 
 

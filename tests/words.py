@@ -1,5 +1,5 @@
 #!/usr/bin/env python3
-"""Finds words that this repository doesn't use where a plainer one says the same (docs/WORKING_HERE.md, "How a change goes").
+"""Finds words that this repository doesn't use where a plainer one says the same.
 
     tests/words.py [PAGE ..]    by default README.md, the pages of docs/ and the comments of the crates' code
 
@@ -26,7 +26,7 @@ WORDS = {
 }
 # What is left in a page, or in the comments of the crates ("crates"). These numbers only get smaller.
 LEFT = {
-    "docs/WORKING_HERE.md": 1,  # where the words are named
+    "docs/change/WORKING_HERE.md": 1,  # where the words are named
 }
 EXCEPTIONS = (
     re.compile(r"`[^`]*`"),  # names of code
@@ -36,7 +36,7 @@ EXCEPTIONS = (
 
 
 def pages() -> list[Path]:
-    return [TOP / "README.md", TOP / "CHANGELOG.md", TOP / "SECURITY.md", *sorted((TOP / "docs").glob("*.md"))]
+    return [TOP / "README.md", TOP / "CHANGELOG.md", TOP / "SECURITY.md", *sorted((TOP / "docs").glob("**/*.md"))]
 
 
 def comments() -> list[Path]:

@@ -16,7 +16,7 @@
 
     const aligned = (place) => Math.ceil(place / 16) * 16;
 
-    /** The text of a fault, as docs/LOG_FORMAT.md has it. */
+    /** The text of a fault, as docs/use/LOG_FORMAT.md has it. */
     const faultText = ({ status, fault, line, packet }) => {
         if (status === 2) {
             return `snapshot refused: ${fault}`;

@@ -120,8 +120,8 @@ def reports() -> None:
 
 
 def page() -> None:
-    """Looks for each case that docs/CONFORMANCE.md names, of the corpus or of the clients."""
-    with open(os.path.join(HERE, "..", "docs", "CONFORMANCE.md"), encoding="utf-8") as file:
+    """Looks for each case that docs/use/CONFORMANCE.md names, of the corpus or of the clients."""
+    with open(os.path.join(HERE, "..", "docs", "use", "CONFORMANCE.md"), encoding="utf-8") as file:
         lines = [line for line in file.read().splitlines() if line.startswith("|")]
     count = 0
     for line in lines:
@@ -131,7 +131,7 @@ def page() -> None:
                 assert glob.glob(os.path.join(HERE, pattern.format(name))), f"the page names {name}"
                 count += 1
     assert count > 100, "the page's names"
-    print(f"docs/CONFORMANCE.md names cases {count} times, and each is there")
+    print(f"docs/use/CONFORMANCE.md names cases {count} times, and each is there")
 
 
 def mistakes() -> None:

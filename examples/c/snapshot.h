@@ -1,5 +1,5 @@
-// The credentials of a held key as a snapshot, which hidlog_key_make takes: the canonical CBOR that docs/LOG_FORMAT.md
-// names, version 2.
+// The credentials of a held key as a snapshot, which hidlog_key_make takes: the canonical CBOR that
+// docs/use/LOG_FORMAT.md names, version 2.
 #ifndef SNAPSHOT_H
 #define SNAPSHOT_H
 

@@ -1,5 +1,5 @@
 #!/usr/bin/env python3
-"""Records the failing sessions of docs/TROUBLESHOOTING.md with `hidlog live`.
+"""Records the failing sessions of docs/use/TROUBLESHOOTING.md with `hidlog live`.
 
     examples/failing/make.py            writes them
     examples/failing/make.py --check    ends with 1 where one isn't what would be written

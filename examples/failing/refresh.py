@@ -1,5 +1,5 @@
 #!/usr/bin/env python3
-"""Writes the outputs of docs/TROUBLESHOOTING.md anew, as the commands of the page print them today.
+"""Writes the outputs of docs/use/TROUBLESHOOTING.md anew, as the commands of the page print them today.
 
     examples/failing/refresh.py [PAGE ..]
 
@@ -14,7 +14,7 @@ import tempfile
 from pathlib import Path
 
 TOP = Path(__file__).resolve().parents[2]
-PAGE = TOP / "docs" / "TROUBLESHOOTING.md"
+PAGE = TOP / "docs" / "use" / "TROUBLESHOOTING.md"
 INDENT = "    "
 sys.path.insert(0, str(TOP / "tests"))
 

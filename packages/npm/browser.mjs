@@ -1,5 +1,5 @@
 // A browser and its key as one process: JSON lines in, JSON lines out, for languages that have neither
-// (docs/WEBDRIVER.md has the lines).
+// (docs/use/WEBDRIVER.md has the lines).
 import { createInterface } from "node:readline";
 import { install } from "./node.mjs";
 

@@ -89,7 +89,7 @@ static void test_small_rooms(void)
     expect(run(hidlog_replay, size, 0, size) && outcome.status == HIDLOG_DONE, "a room that is just enough");
 }
 
-/* What each command writes of one tick, as docs/LOG_FORMAT.md says. */
+/* What each command writes of one tick, as docs/use/LOG_FORMAT.md says. */
 static void test_tick(void)
 {
     static const struct {
@@ -145,7 +145,7 @@ static void test_snapshots(void)
 }
 
 /* The text of each fault that C can see, and of each refusal; its front where there is less room; nothing at 0. The texts
- * are those of docs/LOG_FORMAT.md, "Faults". */
+ * are those of docs/use/LOG_FORMAT.md, "Faults". */
 static void test_texts(void)
 {
     static const struct {

@@ -4,7 +4,7 @@
     tests/clients/bridge_users.py UHID
 
 UHID is the bridge of examples/uhid, compiled. bridge.py stands in for the kernel's device. The statuses are those
-of docs/PROFILE.md: a registration that is denied and one that times out end alike, and the recording says which. Exit status: 1 where something isn't as it should be.
+of docs/use/PROFILE.md: a registration that is denied and one that times out end alike, and the recording says which. Exit status: 1 where something isn't as it should be.
 """
 
 from __future__ import annotations

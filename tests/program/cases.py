@@ -7,7 +7,7 @@ A case is a block of lines. The first is the exit status and the words. Of each 
 is: `-` in the log, `+` in what is written, `|` in both, `?` in what is said of faults. A line that begins with `#` is a
 remark. Two dots at a packet's end mean zeros, up to 128 digits in all. A line of a mere `!` says that the log's last line
 has no line feed. The log is on standard input, and in the file `log` too. The expected texts follow from
-docs/LOG_FORMAT.md and the standard.
+docs/use/LOG_FORMAT.md and the standard.
 
 Exit status: 1 where something isn't as it should be.
 """

@@ -657,7 +657,7 @@ def a_terminal_is_told(_: Path) -> None:
 
 
 def little_stack_is_enough(_: Path) -> None:
-    """Each command runs in the stack that docs/LIMITS.md names."""
+    """Each command runs in the stack that docs/use/LIMITS.md names."""
 
     def small() -> None:
         resource.setrlimit(resource.RLIMIT_STACK, (STACK, resource.RLIM_INFINITY))

@@ -17,7 +17,7 @@ SNAPSHOT = EXAMPLES / "example_com.snapshot"
 AGAIN = EXAMPLES / "sign_in_again.log"
 INIT = b"> 0 " + b"ffffffff8600080001020304050607".ljust(128, b"0") + b"\n"
 COUNTS = b"= held 0 rows 0 pending 0 requests 0 bytes 0 steps 0\n"
-# What docs/LIMITS.md says of the program, with the arguments and the environment that lie on it.
+# What docs/use/LIMITS.md says of the program, with the arguments and the environment that lie on it.
 STACK = 128 << 10
 
 Said = subprocess.CompletedProcess[bytes]

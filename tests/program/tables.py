@@ -1,6 +1,6 @@
 """Cases that are made from tables, and those that have characters that can't be seen.
 
-Each is a text as cases.txt has it. The tables are those of CTAP 2.1, RFC 8949 and docs/LOG_FORMAT.md.
+Each is a text as cases.txt has it. The tables are those of CTAP 2.1, RFC 8949 and docs/use/LOG_FORMAT.md.
 """
 
 from __future__ import annotations

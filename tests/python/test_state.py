@@ -66,7 +66,7 @@ def test_credentials(make: Make) -> None:
 
 
 def test_an_added_credential_replaces_that_of_its_user(make: Make) -> None:
-    """As a registration does (docs/PROFILE.md, authenticatorMakeCredential). Others stay."""
+    """As a registration does (docs/use/PROFILE.md, authenticatorMakeCredential). Others stay."""
     key = make()
     first = key.credentials.add("example.com", b"alice")
     other = key.credentials.add("example.org", b"alice")

@@ -1,5 +1,5 @@
 #!/usr/bin/env python3
-"""Makes the pages' pictures anew, docs/web_light.png, web_dark.png and web_phone.png, from the page as it is.
+"""Makes the pages' pictures anew, docs/use/web_light.png and web_phone.png, from the page as it is.
 
     tests/web/pictures.py
 
@@ -60,14 +60,13 @@ def main():
         open_log(driver, log)
         driver.run("document.getElementById('check').click(); arguments[arguments.length - 1]()")
         driver.wait_for("/differs/.test(document.getElementById('notice').textContent)")
-        for scheme in ("light", "dark"):
-            picture(driver, scheme, TOP / "docs" / f"web_{scheme}.png")
+        picture(driver, "light", TOP / "docs" / "use" / "web_light.png")
         driver.devtools("Emulation.setDeviceMetricsOverride", **PHONE)
         driver.open(f"file://{TOP}/web/index.html")
         open_log(driver, log)
         driver.run("document.getElementById('check').click(); arguments[arguments.length - 1]()")
         driver.wait_for("/differs/.test(document.getElementById('notice').textContent)")
-        picture(driver, "dark", TOP / "docs" / "web_phone.png")
+        picture(driver, "dark", TOP / "docs" / "use" / "web_phone.png")
     return 0
 
 

@@ -16,7 +16,7 @@ export const KINDS = {
 
 /** By the kind, the call's name, and the part of its outcome that differs. */
 const REASONS = [
-    [/./, /./, /counter$/, "a new credential's counter is 0 (docs/PROFILE.md)"],
+    [/./, /./, /counter$/, "a new credential's counter is 0 (docs/use/PROFILE.md)"],
     [/./, /./, /fmt$/, "a self attestation with no AAGUID is handed on, as WebAuthn says; Chromium's has a certificate"],
     [/not verifying|backed up/, /residentKey (required|preferred)|requireResidentKey|discoverable/, /./,
         "Chromium's makes discoverable credentials only where it verifies users; this key, as CTAP2, always"],

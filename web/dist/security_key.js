@@ -3484,7 +3484,7 @@ return { PRESENCE, HeldKey };
 })();
 
 parts["recording.js"] = (() => {
-// What is recorded: the log of a session, as `hidlog live` writes it (docs/LOG_FORMAT.md).
+// What is recorded: the log of a session, as `hidlog live` writes it (docs/use/LOG_FORMAT.md).
 const { toHex } = parts["bytes.js"];
 
 const LINE_MOST = 255;
@@ -3574,7 +3574,7 @@ return { Recording };
 })();
 
 parts["snapshots.js"] = (() => {
-// Snapshots of the credentials (docs/PROFILE.md), with which a session begins.
+// Snapshots of the credentials (docs/use/PROFILE.md), with which a session begins.
 const { textOf } = parts["bytes.js"];
 const { writeCbor } = parts["cbor.js"];
 
@@ -3582,7 +3582,7 @@ const SNAPSHOT_VERSION = 2;
 
 /** @typedef {import("./held.js").Row} Row */
 
-/** A snapshot (docs/PROFILE.md) with these credentials, the newest last. @param {Row[]} rows */
+/** A snapshot (docs/use/PROFILE.md) with these credentials, the newest last. @param {Row[]} rows */
 const snapshotOf = (rows) => {
     if (!rows.length) {
         return new Uint8Array(0);

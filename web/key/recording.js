@@ -1,4 +1,4 @@
-// What is recorded: the log of a session, as `hidlog live` writes it (docs/LOG_FORMAT.md).
+// What is recorded: the log of a session, as `hidlog live` writes it (docs/use/LOG_FORMAT.md).
 import { toHex } from "./bytes.js";
 
 const LINE_MOST = 255;

@@ -1,4 +1,4 @@
-// Snapshots of the credentials (docs/PROFILE.md), with which a session begins.
+// Snapshots of the credentials (docs/use/PROFILE.md), with which a session begins.
 import { textOf } from "./bytes.js";
 import { writeCbor } from "./cbor.js";
 
@@ -6,7 +6,7 @@ const SNAPSHOT_VERSION = 2;
 
 /** @typedef {import("./held.js").Row} Row */
 
-/** A snapshot (docs/PROFILE.md) with these credentials, the newest last. @param {Row[]} rows */
+/** A snapshot (docs/use/PROFILE.md) with these credentials, the newest last. @param {Row[]} rows */
 export const snapshotOf = (rows) => {
     if (!rows.length) {
         return new Uint8Array(0);

@@ -1,6 +1,6 @@
 """`hidlog browser --origin URL`: a browser and its key as one process, JSON lines in and JSON lines out.
 
-For languages that have neither. docs/WEBDRIVER.md has the lines; `npx hidlog browser` serves the same.
+For languages that have neither. docs/use/WEBDRIVER.md has the lines; `npx hidlog browser` serves the same.
 """
 
 from __future__ import annotations

@@ -97,7 +97,7 @@ def _row(it: Credential) -> bytes:
 
 
 def write_snapshot(listed: Sequence[Credential]) -> bytes:
-    """Returns a snapshot (version 2, docs/PROFILE.md) with these credentials, the newest last."""
+    """Returns a snapshot (version 2, docs/use/PROFILE.md) with these credentials, the newest last."""
     if not listed:
         return b""
     if any(len(it.id) != CORE_ID for it in listed):

@@ -14,7 +14,7 @@
 
 The process that starts a test (Locust's master, or the only one) holds the keys in a file, --security-keys. It hands
 each worker its share when a test starts, and takes back what workers report with their statistics, every three seconds
-and at the end. So a second run signs in with the users of the first (docs/LOAD.md).
+and at the end. So a second run signs in with the users of the first (docs/use/LOAD.md).
 """
 
 from __future__ import annotations

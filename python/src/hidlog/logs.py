@@ -29,7 +29,7 @@ class Result(NamedTuple):
 
     text     the bytes that were written.
     status   0 done, 1 a fault of the log, 2 a snapshot that was refused.
-    fault    the number of the fault or of the refusal, as in docs/LOG_FORMAT.md.
+    fault    the number of the fault or of the refusal, as in docs/use/LOG_FORMAT.md.
     line     the line that the fault names, from 1; 0 where it names none.
     packet   of a difference the packet, from 1.
     """

@@ -14,7 +14,7 @@ from .writing import log_of
 
 _IMPORT = """Writes the session log of a capture: pcap and pcapng of Linux's usbmon and of Windows's USBPcap, usbmon's
 text, libfido2's FIDO_DEBUG, python-fido2's logging, Chromium's device log, strace. Where a capture has several keys,
-their names are written, and --key chooses one. docs/CAPTURES.md says how to record."""
+their names are written, and --key chooses one. docs/use/CAPTURES.md says how to record."""
 _EXPORT = """Writes a session log as a pcapng file of USB, which Wireshark and tshark read. With the dissector
 (hidlog export --dissector) they join the messages and name what is in them."""
 
