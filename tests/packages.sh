@@ -76,7 +76,7 @@ completes() {
 }
 completes replay hidlog re
 completes --save hidlog live --s
-completes "$top/docs/use/hidlog.1" hidlog check --load "$top/docs/hidlog."
+completes "$top/docs/use/hidlog.1" hidlog check --load "$top/docs/use/hidlog."
 # The link of the development package leads to the file of the library's.
 [ -s "$room/root/usr/lib/x86_64-linux-gnu/libhidlog.so" ] || stop "libhidlog.so leads nowhere"
 if command -v gcc >/dev/null; then
