@@ -24,20 +24,20 @@ use Rattle.authn_core.proofs.Readiness.{all_along, all_found, applicable_there, 
 
 -- ---- what a mark does
 
-mark_keeps : (rows : List Row) → marked (record { made = None; raises = None; resets = false }) rows ≡ rows
+pub mark_keeps : (rows : List Row) → marked (record { made = None; raises = None; resets = false }) rows ≡ rows
 mark_keeps [] = refl
 mark_keeps (r ∷ rows) = grind (arith, mark_keeps rows)
 
-mark_resets : (rows : List Row) → marked (record { made = None; raises = None; resets = true }) rows ≡ []
+pub mark_resets : (rows : List Row) → marked (record { made = None; raises = None; resets = true }) rows ≡ []
 mark_resets [] = refl
 mark_resets (r ∷ rows) = mark_resets rows
 
-mark_raises : (id : List ℕ) (rows : List Row)
+pub mark_raises : (id : List ℕ) (rows : List Row)
     → marked (record { made = None; raises = Some id; resets = false }) rows ≡ raised id rows
 mark_raises id [] = refl
 mark_raises id (r ∷ rows) = grind (arith, mark_raises id rows)
 
-mark_makes : (new : Row) (rows : List Row)
+pub mark_makes : (new : Row) (rows : List Row)
     → marked (record { made = Some new; raises = None; resets = false }) rows ≡ stored new rows
 mark_makes new [] = refl
 mark_makes new (r ∷ rows) = grind (arith, mark_makes new rows)
@@ -69,7 +69,7 @@ left_counted n r ms = simp (replaced_same n r, raised_same n r)
 one_left : (m : Mark) (later : List Mark) (r : Row) → left (m ∷ later) r ≡ flat_map (left later) (left (m ∷ []) r)
 one_left m later r = grind (arith, left_counted)
 
-all_left : (m : Mark) (later : List Mark) (rows : List Row)
+pub all_left : (m : Mark) (later : List Mark) (rows : List Row)
     → flat_map (left (m ∷ later)) rows ≡ flat_map (left later) (flat_map (left (m ∷ [])) rows)
 all_left m later [] = refl
 all_left m later (r ∷ rows) = grind (arith, one_left, flat_map-append, all_left m later rows)

@@ -4,3 +4,5 @@ mod Examples
 pub mod Signed
 pub mod Histories
 mod SignedExamples
+mod Answering
+mod Told

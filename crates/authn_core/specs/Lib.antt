@@ -10,3 +10,6 @@ pub mod Padded
 pub mod Marks
 pub mod Signed
 pub mod Rising
+pub mod Exchanges
+pub mod Assertions
+pub mod Answers

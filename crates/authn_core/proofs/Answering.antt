@@ -1,0 +1,87 @@
+-- Each answer of a turn is the one that what happened before it names.
+use Rattle.std.proofs.Common.{◌≡◌, ℕ, ◌+◌, ◌≤◌, List, [], ◌∷◌, ◌++◌, map, take, flat_map, option_to_list, append-nil, append_assoc, length, filter, reverse, not, ◌&&◌, ◌||◌, Bool, true, false, cond, Option, Some, None, IfSome, option_map, is_some, Result, Ok, refl, sym, ap, ◌∙◌, arith}
+use Rattle.std.proofs.lemmas.Bool.Decides.{nat_tests}
+use Rattle.std.proofs.lemmas.Slice.Eq.{bytes_eq-Decides}
+use Rattle.std.proofs.lemmas.Grind.{common_steps, flat_map-append}
+use Rattle.std.specs.List.{AllByRecursion, find, list_any}
+use Rattle.std.specs.Str.{bytes_eq}
+use Rattle.cred_table.specs.declared.row.Row.{Row}
+use Rattle.cred_table.specs.Rows.{is_named, is_user}
+use Rattle.authn_core.specs.State.{Making}
+use Rattle.authn_core.specs.MakeCredential.{fits, names_one}
+use Rattle.authn_core.specs.GetAssertion.{applicable, find_named, told}
+use Rattle.authn_core.specs.Marks.{Mark, left, marked, rows_among, rows_of}
+use Rattle.authn_core.specs.Assertions.{signers, number_of}
+use Rattle.authn_core.specs.Answers.{is_excluded, is_full, takes_place}
+use Rattle.authn_core.proofs.Histories.{all_left, none_later}
+
+-- ---- rows
+
+-- the rows with later marks, and with one mark more
+rows_later : (start : List Row) (later h : List Mark) → rows_among start later h ≡ flat_map (left later) (rows_of start h)
+unfolding rows_among
+rows_later start later [] = ap (flat_map (left later)) (sym (none_later start))
+rows_later start later (m ∷ past) = rw (rows_later start (m ∷ []) past, rows_later start (m ∷ later) past) (grind (arith, flat_map-append, all_left, none_later))
+
+pub rows_marked : (start : List Row) (m : Mark) (h : List Mark) → rows_of start (m ∷ h) ≡ marked m (rows_of start h)
+unfolding rows_among
+rows_marked start m h = rw (rows_later start (m ∷ []) h) (grind (arith, none_later))
+
+-- ---- tests of rows
+
+pub any_find : (q : Row → Bool) (rows : List Row) → is_some (find q rows) ≡ list_any q rows
+any_find q [] = refl
+any_find q (r ∷ rows) = grind (arith, any_find q rows)
+
+any_false : {X : Type 0} (xs : List X) → list_any (λ x. false) xs ≡ false
+any_false [] = refl
+any_false (x ∷ xs) = any_false xs
+
+-- an id names a row of the RP where a row of the RP has one of the ids
+named_first : (rp id : List ℕ) (ids : List (List ℕ)) (rows : List Row)
+    → is_excluded rows rp (id ∷ ids) ≡ (is_some (find (is_named rp id) rows) || is_excluded rows rp ids)
+named_first rp id ids [] = refl
+named_first rp id ids (r ∷ rows) = grind (arith, named_first rp id ids rows)
+
+none_named : (rp : List ℕ) (rows : List Row) → is_excluded rows rp [] ≡ false
+none_named rp [] = refl
+none_named rp (r ∷ rows) = grind (arith, none_named rp rows)
+
+pub excluded_named : (rp : List ℕ) (rows : List Row) (ids : List (List ℕ)) → names_one rp rows ids ≡ is_excluded rows rp ids
+excluded_named rp rows [] = sym (none_named rp rows)
+excluded_named rp rows (id ∷ ids) = rw (named_first rp id ids rows, excluded_named rp rows ids) refl
+
+-- a row is replaced where one of the RP and user is found
+replaced_found : (rp user : List ℕ) (discoverable : Bool) (rows : List Row)
+    → list_any (takes_place rp user discoverable) rows ≡ (discoverable && is_some (find (is_user rp user) rows))
+replaced_found rp user false rows = any_false rows
+replaced_found rp user true [] = refl
+replaced_found rp user true (r ∷ rows) = grind (arith, replaced_found rp user true rows)
+
+pub full_fits : (room : ℕ) (m : Making) (rows : List Row)
+    → fits room m rows ≡ not (is_full room rows m.rp m.user m.discoverable)
+full_fits room m rows = rw (replaced_found m.rp m.user m.discoverable rows) (grind (arith, nat_tests))
+
+-- ---- who signs
+
+named_one : (rp id : List ℕ) (rows : List Row)
+    → map (λ (r : Row). r.id) (option_to_list (find (is_named rp id) rows))
+    ≡ cond (list_any (λ r. bytes_eq r.rp rp && bytes_eq r.id id) rows) (id ∷ []) []
+named_one rp id [] = refl
+named_one rp id (r ∷ rows) = grind (arith, bytes_eq-Decides, named_one rp id rows)
+
+named_none : (rp id : List ℕ) (rows : List Row) → find (is_named rp id) rows ≡ None
+    → list_any (λ r. bytes_eq r.rp rp && bytes_eq r.id id) rows ≡ false
+named_none rp id [] e = refl
+named_none rp id (r ∷ rows) e = grind (arith, named_none rp id rows)
+
+first_named : (rp : List ℕ) (rows : List Row) (ids : List (List ℕ))
+    → map (λ (r : Row). r.id) (option_to_list (find_named rp rows ids))
+    ≡ take 1 (filter (λ id. list_any (λ r. bytes_eq r.rp rp && bytes_eq r.id id) rows) ids)
+first_named rp rows [] = refl
+first_named rp rows (id ∷ ids) = grind (arith, named_one rp id rows, named_none rp id rows, first_named rp rows ids)
+
+pub signers_apply : (rows : List Row) (rp : List ℕ) (given : Bool) (allow : List (List ℕ))
+    → map (λ (r : Row). r.id) (applicable rows rp given allow) ≡ signers rows rp given allow
+signers_apply rows rp false allow = refl
+signers_apply rows rp true allow = first_named rp rows allow
