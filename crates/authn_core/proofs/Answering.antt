@@ -10,9 +10,9 @@ use Rattle.cred_table.specs.Rows.{is_named, is_user}
 use Rattle.authn_core.specs.State.{Making}
 use Rattle.authn_core.specs.MakeCredential.{fits, names_one}
 use Rattle.authn_core.specs.GetAssertion.{applicable, find_named, told}
-use Rattle.authn_core.specs.Marks.{Mark, left, marked, rows_among, rows_of}
+use Rattle.authn_core.specs.Marks.{Mark, takes_place, left, marked, rows_among, rows_of}
 use Rattle.authn_core.specs.Assertions.{signers, number_of}
-use Rattle.authn_core.specs.Answers.{is_excluded, is_full, takes_place}
+use Rattle.authn_core.specs.Answers.{is_excluded, is_full}
 use Rattle.authn_core.proofs.Histories.{all_left, none_later}
 
 -- ---- rows

@@ -14,7 +14,7 @@ use Rattle.ctap_message.specs.Members.{has_entries}
 use Rattle.ctap_message.specs.Descriptors.{ids_of}
 use Rattle.ctap_message.specs.Requests.{read_of}
 use Rattle.authn_core.specs.declared.replies.Presence.TheVariants.{Granted}
-use Rattle.authn_core.specs.State.{Asserting, Task, Resets, Selects, AsksMake, WantsKey, SignsMake, AsksAssert, SignsAssert, Job, State, Event, Request, PresenceIs, KeyIs, SignatureIs, Cancel, Drop, Answer, Answered, Waits, Ignored, Nothing, Turned, waits, signs, refuses}
+use Rattle.authn_core.specs.State.{Asserting, Task, Resets, Selects, AsksMake, WantsKey, SignsMake, AsksAssert, SignsAssert, Job, State, Event, Request, PresenceIs, KeyIs, SignatureIs, Cancel, Drop, Answer, Answered, Waits, Ignored, Nothing, Turned, status, waits, signs, refuses}
 use Rattle.authn_core.specs.MakeCredential.{making, names_one}
 use Rattle.authn_core.specs.GetAssertion.{MOST, NEXT_LIMIT, begins, row_signs, next_begins}
 use Rattle.sha2.specs.Sha256.{sha256}
@@ -22,7 +22,8 @@ use Rattle.authn_core.specs.Turn.{Start, first_state, requested, replied, reply_
 use Rattle.authn_core.specs.Marks.{Mark, marked, rows_among, Step, Comes, Orderly, core_at}
 use Rattle.authn_core.specs.Ready.{Ready, TaskReady, WorkReady, AllThere}
 use Rattle.authn_core.specs.Signed.{AllOf, rp_of}
-use Rattle.authn_core.specs.Exchanges.{Exchange, Unanswered, asked_on, rows_after, unanswered, waits_after}
+use Rattle.authn_core.specs.Views.{as_work}
+use Rattle.authn_core.specs.Exchanges.{waiting_in, Exchange, Unanswered, asked_on, rows_after, unanswered, waits_after}
 use Rattle.authn_core.specs.Assertions.{Series, series_of, is_next, number_of, first_signs, next_signs_in, is_in_time, may_go_on, signers, goes_on, is_signed, signed_in, series, begun_by, assertion_for}
 use Rattle.authn_core.specs.Answers.{is_status, waits_for_user, is_processed, to_assertion, to_request, assertion_of_read, assertion_of_open, made_in, resets_in, to_any_reply, to_reply, made_by_reply, raised_for, resets_for, answer_to, did, exchange, exchanges}
 use Rattle.authn_core.proofs.Answering.{any_find, excluded_named, full_fits, signers_apply, rows_marked}
@@ -49,13 +50,14 @@ TaskTold rows (SignsAssert x counter signed) (GetAssertion hash rp_id allow up) 
 TaskTold rows (SignsAssert x counter signed) GetNextAssertion [] a = (a ≡ Some x) × (counter ≡ counter_of x.id rows)
 TaskTold rows task asked took a = ⊥
 
-abbrev pub JobTold : List Row → Option Job → (cid : ℕ) → Asked → (took : List Event) → Option Asserting → Type 0
-JobTold rows None cid asked took a = ⊥
-JobTold rows (Some job) cid asked took a = (job.cid ≡ cid) × TaskTold rows job.task asked took a
+abbrev pub JobTold : List Row → Option Job → (cid waits : ℕ) → Asked → (took : List Event) → Option Asserting → Type 0
+JobTold rows None cid waits asked took a = ⊥
+JobTold rows (Some job) cid waits asked took a =
+    (job.cid ≡ cid) × (status job.task ≡ waits) × TaskTold rows job.task asked took a
 
 abbrev pub WorkTold : Start → List Row → Option Job → Option Unanswered → Type 0
 WorkTold start rows work None = work ≡ None
-WorkTold start rows work (Some u) = JobTold rows work u.cid u.asked u.took (assertion_for start u.before u.asked)
+WorkTold start rows work (Some u) = JobTold rows work u.cid u.status u.asked u.took (assertion_for start u.before u.asked)
 
 -- ---- replies
 
@@ -71,14 +73,14 @@ reply_rows : (start : Start) (s : State) (at cid : ℕ) (task : Task) (asked : A
 reply_rows start s at cid task asked took a e h = grind (arith, mark_keeps, mark_resets, mark_raises, mark_makes)
 
 -- what waits after a reply with this answer
-abbrev pub StillTold : List Row → Option Job → (cid : ℕ) → Asked → (took : List Event) → Option Asserting → Event → Answer → Type 0
-StillTold rows work cid asked took a e (Waits status) = JobTold rows work cid asked (e ∷ took) a
-StillTold rows work cid asked took a e Ignored = JobTold rows work cid asked took a
-StillTold rows work cid asked took a e answer = work ≡ None
+abbrev pub StillTold : List Row → Option Job → (cid waits : ℕ) → Asked → (took : List Event) → Option Asserting → Event → Answer → Type 0
+StillTold rows work cid waits asked took a e (Waits now) = JobTold rows work cid now asked (e ∷ took) a
+StillTold rows work cid waits asked took a e Ignored = JobTold rows work cid waits asked took a
+StillTold rows work cid waits asked took a e answer = work ≡ None
 
 reply_waits : (start : Start) (s : State) (at cid : ℕ) (task : Task) (asked : Asked) (took : List Event) (a : Option Asserting) (e : Event)
     → TaskTold s.rows task asked took a → s.work ≡ Some (record { cid = cid; task = task }) → TaskReady start.room s.rows task
-    → let t = replied (first_state start).setup s at cid task e in StillTold t.state.rows t.state.work cid asked took a e t.answer
+    → let t = replied (first_state start).setup s at cid task e in StillTold t.state.rows t.state.work cid (status task) asked took a e t.answer
 reply_waits start s at cid task asked took a e h w r = grind (arith, find_raised, same_bytes)
 
 -- ---- what is pending
@@ -153,7 +155,7 @@ reply_goes start s at on task e true cid hash rp presence all done m w g = grind
 
 -- what waits after a request with this answer
 abbrev pub BeginsTold : List Row → Option Job → (cid : ℕ) → Result Asked ℕ → Option Asserting → Answer → Type 0
-BeginsTold rows work cid (Ok asked) a (Waits status) = JobTold rows work cid asked [] a
+BeginsTold rows work cid (Ok asked) a (Waits now) = JobTold rows work cid now asked [] a
 BeginsTold rows work cid read a answer = work ≡ None
 
 begins_answers : (rows : List Row) (at cid : ℕ) (hash rp : List ℕ) (presence given : Bool) (ids : List (List ℕ))
@@ -400,7 +402,7 @@ request_served start past s at cid (Err code) w r p d =
 request_served start past s at cid (Ok GetInfo) w r p d =
     record { answer = refl; rows = sym (mark_keeps s.rows); work = refl; pending = λ y n g. ends start _ y (series past) g refl }
 request_served start past s at cid (Ok Selection) w r p d =
-    record { answer = refl; rows = sym (mark_keeps s.rows); work = (refl, refl); pending = λ y n g. ends start _ y (series past) g refl }
+    record { answer = refl; rows = sym (mark_keeps s.rows); work = (refl, refl, refl); pending = λ y n g. ends start _ y (series past) g refl }
 request_served start past s at cid (Ok Reset) w r p d = record {
   answer = grind (arith, nat_tests);
   rows = grind (arith, mark_keeps);
@@ -410,7 +412,7 @@ request_served start past s at cid (Ok Reset) w r p d = record {
 request_served start past s at cid (Ok (MakeCredential hash rp_id user_id user_name discoverable exclude)) w r p d = record {
   answer = refl;
   rows = sym (mark_keeps s.rows);
-  work = (refl, (refl, refl, refl));
+  work = (refl, refl, (refl, refl, refl));
   pending = λ y n g. ends start _ y (series past) g refl;
 }
 request_served start past s at cid (Ok (GetAssertion hash rp_id allow presence)) w r p d =
@@ -455,7 +457,7 @@ any_reply_answers : (start : Start) (past : List Exchange) (s : State) (at : ℕ
 any_reply_answers start past s at w None e r h = rw h refl
 any_reply_answers start past s at None (Some u) e r h = absurd h
 any_reply_answers start past s at (Some job) (Some u) e r h =
-    rw (← r) (reply_answers start s at job.cid job.task u.asked u.took (assertion_for start u.before u.asked) e h.1)
+    rw (← r) (reply_answers start s at job.cid job.task u.asked u.took (assertion_for start u.before u.asked) e h.2)
 
 any_reply_rows : (start : Start) (s : State) (at : ℕ) (w : Option Job) (o : Option Unanswered) (e : Event)
     → WorkTold start s.rows w o → let t = reply_turn (first_state start).setup s at w e in
@@ -463,7 +465,7 @@ any_reply_rows : (start : Start) (s : State) (at : ℕ) (w : Option Job) (o : Op
 any_reply_rows start s at w None e h = rw h (sym (mark_keeps s.rows))
 any_reply_rows start s at None (Some u) e h = absurd h
 any_reply_rows start s at (Some job) (Some u) e h =
-    reply_rows start s at job.cid job.task u.asked u.took (assertion_for start u.before u.asked) e h.1
+    reply_rows start s at job.cid job.task u.asked u.took (assertion_for start u.before u.asked) e h.2
 
 -- a reply is not a request
 abbrev pub IsReply : Event → Type 0
@@ -472,10 +474,10 @@ IsReply (KeyIs key) = Unit {0}
 IsReply (SignatureIs sig) = Unit {0}
 IsReply e = ⊥
 
-still_waits : (start : Start) (past : List Exchange) (rows : List Row) (w : Option Job) (cid : ℕ) (u : Unanswered) (e : Event) (answer : Answer)
-    → IsReply e → cid ≡ u.cid → StillTold rows w cid u.asked u.took (assertion_for start u.before u.asked) e answer
+still_waits : (start : Start) (past : List Exchange) (rows : List Row) (w : Option Job) (cid waits : ℕ) (u : Unanswered) (e : Event) (answer : Answer)
+    → IsReply e → cid ≡ u.cid → waits ≡ u.status → StillTold rows w cid waits u.asked u.took (assertion_for start u.before u.asked) e answer
     → WorkTold start rows w (waits_after e answer past (Some u))
-still_waits start past rows w cid u e answer i c h = grind arith
+still_waits start past rows w cid waits u e answer i c v h = grind arith
 
 any_reply_waits : (start : Start) (past : List Exchange) (s : State) (at : ℕ) (w : Option Job) (o : Option Unanswered) (e : Event)
     → IsReply e → s.work ≡ w → WorkReady start.room s.rows w → WorkTold start s.rows w o
@@ -485,8 +487,8 @@ any_reply_waits start past s at w None e i k r h = rw h (grind arith)
 any_reply_waits start past s at None (Some u) e i k r h = absurd h
 any_reply_waits start past s at (Some job) (Some u) e i k r h =
     let t = replied (first_state start).setup s at job.cid job.task e in
-    still_waits start past t.state.rows t.state.work job.cid u e t.answer i h.0
-    (reply_waits start s at job.cid job.task u.asked u.took (assertion_for start u.before u.asked) e h.1 k r)
+    still_waits start past t.state.rows t.state.work job.cid (status job.task) u e t.answer i h.0 h.1
+    (reply_waits start s at job.cid job.task u.asked u.took (assertion_for start u.before u.asked) e h.2 k r)
 
 none_begun : (e : Event) (answer : Answer) (past : List Exchange) → IsReply e → begun_by e answer past ≡ None
 none_begun e answer past i = grind arith
@@ -578,10 +580,10 @@ made_none o cid bytes = grind arith
 resets_none : (o : Option Unanswered) (cid : ℕ) (bytes : List ℕ) → resets_in o (Request cid bytes) ≡ false
 resets_none o cid bytes = grind arith
 
-read_told : (start : Start) (past : List Exchange) (rows : List Row) (w : Option Job) (cid status : ℕ) (read : Result Asked ℕ)
-    → BeginsTold rows w cid read (assertion_of_read start past read) (Waits status) → WorkTold start rows w (asked_on cid past read)
-read_told start past rows w cid status (Ok asked) h = h
-read_told start past rows w cid status (Err code) h = h
+read_told : (start : Start) (past : List Exchange) (rows : List Row) (w : Option Job) (cid waits : ℕ) (read : Result Asked ℕ)
+    → BeginsTold rows w cid read (assertion_of_read start past read) (Waits waits) → WorkTold start rows w (asked_on cid waits past read)
+read_told start past rows w cid waits (Ok asked) h = h
+read_told start past rows w cid waits (Err code) h = h
 
 ended_told : (rows : List Row) (w : Option Job) (cid : ℕ) (read : Result Asked ℕ) (a : Option Asserting) (bytes : List ℕ)
     → BeginsTold rows w cid read a (Answered bytes) → w ≡ None
@@ -591,7 +593,7 @@ ended_told rows w cid (Err code) a bytes h = h
 begins_so : (start : Start) (past : List Exchange) (rows : List Row) (w : Option Job) (cid : ℕ) (bytes : List ℕ) (o : Option Unanswered) (answer : Answer)
     → IsTaken answer → BeginsTold rows w cid (read_of bytes) (assertion_of_read start past (read_of bytes)) answer
     → WorkTold start rows w (waits_after (Request cid bytes) answer past o)
-begins_so start past rows w cid bytes o (Waits status) i h = read_told start past rows w cid status (read_of bytes) h
+begins_so start past rows w cid bytes o (Waits now) i h = read_told start past rows w cid now (read_of bytes) h
 begins_so start past rows w cid bytes o (Answered sent) i h = ended_told rows w cid (read_of bytes) _ sent h
 begins_so start past rows w cid bytes o answer i h = grind arith
 
@@ -689,3 +691,9 @@ unfolding core_at exchanges Orderly unanswered series
 told_at start [] l o = record { rows = no_rows start; work = refl; pending = refl }
 told_at start (x ∷ past) l o =
     one_told start (exchanges start past) x.at x.event _ (turn_at start past x l o (told_at start past l o.1))
+
+-- what waits, to the transport
+pub waits_told : (start : Start) (past : List Exchange) (s : State) (o : Option Unanswered) → WorkTold start s.rows s.work o
+    → option_map as_work s.work ≡ waiting_in o
+waits_told start past s None h = rw h refl
+waits_told start past s (Some u) h = grind arith

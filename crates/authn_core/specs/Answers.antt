@@ -15,7 +15,7 @@ use Rattle.sha2.specs.Sha256.{sha256}
 use Rattle.authn_core.specs.declared.replies.Presence.{Presence}
 use Rattle.authn_core.specs.declared.replies.Presence.TheVariants.{Granted, Denied, TimedOut}
 use Rattle.authn_core.specs.declared.replies.NewKey.{NewKey}
-use Rattle.authn_core.specs.Marks.{Mark, Step}
+use Rattle.authn_core.specs.Marks.{Mark, Step, takes_place}
 use Rattle.authn_core.specs.State.{Asserting, Event, Request, PresenceIs, KeyIs, SignatureIs, Cancel, Drop, Answer, Answered, Waits, Ignored, Nothing}
 use Rattle.authn_core.specs.Turn.{Start}
 use Rattle.authn_core.specs.Exchanges.{Exchange, Unanswered, rows_after, unanswered}
@@ -49,11 +49,6 @@ to_consent TimedOut = is_status 0x2f  -- USER_ACTION_TIMEOUT
 -- A credential of the RP is in the exclude list.
 abbrev pub is_excluded : List Row → (rp : List ℕ) → (exclude : List (List ℕ)) → Bool
 is_excluded rows rp exclude = list_any (λ r. bytes_eq r.rp rp && list_any (bytes_eq r.id) exclude) rows
-
--- A discoverable credential takes the place of the one that the RP's user has.
-abbrev pub takes_place : (rp user : List ℕ) (discoverable : Bool) → Row → Bool
-takes_place rp user discoverable r =
-    discoverable && (r.discoverable && (bytes_eq r.rp rp && bytes_eq r.user.items user))
 
 -- There is no capacity for another, and none is replaced.
 abbrev pub is_full : (room : ℕ) → List Row → (rp user : List ℕ) (discoverable : Bool) → Bool

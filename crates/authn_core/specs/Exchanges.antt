@@ -6,7 +6,7 @@ use Rattle.ctap_message.specs.Asked.{Asked, GetNextAssertion}
 use Rattle.ctap_message.specs.Requests.{read_of}
 use Rattle.authn_core.specs.Marks.{Mark, rows_of}
 use Rattle.authn_core.specs.State.{Event, Request, SignatureIs, Answer, Answered, Waits, Ignored}
-use Rattle.authn_core.specs.Turn.{Start}
+use Rattle.authn_core.specs.Turn.{Start, Work}
 
 -- An event at a moment, what was answered, and what it did to the credentials.
 pub record Exchange : Type 0 where
@@ -19,26 +19,33 @@ pub record Exchange : Type 0 where
 abbrev pub rows_after : Start → List Exchange → List Row
 rows_after start past = rows_of start.rows (map (λ x. x.did) past)
 
--- A request that isn't answered yet: its channel, what it asks, the replies that it took, newest first, and what was
--- before it.
+-- A request that isn't answered yet: its channel, what it asks, the replies that it took, newest first, the status of
+-- KEEPALIVE that it waits with, and what was before it.
 pub record Unanswered : Type 0 where
   pub cid : ℕ
   pub asked : Asked
   pub took : List Event
+  pub status : ℕ
   pub before : List Exchange
 
-abbrev pub asked_on : (cid : ℕ) → List Exchange → Result Asked ℕ → Option Unanswered
-asked_on cid past (Ok asked) = Some (record { cid = cid; asked = asked; took = []; before = past })
-asked_on cid past (Err code) = None
+abbrev pub asked_on : (cid status : ℕ) → List Exchange → Result Asked ℕ → Option Unanswered
+asked_on cid status past (Ok asked) =
+    Some (record { cid = cid; asked = asked; took = []; status = status; before = past })
+asked_on cid status past (Err code) = None
 
 -- A request that isn't answered at once waits; it takes a reply after which it still waits; what is ignored changes
 -- nothing; every answer ends it, and so does a drop.
 abbrev pub waits_after : Event → Answer → List Exchange → Option Unanswered → Option Unanswered
-waits_after (Request cid bytes) (Waits status) past older = asked_on cid past (read_of bytes)
-waits_after reply (Waits status) past older = option_map (λ (u : Unanswered). record u { took = reply ∷ u.took }) older
+waits_after (Request cid bytes) (Waits status) past older = asked_on cid status past (read_of bytes)
+waits_after reply (Waits status) past older =
+    option_map (λ (u : Unanswered). record u { took = reply ∷ u.took; status = status }) older
 waits_after event Ignored past older = older
 waits_after event answer past older = None
 
 unfoldable pub unanswered : List Exchange → Option Unanswered
 unanswered [] = None
 unanswered (x ∷ past) = waits_after x.event x.answer past (unanswered past)
+
+-- the channel and the status of what waits
+abbrev pub waiting_in : Option Unanswered → Option Work
+waiting_in o = option_map (λ (u : Unanswered). record { cid = u.cid; status = u.status }) o

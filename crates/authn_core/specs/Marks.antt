@@ -4,7 +4,7 @@ use Rattle.std.specs.Prelude.{ℕ, ◌+◌, List, [], ◌∷◌, ◌++◌, lengt
 use Rattle.std.specs.List.{filter, list_any}
 use Rattle.std.specs.Str.{bytes_eq}
 use Rattle.cred_table.specs.declared.row.Row.{Row}
-use Rattle.cred_table.specs.Rows.{has_id, replaces}
+use Rattle.cred_table.specs.Rows.{has_id}
 use Rattle.authn_core.specs.declared.replies.Presence.TheVariants.{Granted}
 use Rattle.authn_core.specs.MakeCredential.{new_row}
 use Rattle.authn_core.specs.State.{Task, Resets, SignsMake, SignsAssert, Job, Event, Request, PresenceIs, SignatureIs}
@@ -16,9 +16,14 @@ pub record Mark : Type 0 where
   pub raises : Option (List ℕ)
   pub resets : Bool
 
+-- A discoverable credential takes the place of the one that the RP's user has (CTAP 2.1, section 6.1.2).
+abbrev pub takes_place : (rp user : List ℕ) (discoverable : Bool) → Row → Bool
+takes_place rp user discoverable r =
+    discoverable && (r.discoverable && (bytes_eq r.rp rp && bytes_eq r.user.items user))
+
 abbrev pub made_replaces : Option Row → Row → Bool
 made_replaces None r = false
-made_replaces (Some new) r = replaces new r
+made_replaces (Some new) r = takes_place new.rp new.user.items new.discoverable r
 
 abbrev pub is_raised : Option (List ℕ) → Row → Bool
 is_raised None r = false

@@ -4,11 +4,13 @@ ghost use Rattle.std.specs.Prelude.{◌≡◌, ◌≤◌, ℕ, List, ◌∷◌, 
 ghost use Rattle.cred_table.specs.Rows.{Lawful};
 ghost use Rattle.cred_table.specs.Waiting.{pending_count};
 ghost use Rattle.authn_core.specs.State.{Setup, State, Event as AnyEvent, SignatureIs};
-ghost use Rattle.authn_core.specs.Turn.{CoreState, Start, core_answer, first_state, turn};
+ghost use Rattle.authn_core.specs.Turn.{CoreState, Start, core_answer, first_state, turn, waiting};
 ghost use Rattle.authn_core.specs.Ready.{Ready};
 ghost use Rattle.authn_core.specs.Rising.{all_rise, IsTextOf, IsNewest};
 ghost use Rattle.authn_core.specs.Signed.{Heard, Signs as SignsFor, IsNeeded, IsSigned, hears, heard};
 ghost use Rattle.authn_core.specs.Views.{needs, sign};
+ghost use Rattle.authn_core.specs.Exchanges.{rows_after, unanswered, waiting_in};
+ghost use Rattle.authn_core.specs.Answers.{answer_to, exchanges};
 ghost use Rattle.authn_core.specs.Marks.{Step, Comes, Orderly, core_at, marks, rows_of, signs_by, texts, all_differ, Text};
 
 /// Every turn leads from a ready state to a ready one: every pending id has a row, and what waits can go on.
@@ -66,4 +68,17 @@ pub fn what_is_signed_is_answered()
         → needs (core_at (first_state start) h).state.work ≡ sign id signed
         → IsSigned start.aaguid (core_at (first_state start) h).state.work id signed sig
         (core_answer (core_at (first_state start) h) now (SignatureIs (Some sig))) (heard h).asked }
+{}
+
+/// Each answer is the one that what happened before it names, by search, filters and counts over the events and their
+/// answers, without a state: after any history in which a request comes only where none waits. So are the credentials,
+/// and what waits, with its channel and the status that a KEEPALIVE has.
+pub fn answers_follow_history()
+    ensures answers { (start : Start) (h : List Step) (x : Step) → Lawful start.room start.rows
+        → Orderly (first_state start) (x ∷ h)
+        → core_answer (core_at (first_state start) h) x.at x.event ≡ answer_to start (exchanges start h) x.at x.event }
+    ensures rows { (start : Start) (h : List Step) → Lawful start.room start.rows → Orderly (first_state start) h
+        → (core_at (first_state start) h).state.rows ≡ rows_after start (exchanges start h) }
+    ensures waits { (start : Start) (h : List Step) → Lawful start.room start.rows → Orderly (first_state start) h
+        → waiting (core_at (first_state start) h) ≡ waiting_in (unanswered (exchanges start h)) }
 {}
