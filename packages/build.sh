@@ -56,7 +56,7 @@ put_documents() {
     for name in "$top"/examples/*.log "$top"/examples/*.snapshot; do
         put 644 "examples/${name##*/}" "$1/examples/${name##*/}"
     done
-    put 755 examples/shrink.py "$1/examples/shrink.py"
+    put 644 python/src/hidlog/shrink.py "$1/examples/shrink.py"
 }
 
 # The sources of the C examples, which register and sign in: put_c_examples FOLDER

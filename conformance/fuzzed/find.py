@@ -4,7 +4,7 @@
     conformance/fuzzed/find.py FOLDER [--count N] [WORD ..]    writes FOLDER/FAULT.log for the faults of these words
 
 A finding is a hostile log to which a wrong authenticator sends other packets than the same one without its fault. It is
-cut down by examples/shrink.py for as long as the first difference is of the same kind. What is in conformance/fuzzed
+cut down as `hidlog shrink` does for as long as the first difference is of the same kind. What is in conformance/fuzzed
 was found by it, and read against the standard before it became a case.
 """
 
@@ -17,12 +17,12 @@ from typing import Any, List, Optional, Tuple
 
 HERE = os.path.dirname(os.path.abspath(__file__))
 TOP = os.path.join(HERE, "..", "..")
-for place in ("conformance", "conformance/faults", "tests/fuzz", "examples"):
+for place in ("conformance", "conformance/faults", "tests/fuzz", "python/src"):
     sys.path.insert(0, os.path.join(TOP, place))
 
-import shrink  # noqa: E402
 from faults import FAULTS  # noqa: E402
 from faulty import Fault, Faulty  # noqa: E402
+from hidlog import shrink  # noqa: E402
 from hostile import hostile_log  # noqa: E402
 from judge import is_line  # noqa: E402
 
@@ -98,8 +98,11 @@ def found(fault: Fault, count: int) -> Optional[bytes]:
             continue
         command = Differs(fault)
         blocks = shrink.blocks_of(b"".join(line + b"\n" for line in lines))
-        wanted = command.failure(blocks)
-        shortest: bytes = shrink.joined(shrink.without_blocks(command, blocks, wanted))
+        wanted: Any = command.failure(blocks)
+        shrinking = shrink.Shrinking(command, blocks, wanted, tell=lambda text: None)
+        shrinking.leave_out_transactions()
+        shrinking.leave_out_blocks()
+        shortest: bytes = shrink.joined(shrinking.blocks)
         return shortest
     return None
 

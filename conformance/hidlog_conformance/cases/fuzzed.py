@@ -1,4 +1,4 @@
-"""Cases that the fuzzer found in wrong authenticators, cut down by fuzzed/find.py and examples/shrink.py.
+"""Cases that the fuzzer found in wrong authenticators, cut down by fuzzed/find.py and `hidlog shrink`.
 
 What is expected was written by hand, by the line of the finding that it comes after.
 """

@@ -22,6 +22,7 @@ COMMANDS = {
     "import": ("captures.commands", "import_capture"),
     "export": ("captures.commands", "export_log"),
     "judge": ("judge", "main"),
+    "shrink": ("shrink", "main"),
     "webdriver": ("webdriver.command", "main"),
     "browser": ("browser_process", "main"),
     "mermaid": ("mermaid", "main"),
@@ -35,6 +36,7 @@ Commands of the Python package:
   import      Makes logs of captures of real keys
   export      Writes a log as a capture that Wireshark reads
   judge       Says which rules of CTAP 2.1 a session breaks
+  shrink      Cuts a log down while a command fails on it in the same way
   check-many  Checks many logs, in many processes
   mermaid     Writes a session as a sequence diagram
 """
