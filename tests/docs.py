@@ -3,10 +3,21 @@
 
     tests/docs.py [PAGE ..]        by default README.md, the pages of docs/ and the README of each folder
 
-A command is a line of a code block that begins with `$ `; the lines after it, up to the next command or the block's
-end, are what it prints. There a line that ends in ` ..` stands for any line with that beginning, and a line `..` for any
-number of lines. A comment `<!-- run: COMMAND -->` is run and not shown. The commands of a page run one after another in
-a copy of the repository. Links between files are looked at too. The last line is `N passed, N failed`.
+The commands of a page run one after another in a copy of the repository. There are three kinds:
+
+- A line of a code block that begins with `$ `; the lines after it, up to the next command or the block's end, are what
+  it prints.
+- A block that begins with ```sh is pasted as it is, and has to end with 0. What a block ```text right behind it has is
+  what it prints. It may install packages: tests/installer has what stands in for sudo and apt-get.
+- A comment `<!-- run: COMMAND -->` is run and not shown.
+
+What is printed may be cut: a line that ends in ` ..` stands for any line with that beginning, and a line `..` for any
+number of lines. Any other line of a code block that begins with a command of this repository or of Debian has
+`<!-- not run: WHY -->` above its block, or fails.
+
+Links between files, and paths of the repository in backquotes, have to lead somewhere. Where a Debian package is missing,
+what needs it is skipped up to the next heading. The last line is `N passed, N failed`; where something was skipped and
+nothing failed it names the package, and the status is 3.
 """
 
 from __future__ import annotations
@@ -22,17 +33,29 @@ from dataclasses import dataclass, field
 from pathlib import Path
 
 TOP = Path(__file__).resolve().parent.parent
-SECONDS = 120
+SECONDS = 240
+MISSING = 3
 LINK = re.compile(r"\]\(([^)#\s]+)(?:#[^)]*)?\)")
+# A path of the repository in backquotes: its first folder is there, and nothing in it is a placeholder.
+QUOTED = re.compile(r"`((?:\.github|bench|conformance|crates|docs|examples|go|packages|python|release|rust|tests|web)/[^`\s]*)`")
+PLACEHOLDER = re.compile(r"[A-Z]{4,}$|NAME|FOLDER|FILE|VERSION|<|\.\.|\{")
+# What a command begins with.
+COMMAND = re.compile(
+    r"(?:\./|tests/|conformance/|packages/|examples/|release/|bench/|python/build)\S+"
+    r"|(?:sudo|apt-get|hidlog|hidlog-conformance|pip|python3|npm|npx|node|locust|git|gcc|ssh-keygen|rt|docker)(?= )"
+)
+NOT_RUN = re.compile(r"<!-- not run: .+ -->")
 
 
 @dataclass
 class Shown:
-    """A command of a page, the line that it stands in, and what the page says that it prints, if the page shows it."""
+    """A command of a page, the line that it is in, and what the page says that it prints, if the page shows it."""
 
     line: int
     command: str
-    is_shown: bool = True
+    is_compared: bool = True
+    has_to_succeed: bool = False
+    heading: str = ""
     output: list[str] = field(default_factory=list)
 
     def is_printed(self, printed: list[str]) -> bool:
@@ -44,36 +67,83 @@ class Shown:
     def pattern(line: str) -> str:
         return re.escape(line.removesuffix(" ..")) + r".*" if line.endswith(" ..") else re.escape(line)
 
+    def failure(self, status: int, text: str) -> str:
+        """Returns what is otherwise than the page says, or nothing."""
+        printed = text.splitlines()
+        if self.has_to_succeed and status:
+            return f"line {self.line}: status {status}: {text[-600:]}"
+        if self.is_compared and not self.is_printed(printed):
+            return f"line {self.line}: {self.command}\n" + "\n".join(f"      {it}" for it in printed[:20])
+        return ""
 
-def is_code(line: str, is_fenced: bool) -> bool:
-    return is_fenced or line.startswith("    ")
 
+class Reader:
+    """Reads the commands of a page, line by line."""
 
-def commands_of(text: str) -> list[Shown]:
-    """Returns the commands of a page, in order."""
-    found: list[Shown] = []
-    is_fenced = is_open = False
-    blank = 0
-    for number, line in enumerate(text.splitlines(), 1):
+    def __init__(self) -> None:
+        self.found: list[Shown] = []
+        self.faults: list[str] = []
+        self.fence: str | None = None
+        self.heading = ""
+        self.blank = 0
+        # Whether lines of code belong to the last command; whether those of this block needn't be run.
+        self.is_open = self.is_excused = False
+
+    def take(self, number: int, line: str) -> None:
+        """Takes a line."""
         if line.startswith("```"):
-            is_fenced, is_open = not is_fenced, False
-        elif hidden := re.fullmatch(r"<!-- run: (.*) -->", line):
-            found.append(Shown(number, hidden[1], is_shown=False))
+            self.take_fence(number, line[3:].split(" ")[0])
+        elif self.fence == "sh":
+            self.found[-1].command += line + "\n"
+        elif self.fence == "text" and self.found and self.found[-1].has_to_succeed:
+            self.found[-1].output.append(line)
         elif not line:
-            blank += 1
-            continue
-        elif not is_code(line, is_fenced):
-            is_open = False
+            self.blank += 1
+            return
+        elif self.fence is not None or line.startswith("    "):
+            self.take_code(number, (line if self.fence is not None else line[4:]).rstrip())
         else:
-            code = (line if is_fenced else line[4:]).rstrip()
-            if code.startswith("$ "):
-                found.append(Shown(number, code[2:]))
-                is_open = True
-            elif is_open:
-                # An empty line ends no block that goes on after it.
-                found[-1].output += [""] * blank + [code]
-        blank = 0
-    return found
+            self.take_prose(number, line)
+        self.blank = 0
+
+    def take_fence(self, number: int, word: str) -> None:
+        """Takes the beginning or the end of a block between fences."""
+        self.is_open = False
+        if self.fence is not None:
+            self.fence = None
+            return
+        self.fence = word
+        if word == "sh":
+            self.found.append(Shown(number, "", False, True, self.heading))
+        elif word == "text" and self.found:
+            self.found[-1].is_compared = True
+
+    def take_code(self, number: int, code: str) -> None:
+        """Takes a line of another block."""
+        if code.startswith("$ "):
+            self.found.append(Shown(number, code[2:], heading=self.heading))
+            self.is_open = True
+        elif self.is_open:
+            # An empty line ends no block that goes on after it.
+            self.found[-1].output += [""] * self.blank + [code]
+        elif self.fence in (None, "") and not self.is_excused and COMMAND.match(code):
+            self.faults.append(f"line {number}: isn't run, and no comment `not run` above says why: {code}")
+
+    def take_prose(self, number: int, line: str) -> None:
+        """Takes a line that is no code."""
+        self.is_open, self.is_excused = False, NOT_RUN.fullmatch(line) is not None
+        if hidden := re.fullmatch(r"<!-- run: (.*) -->", line):
+            self.found.append(Shown(number, hidden[1], False, True, self.heading))
+        elif line.startswith("#"):
+            self.heading = line
+
+
+def read(text: str) -> Reader:
+    """Returns the commands of a page, in order."""
+    reader = Reader()
+    for number, line in enumerate(text.splitlines(), 1):
+        reader.take(number, line)
+    return reader
 
 
 def copy_to(folder: Path) -> None:
@@ -86,11 +156,28 @@ def copy_to(folder: Path) -> None:
             shutil.copy2(TOP / name, folder / name, follow_symlinks=False)
 
 
-def run(command: str, folder: Path) -> tuple[int, str]:
+def environment(installed: Path) -> dict[str, str]:
+    """Returns the variables with which what is unpacked there is found, as if it were installed."""
+    usr = installed / "usr"
+    programs = [str(TOP / "tests" / "installer"), str(usr / "bin"), "/usr/bin", "/bin", os.environ.get("PATH", "")]
+    return {
+        **os.environ,
+        "INSTALLED": str(installed),
+        "PATH": ":".join(programs),
+        "PYTHONPATH": str(usr / "lib" / "python3" / "dist-packages"),
+        "PYTHONDONTWRITEBYTECODE": "1",
+        "CPATH": str(usr / "include"),
+        "LIBRARY_PATH": str(usr / "lib" / "x86_64-linux-gnu"),
+        "LD_LIBRARY_PATH": str(usr / "lib" / "x86_64-linux-gnu"),
+    }
+
+
+def run(command: str, folder: Path, installed: Path | None = None) -> tuple[int, str]:
     """Runs a command in a folder, and returns its status and all that it printed. Ends it with its children in time."""
     with subprocess.Popen(
         ["bash", "-c", command],
         cwd=folder,
+        env=environment(installed) if installed else None,
         stdin=subprocess.DEVNULL,
         stdout=subprocess.PIPE,
         stderr=subprocess.STDOUT,
@@ -106,39 +193,68 @@ def run(command: str, folder: Path) -> tuple[int, str]:
     return started.returncode, printed
 
 
-def failures_of(page: Path, folder: Path) -> list[str]:
-    """Runs a page's commands in a folder, and returns what is otherwise than the page says."""
-    failures = []
-    for shown in commands_of(page.read_text(encoding="utf-8")):
-        status, text = run(shown.command, folder)
-        printed = text.splitlines()
-        if shown.is_shown and not shown.is_printed(printed):
-            failures.append(f"line {shown.line}: {shown.command}\n" + "\n".join(f"      {it}" for it in printed[:20]))
-        elif not shown.is_shown and status:
-            failures.append(f"line {shown.line}: {shown.command}: status {status}: {text[-300:]}")
-    return failures
+@dataclass
+class Result:
+    """What came of a page: what is otherwise than it says, and which packages were missing."""
+
+    failures: list[str]
+    missing: list[str] = field(default_factory=list)
+
+
+def play(found: list[Shown], room: Path) -> Result:
+    """Runs the commands of a page in a copy of the repository."""
+    result, skipped = Result([]), ""
+    folder, installed = room / "copy", room / "installed"
+    installed.mkdir()
+    copy_to(folder)
+    for shown in found:
+        if skipped and shown.heading == skipped:
+            continue
+        command = f"set -e\n{shown.command}" if shown.command.endswith("\n") else shown.command
+        status, text = run(command, folder, installed)
+        if status == MISSING and shown.has_to_succeed:
+            result.missing.append((text.splitlines() or ["something is missing"])[-1])
+            skipped = shown.heading
+        elif failure := shown.failure(status, text):
+            result.failures.append(failure)
+    return result
 
 
 def broken_links_of(page: Path) -> list[str]:
-    """Returns the links of a page that lead to no file."""
-    targets = LINK.findall(page.read_text(encoding="utf-8"))
-    return [f"no file {it}" for it in targets if "://" not in it and not (page.parent / it).exists()]
+    """Returns the links of a page, and the paths that it names, that lead to no file."""
+    text = page.read_text(encoding="utf-8")
+    targets = [it for it in LINK.findall(text) if "://" not in it]
+    found = [f"no file {it}" for it in targets if not (page.parent / it).exists()]
+    named = [it for it in QUOTED.findall(text) if not PLACEHOLDER.search(it)]
+    return found + [f"no path {it}" for it in named if not any(TOP.glob(it.rstrip("/")))]
+
+
+def look_at(page: Path) -> Result:
+    """Returns what came of a page."""
+    reader = read(page.read_text(encoding="utf-8"))
+    result = Result([])
+    if reader.found:
+        with tempfile.TemporaryDirectory() as room:
+            result = play(reader.found, Path(room))
+    result.failures = [*broken_links_of(page), *reader.faults, *result.failures]
+    return result
 
 
 def main() -> int:
     given = [Path(it).resolve() for it in sys.argv[1:]]
     pages = given or sorted(it for pattern in ("*.md", "docs/**/*.md", "*/README.md") for it in TOP.glob(pattern))
     passed = failed = 0
+    missing: list[str] = []
     for page in pages:
-        failures = broken_links_of(page)
-        if commands_of(page.read_text(encoding="utf-8")):
-            with tempfile.TemporaryDirectory() as folder:
-                copy_to(Path(folder))
-                failures += failures_of(page, Path(folder))
-        for failure in failures:
+        result = look_at(page)
+        for failure in result.failures:
             print(f"FAILED  {page.relative_to(TOP)}: {failure}")
-        passed, failed = passed + (not failures), failed + bool(failures)
+        missing += [f"{page.relative_to(TOP)}: {it}" for it in result.missing]
+        passed, failed = passed + (not result.failures), failed + bool(result.failures)
     print(f"{passed} passed, {failed} failed")
+    if failed == 0 and missing:
+        print("; ".join(missing))
+        return MISSING
     return 1 if failed else 0
 
 

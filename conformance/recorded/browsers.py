@@ -39,7 +39,13 @@ SECONDS = 60
 # A browser that sends nothing for so long waits for a person who closes its window.
 IDLE = 7.0
 # What the page does, a browser and a key without credentials for each.
-RUNS = {"excluded": "register,sign_in,excluded", "discoverable": "discoverable,found", "unknown": "register,unknown"}
+RUNS = {
+    "excluded": "register,sign_in,excluded",
+    "discoverable": "discoverable,found",
+    "unknown": "register,unknown",
+    "made_verified": "made_verified",
+    "found_verified": "register,found_verified",
+}
 BROWSERS: Dict[str, List[str]] = {
     "chromium": ["chromium", "--headless=new", "--no-sandbox", "--user-data-dir=PROFILE", "URL"],
     "firefox": ["firefox-esr", "--headless", "--no-remote", "--profile", "PROFILE", "URL"],
