@@ -1,8 +1,9 @@
 #!/usr/bin/env python3
-"""Writes the sessions of the corpus into conformance/sessions, and their table into docs/use/CONFORMANCE.md.
+"""Writes the sessions of the corpus into conformance/sessions.
 
-    conformance/make.py            writes them
-    conformance/make.py --check    fails where the folder or the table isn't what it would write
+    conformance/make.py                writes them
+    conformance/make.py --check        fails where the folder isn't what it would write, or a sentence names a wrong case
+    conformance/make.py --sentences    prints how many cases each section has, and each sentence with its cases
 """
 
 from __future__ import annotations
@@ -32,8 +33,6 @@ from hidlog_conformance.cases.sentence_table import sentence_table
 
 HERE = os.path.dirname(os.path.abspath(__file__))
 SESSIONS = os.path.join(HERE, "sessions")
-PAGE_NAME = "docs/use/CONFORMANCE.md"
-PAGE = os.path.join(HERE, "..", PAGE_NAME)
 MODULES = (
     cases_transport,
     cases_order,
@@ -51,7 +50,6 @@ MODULES = (
     cases_recorded,
     cases_fuzzed,
 )
-FROM, TO = "<!-- written by conformance/make.py -->", "<!-- to here -->"
 
 
 def corpus() -> Dict[str, str]:
@@ -88,7 +86,7 @@ def table(corpus_texts: Dict[str, str]) -> str:
         row[2] += "\n# level: should" in text
     rows = [f"| {rule} | {row[0]} | {row[1]} | {row[2]} |\n" for rule, row in sorted(counts.items(), key=place)]
     head = "| Section of CTAP 2.1 | Cases | Of these a choice of ours | A should |\n|---|---|---|---|\n"
-    return FROM + "\n" + head + "".join(rows) + "\n"
+    return head + "".join(rows)
 
 
 def rules_of(corpus_texts: Dict[str, str]) -> Dict[str, str]:
@@ -105,35 +103,23 @@ def place(row: Tuple[str, List[int]]) -> List[int]:
     return [int(part) for part in row[0].split(" ")[0].split(".")]
 
 
-def page_with(blocks: List[str]) -> Tuple[str, str]:
-    """Returns the page as it is, and with these blocks between its marks."""
-    with open(PAGE, encoding="utf-8") as file:
-        text = file.read()
-    before, *rest = text.split(FROM)
-    assert len(rest) == len(blocks), "the page's marks"
-    return text, before + "".join(block + TO + part.partition(TO)[2] for block, part in zip(blocks, rest))
-
-
 def main(words: List[str]) -> int:
     """Writes or compares the folder."""
-    if words not in ([], ["--check"]):
+    if words not in ([], ["--check"], ["--sentences"]):
         print(__doc__, file=sys.stderr)
         return 2
     wanted, found = corpus(), there()
     differing = sorted(name for name in {*wanted, *found} if wanted.get(name) != found.get(name))
     choices = {name for name, text in wanted.items() if "\n# profile: " in text}
-    page, page_wanted = page_with([table(wanted), FROM + "\n" + sentence_table(rules_of(wanted), choices) + "\n"])
-    if page != page_wanted:
-        differing.append(PAGE_NAME)
+    sentences = sentence_table(rules_of(wanted), choices)
+    if words == ["--sentences"]:
+        print(table(wanted) + "\n" + sentences, end="")
+        return 0
     if words:
         print("\n".join(f"differs: {name}" for name in differing) or f"the same, {len(wanted)} sessions")
         return 1 if differing else 0
     for name in differing:
         path = os.path.join(SESSIONS, name + ".log")
-        if name == PAGE_NAME:
-            with open(PAGE, "w", encoding="utf-8") as file:
-                file.write(page_wanted)
-            continue
         if name not in wanted:
             os.remove(path)
             continue

@@ -14,7 +14,12 @@ shift
 [ "$(id -u)" = 0 ] || { echo "root is needed for a folder of debootstrap; nothing was run" >&2 && exit 3; }
 [ -d "$folder/usr" ] || debootstrap --variant=minbase bookworm "$folder" >"${folder%/}.log" || exit 3
 room=$(mktemp -d)
-trap 'rm -rf "$room"' EXIT
+# Nothing below a mount is removed, also where a program of the system still has it open.
+leave() {
+    umount -l "$room/system/proc" "$room/system/dev" 2>/dev/null || true
+    rm -rf --one-file-system "$room"
+}
+trap leave EXIT
 failed=0
 
 # What a user's Debian has before README's first line: sudo, a clone, and a shell. chroot has no more of it.
@@ -65,7 +70,7 @@ go() {
     prepare "$system"
     began=$SECONDS
     { paste_blocks "$system" "$room/get" && paste_blocks "$system" "$room/way"; } || status=FAILED
-    umount "$system/proc" "$system/dev"
+    umount -l "$system/proc" "$system/dev"
     [ "$((SECONDS - began))" -lt 600 ] || status=FAILED
     echo "$status $1, $((SECONDS - began)) s: $(tail -1 "$room/said")"
     if [ "$status" = FAILED ]; then
@@ -73,12 +78,13 @@ go() {
         [ ! -s "$room/differs" ] || sed 's/^/    ! /' "$room/differs"
         failed=1
     fi
-    rm -rf "$system" "$room/way" "$room/get"
+    rm -rf --one-file-system "$system" "$room/way" "$room/get"
 }
 
 # The ways are the headings from the first test to the table of browsers.
 while read -r heading; do
-    wanted=$([ $# = 0 ] && echo yes || true)
+    wanted=
+    [ $# != 0 ] || wanted=yes
     for word in "$@"; do
         [[ $heading != *"$word"* ]] || wanted=yes
     done

@@ -119,19 +119,20 @@ def reports() -> None:
     print(f"reports: JUnit and TAP, {len(cases)} cases with their rules")
 
 
-def page() -> None:
-    """Looks for each case that docs/use/CONFORMANCE.md names, of the corpus or of the clients."""
-    with open(os.path.join(HERE, "..", "docs", "use", "CONFORMANCE.md"), encoding="utf-8") as file:
-        lines = [line for line in file.read().splitlines() if line.startswith("|")]
+def sentences() -> None:
+    """Looks for each case that the table of sentences names, of the corpus or of the clients."""
+    words = [sys.executable, os.path.join(HERE, "make.py"), "--sentences"]
+    said = subprocess.run(words, capture_output=True, check=True, text=True).stdout
+    lines = [line for line in said.splitlines() if line.startswith("|")]
     count = 0
     for line in lines:
         before, _, of_clients = line.partition("client: ")
         for text, pattern in ((before, "sessions/{}.log"), (of_clients, "clients/{}.session")):
             for name in re.findall(r"`([a-z]+/[a-z0-9_*]+)`", text):
-                assert glob.glob(os.path.join(HERE, pattern.format(name))), f"the page names {name}"
+                assert glob.glob(os.path.join(HERE, pattern.format(name))), f"the table names {name}"
                 count += 1
-    assert count > 100, "the page's names"
-    print(f"docs/use/CONFORMANCE.md names cases {count} times, and each is there")
+    assert count > 100, "the table's names"
+    print(f"the sentences name cases {count} times, and each is there")
 
 
 def mistakes() -> None:
@@ -205,5 +206,5 @@ TESTS = {
     "ways/reports": reports,
     "ways/mistakes": mistakes,
     "ways/help": help_text,
-    "ways/page": page,
+    "ways/sentences": sentences,
 }

@@ -1,7 +1,7 @@
 """What CTAP 2.1's chapters say, section by section and in our own words, and which cases show it: none where it is "".
 
-`client:` is in front of sessions of conformance/clients. make.py writes the table into docs/use/CONFORMANCE.md, and
-fails where a case isn't named under its own rule, or where a name has no case.
+`client:` is in front of sessions of conformance/clients. make.py --sentences prints the table, and --check fails
+where a case isn't named under its own rule, or where a name has no case.
 """
 
 from __future__ import annotations
