@@ -37,7 +37,9 @@ SECONDS = 240
 MISSING = 3
 LINK = re.compile(r"\]\(([^)#\s]+)(?:#[^)]*)?\)")
 # A path of the repository in backquotes: its first folder is there, and nothing in it is a placeholder.
-QUOTED = re.compile(r"`((?:\.github|bench|conformance|crates|docs|examples|go|packages|python|release|rust|tests|web)/[^`\s]*)`")
+QUOTED = re.compile(
+    r"`((?:\.github|bench|conformance|crates|docs|examples|go|packages|python|release|rust|tests|web)/[^`\s]*)`"
+)
 PLACEHOLDER = re.compile(r"[A-Z]{4,}$|NAME|FOLDER|FILE|VERSION|<|\.\.|\{")
 # What a command begins with.
 COMMAND = re.compile(

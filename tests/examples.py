@@ -1,8 +1,12 @@
 #!/usr/bin/env python3
-"""Compares docs/believe/EXAMPLES.md with the proofs: each computed example that the page names is there, and each one
-that is there is named. Prints how many rows have an example. Ends with 1 at a difference.
+"""Compares tests/examples.txt with the proofs: each computed example that it names is there, and each one that is there
+is named. Prints how many rows of the standard's tables have an example. Ends with 1 at a difference.
 
-    tests/examples.py
+    tests/examples.py           compares
+    tests/examples.py --list    prints the rows with their examples
+
+A law that ties code to a definition is blind to a slip that both share. So the definitions are computed at inputs that
+were worked out from the standard by hand: the prover evaluates both sides, and refuses the gate where they differ.
 """
 
 from __future__ import annotations
@@ -26,7 +30,10 @@ def computed(path: str) -> set[str]:
 
 
 def main() -> int:
-    page = (TOP / "docs/believe/EXAMPLES.md").read_text(encoding="utf-8")
+    page = (TOP / "tests/examples.txt").read_text(encoding="utf-8")
+    if sys.argv[1:] == ["--list"]:
+        print(page, end="")
+        return 0
     files = dict(FILE.findall(page))
     there = {(letter, name) for letter, path in files.items() for name in computed(path)}
     rows = [(row, examples) for row, examples in ROW.findall(page) if row not in files and row != "Letter"]
@@ -35,7 +42,7 @@ def main() -> int:
     wrong += [f"{letter} {name} is in no row" for letter, name in sorted(there - named)]
     wrong += [f"this row has neither an example nor `none`: {row}" for row, it in rows if not is_told(it)]
     for line in wrong:
-        print(f"docs/believe/EXAMPLES.md: {line}")
+        print(f"tests/examples.txt: {line}")
     without = sum(examples.startswith("none: ") for _, examples in rows)
     print(f"{len(there)} examples, {len(rows)} rows, {without} without an example, {len(wrong)} faults")
     return 1 if wrong else 0

@@ -16,7 +16,7 @@ shift
 room=$(mktemp -d)
 # Nothing below a mount is removed, also where a program of the system still has it open.
 leave() {
-    umount -l "$room/system/proc" "$room/system/dev" 2>/dev/null || true
+    umount -l "$room/system/proc" "$room/system/dev/shm" "$room/system/dev" 2>/dev/null || true
     rm -rf --one-file-system "$room"
 }
 trap leave EXIT
@@ -29,7 +29,8 @@ prepare() {
     cp /etc/resolv.conf "$system/etc/resolv.conf"
     mount --bind /dev "$system/dev"
     mount -t proc proc "$system/proc"
-    mkdir -p "$system/dev/shm"
+    mount --make-private "$system/dev"
+    mount -t tmpfs -o mode=1777 tmpfs "$system/dev/shm"
     chroot "$system" /usr/bin/env -i PATH=/usr/sbin:/usr/bin:/sbin:/bin DEBIAN_FRONTEND=noninteractive bash -euc '
         apt-get -qq update && apt-get -qq install -y --no-install-recommends sudo git ca-certificates >/dev/null
         useradd --create-home --shell /bin/bash tester
@@ -70,7 +71,7 @@ go() {
     prepare "$system"
     began=$SECONDS
     { paste_blocks "$system" "$room/get" && paste_blocks "$system" "$room/way"; } || status=FAILED
-    umount -l "$system/proc" "$system/dev"
+    umount -l "$system/proc" "$system/dev/shm" "$system/dev"
     [ "$((SECONDS - began))" -lt 600 ] || status=FAILED
     echo "$status $1, $((SECONDS - began)) s: $(tail -1 "$room/said")"
     if [ "$status" = FAILED ]; then
