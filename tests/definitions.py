@@ -1,6 +1,4 @@
-"""The index of definitions by section of the public standards, docs/believe/DEFINITIONS.md.
-
-It is written by tests/reading.py.
+"""The index of definitions by section of the public standards, which tests/reading.py --index prints.
 
 A definition is listed under a section where the comment above it names the section. A file is, where the comment at its
 top does.
@@ -14,7 +12,6 @@ from dataclasses import dataclass, field
 from pathlib import Path
 
 TOP = Path(__file__).resolve().parent.parent
-INDEX = TOP / "docs" / "believe" / "DEFINITIONS.md"
 STANDARDS = ("CTAP 2.1", "WebAuthn Level 2", "RFC 8949", "RFC 8152")
 NUMBER = r"\d+(?:\.\d+)*"
 CITES = re.compile(rf"({'|'.join(map(re.escape, STANDARDS))}), sections? ({NUMBER}(?:(?:, | and |, and ){NUMBER})*)")
@@ -22,8 +19,7 @@ ENCODING = re.compile(r"CTAP 2\.1, \"Message Encoding\"")
 INTRO = """# Definitions by section of the standard
 
 What this repository makes of a section. A file alone is about the section as a whole; names are the definitions that
-state it. [READING.md](READING.md) has those that the headline needs in an order to read. `tests/reading.py --write`
-writes this page from comments, and `tests/reading.py` fails where it differs.
+state it. docs/believe/READING.md has those that the headline needs in an order to read.
 """
 
 
@@ -77,7 +73,7 @@ def line(section: str, entries: dict[Path, Entry]) -> str:
     cells = []
     for path, entry in entries.items():
         crate, file = path.relative_to(TOP / "crates").parts[0], path.name.removesuffix(".antt")
-        link = f"[{crate}, {file}](../../{path.relative_to(TOP)})"
+        link = f"{crate}, {file}"
         names = ", ".join(f"`{it}`" for it in dict.fromkeys(entry.names))
         cells.append(f"{link}: {names}" if names else link)
     return f"| {section} | {'; '.join(cells)} |\n"

@@ -1,6 +1,6 @@
 #!/usr/bin/env python3
-"""Compares READING.md and READING_MORE.md of docs/believe with the definitions that the headline theorem needs, and the
-index DEFINITIONS.md beside them.
+"""Compares docs/believe/READING.md, and the page for what no packet depends on, with the definitions that the headline
+theorem needs.
 
     tests/reading.py            ends with 1 where the pages miss a definition, show one that isn't needed, or twice,
                                 where a text, a count or the index isn't that of today, where the first page is longer
@@ -10,16 +10,18 @@ index DEFINITIONS.md beside them.
                                 a library's word or a small constructor
     tests/reading.py --write    writes the definitions, the declarations, the counts and the index anew
     tests/reading.py --list     prints what is needed, by files
+    tests/reading.py --more     prints the second page: what no packet depends on
+    tests/reading.py --index    prints the definitions by section of the standards
 
 From the headline, the clause `answered` of `drive_new`, it follows each name that a definition uses, through the `use`
 lines, to the definition itself. Three things shorten the way:
 
 - LAWS: in the place of a definition that computes, the reader reads the statement of a law that says what it is.
-- APART: what is needed only by such a field of the headline is in a section of its own of READING_MORE.md, and is
+- APART: what is needed only by such a field of the headline is in a section of its own of the second page, and is
   counted apart. No packet depends on it.
 - ASIDE: so is a definition whose value only goes into a field that is only copied: no packet depends on that either.
 
-The pages' prose is written by hand. A comment `<!-- KIND: FILE: NAMES -->`, with the names in backquotes, is followed by
+The pages' prose is written by hand, that of the second page in tests/reading_more.md, whose texts come when it is printed. A comment `<!-- KIND: FILE: NAMES -->`, with the names in backquotes, is followed by
 
 - definitions: these definitions, each below its comment;
 - code: the types and constants of the code that definitions name; quoted: others; documented: their own text;
@@ -51,7 +53,7 @@ import definitions
 
 TOP = Path(__file__).resolve().parent.parent
 PAGE = TOP / "docs" / "believe" / "READING.md"
-MORE_PAGE = TOP / "docs" / "believe" / "READING_MORE.md"
+MORE_PAGE = TOP / "tests" / "reading_more.md"
 HEADLINE = TOP / "crates" / "token_session" / "src" / "driving.rt"
 RECORD = "IsAnswered"
 # Fields of the headline's record, in the order of their sections.
@@ -574,8 +576,8 @@ def faults(needs: Needs, page: str) -> list[str]:
     found += overlong(page.partition(END)[0])
     if len(COUNTS.findall(page)) != len(needs.parts) or {it[1] for it in MORE.finditer(page)} != set(LAWS.values()):
         found.append("the pages don't say each count once")
-    if written(needs, page) != page:
-        found.append("a text or a count on a page isn't that of today: tests/reading.py --write")
+    if written(needs, page).partition(END)[0] != page.partition(END)[0]:
+        found.append("a text or a count on the page isn't that of today: tests/reading.py --write")
     return found
 
 
@@ -597,20 +599,21 @@ def listing(needs: Needs) -> str:
 
 
 def main() -> int:
-    pages = (PAGE, MORE_PAGE)
-    texts = [it.read_text(encoding="utf-8") for it in pages]
+    texts = [it.read_text(encoding="utf-8") for it in (PAGE, MORE_PAGE)]
     needs, page = Needs(), END.join(texts)
     if sys.argv[1:] == ["--list"]:
         print(listing(needs))
         return 0
+    if sys.argv[1:] == ["--more"]:
+        print(written(needs, page).partition(END)[2], end="")
+        return 0
+    if sys.argv[1:] == ["--index"]:
+        print(definitions.page(comments()), end="")
+        return 0
     if sys.argv[1:] == ["--write"]:
-        for path, text in zip(pages, written(needs, page).split(END)):
-            path.write_text(text, encoding="utf-8")
-        definitions.INDEX.write_text(definitions.page(comments()), encoding="utf-8")
+        PAGE.write_text(written(needs, page).partition(END)[0], encoding="utf-8")
         return 0
     found = faults(needs, page)
-    if definitions.INDEX.read_text(encoding="utf-8") != definitions.page(comments()):
-        found.append("docs/believe/DEFINITIONS.md isn't what the definitions' comments say: tests/reading.py --write")
     for line in found:
         print(line)
     counted = count(needs.parts[0].definitions).strip("*")
