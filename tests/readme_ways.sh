@@ -22,11 +22,12 @@ leave() {
 trap leave EXIT
 failed=0
 
-# What a user's Debian has before README's first line: sudo, a clone, and a shell. chroot has no more of it.
+# What a user's Debian has before README's first line: sudo, names of hosts, a clone, and a shell.
 prepare() {
     local system=$1
     cp -a "$folder" "$system"
     cp /etc/resolv.conf "$system/etc/resolv.conf"
+    echo "127.0.0.1 localhost" >"$system/etc/hosts"
     mount --bind /dev "$system/dev"
     mount -t proc proc "$system/proc"
     mount --make-private "$system/dev"
@@ -54,7 +55,9 @@ paste_blocks() {
     local system=$1 block text
     for block in "$2"/*.sh; do
         cp "$block" "$system/home/tester/block.sh"
-        chroot --userspec=tester --groups=tester "$system" /usr/bin/env -i PATH=/usr/bin:/bin HOME=/home/tester \
+        # What a block leaves running, where it stops, ends with it.
+        unshare --pid --fork --kill-child --mount-proc="$system/proc" \
+            chroot --userspec=tester --groups=tester "$system" /usr/bin/env -i PATH=/usr/bin:/bin HOME=/home/tester \
             LANG=C.UTF-8 DEBIAN_FRONTEND=noninteractive bash -c 'cd ~/cogtzil && set -e && source ~/block.sh' \
             >"$room/said" 2>&1 </dev/null || return 1
         text=${block%.sh}.text
