@@ -4,7 +4,7 @@
     tests/words.py [PAGE ..]    by default README.md, the pages of docs/ and the comments of the crates' code
 
 A page or a comment may hold none of them, except in code, links and outputs. Where there are still some, their number is
-below. Ends with 1 where there are more.
+below. Ends with 1 where there are more, where a page of docs/ has more words than it may, or all of them have.
 """
 
 from __future__ import annotations
@@ -28,6 +28,10 @@ WORDS = {
 LEFT = {
     "docs/change/WORKING_HERE.md": 1,  # where the words are named
 }
+# How many words docs/ may have, and a page of it, without comments that nobody sees.
+MOST, MOST_OF_PAGE = 30_000, 4_000
+LONG_PAGES = ("READING.md",)
+UNSEEN = re.compile(r"<!-- .*? -->")
 EXCEPTIONS = (
     re.compile(r"`[^`]*`"),  # names of code
     re.compile(r"\]\([^)]*\)"),  # links
@@ -71,11 +75,20 @@ def too_many(name: str, found: list[str]) -> bool:
     return len(found) > left
 
 
+def too_long() -> bool:
+    """Says how many words docs/ has, and which page has too many. Returns whether there is one."""
+    counts = {it: len(UNSEEN.sub("", it.read_text(encoding="utf-8")).split()) for it in pages() if "docs" in it.parts}
+    longer = [it.name for it, words in counts.items() if words > MOST_OF_PAGE and it.name not in LONG_PAGES]
+    print(f"{sum(counts.values()):,} words in docs/, of at most {MOST:,}", *(f"; too many in {it}" for it in longer))
+    return bool(longer) or sum(counts.values()) > MOST
+
+
 def main() -> int:
     given = [Path(it).resolve() for it in sys.argv[1:]]
     wrong = [too_many(str(it.relative_to(TOP)), found_in(it)) for it in given or pages()]
     if not given:
         wrong.append(too_many("crates", [line for it in comments() for line in found_in(it)]))
+        wrong.append(too_long())
     print(f"{len(wrong)} places, {sum(wrong)} with words that came back")
     return 1 if any(wrong) else 0
 
