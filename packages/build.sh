@@ -50,9 +50,8 @@ put_completions() {
 # What people read, with the paths that the man page names: put_documents ROOT
 put_documents() {
     local name
-    for name in LOG_FORMAT PROFILE TESTING_YOUR_SERVICE WEBDRIVER TOUR TROUBLESHOOTING CAPTURES LIMITS CLIENTS LOAD; do
-        put 644 "docs/use/$name.md" "$1/docs/use/$name.md"
-    done
+    "$top/packages/documents.py" "$1" LOG_FORMAT EXPLAINED PROFILE TESTING_YOUR_SERVICE WEBDRIVER TOUR TROUBLESHOOTING \
+        CAPTURES LIMITS CLIENTS LOAD
     for name in "$top"/examples/*.log "$top"/examples/*.snapshot; do
         put 644 "examples/${name##*/}" "$1/examples/${name##*/}"
     done

@@ -11,6 +11,7 @@ from __future__ import annotations
 import hashlib
 import io
 import json
+import os
 import re
 import subprocess
 import sys
@@ -81,6 +82,20 @@ def page_names_what_is_there() -> None:
             assert any(pattern.match(it) for it in files), f"the man page names {path}, which {package} hasn't got"
 
 
+def links_lead_somewhere() -> None:
+    """Each link of a page to a file leads to one of its package."""
+    count = 0
+    for name, files in PACKAGES.items():
+        folders = {str(parent) for it in files for parent in Path(it).parents}
+        for page in (it for it in files if it.endswith(".md") and "CHANGELOG" not in it):
+            for target in re.findall(r"\]\(([^)#\s]+)", files[page].decode("utf-8")):
+                if "://" not in target:
+                    path = os.path.normpath(f"{Path(page).parent}/{target}")
+                    assert path in files or path in folders, f"{name}: {page} leads to {target}, which isn't there"
+                    count += 1
+    assert count >= 20, count
+
+
 def readmes_are_there() -> None:
     """Each package that is for people has a README."""
     readmes = {name: [it for it in files if it.endswith("README.md")] for name, files in PACKAGES.items()}
@@ -147,6 +162,7 @@ def main() -> int:
     for test in (
         licences_are_there,
         page_names_what_is_there,
+        links_lead_somewhere,
         readmes_are_there,
         statements_name_all,
         statements_name_the_commit,
