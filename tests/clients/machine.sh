@@ -3,7 +3,8 @@
 # makes the key a device of the kernel. Sourced after common.sh by the scripts that run something in it.
 #
 #     HIDLOG_KERNEL=FOLDER    an unpacked linux-image; by default the one that is installed, or that tests/run --install
-#                             has unpacked in ~/.cache/hidlog/kernel, else one that apt-get download fetches (70 MB)
+#                             has unpacked in /var/cache/hidlog/kernel or ~/.cache/hidlog/kernel, else one that apt-get
+#                             download fetches (70 MB)
 #     HIDLOG_OFFLINE=1        fetches nothing
 # shellcheck disable=SC2154 # top, name and library are set by common.sh
 PATH=$PATH:/usr/sbin:/sbin
@@ -29,7 +30,8 @@ find_kernel() {
     local package
     if [ -n "${HIDLOG_KERNEL-}" ]; then
         has_kernel "$HIDLOG_KERNEL" || nothing "HIDLOG_KERNEL has no kernel with uhid"
-    elif ! has_kernel "" && ! has_kernel "${XDG_CACHE_HOME:-$HOME/.cache}/hidlog/kernel"; then
+    elif ! has_kernel "" && ! has_kernel /var/cache/hidlog/kernel &&
+        ! has_kernel "${XDG_CACHE_HOME:-${HOME-}/.cache}/hidlog/kernel"; then
         [ -z "${HIDLOG_OFFLINE-}" ] || nothing "no kernel with uhid is installed (tests/run --install)"
         package=$(apt-cache depends linux-image-amd64 2>/dev/null | sed -n 's/^ *Depends: //p' | head -1)
         (cd "$room" && apt-get download "${package:-linux-image-amd64}" && dpkg-deb -x "$package"_*.deb kernel) \

@@ -11,6 +11,13 @@ need_header fido.h libfido2-dev
 need_header openssl/evp.h libssl-dev
 need_held_key
 room=$(mktemp -d)
+# OpenSSH asks for its user by name. A user without an entry, as in a container, has one for these programs alone.
+if ! id -un >/dev/null 2>&1; then
+    wrapper=$(ls /usr/lib/*/libnss_wrapper.so 2>/dev/null) ||
+        nothing "libnss-wrapper is missing, for a user without a name (apt-get install libnss-wrapper)"
+    export LD_PRELOAD=$wrapper NSS_WRAPPER_PASSWD=$room/passwd NSS_WRAPPER_GROUP=/etc/group
+    (cat /etc/passwd && echo "tester:x:$(id -u):$(id -g)::$room:/bin/bash") >"$NSS_WRAPPER_PASSWD"
+fi
 server=
 made_run=
 

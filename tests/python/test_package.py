@@ -15,7 +15,7 @@ import hidlog
 
 DIST = Path(os.environ["HIDLOG_DIST"])
 TOP = Path(os.environ["HIDLOG_EXAMPLES"]).resolve().parent
-HEADINGS = re.findall(r"^## (\d.*)$", (TOP / "CHANGELOG.md").read_text(encoding="utf-8"), re.MULTILINE)
+HEADINGS = re.findall(r"^## (\d[\d.]*)", (TOP / "CHANGELOG.md").read_text(encoding="utf-8"), re.MULTILINE)
 VERSION = HEADINGS[0]
 PROCESSOR = re.compile(r"x86_64|aarch64")
 
