@@ -25,9 +25,7 @@ WORDS = {
     "fail, not give up": r"\bgiv(?:e|es|en|ing) up\b",
 }
 # What is left in a page, or in the comments of the crates ("crates"). These numbers only get smaller.
-LEFT = {
-    "docs/change/WORKING_HERE.md": 1,  # where the words are named
-}
+LEFT: dict[str, int] = {}
 # How many words docs/ may have, and a page of it, without comments that nobody sees.
 MOST, MOST_OF_PAGE = 30_000, 4_000
 LONG_PAGES = ("READING.md",)
