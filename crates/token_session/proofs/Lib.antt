@@ -16,4 +16,5 @@ pub mod Noise
 pub mod Drives
 pub mod Credentials
 pub mod Arriving
+pub mod Answered
 pub mod Headline

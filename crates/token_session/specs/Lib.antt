@@ -13,4 +13,5 @@ pub mod Drive
 pub mod Credentials
 pub mod Signing
 pub mod Arriving
+pub mod Answered
 pub mod Headline

@@ -5,7 +5,8 @@ ghost use Rattle.std.specs.Prelude.{◌≡◌, ◌≤◌, ◌⊎◌, ◌+◌, �
 ghost use Rattle.token_session.specs.declared.input.Timed.{Timed as OneInput};
 ghost use Rattle.authn_core.specs.State.{Request};
 ghost use Rattle.cred_table.specs.Rows.{Lawful};
-ghost use Rattle.authn_core.specs.Turn.{Start, working, first_state};
+ghost use Rattle.authn_core.specs.Exchanges.{rows_after};
+ghost use Rattle.authn_core.specs.Turn.{Start, working, first_state, waiting};
 ghost use Rattle.authn_core.specs.Marks.{marks, rows_of, signs_by, texts, all_differ};
 ghost use Rattle.authn_core.specs.Rising.{all_rise, IsNewest};
 ghost use Rattle.authn_core.specs.Signed.{IsNeeded};
@@ -27,13 +28,14 @@ ghost use Rattle.token_session.specs.Events.{event_packets};
 ghost use Rattle.token_session.specs.Law.{all_open, IsAfter, sent_now, onto, sent_from, run_state, run_sent, turns_send, keeps_alive};
 ghost use Rattle.token_session.specs.Credentials.{steps};
 ghost use Rattle.token_session.specs.Signing.{came, IsAnsweredBy};
+ghost use Rattle.token_session.specs.Answered.{happened, service_told, sent_told, waits_in};
 ghost use Rattle.token_session.specs.Headline.{IsAnswered};
 ghost use Rattle.token_session.specs.Meters.{SessionState, meters_of, session_of, stepped};
 ghost use Rattle.token_session.specs.Noise.{Quiet, is_noise_at, is_noise_after, quiet_from, quiet_sent, tick_at};
 ghost use Rattle.hid_packet.specs.declared.limit.TheConstants.{OUTBOX_CAPACITY};
 
 use authn_core::laws::{
-    rows_follow_history, texts_to_sign_differ, what_is_signed_is_answered as signing_law,
+    answers_follow_history as answering_law, rows_follow_history, texts_to_sign_differ, what_is_signed_is_answered as signing_law,
 };
 use ctap_message::laws::steps_are_bounded;
 
@@ -187,6 +189,23 @@ pub fn what_is_signed_is_answered()
         → IsAnsweredBy start (judged start h) (judged_after start h x) id signed sig }
 {
     signing_law();
+}
+
+/// What a history sends is what happened before each of its inputs names, without a state of the authenticator and
+/// without its turns: the answer to each event, from the events before it and their answers. So are its credentials,
+/// and what waits.
+pub fn answers_follow_history()
+    ensures sent { (start : Start) (h : List OneInput) → Lawful start.room start.rows
+        → sent start (judged start h) ≡ sent_told start (judged start h) }
+    ensures service { (start : Start) (h : List OneInput) (x : OneInput) → Lawful start.room start.rows
+        → service_packets start (judged_after start h x) (judged start h)
+        ≡ service_told start (judged_after start h x) (judged start h) }
+    ensures rows { (start : Start) (h : List OneInput) → Lawful start.room start.rows
+        → (core start (judged start h)).state.rows ≡ rows_after start (happened start (judged start h)) }
+    ensures waits { (start : Start) (h : List OneInput) → Lawful start.room start.rows
+        → waiting (core start (judged start h)) ≡ waits_in (happened start (judged start h)) }
+{
+    answering_law();
 }
 
 /// The headline over the composed turn, for every start and every list of inputs. (`drive_new` states it of the calls.)

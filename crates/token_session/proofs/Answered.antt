@@ -1,0 +1,109 @@
+-- What a history sends is what is told of it without a state: by the law of the authenticator's answers.
+use Rattle.std.proofs.Common.{◌≡◌, ℕ, List, [], ◌∷◌, ◌++◌, Option, Some, None, option_map, refl, sym, ap, ◌∙◌, if◌then◌else◌}
+use Rattle.cred_table.specs.Rows.{Lawful}
+use Rattle.authn_core.specs.Answers.{answer_to, exchange, exchanges}
+use Rattle.authn_core.specs.Exchanges.{Exchange, unanswered, waiting_in}
+use Rattle.authn_core.specs.State.{Event}
+use Rattle.authn_core.specs.Turn.{Start, CoreState, Work, core_answer, first_state, waiting, working}
+use Rattle.authn_core.specs.Marks.{Step, Orderly, core_at}
+use Rattle.token_session.specs.declared.input.Timed.{Timed}
+use Rattle.token_session.specs.Inputs.{Judged, given}
+use Rattle.token_session.specs.Messages.{open_at, finished, finished_at}
+use Rattle.token_session.specs.History.{core, event, judge, judged, last_keepalive, sent, sent_at, service_packets, table_packets, time_packets}
+use Rattle.token_session.specs.Events.{event_packets}
+use Rattle.std.specs.List.{list_any}
+use Rattle.hid_packet.specs.Commands.{KEEPALIVE}
+use Rattle.hid_packet.specs.Packet.{is_command}
+use Rattle.token_session.specs.Law.{event_at}
+use Rattle.token_session.specs.Replies.{asker, status_of, answer_packets, ping_packets}
+use Rattle.token_session.specs.Credentials.{step_of, steps}
+use Rattle.token_session.specs.Answered.{channel_of, waits_in, with_event, happened, answered_packets, service_told, time_told, keepalive_told, sent_told}
+use Rattle.token_session.proofs.Credentials.{core_is, orderly}
+
+-- the law of the authenticator, of its histories of events
+pub record Law (start : Start) : Type 0 where
+  pub answers : (h : List Step) (x : Step) → Orderly (first_state start) (x ∷ h)
+      → core_answer (core_at (first_state start) h) x.at x.event ≡ answer_to start (exchanges start h) x.at x.event
+  pub waits : (h : List Step) → Orderly (first_state start) h
+      → waiting (core_at (first_state start) h) ≡ waits_in (exchanges start h)
+
+one_happened : (start : Start) (h : List Step) (at : ℕ) (o : Option Event)
+    → with_event start (exchanges start h) at o ≡ exchanges start (step_of at o ++ h)
+unfolding exchanges
+one_happened start h at None = refl
+one_happened start h at (Some e) = refl
+
+-- the events are those that the authenticator takes, and what waits is its work
+pub happened_steps : (start : Start) (law : Law start) (h : List Timed)
+    → happened start (judged start h) ≡ exchanges start (steps start (judged start h))
+unfolding happened judged steps exchanges
+happened_steps start law [] = refl
+happened_steps start law (x ∷ h) =
+    let past = judged start h in
+    let e = judge start x past in
+    let w : channel_of (waits_in (exchanges start (steps start past))) ≡ working (core start past)
+    = ap channel_of (sym (law.waits (steps start past) (orderly start h)) ∙ sym (ap waiting (core_is start past))) in
+    rw (happened_steps start law h, w) (one_happened start (steps start past) e.at (event_at start e past))
+
+pub waits_told : (start : Start) (law : Law start) (h : List Timed)
+    → waiting (core start (judged start h)) ≡ waits_in (happened start (judged start h))
+waits_told start law h =
+    ap waiting (core_is start (judged start h)) ∙ law.waits (steps start (judged start h)) (orderly start h)
+    ∙ sym (ap waits_in (happened_steps start law h))
+
+-- ---- packets
+
+-- what an event sends is what its answer, as it is told, sends
+event_told : (start : Start) (law : Law start) (h : List Step) (k : CoreState) (past : List Exchange) (at : ℕ) (o : Option Event)
+    → k ≡ core_at (first_state start) h → past ≡ exchanges start h → Orderly (first_state start) h
+    → Orderly (first_state start) (step_of at o ++ h)
+    → event_packets k at o ≡ answered_packets start past at o
+event_told start law h k past at None e p r s = refl
+event_told start law h k past at (Some v) e p r s =
+    rw (e, p) (rw (law.waits h r) (ap (answer_packets _ _) (law.answers h (record { at = at; event = v }) s)))
+
+pub service_told_so : (start : Start) (law : Law start) (h : List Timed) (x : Timed)
+    → let past = judged start h in service_packets start (judge start x past) past ≡ service_told start (judge start x past) past
+unfolding service_packets judged steps
+service_told_so start law h x =
+    let past = judged start h in
+    let e = judge start x past in
+    let w = waits_told start law h in
+    let told = event_told start law (steps start past) (core start past) (happened start past) e.at (event_at start e past)
+    (core_is start past) (happened_steps start law h) (orderly start h) (orderly start (x ∷ h)) in
+    rw (← w) (ap (λ v. table_packets (given past) (open_at past e.at) (working (core start past)) e.input
+    ++ ping_packets (finished (open_at past e.at) e.admitted e.input) ++ v) told)
+
+time_told_so : (start : Start) (law : Law start) (h : List Timed) (latest t : ℕ)
+    → time_packets start (judged start h) latest t ≡ time_told start (judged start h) latest t
+unfolding time_packets
+time_told_so start law h latest t = rw (waits_told start law h) refl
+
+both_told : (start : Start) (law : Law start) (h : List Timed) (x : Timed) (latest : ℕ)
+    → let past = judged start h in let e = judge start x past in
+    time_packets start past latest e.at ++ service_packets start e past ≡ time_told start past latest e.at ++ service_told start e past
+both_told start law h x latest =
+    let past = judged start h in
+    let e = judge start x past in
+    ap (λ v. v ++ service_packets start e past) (time_told_so start law h latest e.at)
+    ∙ ap (λ v. time_told start past latest e.at ++ v) (service_told_so start law h x)
+
+keepalive_told_so : (start : Start) (law : Law start) (h : List Timed)
+    → last_keepalive start (judged start h) ≡ keepalive_told start (judged start h)
+unfolding judged last_keepalive keepalive_told
+keepalive_told_so start law [] = refl
+keepalive_told_so start law (x ∷ h) =
+    let past = judged start h in
+    let e = judge start x past in
+    let latest = last_keepalive start past in
+    rw (← keepalive_told_so start law h)
+    (ap (λ v. if list_any (is_command KEEPALIVE) v then e.at else latest) (both_told start law h x latest))
+
+pub sent_told_so : (start : Start) (law : Law start) (h : List Timed) → sent start (judged start h) ≡ sent_told start (judged start h)
+unfolding judged sent sent_at sent_told
+sent_told_so start law [] = refl
+sent_told_so start law (x ∷ h) =
+    let past = judged start h in
+    let e = judge start x past in
+    rw (sent_told_so start law h, keepalive_told_so start law h)
+    (ap (λ v. sent_told start past ++ v) (both_told start law h x (keepalive_told start past)))

@@ -1,0 +1,76 @@
+-- What a history of inputs sends, from what happened alone: no state of the authenticator is kept, and none of its turns
+-- is looked at. Its events have the answers that what came before them names.
+use Rattle.std.specs.Prelude.{ℕ, List, [], ◌∷◌, ◌++◌, ◌&&◌, Option, Some, None, option_map, is_some, is_none, if◌then◌else◌}
+use Rattle.std.specs.List.{list_any}
+use Rattle.hid_packet.specs.Commands.{KEEPALIVE}
+use Rattle.hid_packet.specs.Packet.{is_command}
+use Rattle.authn_core.specs.Answers.{answer_to, exchange}
+use Rattle.authn_core.specs.Exchanges.{Exchange, unanswered, waiting_in}
+use Rattle.authn_core.specs.State.{Event}
+use Rattle.authn_core.specs.Turn.{Start, Work}
+use Rattle.token_session.specs.Inputs.{Judged, end, given}
+use Rattle.token_session.specs.Messages.{open_at, finished, finished_at}
+use Rattle.token_session.specs.History.{cut_packets, event, table_packets}
+use Rattle.token_session.specs.Events.{keepalive_due, keepalive_packets}
+use Rattle.token_session.specs.Replies.{asker, status_of, answer_packets, ping_packets}
+
+-- the channel of what waits
+abbrev pub channel_of : Option Work → Option ℕ
+channel_of work = option_map (λ (w : Work). w.cid) work
+
+-- the request that isn't answered: its channel, and the status that its KEEPALIVEs have
+abbrev pub waits_in : List Exchange → Option Work
+waits_in past = waiting_in (unanswered past)
+
+abbrev pub with_event : Start → List Exchange → (at : ℕ) → Option Event → List Exchange
+with_event start past at None = past
+with_event start past at (Some e) = exchange start past at e ∷ past
+
+-- the events of a history with their answers, newest first
+unfoldable pub happened : Start → List Judged → List Exchange
+happened start [] = []
+happened start (e ∷ past) =
+    let before = happened start past in
+    with_event start before e.at (event (channel_of (waits_in before)) (finished_at e past) e.input)
+
+-- ---- packets
+
+-- what an event's answer sends
+abbrev pub answered_packets : Start → List Exchange → (at : ℕ) → Option Event → List (List ℕ)
+answered_packets start past at None = []
+answered_packets start past at (Some e) =
+    answer_packets (asker (waits_in past) e) (status_of (waits_in past)) (answer_to start past at e)
+
+-- the packets of the row, of a PING, of the answer
+abbrev pub service_told : Start → Judged → List Judged → List (List ℕ)
+service_told start e past =
+    let o = open_at past e.at in
+    let before = happened start past in
+    let on = channel_of (waits_in before) in
+    let m = finished o e.admitted e.input in
+    table_packets (given past) o on e.input ++ ping_packets m ++ answered_packets start before e.at (event on m e.input)
+
+-- a time-out, else a KEEPALIVE that is due
+abbrev pub time_told : Start → List Judged → (latest t : ℕ) → List (List ℕ)
+time_told start past latest t =
+    let before = open_at past (end start past) in
+    let work = waits_in (happened start past) in
+    if is_some before && is_none (open_at past t) then cut_packets before
+    else if keepalive_due work latest t then keepalive_packets work else []
+
+-- when the last KEEPALIVE was sent, or 0
+unfoldable pub keepalive_told : Start → List Judged → ℕ
+keepalive_told start [] = 0
+keepalive_told start (e ∷ past) =
+    let latest = keepalive_told start past in
+    if list_any (is_command KEEPALIVE) (time_told start past latest e.at ++ service_told start e past) then e.at
+    else latest
+
+-- packets of time, then of service
+abbrev pub sent_told_at : Start → Judged → List Judged → List (List ℕ)
+sent_told_at start e past = time_told start past (keepalive_told start past) e.at ++ service_told start e past
+
+-- what a history sends, in order
+unfoldable pub sent_told : Start → List Judged → List (List ℕ)
+sent_told start [] = []
+sent_told start (e ∷ past) = sent_told start past ++ sent_told_at start e past
