@@ -1,5 +1,5 @@
 -- What a history sends is what is told of it without a state: by the law of the authenticator's answers.
-use Rattle.std.proofs.Common.{◌≡◌, ℕ, List, [], ◌∷◌, ◌++◌, Option, Some, None, option_map, refl, sym, ap, ◌∙◌, if◌then◌else◌}
+use Rattle.std.proofs.Common.{◌≡◌, ℕ, max, List, [], ◌∷◌, ◌++◌, Option, Some, None, option_map, refl, sym, ap, ◌∙◌, if◌then◌else◌}
 use Rattle.cred_table.specs.Rows.{Lawful}
 use Rattle.authn_core.specs.Answers.{answer_to, exchange, exchanges}
 use Rattle.authn_core.specs.Exchanges.{Exchange, unanswered, waiting_in}
@@ -7,9 +7,9 @@ use Rattle.authn_core.specs.State.{Event}
 use Rattle.authn_core.specs.Turn.{Start, CoreState, Work, core_answer, first_state, waiting, working}
 use Rattle.authn_core.specs.Marks.{Step, Orderly, core_at}
 use Rattle.token_session.specs.declared.input.Timed.{Timed}
-use Rattle.token_session.specs.Inputs.{Judged, given}
+use Rattle.token_session.specs.Inputs.{Judged, end, given, is_packet}
 use Rattle.token_session.specs.Messages.{open_at, finished, finished_at}
-use Rattle.token_session.specs.History.{core, event, judge, judged, last_keepalive, sent, sent_at, service_packets, table_packets, time_packets}
+use Rattle.token_session.specs.History.{admits, core, event, judge, judged, last_keepalive, sent, sent_at, service_packets, table_packets, time_packets}
 use Rattle.token_session.specs.Events.{event_packets}
 use Rattle.std.specs.List.{list_any}
 use Rattle.hid_packet.specs.Commands.{KEEPALIVE}
@@ -17,7 +17,7 @@ use Rattle.hid_packet.specs.Packet.{is_command}
 use Rattle.token_session.specs.Law.{event_at}
 use Rattle.token_session.specs.Replies.{asker, status_of, answer_packets, ping_packets}
 use Rattle.token_session.specs.Credentials.{step_of, steps}
-use Rattle.token_session.specs.Answered.{channel_of, waits_in, with_event, happened, answered_packets, service_told, time_told, keepalive_told, sent_told}
+use Rattle.token_session.specs.Answered.{judge_told, judged_told, channel_of, waits_in, with_event, happened, answered_packets, service_told, time_told, keepalive_told, sent_told}
 use Rattle.token_session.proofs.Credentials.{core_is, orderly}
 
 -- the law of the authenticator, of its histories of events
@@ -107,3 +107,18 @@ sent_told_so start law (x ∷ h) =
     let e = judge start x past in
     rw (sent_told_so start law h, keepalive_told_so start law h)
     (ap (λ v. sent_told start past ++ v) (both_told start law h x (keepalive_told start past)))
+
+-- an input, judged by the channel of what waits
+abbrev one_judged : Start → Timed → List Judged → Option ℕ → Judged
+one_judged start x past on =
+    let t = max (end start past) x.at in
+    record { at = t; input = x.input; admitted = is_packet (admits (given past) (open_at past t) on) x.input }
+
+-- inputs are judged alike
+pub judged_told_so : (start : Start) (law : Law start) (h : List Timed) → judged start h ≡ judged_told start h
+unfolding judged judged_told judge judge_told
+judged_told_so start law [] = refl
+judged_told_so start law (x ∷ h) =
+    let past = judged start h in
+    let w : working (core start past) ≡ channel_of (waits_in (happened start past)) = ap channel_of (waits_told start law h) in
+    rw (← judged_told_so start law h) (ap (λ on. one_judged start x past on ∷ past) w)

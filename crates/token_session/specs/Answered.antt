@@ -1,6 +1,6 @@
 -- What a history of inputs sends, from what happened alone: no state of the authenticator is kept, and none of its turns
 -- is looked at. Its events have the answers that what came before them names.
-use Rattle.std.specs.Prelude.{ℕ, List, [], ◌∷◌, ◌++◌, ◌&&◌, Option, Some, None, option_map, is_some, is_none, if◌then◌else◌}
+use Rattle.std.specs.Prelude.{ℕ, max, List, [], ◌∷◌, ◌++◌, ◌&&◌, Option, Some, None, option_map, is_some, is_none, if◌then◌else◌}
 use Rattle.std.specs.List.{list_any}
 use Rattle.hid_packet.specs.Commands.{KEEPALIVE}
 use Rattle.hid_packet.specs.Packet.{is_command}
@@ -8,9 +8,10 @@ use Rattle.authn_core.specs.Answers.{answer_to, exchange}
 use Rattle.authn_core.specs.Exchanges.{Exchange, unanswered, waiting_in}
 use Rattle.authn_core.specs.State.{Event}
 use Rattle.authn_core.specs.Turn.{Start, Work}
-use Rattle.token_session.specs.Inputs.{Judged, end, given}
+use Rattle.token_session.specs.declared.input.Timed.{Timed}
+use Rattle.token_session.specs.Inputs.{Judged, end, given, is_packet}
 use Rattle.token_session.specs.Messages.{open_at, finished, finished_at}
-use Rattle.token_session.specs.History.{cut_packets, event, table_packets}
+use Rattle.token_session.specs.History.{admits, cut_packets, event, table_packets}
 use Rattle.token_session.specs.Events.{keepalive_due, keepalive_packets}
 use Rattle.token_session.specs.Replies.{asker, status_of, answer_packets, ping_packets}
 
@@ -32,6 +33,20 @@ happened start [] = []
 happened start (e ∷ past) =
     let before = happened start past in
     with_event start before e.at (event (channel_of (waits_in before)) (finished_at e past) e.input)
+
+-- ---- inputs
+
+-- Each input is judged as in the headline, by the request that waits in what happened.
+unfoldable pub judge_told : Start → Timed → List Judged → Judged
+judge_told start x past =
+    let t = max (end start past) x.at in
+    let on = channel_of (waits_in (happened start past)) in
+    record { at = t; input = x.input; admitted = is_packet (admits (given past) (open_at past t) on) x.input }
+
+-- all inputs, in order
+unfoldable pub judged_told : Start → List Timed → List Judged
+judged_told start [] = []
+judged_told start (x ∷ past) = judge_told start x (judged_told start past) ∷ judged_told start past
 
 -- ---- packets
 

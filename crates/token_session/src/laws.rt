@@ -28,7 +28,7 @@ ghost use Rattle.token_session.specs.Events.{event_packets};
 ghost use Rattle.token_session.specs.Law.{all_open, IsAfter, sent_now, onto, sent_from, run_state, run_sent, turns_send, keeps_alive};
 ghost use Rattle.token_session.specs.Credentials.{steps};
 ghost use Rattle.token_session.specs.Signing.{came, IsAnsweredBy};
-ghost use Rattle.token_session.specs.Answered.{happened, service_told, sent_told, waits_in};
+ghost use Rattle.token_session.specs.Answered.{happened, judged_told, service_told, sent_told, waits_in};
 ghost use Rattle.token_session.specs.Headline.{IsAnswered};
 ghost use Rattle.token_session.specs.Meters.{SessionState, meters_of, session_of, stepped};
 ghost use Rattle.token_session.specs.Noise.{Quiet, is_noise_at, is_noise_after, quiet_from, quiet_sent, tick_at};
@@ -196,7 +196,9 @@ pub fn what_is_signed_is_answered()
 /// and what waits.
 pub fn answers_follow_history()
     ensures sent { (start : Start) (h : List OneInput) → Lawful start.room start.rows
-        → sent start (judged start h) ≡ sent_told start (judged start h) }
+        → sent start (judged start h) ≡ sent_told start (judged_told start h) }
+    ensures judged { (start : Start) (h : List OneInput) → Lawful start.room start.rows
+        → judged start h ≡ judged_told start h }
     ensures service { (start : Start) (h : List OneInput) (x : OneInput) → Lawful start.room start.rows
         → service_packets start (judged_after start h x) (judged start h)
         ≡ service_told start (judged_after start h x) (judged start h) }
