@@ -1,17 +1,17 @@
 -- Each answer of a turn is the one that what happened before it names.
-use Rattle.std.proofs.Common.{◌≡◌, ℕ, ◌+◌, ◌≤◌, List, [], ◌∷◌, ◌++◌, map, take, flat_map, option_to_list, append-nil, append_assoc, length, filter, reverse, not, ◌&&◌, ◌||◌, Bool, true, false, cond, Option, Some, None, IfSome, option_map, is_some, Result, Ok, refl, sym, ap, ◌∙◌, arith}
+use Rattle.std.proofs.Common.{◌≡◌, ℕ, List, [], ◌∷◌, map, take, flat_map, option_to_list, filter, not, ◌&&◌, ◌||◌, Bool, true, false, cond, None, is_some, refl, sym, ap, arith}
 use Rattle.std.proofs.lemmas.Bool.Decides.{nat_tests}
 use Rattle.std.proofs.lemmas.Slice.Eq.{bytes_eq-Decides}
-use Rattle.std.proofs.lemmas.Grind.{common_steps, flat_map-append}
-use Rattle.std.specs.List.{AllByRecursion, find, list_any}
+use Rattle.std.proofs.lemmas.Grind.{flat_map-append}
+use Rattle.std.specs.List.{find, list_any}
 use Rattle.std.specs.Str.{bytes_eq}
 use Rattle.cred_table.specs.declared.row.Row.{Row}
 use Rattle.cred_table.specs.Rows.{is_named, is_user}
 use Rattle.authn_core.specs.State.{Making}
 use Rattle.authn_core.specs.MakeCredential.{fits, names_one}
-use Rattle.authn_core.specs.GetAssertion.{applicable, find_named, told}
+use Rattle.authn_core.specs.GetAssertion.{applicable, find_named}
 use Rattle.authn_core.specs.Marks.{Mark, takes_place, left, marked, rows_among, rows_of}
-use Rattle.authn_core.specs.Assertions.{signers, number_of}
+use Rattle.authn_core.specs.Assertions.{signers}
 use Rattle.authn_core.specs.Answers.{is_excluded, is_full}
 use Rattle.authn_core.proofs.Histories.{all_left, none_later}
 

@@ -1,13 +1,12 @@
 -- What a state holds is what happened before it, so that each answer of a turn is the one that what happened names.
-use Rattle.std.proofs.Common.{◌≡◌, ◌==◌, nat_le, nat_lt, if◌then◌else◌, ℕ, zero, suc, ◌+◌, ◌≤◌, List, [], ◌∷◌, ◌++◌, map, drop, slice_get, length, filter, not, Bool, true, false, ◌&&◌, cond, Option, Some, None, option_map, is_some, Result, Ok, Err, refl, sym, ap, ◌∙◌, arith}
+use Rattle.std.proofs.Common.{◌≡◌, ◌==◌, nat_le, nat_lt, if◌then◌else◌, ℕ, zero, suc, ◌+◌, List, [], ◌∷◌, map, drop, slice_get, length, Bool, true, false, ◌&&◌, cond, Option, Some, None, option_map, Result, Ok, Err, refl, sym, ap, ◌∙◌, arith}
 use Rattle.std.proofs.lemmas.Bool.Decides.{nat_tests}
 use Rattle.std.proofs.lemmas.Slice.Eq.{bytes_eq-Decides}
-use Rattle.std.specs.List.{AllByRecursion, find, list_any, list_all}
+use Rattle.std.specs.List.{find, list_all}
 use Rattle.std.specs.Option.{option_or}
-use Rattle.std.specs.Str.{bytes_eq}
 use Rattle.cred_table.specs.declared.row.Row.{Row}
 use Rattle.cred_table.specs.Rows.{Lawful, has_id, same_id, no_two, counter_of, raised}
-use Rattle.cred_table.specs.Waiting.{Waiting, pending_of, stamped}
+use Rattle.cred_table.specs.Waiting.{pending_of, stamped}
 use Rattle.cred_table.proofs.Basics.{same_bytes}
 use Rattle.ctap_message.specs.Asked.{Asked, MakeCredential, GetAssertion, GetInfo, Reset, GetNextAssertion, Selection}
 use Rattle.ctap_message.specs.Members.{has_entries}
@@ -20,7 +19,7 @@ use Rattle.authn_core.specs.GetAssertion.{MOST, NEXT_LIMIT, begins, row_signs, n
 use Rattle.sha2.specs.Sha256.{sha256}
 use Rattle.authn_core.specs.Turn.{Start, first_state, requested, replied, reply_turn, turn}
 use Rattle.authn_core.specs.Marks.{Mark, marked, rows_among, Step, Comes, Orderly, core_at}
-use Rattle.authn_core.specs.Ready.{Ready, TaskReady, WorkReady, AllThere}
+use Rattle.authn_core.specs.Ready.{TaskReady, WorkReady, AllThere}
 use Rattle.authn_core.specs.Signed.{AllOf, rp_of}
 use Rattle.authn_core.specs.Views.{as_work}
 use Rattle.authn_core.specs.Exchanges.{waiting_in, Exchange, Unanswered, asked_on, rows_after, unanswered, waits_after}
@@ -28,7 +27,7 @@ use Rattle.authn_core.specs.Assertions.{Series, series_of, is_next, number_of, f
 use Rattle.authn_core.specs.Answers.{is_status, waits_for_user, is_processed, to_assertion, to_request, assertion_of_read, assertion_of_open, made_in, resets_in, to_any_reply, to_reply, made_by_reply, raised_for, resets_for, answer_to, did, exchange, exchanges}
 use Rattle.authn_core.proofs.Answering.{any_find, excluded_named, full_fits, signers_apply, rows_marked}
 use Rattle.authn_core.proofs.Histories.{none_later, mark_keeps, mark_resets, mark_raises, mark_makes}
-use Rattle.authn_core.proofs.Readiness.{all_along, all_found, applicable_all, applicable_there, find_raised, pending_raised, core_sound}
+use Rattle.authn_core.proofs.Readiness.{all_along, all_found, applicable_all, applicable_there, find_raised, core_sound}
 
 -- ---- what holds between turns
 
@@ -140,14 +139,21 @@ reply_goes start s at on task e false cid hash rp presence all done m w g = grin
 reply_goes start s at on (AsksAssert a) (PresenceIs Granted) true cid hash rp presence all done m w g =
     let d : drop (length done + 1) all ≡ drop (length done + busy s.work) all = rw w refl in
     record {
-      moment = g.moment; ids = rw d g.ids; each = rw d (all_raised rp a.id s.rows _ g.each); latest = tt; work = refl;
+      moment = g.moment;
+      ids = rw d g.ids;
+      each = rw d (all_raised rp a.id s.rows _ g.each);
+      latest = tt;
+      work = refl;
     }
 reply_goes start s at on (SignsAssert a counter signed) (SignatureIs (Some sig)) true cid hash rp presence all done m w g =
     let n : suc (length done) + 0 ≡ length done + busy s.work = rw w (omega arith) in
     let d : drop (suc (length done) + 0) all ≡ drop (length done + busy s.work) all = ap (λ k. drop k all) n in
     record {
-      moment = at; ids = rw d (rw g.ids (stamped_pending cid hash presence g.moment at _)); each = rw d g.each;
-      latest = refl; work = tt;
+      moment = at;
+      ids = rw d (rw g.ids (stamped_pending cid hash presence g.moment at _));
+      each = rw d g.each;
+      latest = refl;
+      work = tt;
     }
 reply_goes start s at on task e true cid hash rp presence all done m w g = grind (arith, stamped_pending)
 
@@ -335,7 +341,11 @@ left_goes : (b : Bool) (on : ℕ) (hash rp : List ℕ) (presence : Bool) (moment
 left_goes true on hash rp presence moment all done w s e h =
     let d = one_more (length done) (busy s.work) (busy w) all (busy_one s.work h.2) (rw e refl) in
     record {
-      moment = moment; ids = rw d h.0; each = rw d h.1; latest = latest_so s.work moment done h.2; work = asserts_so s.work h.2;
+      moment = moment;
+      ids = rw d h.0;
+      each = rw d h.1;
+      latest = latest_so s.work moment done h.2;
+      work = asserts_so s.work h.2;
     }
 left_goes false on hash rp presence moment all done w s e h = h
 
@@ -381,10 +391,11 @@ next_of_going start s at cid true on hash rp presence all done w g =
     let n : length done + busy s.work ≡ length done = rw w (omega arith) in
     let d = ap (λ k. drop k all) n in
     let f = nth_drop (length done) all ∙ ap (λ v. slice_get v 0) (sym d) in
-    rw (g.ids, f)
-    (rw (← time_of s.work g.moment done at w g.latest) (next_answers s.rows at on cid g.moment hash rp presence _ g.each),
-    next_rows s.rows at on cid g.moment hash rp presence _,
-    next_waits s.rows at on cid g.moment hash rp presence _ g.each)
+    rw (g.ids, f) (
+      rw (← time_of s.work g.moment done at w g.latest) (next_answers s.rows at on cid g.moment hash rp presence _ g.each),
+      next_rows s.rows at on cid g.moment hash rp presence _,
+      next_waits s.rows at on cid g.moment hash rp presence _ g.each,
+    )
 
 next_served : (start : Start) (past : List Exchange) (s : State) (at cid : ℕ) (o : Option Series) → s.work ≡ None → PendingTold start s o
     → let t = next_begins s.rows s.pending at cid in
@@ -428,7 +439,14 @@ request_served start past s at cid (Ok (GetAssertion hash rp_id allow presence))
       pending = λ y n g.
           let t = requested (first_state start).setup s.rows s.pending at cid (Ok (GetAssertion hash rp_id allow presence)) in
           let x : Series = record {
-            cid = cid; hash = hash; rp = rp; given = given; allow = ids_of allow; presence = presence; before = past; since = [];
+            cid = cid;
+            hash = hash;
+            rp = rp;
+            given = given;
+            allow = ids_of allow;
+            presence = presence;
+            before = past;
+            since = [];
           } in
           let goes : GoesIfBegun cid hash rp presence (signers (rows_after start past) rp given (ids_of allow)) t.state t.answer
           = rw (← r, same) (begins_goes s.rows at cid hash rp presence given _ (rw same at all)) in
@@ -618,8 +636,8 @@ request_kept start past s at cid bytes w r p d =
       rows = rw (made_none (unanswered past) cid bytes, resets_none (unanswered past) cid bytes, ← r) v.rows;
       work = begins_so start past t.state.rows t.state.work cid bytes (unanswered past) t.answer i v.work;
       pending = rw (begun_so cid bytes t.answer past)
-      (v.pending (record { at = at; event = Request cid bytes; answer = t.answer; did = did start past (Request cid bytes) t.answer }) refl
-      (goes_so cid bytes t.answer i));
+          (v.pending (record { at = at; event = Request cid bytes; answer = t.answer; did = did start past (Request cid bytes) t.answer }) refl
+          (goes_so cid bytes t.answer i));
     }
 
 -- what ends work does nothing to the rows

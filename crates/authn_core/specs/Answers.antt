@@ -3,7 +3,6 @@
 use Rattle.std.specs.Prelude.{ℕ, ◌+◌, ◌==◌, nat_le, List, [], ◌∷◌, length, Bool, true, false, ◌&&◌, not, Option, Some, None, Result, Ok, Err, if◌then◌else◌}
 use Rattle.std.specs.List.{find, list_any}
 use Rattle.std.specs.Str.{bytes_eq}
-use Rattle.arrayvec.specs.ArrayVec.{ArrayVec}
 use Rattle.cred_table.specs.declared.row.Row.{Row}
 use Rattle.cred_table.specs.Names.{cut}
 use Rattle.fido_authdata.specs.AuthData.{assertion_bytes, created_bytes}
@@ -164,8 +163,15 @@ id_in (Some a) = Some a.id
 -- A signature makes a credential with the new key, of what was asked (section 6.1.2, step 19).
 abbrev pub made_for : Asked → (took : List Event) → Option Row
 made_for (MakeCredential hash rp_id user_id user_name discoverable exclude) (KeyIs (Some key) ∷ took) = Some (record {
-  rp = sha256 rp_id; id = key.id; x = key.x; y = key.y; user = record { items = user_id }; discoverable = discoverable;
-  counter = 0; name = cut user_name })
+  rp = sha256 rp_id;
+  id = key.id;
+  x = key.x;
+  y = key.y;
+  user = record { items = user_id };
+  discoverable = discoverable;
+  counter = 0;
+  name = cut user_name;
+})
 made_for asked took = None
 
 abbrev pub made_by_reply : Asked → (took : List Event) → (reply : Event) → Option Row

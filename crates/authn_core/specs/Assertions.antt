@@ -1,5 +1,5 @@
 -- Which credential signs an assertion (CTAP 2.1, sections 6.2.2 and 6.3), read of what happened.
-use Rattle.std.specs.Prelude.{ℕ, ◌+◌, ◌==◌, nat_lt, nat_le, List, [], ◌∷◌, map, length, reverse, take, flat_map, slice_get, Bool, true, false, ◌&&◌, Option, Some, None, option_map, Result, Ok, if◌then◌else◌}
+use Rattle.std.specs.Prelude.{ℕ, ◌+◌, ◌==◌, nat_le, List, [], ◌∷◌, map, length, reverse, take, slice_get, Bool, true, false, ◌&&◌, Option, Some, None, option_map, Result, Ok, if◌then◌else◌}
 use Rattle.std.specs.List.{filter, list_all, list_any}
 use Rattle.std.specs.Option.{option_or}
 use Rattle.std.specs.Str.{bytes_eq}
@@ -40,8 +40,14 @@ pub record Series : Type 0 where
 abbrev pub series_of : (cid : ℕ) → List Exchange → Result Asked ℕ → Option Series
 series_of cid past (Ok (GetAssertion hash rp_id allow presence)) =
     Some (record {
-      cid = cid; hash = hash; rp = sha256 rp_id; given = has_entries allow; allow = ids_of allow; presence = presence;
-      before = past; since = [];
+      cid = cid;
+      hash = hash;
+      rp = sha256 rp_id;
+      given = has_entries allow;
+      allow = ids_of allow;
+      presence = presence;
+      before = past;
+      since = [];
     })
 series_of cid past read = None
 

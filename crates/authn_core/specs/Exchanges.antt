@@ -1,11 +1,11 @@
 -- What happened at an authenticator, as a list of events with their answers, newest first. What later answers depend on
 -- is found in it by search, by filters and by counts: the credentials, and the request that isn't answered yet.
-use Rattle.std.specs.Prelude.{ℕ, List, [], ◌∷◌, map, Bool, true, false, Option, Some, None, option_map, Result, Ok, Err}
+use Rattle.std.specs.Prelude.{ℕ, List, [], ◌∷◌, map, Option, Some, None, option_map, Result, Ok, Err}
 use Rattle.cred_table.specs.declared.row.Row.{Row}
-use Rattle.ctap_message.specs.Asked.{Asked, GetNextAssertion}
+use Rattle.ctap_message.specs.Asked.{Asked}
 use Rattle.ctap_message.specs.Requests.{read_of}
 use Rattle.authn_core.specs.Marks.{Mark, rows_of}
-use Rattle.authn_core.specs.State.{Event, Request, SignatureIs, Answer, Answered, Waits, Ignored}
+use Rattle.authn_core.specs.State.{Event, Request, Answer, Waits, Ignored}
 use Rattle.authn_core.specs.Turn.{Start, Work}
 
 -- An event at a moment, what was answered, and what it did to the credentials.

@@ -12,7 +12,7 @@ use Rattle.hid_assemble.specs.Assembly.{Assembly, is_overdue, still_open, open_a
 use Rattle.hid_assemble.specs.Receiving.{Arrival, packets_of, received_one, received, last_verdict, InTime, ComeInTime, IsServed}
 use Rattle.hid_assemble.specs.Verdicts.{verdict, ruling_verdict}
 use Rattle.hid_assemble.specs.declared.verdict.Verdict.TheVariants.{Finished}
-use Rattle.hid_packet.specs.declared.limit.TheConstants.{LONGEST_MESSAGE}
+use Rattle.hid_packet.specs.Limits.{LONGEST_MESSAGE}
 
 -- the fields of either kind of packet
 starts : (p : List ℕ) → is_initialization p ≡ true → fields p ≡ initialization (channel p) (command p) (message_length p) (initialization_data p)

@@ -10,7 +10,7 @@ use Rattle.hid_assemble.specs.Table.{LAST_CHANNEL, is_given, is_on, is_elsewhere
 use Rattle.hid_assemble.specs.Assembly.{IsOpenMessage}
 use Rattle.hid_assemble.proofs.Comparing.{cond_case, at_most, above, below, no_less}
 use Rattle.hid_assemble.proofs.ByCommand.{init_row, begin_row, by_command}
-use Rattle.hid_packet.specs.declared.limit.TheConstants.{LONGEST_MESSAGE}
+use Rattle.hid_packet.specs.Limits.{LONGEST_MESSAGE}
 
 -- what the row of an initialization packet says of it
 abbrev pub RowSays : (given cid cmd len : ℕ) → Row → Type 0

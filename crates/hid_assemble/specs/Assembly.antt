@@ -6,8 +6,8 @@ use Rattle.hid_assemble.specs.Table.{Open, Ruling, Begins, Continues, LAST_CHANN
 use Rattle.hid_assemble.specs.declared.table.Row.TheVariants.{InitLength, InitNew, InitAgain, BrokenOff, Short, Long}
 use Rattle.hid_assemble.specs.declared.table.Continuation.TheVariants.{Stray, WrongNumber, Kept, Whole}
 use Rattle.hid_packet.specs.Limits.{data_room}
-use Rattle.hid_packet.specs.declared.limit.TheConstants.{INITIALIZATION_DATA, LONGEST_MESSAGE}
-use Rattle.hid_assemble.specs.declared.assembler.TheConstants.{MESSAGE_TIMEOUT}
+use Rattle.hid_packet.specs.Limits.{INITIALIZATION_DATA, LONGEST_MESSAGE}
+use Rattle.hid_packet.specs.Limits.{MESSAGE_TIMEOUT}
 
 -- A finished message.
 pub record Message : Type 0 where

@@ -6,7 +6,7 @@ use Rattle.hid_assemble.specs.declared.assembler.OpenMessage.{OpenMessage}
 use Rattle.hid_assemble.specs.declared.assembler.Contents.{Contents}
 use Rattle.hid_assemble.specs.declared.assembler.Contents.TheVariants.{Nothing, Open as HoldsOpen, Finished}
 use Rattle.hid_packet.specs.Limits.{data_room}
-use Rattle.hid_packet.specs.declared.limit.TheConstants.{LONGEST_MESSAGE}
+use Rattle.hid_packet.specs.Limits.{LONGEST_MESSAGE}
 
 -- the open message, whose data bytes are the first of the buffer
 abbrev pub opened : List ℕ → OpenMessage → Open

@@ -6,7 +6,7 @@ use Rattle.hid_assemble.specs.Assembly.{Assembly, still_open, accepted}
 use Rattle.hid_assemble.specs.Verdicts.{verdict}
 use Rattle.hid_assemble.specs.declared.verdict.Verdict.{Verdict}
 use Rattle.hid_assemble.specs.declared.verdict.Verdict.TheVariants.{Ignored}
-use Rattle.hid_assemble.specs.declared.assembler.TheConstants.{MESSAGE_TIMEOUT}
+use Rattle.hid_packet.specs.Limits.{MESSAGE_TIMEOUT}
 
 -- a packet's bytes, with the moment at which it comes
 pub record Arrival : Type 0 where

@@ -9,7 +9,7 @@ use Rattle.hid_assemble.specs.declared.table.Row.TheVariants.{CancelsWork, Cance
 use Rattle.hid_assemble.specs.declared.table.Continuation.{Continuation}
 use Rattle.hid_assemble.specs.declared.table.Continuation.TheVariants.{Stray, WrongNumber, Kept, Whole}
 use Rattle.hid_packet.specs.Limits.{data_room}
-use Rattle.hid_packet.specs.declared.limit.TheConstants.{INITIALIZATION_DATA, LONGEST_MESSAGE}
+use Rattle.hid_packet.specs.Limits.{INITIALIZATION_DATA, LONGEST_MESSAGE}
 
 -- An open message: what its initialization packet said, the data bytes so far, how many continuation packets brought
 -- them, and the moment of the last packet.

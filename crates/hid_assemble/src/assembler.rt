@@ -5,7 +5,7 @@ ghost use Rattle.hid_packet.specs.Packet.{fields, initialization, continuation};
 ghost use Rattle.hid_assemble.specs.Assembly.{IsLawful, is_overdue, still_open, held_bytes, accepted, drop_on};
 ghost use Rattle.hid_assemble.specs.Table.{is_noise, is_on, ruling_of};
 ghost use Rattle.hid_assemble.specs.Verdicts.{verdict};
-ghost use Rattle.hid_packet.specs.declared.limit.TheConstants.{CONTINUATION_DATA, INITIALIZATION_DATA, LONGEST_MESSAGE};
+ghost use Rattle.hid_packet.specs.Limits.{CONTINUATION_DATA, INITIALIZATION_DATA, LONGEST_MESSAGE};
 
 use crate::code::ErrorCode;
 use crate::table::{Continuation, Row, continuation_row, initialization_row};

@@ -1,7 +1,7 @@
 -- What it is that packets carry a message (CTAP 2.1, section 11.2.4, "Message and packet structure").
 use Rattle.std.specs.Prelude.{◌≡◌, ℕ, ◌+◌, ◌≤◌, ◌<◌, ◌⊎◌, true, false, List, [], ◌∷◌, ◌++◌, length, take, flat_map}
 use Rattle.hid_packet.specs.Packet.{channel, is_initialization, command, message_length, sequence, initialization_data, continuation_data}
-use Rattle.hid_packet.specs.declared.limit.TheConstants.{CONTINUATION_DATA, INITIALIZATION_DATA, LONGEST_MESSAGE}
+use Rattle.hid_packet.specs.Limits.{CONTINUATION_DATA, INITIALIZATION_DATA, LONGEST_MESSAGE}
 use Rattle.hid_packet.specs.Limits.{data_room}
 
 -- These are continuation packets on the channel, numbered one after the other from `number` on.

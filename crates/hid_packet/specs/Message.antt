@@ -1,7 +1,7 @@
 -- The packets that are written for a message (CTAP 2.1, section 11.2.4, "Message and packet structure").
 use Rattle.std.specs.Prelude.{ℕ, ◌+◌, ◌-◌, List, [], ◌∷◌, zero, suc, ◌++◌, length, take, drop, replicate}
 use Rattle.byteorder.specs.Endian.{big_bytes}
-use Rattle.hid_packet.specs.declared.limit.TheConstants.{CONTINUATION_DATA, INITIALIZATION_DATA}
+use Rattle.hid_packet.specs.Limits.{CONTINUATION_DATA, INITIALIZATION_DATA}
 
 -- filled with zeros up to 64 bytes
 unfoldable pub padded : List ℕ → List ℕ

@@ -4,7 +4,7 @@ use Rattle.std.specs.Prelude.{◌≡◌, ℕ, ◌-◌, Bool, ◌&&◌, ◌==◌,
 use Rattle.byteorder.specs.Endian.{big_number}
 use Rattle.hid_packet.specs.declared.packet.View.{View}
 use Rattle.hid_packet.specs.declared.packet.View.TheVariants.{Start, More}
-use Rattle.hid_packet.specs.declared.limit.TheConstants.{CONTINUATION_DATA, INITIALIZATION_DATA}
+use Rattle.hid_packet.specs.Limits.{CONTINUATION_DATA, INITIALIZATION_DATA}
 
 -- bytes 0 to 3
 unfoldable pub channel : List ℕ → ℕ

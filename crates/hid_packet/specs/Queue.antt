@@ -6,7 +6,7 @@ use Rattle.hid_packet.specs.declared.entry.Entry.{Entry}
 use Rattle.hid_packet.specs.declared.entry.Entry.TheVariants.{Whole, Part}
 use Rattle.hid_packet.specs.declared.fragments.Due.{Due}
 use Rattle.hid_packet.specs.declared.fragments.Due.TheVariants.{Initialization, Continuation}
-use Rattle.hid_packet.specs.declared.limit.TheConstants.{CONTINUATION_DATA, LONGEST_MESSAGE, OUTBOX_CAPACITY}
+use Rattle.hid_packet.specs.Limits.{CONTINUATION_DATA, LONGEST_MESSAGE, OUTBOX_CAPACITY}
 
 -- `len` items of a ring, from the place `first` on and around the end
 abbrev pub window : {X : Type 0} → (first len : ℕ) → List X → List X

@@ -3,7 +3,7 @@ use Rattle.std.specs.Prelude.{ℕ, ◌*◌, ◌-◌, ◌<◌, ◌≤◌, List, l
 use Rattle.hid_packet.specs.Message.{written, continuation_packets}
 use Rattle.hid_packet.specs.declared.fragments.Due.{Due}
 use Rattle.hid_packet.specs.declared.fragments.Due.TheVariants.{Initialization, Continuation}
-use Rattle.hid_packet.specs.declared.limit.TheConstants.{CONTINUATION_DATA, LONGEST_MESSAGE}
+use Rattle.hid_packet.specs.Limits.{CONTINUATION_DATA, LONGEST_MESSAGE}
 
 -- With the initialization packet due, these are all packets of the message; else the continuation packets of the rest.
 abbrev pub packets_left : ℕ → Due → List ℕ → List (List ℕ)

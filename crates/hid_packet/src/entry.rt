@@ -3,7 +3,7 @@ ghost use Rattle.std.specs.Prelude.{◌≡◌, ◌+◌, ◌<◌, ◌≤◌, ◌+
 ghost use Rattle.hid_packet.specs.Message.{continuation_packet, initialization_packet};
 ghost use Rattle.hid_packet.specs.Queue.{MayCome};
 ghost use Rattle.hid_packet.specs.Remaining.{packets_left, CanCarry};
-ghost use Rattle.hid_packet.specs.declared.limit.TheConstants.{CONTINUATION_DATA, INITIALIZATION_DATA};
+ghost use Rattle.hid_packet.specs.Limits.{CONTINUATION_DATA, INITIALIZATION_DATA};
 
 use crate::fragments::{Due, put_continuation, put_initialization};
 use crate::limit::{CONTINUATION_DATA, INITIALIZATION_DATA};

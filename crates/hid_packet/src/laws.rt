@@ -5,7 +5,7 @@ ghost use Rattle.std.specs.Prelude.{◌≡◌, ℕ, ◌-◌, ◌^◌, ◌<◌, �
 ghost use Rattle.hid_packet.specs.Message.{written};
 ghost use Rattle.hid_packet.specs.Carries.{IsLeast, CarriesMessage};
 ghost use Rattle.hid_packet.specs.Padding.{AreBytes, ArePackets, FurtherDataIsZero};
-ghost use Rattle.hid_packet.specs.declared.limit.TheConstants.{LONGEST_MESSAGE};
+ghost use Rattle.hid_packet.specs.Limits.{LONGEST_MESSAGE};
 
 /// The packets that are written for a message carry it.
 pub fn written_packets_carry_their_message()

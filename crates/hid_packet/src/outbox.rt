@@ -4,7 +4,7 @@ ghost use Rattle.std.specs.List.{remove};
 ghost use Rattle.arrayvec.specs.ArrayVec.{array_vec_len};
 ghost use Rattle.hid_packet.specs.Message.{written};
 ghost use Rattle.hid_packet.specs.Queue.{waiting, IsHeld};
-ghost use Rattle.hid_packet.specs.declared.limit.TheConstants.{LONGEST_MESSAGE, OUTBOX_CAPACITY};
+ghost use Rattle.hid_packet.specs.Limits.{LONGEST_MESSAGE, OUTBOX_CAPACITY};
 
 use crate::entry::{Entry, Message};
 use crate::fragments::{Due, initialization, packets_for};

@@ -1,21 +1,20 @@
 -- What a history sends is what is told of it without a state: by the law of the authenticator's answers.
-use Rattle.std.proofs.Common.{◌≡◌, ℕ, max, List, [], ◌∷◌, ◌++◌, Option, Some, None, option_map, refl, sym, ap, ◌∙◌, if◌then◌else◌}
-use Rattle.cred_table.specs.Rows.{Lawful}
-use Rattle.authn_core.specs.Answers.{answer_to, exchange, exchanges}
-use Rattle.authn_core.specs.Exchanges.{Exchange, unanswered, waiting_in}
+use Rattle.std.proofs.Common.{◌≡◌, ℕ, max, List, [], ◌∷◌, ◌++◌, Option, Some, None, refl, sym, ap, ◌∙◌, if◌then◌else◌}
+use Rattle.authn_core.specs.Answers.{answer_to, exchanges}
+use Rattle.authn_core.specs.Exchanges.{Exchange}
 use Rattle.authn_core.specs.State.{Event}
-use Rattle.authn_core.specs.Turn.{Start, CoreState, Work, core_answer, first_state, waiting, working}
+use Rattle.authn_core.specs.Turn.{Start, CoreState, core_answer, first_state, waiting, working}
 use Rattle.authn_core.specs.Marks.{Step, Orderly, core_at}
 use Rattle.token_session.specs.declared.input.Timed.{Timed}
 use Rattle.token_session.specs.Inputs.{Judged, end, given, is_packet}
-use Rattle.token_session.specs.Messages.{open_at, finished, finished_at}
-use Rattle.token_session.specs.History.{admits, core, event, judge, judged, last_keepalive, sent, sent_at, service_packets, table_packets, time_packets}
+use Rattle.token_session.specs.Messages.{open_at, finished}
+use Rattle.token_session.specs.History.{admits, core, judge, judged, last_keepalive, sent, sent_at, service_packets, table_packets, time_packets}
 use Rattle.token_session.specs.Events.{event_packets}
 use Rattle.std.specs.List.{list_any}
 use Rattle.hid_packet.specs.Commands.{KEEPALIVE}
 use Rattle.hid_packet.specs.Packet.{is_command}
 use Rattle.token_session.specs.Law.{event_at}
-use Rattle.token_session.specs.Replies.{asker, status_of, answer_packets, ping_packets}
+use Rattle.token_session.specs.Replies.{answer_packets, ping_packets}
 use Rattle.token_session.specs.Credentials.{step_of, steps}
 use Rattle.token_session.specs.Answered.{judge_told, judged_told, channel_of, waits_in, with_event, happened, answered_packets, service_told, time_told, keepalive_told, sent_told}
 use Rattle.token_session.proofs.Credentials.{core_is, orderly}

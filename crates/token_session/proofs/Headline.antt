@@ -7,7 +7,7 @@ use Rattle.authn_core.specs.Turn.{Start}
 use Rattle.token_session.specs.declared.input.Sent.{Sent}
 use Rattle.token_session.specs.declared.input.Timed.{Timed}
 use Rattle.token_session.specs.Carried.{ArriveWhole}
-use Rattle.token_session.specs.Drive.{as_pair, done_of, packet_of, HadRoom}
+use Rattle.token_session.specs.Drive.{as_pair, done_of, packet_of}
 use Rattle.token_session.specs.declared.driving.DriveFault.{DriveFault}
 use Rattle.token_session.specs.declared.input.Meters.{Meters}
 use Rattle.token_session.specs.Inputs.{Judged}

@@ -1,5 +1,5 @@
 -- Noise leaves all as a tick leaves it: of one turn, of a session's step, and of histories.
-use Rattle.std.proofs.Common.{◌≡◌, ℕ, ◌+◌, ◌≤◌, inl, inr, Bool, true, false, List, [], ◌∷◌, append-nil, length, max, Some, None, refl, sym, ◌∙◌, ap, subst, suc, arith}
+use Rattle.std.proofs.Common.{◌≡◌, ℕ, ◌+◌, inl, inr, Bool, true, false, List, [], ◌∷◌, append-nil, length, max, Some, None, refl, sym, ◌∙◌, ap, suc, arith}
 use Rattle.hid_packet.specs.Packet.{Fields, fields}
 use Rattle.hid_assemble.specs.Table.{Ruling, ruling_of, is_noise}
 use Rattle.hid_assemble.specs.Assembly.{Assembly, accepted, bytes_of, given_after, still_open, held_bytes, open_after, message_after}
@@ -13,12 +13,12 @@ use Rattle.token_session.specs.declared.input.Input.TheVariants.{Packet, Tick, P
 use Rattle.token_session.specs.declared.input.Timed.{Timed}
 use Rattle.token_session.specs.Effects.{request_in, verdict_event, verdict_packets}
 use Rattle.token_session.specs.Machine.{State, Turn, answer_keeps_alive, turn, time_passed, served, happens}
-use Rattle.token_session.specs.Inputs.{Judged, end}
+use Rattle.token_session.specs.Inputs.{end}
 use Rattle.token_session.specs.History.{judge, judged, sent}
 use Rattle.token_session.specs.Law.{named, IsAfter, onto, sent_now, sent_from}
 use Rattle.token_session.specs.Meters.{SessionState, stepped, session_of, metered}
 use Rattle.token_session.specs.Noise.{is_noise_among, is_noise_to, is_noise_at, is_noise_after, tick_at, IsQuiet, Quiet, is_replaced, quiet_now, quiet_sent, quiet_from}
-use Rattle.token_session.proofs.Follows.{Good, good_judged, time_named, step_sends}
+use Rattle.token_session.proofs.Follows.{good_judged, time_named, step_sends}
 use Rattle.token_session.proofs.Metering.{stands_longer}
 
 -- What a turn leaves after, beside the packets: the state, and what a request that it finished took to read.

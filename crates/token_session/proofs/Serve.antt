@@ -1,6 +1,6 @@
 -- What the reply table makes of a packet is what the history says: the channels, the open message, the finished one and
 -- the event. Each part is a proposition on the tests of the table, whatever their values.
-use Rattle.std.proofs.Common.{◌≡◌, ℕ, ◌+◌, ◌*◌, ◌≤◌, Bool, true, false, cond, ◌&&◌, ◌||◌, not, ◌==◌, List, [], ◌∷◌, ◌++◌, length, append-nil, append_assoc, flat_map, Option, Some, None, option_map, refl, sym, subst, arith, nat_lt, nat_le, min}
+use Rattle.std.proofs.Common.{◌≡◌, ℕ, ◌+◌, ◌≤◌, Bool, true, false, cond, ◌&&◌, ◌||◌, not, ◌==◌, List, [], ◌∷◌, ◌++◌, length, append-nil, append_assoc, Option, Some, None, option_map, refl, sym, subst, arith, nat_lt, nat_le, min}
 use Rattle.std.proofs.lemmas.Bool.{cond_both}
 use Rattle.std.proofs.lemmas.Bool.Decides.{nat_tests}
 use Rattle.std.proofs.lemmas.Grind.{flat_map-append}
@@ -14,12 +14,12 @@ use Rattle.hid_assemble.specs.Assembly.{Message, begun, bytes_of, given_after, g
 use Rattle.hid_assemble.specs.Verdicts.{ruling_verdict}
 use Rattle.hid_packet.specs.Commands.{BROADCAST, CANCEL, CBOR, INIT, PING}
 use Rattle.hid_packet.specs.Limits.{data_room}
-use Rattle.hid_packet.specs.declared.limit.TheConstants.{INITIALIZATION_DATA, LONGEST_MESSAGE}
+use Rattle.hid_packet.specs.Limits.{INITIALIZATION_DATA, LONGEST_MESSAGE}
 use Rattle.hid_packet.specs.Packet.{Fields, channel, channel_of, command, continuation, continuation_data, fields, initialization, initialization_data, is_initialization, message_length, sequence}
 use Rattle.hid_packet.specs.declared.packet.Packet.{Packet as Packet64}
 use Rattle.token_session.specs.Inputs.{Judged, asks_channel, is_own, is_packet, packet}
-use Rattle.token_session.specs.Messages.{Begun, as_open, finished, finished_long, is_last, is_long, is_next, last_at, packets_of}
-use Rattle.token_session.specs.History.{admits, packet_event, continuation_error, table_packets}
+use Rattle.token_session.specs.Messages.{Begun, as_open, finished, finished_long, is_last, is_long, is_next, last_at}
+use Rattle.token_session.specs.History.{admits, packet_event, table_packets}
 use Rattle.token_session.specs.Effects.{verdict_event, verdict_packets}
 use Rattle.token_session.specs.Replies.{request_event, ping_packets, row_packets}
 use Rattle.token_session.specs.declared.input.Input.{Input}

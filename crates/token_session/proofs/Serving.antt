@@ -6,7 +6,7 @@ use Rattle.hid_assemble.specs.Verdicts.{verdict}
 use Rattle.authn_core.specs.State.{Event, Answer, Request}
 use Rattle.authn_core.specs.Turn.{CoreState, working, Held, Work, waiting, core_after, core_answer}
 use Rattle.token_session.specs.declared.input.Input.{Input}
-use Rattle.token_session.specs.declared.input.Input.TheVariants.{Packet, Tick, Presence, Key, Signature}
+use Rattle.token_session.specs.declared.input.Input.TheVariants.{Packet}
 use Rattle.token_session.specs.declared.input.Timed.{Timed}
 use Rattle.token_session.specs.Machine.{State, Turn, event_keeps_alive, time_passed, turn, served, happens, answer_keeps_alive}
 use Rattle.token_session.specs.Events.{event_core, event_packets}

@@ -3,7 +3,7 @@
 use Rattle.std.specs.Prelude.{◌≡◌, ℕ, ◌+◌, ◌≤◌, ◌<◌, ◌⊎◌, List, [], ◌∷◌, ◌++◌, length, None}
 use Rattle.hid_packet.specs.Carries.{CarriesMessage}
 use Rattle.hid_packet.specs.Commands.{PING, CBOR}
-use Rattle.hid_assemble.specs.declared.assembler.TheConstants.{MESSAGE_TIMEOUT}
+use Rattle.hid_packet.specs.Limits.{MESSAGE_TIMEOUT}
 use Rattle.authn_core.specs.Turn.{Start, working}
 use Rattle.token_session.specs.declared.input.Timed.{Timed}
 use Rattle.token_session.specs.Inputs.{Judged, given, own, packet}

@@ -6,7 +6,7 @@ use Rattle.token_session.specs.declared.input.Input.TheVariants.{Packet}
 use Rattle.token_session.specs.declared.input.Timed.{Timed}
 use Rattle.token_session.specs.Inputs.{Judged}
 use Rattle.token_session.specs.Messages.{Begun, open_at, is_last, packets_of}
-use Rattle.hid_packet.specs.declared.limit.TheConstants.{INITIALIZATION_DATA}
+use Rattle.hid_packet.specs.Limits.{INITIALIZATION_DATA}
 
 -- each packet has 64 bytes
 abbrev pub Are64 : List (List ℕ) → Type 0

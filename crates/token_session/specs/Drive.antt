@@ -8,7 +8,7 @@ use Rattle.token_session.specs.declared.driving.BothFault.{BothFault}
 use Rattle.token_session.specs.declared.driving.BothFault.TheVariants.{Full as BothFull}
 use Rattle.token_session.specs.Law.{numbered}
 use Rattle.token_session.specs.Meters.{SessionState, stepped, sent_by}
-use Rattle.hid_packet.specs.declared.limit.TheConstants.{OUTBOX_CAPACITY}
+use Rattle.hid_packet.specs.Limits.{OUTBOX_CAPACITY}
 
 -- a packet that was sent, with the number of its input
 abbrev pub as_pair : Sent → ℕ × List ℕ

@@ -6,7 +6,7 @@ use Rattle.authn_core.specs.Turn.{Work, CoreState, turn, waiting}
 use Rattle.token_session.specs.declared.input.Input.{Input}
 use Rattle.token_session.specs.declared.input.Input.TheVariants.{Presence, Key, Signature}
 use Rattle.token_session.specs.Replies.{keepalive, status_of, asker, answer_packets}
-use Rattle.token_session.specs.declared.service.TheConstants.{KEEPALIVE_PERIOD}
+use Rattle.hid_packet.specs.Limits.{KEEPALIVE_PERIOD}
 
 -- the event of a caller's reply
 abbrev pub reply_in : Input → Option Event

@@ -13,7 +13,7 @@ use Rattle.token_session.specs.Inputs.{Judged}
 use Rattle.token_session.specs.Messages.{finished_at}
 use Rattle.token_session.specs.History.{judged, sent, held, core}
 use Rattle.token_session.specs.Meters.{requests}
-use Rattle.hid_packet.specs.declared.limit.TheConstants.{LONGEST_MESSAGE}
+use Rattle.hid_packet.specs.Limits.{LONGEST_MESSAGE}
 
 -- a session's start
 abbrev pub start_of : (aaguid : List ℕ) → (moment capacity : ℕ) → List Row → Start

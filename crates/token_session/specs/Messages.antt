@@ -4,10 +4,10 @@ use Rattle.std.specs.Prelude.{ℕ, ◌+◌, Bool, not, ◌&&◌, ◌==◌, nat_l
 use Rattle.hid_packet.specs.Carries.{joined}
 use Rattle.hid_packet.specs.Limits.{data_room}
 use Rattle.hid_packet.specs.Packet.{channel, is_initialization, command, message_length, sequence}
-use Rattle.hid_packet.specs.declared.limit.TheConstants.{INITIALIZATION_DATA, LONGEST_MESSAGE}
+use Rattle.hid_packet.specs.Limits.{INITIALIZATION_DATA, LONGEST_MESSAGE}
 use Rattle.hid_assemble.specs.Assembly.{Message}
 use Rattle.hid_assemble.specs.Table.{Open}
-use Rattle.hid_assemble.specs.declared.assembler.TheConstants.{MESSAGE_TIMEOUT}
+use Rattle.hid_packet.specs.Limits.{MESSAGE_TIMEOUT}
 use Rattle.token_session.specs.declared.input.Input.{Input}
 use Rattle.token_session.specs.declared.input.Input.TheVariants.{Packet}
 use Rattle.token_session.specs.Inputs.{Judged, packet, is_packet, own}

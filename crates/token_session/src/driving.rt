@@ -10,7 +10,7 @@ ghost use Rattle.token_session.specs.Law.{numbered, onto, sent_from};
 ghost use Rattle.token_session.specs.History.{judged};
 ghost use Rattle.token_session.specs.Meters.{StandsAfter, meters_of, session_of};
 ghost use Rattle.token_session.specs.Noise.{Quiet, quiet_from};
-ghost use Rattle.hid_packet.specs.declared.limit.TheConstants.{OUTBOX_CAPACITY};
+ghost use Rattle.hid_packet.specs.Limits.{OUTBOX_CAPACITY};
 
 use crate::input::{Input, Meters, Sent, Timed};
 use crate::laws::every_history_is_answered;

@@ -32,10 +32,11 @@ ghost use Rattle.token_session.specs.Answered.{happened, judged_told, service_to
 ghost use Rattle.token_session.specs.Headline.{IsAnswered};
 ghost use Rattle.token_session.specs.Meters.{SessionState, meters_of, session_of, stepped};
 ghost use Rattle.token_session.specs.Noise.{Quiet, is_noise_at, is_noise_after, quiet_from, quiet_sent, tick_at};
-ghost use Rattle.hid_packet.specs.declared.limit.TheConstants.{OUTBOX_CAPACITY};
+ghost use Rattle.hid_packet.specs.Limits.{OUTBOX_CAPACITY};
 
 use authn_core::laws::{
-    answers_follow_history as answering_law, rows_follow_history, texts_to_sign_differ, what_is_signed_is_answered as signing_law,
+    answers_follow_history as answering_law, rows_follow_history, texts_to_sign_differ,
+    what_is_signed_is_answered as signing_law,
 };
 use ctap_message::laws::steps_are_bounded;
 

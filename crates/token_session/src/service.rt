@@ -7,7 +7,7 @@ ghost use Rattle.token_session.specs.Replies.{answer_packets, asker, status_of};
 ghost use Rattle.token_session.specs.Machine.{answer_keeps_alive};
 ghost use Rattle.token_session.specs.Noise.{is_noise_among};
 ghost use Rattle.token_session.specs.Effects.{assembly_after, channel_of, input_event, input_verdict, verdict_packets};
-ghost use Rattle.hid_packet.specs.declared.limit.TheConstants.{LONGEST_MESSAGE, OUTBOX_CAPACITY};
+ghost use Rattle.hid_packet.specs.Limits.{LONGEST_MESSAGE, OUTBOX_CAPACITY};
 
 use crate::input::Input;
 use arrayvec::ArrayVec;

@@ -13,7 +13,7 @@ ghost use Rattle.token_session.specs.Effects.{request_in};
 ghost use Rattle.token_session.specs.Meters.{AreBounded, SessionState, StandsAfter, counted, stepped, sent_by, session_of};
 ghost use Rattle.token_session.specs.Machine.{time_passed, served};
 ghost use Rattle.token_session.specs.Noise.{is_noise_at, is_noise_after};
-ghost use Rattle.hid_packet.specs.declared.limit.TheConstants.{OUTBOX_CAPACITY};
+ghost use Rattle.hid_packet.specs.Limits.{OUTBOX_CAPACITY};
 
 use crate::input::{Input, Meters};
 use crate::service::{KEEPALIVE_PERIOD, admit, event_in, is_noise, put_verdict, send};

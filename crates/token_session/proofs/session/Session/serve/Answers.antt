@@ -1,9 +1,6 @@
-use Rattle.std.proofs.Common.{◌≡◌, Bool, List, ℕ, ◌++◌, ◌+◌, ◌≤◌, cond, length, append-nil, Some, IfSome, min, refl, subst, sym, ap, ◌∙◌}
-use Rattle.hid_packet.specs.declared.limit.TheConstants.{LONGEST_MESSAGE}
-use Rattle.ctap_message.specs.Requests.{steps_of, LARGEST}
-use Rattle.authn_core.specs.Views.{event_of}
-use Rattle.token_session.specs.Effects.{channel_of, request_in}
-use Rattle.token_session.specs.Meters.{AreBounded, SessionState, counted}
+use Rattle.std.proofs.Common.{append-nil, refl, sym, ap, ◌∙◌}
+use Rattle.token_session.specs.Effects.{channel_of}
+use Rattle.token_session.specs.Meters.{SessionState, counted}
 use Rattle.token_session.proofs.Metering.{counted_bounded}
 use Rattle.token_session.proofs.Serving.{is_served, input_few, taken, taken_keeps, taken_packets}
 use Rattle.token_session.proofs.session.Session.serve.Goals as goal

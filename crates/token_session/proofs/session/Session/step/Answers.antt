@@ -1,4 +1,4 @@
-use Rattle.std.proofs.Common.{◌≡◌, ℕ, ◌≤◌, List, length, max, refl, subst, sym, ap, ◌∙◌, arith}
+use Rattle.std.proofs.Common.{◌≡◌, ℕ, ◌≤◌, max, refl, ap, ◌∙◌, arith}
 use Rattle.token_session.proofs.Few.{time_few, turn_few}
 use Rattle.token_session.proofs.Follows.{step_sends}
 use Rattle.token_session.proofs.Serving.{step_turn}
