@@ -55,10 +55,10 @@ copies = Path(tempfile.gettempdir()) / f"edits-{os.getpid()}"
 
 
 def apply_all() -> int:
-    """Says which edits fit no more, and which folder no crate has. Returns the status."""
-    folders = [folder for it in FOLDERS for folder in (TOP / "tests" / "edits" / it).iterdir()]
+    """Says which edits fit no more, those of definitions.py too, and which folder no crate has. Returns the status."""
+    folders = [folder for it in (*FOLDERS, "definitions") for folder in (TOP / "tests" / "edits" / it).iterdir()]
     wrong = [f"{it.relative_to(TOP)}: crates.txt names no such crate" for it in folders if it.name not in CRATES]
-    edits = [edit for name in CRATES for edit in edits_of(name)]
+    edits = [edit for name in CRATES for edit in edits_of(name, (*FOLDERS, "definitions"))]
     for edit in edits:
         why = edit.misfit()
         if sum(it.name == edit.name for it in edits) > 1:
