@@ -3,8 +3,7 @@
 "use strict";
 
 (() => {
-    // Milliseconds of work at once: first, while nothing is to be seen yet, and later.
-    const FIRST = 40;
+    // Milliseconds of work at once.
     const SLICE = 24;
 
     const breathe = () => new Promise((done) => {
@@ -24,9 +23,9 @@
 
     /**
      * Takes all steps of a generator, and calls `done` with what it returns: at once, where that is quick. Between
-     * slices `part` is called with the last step. The first slice may take longer. Returns what ends the work.
+     * slices `part` is called with the last step. The first slice may take another time. Returns what ends the work.
      */
-    const drive = (steps, part, done, milliseconds = FIRST) => {
+    const drive = (steps, part, done, milliseconds = SLICE) => {
         const job = { isOver: false, end: () => { job.isOver = true; } };
         const first = taken(steps, milliseconds);
         if (first.done) {

@@ -3,13 +3,35 @@
 "use strict";
 
 (() => {
-    const isInput = (line) => line.at !== null && line.kind !== "key";
+    const { KIND } = globalThis.hidlogLog;
 
     /** A packet that is sent for an input, counted from 1; where `from` is -1, before any input. */
     const packetOf = (session, from, packet) => {
-        const next = session.lines.findIndex((line, place) => place > from && isInput(line));
-        const sent = session.lines.slice(from + 1, next < 0 ? undefined : next).filter((line) => line.kind === "key");
-        return sent[packet - 1];
+        let left = packet;
+        const isEnd = (place) => {
+            left -= session.kindAt(place) === KIND.KEY ? 1 : 0;
+            return left === 0 || session.isInput(place);
+        };
+        const found = session.find(isEnd, from + 1);
+        return found >= 0 && left === 0 ? session.line(found) : undefined;
+    };
+
+    /** How many inputs there are up to a line, by its place. */
+    const inputsUpTo = (session, last) => {
+        let count = 0;
+        for (let place = 0; place <= last; place += 1) {
+            count += session.isInput(place) ? 1 : 0;
+        }
+        return count;
+    };
+
+    /** The place of an input, counted from 1; or -1. */
+    const inputPlace = (session, count) => {
+        let left = count;
+        return session.find((place) => {
+            left -= session.isInput(place) ? 1 : 0;
+            return left === 0;
+        });
     };
 
     /** What is told of it in a sentence without its end. */
@@ -25,10 +47,9 @@
 
     /** Finds the packet that `check` named, and what the key sends there: inputs have the same place in a replay. */
     const find = (recorded, replayed, { line, packet }) => {
-        const before = recorded.lines.filter((it) => isInput(it) && it.number <= line).length;
-        const inputs = replayed.lines.filter(isInput);
-        const has = packetOf(recorded, recorded.lines.findIndex((it) => it.number === line), packet);
-        const sends = packetOf(replayed, replayed.lines.indexOf(inputs[before - 1]), packet);
+        const before = inputsUpTo(recorded, line - 1);
+        const has = packetOf(recorded, line - 1, packet);
+        const sends = packetOf(replayed, before ? inputPlace(replayed, before) : -1, packet);
         const found = { has, sends, line, packet, marked: has?.number ?? line };
         return { ...found, says: sentence(found) };
     };

@@ -47,7 +47,7 @@
     const faultyLine = (outcome) => {
         const { from, to } = lineAt(outcome.line);
         return {
-            number: outcome.line, text: decoder.decode(state.bytes.subarray(from, Math.min(to, from + 200))),
+            number: outcome.line, place: outcome.line - 1, text: decoder.decode(state.bytes.subarray(from, Math.min(to, from + 200))),
             kind: "comment", isFault: true, at: null, channel: null, message: null, transaction: null,
             says: globalThis.hidlog.faultText(outcome),
         };
@@ -63,7 +63,7 @@
             tell(`${words[outcome.line] ?? "The log is shown up to its faulty line"}: ${text}.`, true);
         } else {
             const from = state.snapshotName ? `, on the credentials of ${state.snapshotName}` : "";
-            const count = state.sessions.recorded.lines.length;
+            const count = state.sessions.recorded.length;
             tell(`${state.name}: ${count} lines${from}, not compared yet: Check does it.`);
         }
     };
@@ -72,13 +72,13 @@
     const showRead = (reader, outcome) => {
         state.sessions = { recorded: reader.session() };
         if (outcome.line > 0 && outcome.status === 1) {
-            state.sessions.recorded.lines.push(faultyLine(outcome));
+            state.sessions.recorded.fault = faultyLine(outcome);
             state.reason = reasonOf(outcome.line);
         }
         enable(true);
         setView("recorded");
         describe(outcome);
-        if (!outcome.status && !hasAnswers() && state.sessions.recorded.lines.length && state.bytes.length <= AT_ONCE) {
+        if (!outcome.status && !hasAnswers() && state.sessions.recorded.length && state.bytes.length <= AT_ONCE) {
             setView("replayed");
             tell(`${state.name} has inputs alone: what the key sends is shown with them.`);
         }
@@ -99,8 +99,8 @@
     const playLong = () => {
         const { bytes } = state;
         tell(`${state.name}: ${inMegabytes(bytes.length)} are read.`);
-        const first = ({ lines }) => {
-            state.sessions = { recorded: { lines: lines.slice(), transactions: [], channels: [], linesOf: () => [] } };
+        const first = (reader) => {
+            state.sessions = { recorded: reader.soFar() };
             at("empty").style.display = "none";
             refresh();
         };
@@ -163,7 +163,7 @@
     /** Opens the transaction of the line that differs, and brings that line into the middle. */
     const goToDifference = () => {
         const { marked } = state.difference;
-        const line = session().lines[marked - 1];
+        const line = session().line(marked - 1);
         if (line?.transaction) {
             state.unfolded.add(line.transaction.place);
         }
@@ -254,7 +254,7 @@
 
     const changeView = (view) => setView(view, () => {
         if (view === "quiet") {
-            const count = session().lines.filter((line) => line.went).length;
+            const count = session().log.sources.size;
             tell(count ? `${count} inputs are noise, and ticks stand in their place.` : "No input is noise.");
         }
     });

@@ -3,19 +3,23 @@
 "use strict";
 
 (() => {
-    // What isn't part of the story, unless all lines are shown.
-    const QUIET_KINDS = new Set(["tick", "need", "empty", "count"]);
+    const { KIND } = globalThis.hidlogLog;
+    // What isn't part of the story, unless all lines are shown: ticks, needs, counts and empty lines.
+    const isQuietKind = (kind) => kind === KIND.TICK || kind >= KIND.NEED;
     const BATCH = 2048;
-    const REPLIES = new Set(["presence", "new key", "signature"]);
 
-    const folded = (transaction) => -1 - transaction.place;
+    const folded = (transaction) => -1 - transaction;
 
     /** The lines of an open transaction: its messages and replies first, its other packets last. */
     const opened = (session, transaction) => {
-        const lines = session.linesOf(transaction).filter((it) => !QUIET_KINDS.has(it.kind));
-        const isFirst = (line) => REPLIES.has(line.kind) || line.message?.line === line;
-        return [...lines.filter(isFirst), ...lines.filter((it) => !isFirst(it))].map((it) => it.number - 1);
+        const places = session.transaction(transaction).all.map((it) => it.place)
+            .filter((place) => !isQuietKind(session.kindAt(place)));
+        const isFirst = (place) => session.kindAt(place) > KIND.KEY || session.log.line(place).message?.start === place;
+        return [...places.filter(isFirst), ...places.filter((it) => !isFirst(it))];
     };
+
+    /** Whether a line that belongs to no transaction is shown among folded ones. */
+    const isLoose = (session, place) => place >= session.size || !isQuietKind(session.kindAt(place));
 
     /**
      * Makes rows, a slice at a time: each step of this generator is one.
@@ -23,19 +27,16 @@
      */
     const making = function* making(session, { isFolded, unfolded, isFound }) {
         const rows = [];
-        for (let place = 0; place < session.lines.length; place += 1) {
-            const line = session.lines[place];
-            const { transaction } = line;
+        for (let place = 0; place < session.length; place += 1) {
+            const transaction = session.transactionAt(place);
             if (place % BATCH === BATCH - 1) {
                 yield { rows, place };
             }
-            if (!isFolded) {
+            if (!isFolded || (transaction < 0 && isLoose(session, place))) {
                 rows.push(place);
-            } else if (!transaction && (line.isFault || !QUIET_KINDS.has(line.kind))) {
-                rows.push(place);
-            } else if (transaction && transaction.line === line) {
+            } else if (transaction >= 0 && session.startOf(transaction) === place) {
                 rows.push(folded(transaction));
-                if (unfolded.has(transaction.place)) {
+                if (unfolded.has(transaction)) {
                     rows.push(...opened(session, transaction));
                 }
             }

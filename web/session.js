@@ -1,96 +1,23 @@
 // A log as a session: its lines, and the transactions that they make (walk.js). Lines are read in slices, so that a page
-// stays usable, and each has its text only once that is asked for. It sets `globalThis.hidlogSession`.
+// stays usable. It sets `globalThis.hidlogSession`.
 "use strict";
 
 (() => {
-    const { Walk, BROADCAST } = globalThis.hidlogWalk;
-    const decoder = new TextDecoder("utf-8", { ignoreBOM: true });
+    const { Log, Transaction, KIND, PACKET_DIGITS, digits, readMoment } = globalThis.hidlogLog;
+    const { Walk } = globalThis.hidlogWalk;
+    const decoder = new TextDecoder();
     const [NEWLINE, SPACE] = [10, 32];
-    const PACKET_DIGITS = 128;
-    const EXACT_DIGITS = 15;
     const LINE_MOST = 255;
+    const BROADCAST = "ffffffff";
+    // Channels whose names are kept.
+    const MOST_CHANNELS = 200;
     // Lines that are read before the clock is looked at.
     const BATCH = 512;
     const KINDS = {
-        ">": "host", "<": "key", t: "tick", p: "presence", k: "new key", s: "signature", "#": "comment", "=": "count",
+        ">": KIND.HOST, "<": KIND.KEY, t: KIND.TICK, p: KIND.PRESENCE, k: KIND.NEW_KEY, s: KIND.SIGNATURE,
+        "#": KIND.COMMENT, "=": KIND.COUNT,
     };
     const kindOf = Array.from({ length: 256 }, (_, code) => KINDS[String.fromCharCode(code)]);
-    const isInputKind = new Set(["host", "tick", "presence", "new key", "signature"]);
-
-    /** The value of a hexadecimal digit by its character code, or 16 and more for others. */
-    const digits = Uint8Array.from({ length: 256 }, (_, code) => {
-        const value = parseInt(String.fromCharCode(code), 16);
-        return Number.isNaN(value) ? 99 : value;
-    });
-
-    /**
-     * A line of the log. What it has of its text is read when it is asked for. A log has millions, so each has what is its
-     * own alone: the less there is, the shorter the browser stops to collect what it no longer needs.
-     */
-    class Line {
-        constructor(number, from, to, kind) {
-            this.number = number;
-            this.from = from;
-            this.to = to;
-            this.kind = kind;
-            this.at = null;
-            this.moment = 0;
-            this.channel = null;
-            this.packetAt = 0;
-            this.message = null;
-            this.transaction = null;
-        }
-
-        get text() {
-            return decoder.decode(this.bytes.subarray(this.from, this.to));
-        }
-
-        /** A byte of the packet. */
-        byte(place) {
-            const at = this.packetAt + 2 * place;
-            return digits[this.bytes[at]] * 16 + digits[this.bytes[at + 1]];
-        }
-
-        get says() {
-            if (this.source) {
-                return this.source.says;
-            }
-            const { text, kind } = this;
-            if (kind === "need") {
-                return text.slice(2);
-            }
-            if (kind === "comment" || kind === "count") {
-                return text.slice(1).trim();
-            }
-            const word = text.split(" ")[2];
-            return { tick: "time passes", presence: word, host: "", key: "", empty: "" }[kind]
-                ?? (word === "no" ? "no" : "yes");
-        }
-    }
-
-    // What few lines have: the core's words, and in a quiet log what was there before.
-    Object.assign(Line.prototype, { words: null, source: null, went: undefined });
-
-    /** Lines of one log, which have its bytes in common. */
-    const linesOf = (bytes) => {
-        const Own = class extends Line {};
-        Own.prototype.bytes = bytes;
-        return Own;
-    };
-
-    /** The number in decimal digits from a place on, and the place after it; or null. */
-    const readMoment = (bytes, from, to) => {
-        let [at, value] = [from, 0];
-        while (at < to && bytes[at] >= 48 && bytes[at] <= 57) {
-            value = value * 10 + bytes[at] - 48;
-            at += 1;
-        }
-        if (at === from) {
-            return null;
-        }
-        const isExact = at - from <= EXACT_DIGITS;
-        return { at: isExact ? value : BigInt(decoder.decode(bytes.subarray(from, at))), next: at };
-    };
 
     /** Whether there are just a packet's digits between two places. */
     const isPacket = (bytes, from, to) => {
@@ -109,12 +36,12 @@
     class Reader {
         constructor(bytes) {
             this.bytes = bytes;
-            this.Line = linesOf(bytes);
-            this.lines = [];
-            this.walk = new Walk();
+            this.log = new Log(bytes);
+            this.walk = new Walk(this.log);
             this.from = 0;
             this.latest = 0;
-            this.names = new Map();
+            this.latestLine = 0;
+            this.channels = [];
             // The number of the line that is none, where one is met.
             this.faulty = 0;
             this.counted = 0;
@@ -137,65 +64,51 @@
         }
 
         readOne() {
-            const { bytes, from } = this;
+            const { bytes, from, log } = this;
             let to = bytes.indexOf(NEWLINE, from);
             to = to < 0 ? bytes.length : to;
-            const line = this.lineOf(from, to);
-            if (!line || to - from > LINE_MOST) {
-                this.faulty = this.lines.length + 1;
+            const kind = to - from > LINE_MOST ? undefined : this.kindBetween(from, to);
+            const at = kind === undefined ? null : this.momentOf(kind, from, to);
+            if (at === null) {
+                this.faulty = log.length + 1;
                 return;
             }
             this.from = to + 1;
-            if (line.at !== null && line.at > this.latest) {
-                this.latest = line.at;
+            const place = log.length;
+            log.add(kind, from, to);
+            if (at > this.latest) {
+                this.latest = at;
+                this.latestLine = place + 1;
             }
-            line.moment = this.latest;
-            this.walk.add(line);
-            this.lines.push(line);
+            log.latest.values[place] = this.latestLine;
+            if (kind <= KIND.SIGNATURE) {
+                this.walk.add(place, kind, this.latest);
+            }
+            if (kind <= KIND.KEY && this.channels.length < Math.min(this.walk.channels.size, MOST_CHANNELS)) {
+                this.channels.push(log.line(place).channel);
+            }
         }
 
-        /** The line between two places, or null where there is none of the grammar. */
-        lineOf(from, to) {
-            const { bytes } = this;
-            const kind = from === to ? "empty" : kindOf[bytes[from]];
-            if (!kind) {
-                return null;
-            }
-            const line = new this.Line(this.lines.length + 1, from, to, kind);
-            if (kind === "key") {
-                return this.withPacket(line, from + 2) ? line : null;
-            }
-            if (kind === "comment") {
-                line.kind = this.isNeed(from) ? "need" : kind;
-                return line;
-            }
-            return !isInputKind.has(kind) || this.withMoment(line) ? line : null;
+        /** What the line between two places begins as, or undefined. */
+        kindBetween(from, to) {
+            const kind = from === to ? KIND.EMPTY : kindOf[this.bytes[from]];
+            return kind === KIND.COMMENT && this.isNeed(from) ? KIND.NEED : kind;
         }
 
-        withMoment(line) {
+        /** The moment of a line, 0 where it has none; or null where it isn't one of the grammar. */
+        momentOf(kind, from, to) {
             const { bytes } = this;
-            const moment = bytes[line.from + 1] === SPACE ? readMoment(bytes, line.from + 2, line.to) : null;
-            if (!moment) {
-                return false;
+            if (kind === KIND.KEY) {
+                return bytes[from + 1] === SPACE && isPacket(bytes, from + 2, to) ? 0 : null;
             }
-            line.at = moment.at;
-            return line.kind !== "host" || this.withPacket(line, moment.next + 1);
-        }
-
-        withPacket(line, at) {
-            const { bytes } = this;
-            if (bytes[at - 1] !== SPACE || !isPacket(bytes, at, line.to)) {
-                return false;
+            if (kind > KIND.SIGNATURE) {
+                return 0;
             }
-            line.packetAt = at;
-            const name = line.byte(0) * 2 ** 24 + line.byte(1) * 65536 + line.byte(2) * 256 + line.byte(3);
-            let channel = this.names.get(name);
-            if (!channel) {
-                channel = name.toString(16).padStart(8, "0");
-                this.names.set(name, channel);
+            const moment = bytes[from + 1] === SPACE ? readMoment(bytes, from + 2, to) : null;
+            if (moment && kind === KIND.HOST) {
+                return bytes[moment.next] === SPACE && isPacket(bytes, moment.next + 1, to) ? moment.at : null;
             }
-            line.channel = channel;
-            return true;
+            return moment?.at ?? null;
         }
 
         /** Whether a comment is one of `need` or `signed`, which the program writes. */
@@ -207,12 +120,13 @@
 
         /** Counts the lines of transactions, once all are read, until a moment of the clock. Returns whether it did. */
         countUntil(end) {
-            while (this.counted < this.lines.length) {
-                const { transaction, number } = this.lines[this.counted];
+            const { owners, transactions: { count, until } } = this.log;
+            while (this.counted < owners.length) {
+                const transaction = owners.values[this.counted] - 1;
                 this.counted += 1;
-                if (transaction) {
-                    transaction.count += 1;
-                    transaction.until = number;
+                if (transaction >= 0) {
+                    count.values[transaction] += 1;
+                    until.values[transaction] = this.counted;
                 }
                 if (this.counted % BATCH === 0 && performance.now() >= end) {
                     return false;
@@ -223,20 +137,71 @@
 
         /** The session of the lines so far. */
         session() {
-            this.walk.close();
-            return new Session(this.lines, this.walk.transactions, [...this.names.values()]);
+            const { log, channels, walk } = this;
+            return new Session(log, { size: log.length, channels, many: walk.channels.size, transactions: log.transactions.length });
+        }
+
+        /** The lines so far, while others are read: of no transactions, since some are open. */
+        soFar() {
+            return new Session(this.log, { size: this.log.length, channels: [], many: 0, transactions: 0 });
         }
     }
 
+    /** The first lines of a log and how many transactions they have, and behind them the faulty line, if there is one. */
     class Session {
-        constructor(lines, transactions, channels) {
-            Object.assign(this, { lines, transactions, channels });
+        /** `channels` are the names of the first channels, and there are so `many`. */
+        constructor(log, { size, channels, many, transactions }) {
+            Object.assign(this, { log, size, channels, many, transactions, fault: null });
         }
 
-        /** The lines of a transaction. */
-        linesOf(transaction) {
-            return this.lines.slice(transaction.line.number - 1, transaction.until)
-                .filter((it) => it.transaction === transaction);
+        /** How many lines there are. */
+        get length() {
+            return this.size + (this.fault ? 1 : 0);
+        }
+
+        line(place) {
+            return place < this.size ? this.log.line(place) : this.fault;
+        }
+
+        /** The lines between two places. */
+        slice(from, to) {
+            const end = Math.min(to, this.length);
+            return Array.from({ length: Math.max(0, end - from) }, (_, at) => this.line(from + at));
+        }
+
+        transaction(place) {
+            return new Transaction(this.log, place);
+        }
+
+        /** The place of the transaction that a line belongs to, or -1. */
+        transactionAt(place) {
+            return place < this.size && this.transactions ? this.log.owners.values[place] - 1 : -1;
+        }
+
+        /** The place of a transaction's first line. */
+        startOf(transaction) {
+            return this.log.transactions.first.values[transaction];
+        }
+
+        /** The number of a line's kind: that of a comment for the faulty line. */
+        kindAt(place) {
+            return place < this.size ? this.log.kinds.values[place] : KIND.COMMENT;
+        }
+
+        /** Whether a line hands something in. */
+        isInput(place) {
+            const kind = this.kindAt(place);
+            return kind <= KIND.SIGNATURE && kind !== KIND.KEY;
+        }
+
+        /** The first place from one on whose line is wanted, or -1. */
+        find(isWanted, from = 0) {
+            for (let place = from; place < this.length; place += 1) {
+                if (isWanted(place)) {
+                    return place;
+                }
+            }
+            return -1;
         }
     }
 

@@ -53,6 +53,7 @@
                     words.head = text.slice(at + 1);
                 }
             }
+            lines[0]?.log.makePlace(lines.length);
             lines.forEach((line, place) => {
                 line.words ??= found[place];
             });
@@ -63,8 +64,9 @@
             const queued = new Set();
             let waiting = [];
             for (const line of lines.map((it) => it.source ?? it)) {
-                if (!line.words && !queued.has(line.message)) {
-                    queued.add(line.message ?? line);
+                const first = line.message?.start ?? line.place;
+                if (!line.words && !queued.has(first)) {
+                    queued.add(first);
                     waiting.push(...groupOf(line));
                 }
                 if (waiting.length >= BATCH) {
@@ -122,7 +124,7 @@
 
         /** The id of the relying party that a request names, or nothing. */
         rpIdOf(transaction) {
-            const { below } = this.words(transaction.lines[transaction.lines.length - 1]);
+            const { below } = this.words(transaction.lines.at(-1));
             return below.map((it) => /^ {2}(?:1 rpId: |2 rp: \{"id": )"([^"]*)"/.exec(it)?.[1]).find(Boolean);
         }
 

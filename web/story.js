@@ -57,7 +57,7 @@
         }
     };
 
-    const inWords = (counts, { lines, transactions, channels }, refused) => {
+    const inWords = (counts, { log, size, transactions, many }, refused) => {
         const said = [];
         for (const [word, ends] of counts) {
             const all = [...ends.values()].reduce((sum, it) => sum + it, 0);
@@ -65,9 +65,9 @@
             said.push(`${plural(all, word)}: ${listed.join(", ")}.`);
         }
         const more = refused ? `, ${refused.toLocaleString("en")} refused` : "";
-        said.push(`${plural(transactions.length, "message")} of hosts on ${plural(channels.length, "channel")}${more}.`);
-        const last = [lines[lines.length - 1], lines[lines.length - 2]].find((it) => it && !it.isFault);
-        return [...said, `${(last?.moment ?? 0).toLocaleString("en")} ms.`].join(" ");
+        said.push(`${plural(transactions, "message")} of hosts on ${plural(many, "channel")}${more}.`);
+        const moment = size ? log.line(size - 1).moment : 0;
+        return [...said, `${moment.toLocaleString("en")} ms.`].join(" ");
     };
 
     /**
@@ -77,10 +77,11 @@
     const summing = function* summing(session) {
         const counts = new Map();
         let refused = 0;
-        for (const it of session.transactions) {
+        for (let place = 0; place < session.transactions; place += 1) {
+            const it = session.transaction(place);
             count(counts, it);
             refused += it.code === null ? 0 : 1;
-            if (it.place % BATCH === BATCH - 1) {
+            if (place % BATCH === BATCH - 1) {
                 yield counts;
             }
         }

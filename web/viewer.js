@@ -6,7 +6,6 @@
     // A log up to so many bytes is played at once; what is longer is read in slices, and played by a worker.
     const AT_ONCE = 4 * 1024 * 1024;
     const MOST_BYTES = 1024 * 1024 * 1024;
-    const MOST_CHANNELS = 200;
     // Milliseconds that a letter of a search may stop the page.
     const SOUGHT = 30;
     // Lines whose words are asked for at once in a search.
@@ -14,6 +13,7 @@
     const CALLER_KINDS = ["presence", "new key", "signature"];
     const SHOWN_KINDS = ["host", "key", "comment", "need"];
     const ARROWS = { host: "→", key: "←", caller: "⇠", need: "?", time: "·", comment: "#", fault: "!" };
+    const { KIND } = globalThis.hidlogLog;
     const { Reader, firstLines } = globalThis.hidlogSession;
     const { making } = globalThis.hidlogRows;
     const { drive, run } = globalThis.hidlogBackground;
@@ -95,9 +95,8 @@
 
     /** A row by its number. */
     const rowOf = (number) => {
-        const { lines, transactions } = session();
-        const transaction = number < 0 ? transactions[-1 - number] : null;
-        return new Row(transaction ? transaction.line : lines[number], transaction);
+        const transaction = number < 0 ? session().transaction(-1 - number) : null;
+        return new Row(transaction ? transaction.line : session().line(number), transaction);
     };
 
     const rowAt = (place) => (state.rows[place] === undefined ? null : rowOf(state.rows[place]));
@@ -106,8 +105,8 @@
     const seeking = (words, channel) => (number) => {
         const row = rowOf(number);
         if (words && !(row.line.source ?? row.line).words && !row.line.isFault) {
-            const from = row.line.number - 1;
-            state.shown.showAll(session().lines.slice(from, from + SHOWN_AT_ONCE).filter((line) => !line.isFault));
+            const { place } = row.line;
+            state.shown.showAll(session().slice(place, place + SHOWN_AT_ONCE).filter((line) => !line.isFault));
         }
         return row.has(words, channel);
     };
@@ -175,7 +174,7 @@
             return;
         }
         const went = line.went ? `Noise: it changes nothing but the time.\nIt was: ${line.went}\n\n` : "";
-        const raw = row.transaction ? session().linesOf(row.transaction).map((it) => it.text) : [line.text];
+        const raw = (row.transaction?.all ?? [line]).map((it) => it.text);
         const text = `${went}${row.detail().join("\n")}`;
         at("detail-text").replaceChildren(text, cell(`\n\n${raw.map(visible).join("\n")}`, "raw"));
     };
@@ -203,7 +202,7 @@
         // Rows of before would keep the scroller where it was.
         at("space").replaceChildren();
         at("space").style.height = `${rows.length * ROW + (state.isDrawn ? HEAD : 0)}px`;
-        at("count").textContent = `${rows.length} of ${session().lines.length} lines`;
+        at("count").textContent = `${rows.length} of ${session().length} lines`;
         showDetail();
         render();
     };
@@ -216,11 +215,11 @@
         state.making.end();
         const words = at("search").value.trim().toLowerCase();
         const channel = at("channel").value;
-        const isFolded = at("fold").checked && session().transactions.length > 0;
+        const isFolded = at("fold").checked && session().transactions > 0;
         const isFound = words || channel ? seeking(words, channel) : null;
         const steps = making(session(), { isFolded, unfolded: state.unfolded, isFound });
         const part = ({ rows, place }) => {
-            at("count").textContent = `${rows.length} found, at line ${place} of ${session().lines.length}`;
+            at("count").textContent = `${rows.length} found, at line ${place} of ${session().length}`;
         };
         state.making = drive(steps, part, (rows) => {
             setRows(rows);
@@ -245,15 +244,18 @@
     /** Reads the quiet log: in the place of noise stand lines that say what went. */
     const readingQuiet = function* readingQuiet(bytes, recorded) {
         const reader = yield* reading(bytes);
+        const { log } = reader;
+        log.before = recorded.log;
         let place = 0;
-        for (const before of recorded.lines) {
-            const line = reader.lines[place];
-            place += before.kind === "key" || before.kind === "count" ? 0 : 1;
-            if (line && before.kind !== "key" && before.kind !== "count" && before.text !== line.text) {
-                const { kind, channel, message } = before;
-                Object.assign(line, { went: before.text, kind, channel, message, source: before });
+        for (let from = 0; from < recorded.size && place < log.length; from += 1) {
+            const kind = recorded.kindAt(from);
+            if (kind !== KIND.KEY && kind !== KIND.COUNT) {
+                if (recorded.line(from).text !== log.line(place).text) {
+                    log.sources.set(place, from);
+                }
+                place += 1;
             }
-            if (before.number % 256 === 0) {
+            if (from % 256 === 255) {
                 yield reader;
             }
         }
@@ -342,10 +344,9 @@
         state.view = view;
         at("view").value = view;
         state.unfolded.clear();
-        const { channels } = session();
-        const more = channels.length > MOST_CHANNELS ? [`All channels (the first ${MOST_CHANNELS} are listed)`] : [];
-        at("channel").replaceChildren(new Option(more[0] ?? "All channels", ""),
-            ...channels.slice(0, MOST_CHANNELS).map((it) => new Option(it, it)));
+        const { channels, many } = session();
+        const all = many > channels.length ? `All channels (the first ${channels.length} are listed)` : "All channels";
+        at("channel").replaceChildren(new Option(all, ""), ...channels.map((it) => new Option(it, it)));
         at("scroller").scrollTop = 0;
         state.chosen = -1;
         tellStory();
@@ -361,7 +362,10 @@
         }, isLong() ? undefined : Infinity);
     };
 
-    const hasAnswers = () => state.sessions.recorded.lines.some((line) => line.kind === "key");
+    const hasAnswers = () => {
+        const { recorded } = state.sessions;
+        return recorded.find((place) => recorded.kindAt(place) === KIND.KEY) >= 0;
+    };
 
     globalThis.hidlogViewer = {
         AT_ONCE, MOST_BYTES, ROW, Reader, at, choose, commanded, decoder, firstLines, hasAnswers, inMegabytes, reading,

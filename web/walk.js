@@ -1,6 +1,6 @@
 // One walk over a log of CTAPHID packets: which transaction each line belongs to, and how each ends. It decides from the
-// lines alone, so that recordings of other keys are read too: it has no authenticator inside. It sets
-// `globalThis.hidlogWalk`. Sections are CTAP 2.1's.
+// lines alone, so that recordings of other keys are read too: it has no authenticator inside. A line is its place in the
+// log (log.js), where all that is found out is written. It sets `globalThis.hidlogWalk`. Sections are CTAP 2.1's.
 "use strict";
 
 (() => {
@@ -9,75 +9,87 @@
     // What a CANCEL or a stray packet may be told.
     const NOT_SERVED = [INVALID_COMMAND, INVALID_SEQUENCE, BUSY, INVALID_CHANNEL];
     const CANCELLED = 0x2d;
-    const BROADCAST = "ffffffff";
-    const LONGEST = 7609;
+    const BROADCAST = 0xffffffff;
     // Milliseconds within which no key gives a message up: KEEPALIVE's own interval.
     const NO_TIME_OUT = 100;
+    const NO_LINE = -1;
+    // What nearly all have of what few have more of: a log may have a million open ones.
+    const NONE = Object.freeze([]);
+    const { Answer, Transaction, KIND, END } = globalThis.hidlogLog;
 
-    /** What the packets of one message carry: of a host's, and of an answer. */
-    class Message {
-        constructor(line) {
-            this.line = line;
-            this.channel = line.channel;
-            this.command = line.byte(4) & 0x7f;
-            this.length = line.byte(5) * 256 + line.byte(6);
-            this.lines = [line];
-            this.asks = null;
+    /** Adds a message that begins with a line to a table. Returns its place there. */
+    const begin = (table, line) => {
+        const place = table.add();
+        table.first.values[place] = line;
+        table.last.values[place] = line;
+        return place;
+    };
+
+    /** Takes a message's next packet. */
+    const take = ({ log, table, place, id }, line) => {
+        table.more.values[place] += 1;
+        table.last.values[place] = line;
+        log.messages.values[line] = id;
+    };
+
+    /** A transaction that may still change, with what is known of it until then. */
+    class Open extends Transaction {
+        constructor(log, line, now) {
+            super(log, begin(log.transactions, line));
+            this.last = now;
+            this.after = 0;
+            this.before = line;
+            this.keepalives = NONE;
+            this.cancelled = NO_LINE;
+            log.messages.values[line] = this.id;
         }
 
-        /** Takes its next packet. The list is as long as it has to be, where a list that grows has room for more. */
+        get lastLine() {
+            return this.table.last.values[this.place];
+        }
+
         take(line) {
-            this.lines = [...this.lines, line];
-            line.message = this;
+            this.before = this.lastLine;
+            take(this, line);
         }
 
-        get next() {
-            return this.lines.length - 1;
-        }
-
-        get came() {
-            return Math.min(this.length, 57 + 59 * this.next);
-        }
-
-        get isWhole() {
-            return this.came === this.length && this.length <= LONGEST;
-        }
-
-        /** A byte of its first packet's data. */
-        byteAt(place) {
-            return this.lines[0].byte(7 + place);
+        /** Gives the packet back that it took last. */
+        giveBack(line) {
+            this.table.more.values[this.place] -= 1;
+            this.table.last.values[this.place] = this.before;
+            this.log.messages.values[line] = 0;
         }
     }
 
-    /** A host's message, and what became of it. */
-    class Transaction extends Message {
-        constructor(line) {
-            super(line);
-            this.end = "";
-            this.by = null;
-            this.answer = null;
-            this.last = 0;
-            this.place = 0;
-            this.count = 0;
-            this.until = line.number;
-        }
-    }
+    /** Milliseconds between two moments, which are BigInts where a number isn't exact. */
+    const between = (then, now) =>
+        (typeof then === typeof now ? Number(now - then) : Number(BigInt(now) - BigInt(then)));
 
-    // What few transactions have.
-    Object.assign(Transaction.prototype, { code: null, keepalives: [], cancelled: null, after: 0 });
+    /** A list with one more: the same list, or a new one in the place of NONE. */
+    const pushed = (list, one) => {
+        const own = list === NONE ? [] : list;
+        own.push(one);
+        return own;
+    };
 
-    const makeChannel = () => ({ held: null, asked: null, inits: [], isStray: false, told: null });
+    const without = (list, one) => list.filter((it) => it !== one);
+
+    const asksForReplies = (it) => Boolean(it) && it.isWhole && it.command === CBOR;
+
+    const makeChannel = () => ({ held: null, asked: null, inits: NONE, isStray: false, told: null });
 
     /** Whether a key may send KEEPALIVEs of it: a whole message, but PING and INIT. */
     const works = (it) => Boolean(it) && it.isWhole && it.command !== PING && it.command !== INIT;
 
+    const isOnBroadcast = (message) => message.log.channelAt(message.start) === BROADCAST;
+
     /** INIT is taken at any time on its own channel: neither busy nor out of sequence. */
     const mayRefuse = (code, start) => start.command !== INIT
-        || (code !== INVALID_SEQUENCE && code !== TIMED_OUT && (code !== BUSY || start.channel === BROADCAST));
+        || (code !== INVALID_SEQUENCE && code !== TIMED_OUT && (code !== BUSY || isOnBroadcast(start)));
 
     const isSameNonce = (init, answer) => {
-        for (let at = 7; at < 15; at += 1) {
-            if (init.lines[0].byte(at) !== answer.lines[0].byte(at)) {
+        for (let at = 0; at < 8; at += 1) {
+            if (init.byteAt(at) !== answer.byteAt(at)) {
                 return false;
             }
         }
@@ -85,124 +97,131 @@
     };
 
     class Walk {
-        constructor() {
-            this.transactions = [];
+        constructor(log) {
+            this.log = log;
             this.channels = new Map();
             this.now = 0;
             // The input's line, until a packet of the device stands behind it, and how much later it came.
-            this.first = null;
+            this.first = NO_LINE;
             this.taken = 0;
             this.isMore = false;
-            // Channels on which something is held: replies are theirs.
+            // Channels that hold a whole CBOR message: replies are theirs.
             this.waiting = new Set();
         }
 
         channel(line) {
-            let found = this.channels.get(line.channel);
+            const name = this.log.channelAt(line);
+            let found = this.channels.get(name);
             if (!found) {
                 found = makeChannel();
-                this.channels.set(line.channel, found);
+                this.channels.set(name, found);
             }
             return found;
         }
 
-        /** Takes the next line. Its member `transaction` is the one that it belongs to, which may change later. */
-        add(line) {
-            line.transaction = null;
-            if (line.kind === "key") {
+        /** Has a line belong to a transaction, or to none. */
+        own(line, transaction) {
+            this.log.owners.values[line] = transaction ? transaction.id : 0;
+        }
+
+        /** Takes the next line, of a packet or an input, at the latest moment. Whose it is may change later. */
+        add(line, kind, now) {
+            if (kind === KIND.KEY) {
                 this.device(line, this.channel(line));
-                this.first = null;
+                this.first = NO_LINE;
                 return;
             }
-            if (line.kind === "comment" || line.kind === "need" || line.kind === "count" || line.kind === "empty") {
-                return;
-            }
-            this.now = Math.max(this.now, Number(line.at));
+            this.now = now;
             this.first = line;
             this.taken = 0;
             this.isMore = false;
-            if (line.kind === "host") {
+            if (kind === KIND.HOST) {
                 const channel = this.channel(line);
-                this[line.byte(4) & 0x80 ? "start" : "more"](line, channel);
-            } else if (line.kind !== "tick") {
+                this[this.log.byte(line, 4) & 0x80 ? "start" : "more"](line, channel);
+            } else if (kind !== KIND.TICK) {
                 this.reply(line);
             }
         }
 
         /** A reply of the caller belongs to the CBOR message that waits, if exactly one does. */
         reply(line) {
-            const all = [...this.waiting].map((it) => it.held).filter((it) => it?.isWhole && it.command === CBOR);
-            line.transaction = all.length === 1 ? all[0] : null;
+            const [first] = this.waiting;
+            this.own(line, this.waiting.size === 1 ? first.held : null);
         }
 
         // Packets of hosts.
 
         start(line, channel) {
-            channel.isStray = (line.byte(4) & 0x7f) === CANCEL;
+            channel.isStray = (this.log.byte(line, 4) & 0x7f) === CANCEL;
             if (channel.isStray) {
-                // A CANCEL begins no transaction, and is never answered itself (section 11.2.9.1.5).
-                const all = [channel.held, channel.asked].filter(works);
-                line.transaction = all.find((it) => !it.cancelled) ?? all[0] ?? null;
-                if (line.transaction) {
-                    line.transaction.cancelled = line;
-                }
+                this.cancel(line, channel);
                 return;
             }
             this.settle(channel);
-            const begun = new Transaction(line);
-            begun.last = this.now;
-            begun.place = this.transactions.length;
-            this.transactions.push(begun);
-            line.transaction = begun;
-            line.message = begun;
+            const begun = new Open(this.log, line, this.now);
+            this.own(line, begun);
             channel.asked = null;
             if (begun.command === INIT) {
-                channel.inits.push(begun);
+                channel.inits = pushed(channel.inits, begun);
                 channel.asked = begun;
             } else if (channel.held) {
                 channel.asked = begun;
-                begun.after = this.now - channel.held.last;
+                begun.after = between(channel.held.last, this.now);
             } else {
                 this.hold(channel, begun);
             }
         }
 
+        /** A CANCEL begins no transaction, and is never answered itself (section 11.2.9.1.5). */
+        cancel(line, channel) {
+            const all = [channel.held, channel.asked].filter(works);
+            const found = all.find((it) => it.cancelled === NO_LINE) ?? all[0] ?? null;
+            this.own(line, found);
+            if (found) {
+                found.cancelled = line;
+            }
+        }
+
         more(line, channel) {
             const { asked } = channel;
-            const isOfAsked = asked && asked.command !== INIT && line.byte(4) === asked.next && !asked.isWhole;
+            const sequence = this.log.byte(line, 4);
+            const isOfAsked = asked && asked.command !== INIT && sequence === asked.next && !asked.isWhole;
             const message = isOfAsked ? asked : channel.held;
             // Continuations of nothing are ignored (section 11.2.5.4).
             channel.isStray = !message || message.isWhole;
             if (channel.isStray) {
                 return;
             }
-            line.transaction = message;
-            this.taken = this.now - message.last;
+            this.own(line, message);
+            this.taken = between(message.last, this.now);
             this.isMore = true;
-            if (line.byte(4) === message.next) {
+            if (sequence === message.next) {
                 message.take(line);
                 message.last = this.now;
+                this.hold(channel, channel.held);
             }
         }
 
         // What becomes of transactions.
 
+        /** Has a channel hold a message as it is now, or nothing. */
         hold(channel, message) {
             channel.held = message;
-            this.waiting.add(channel);
+            this.waiting[asksForReplies(message) ? "add" : "delete"](channel);
         }
 
         free(channel) {
-            channel.held = null;
-            this.waiting.delete(channel);
+            this.hold(channel, null);
             this.settle(channel);
         }
 
-        end(transaction, how, by = null, code = null) {
-            transaction.end = how;
-            transaction.by = by;
+        /** Says how a transaction ended, by which line, and of an ERROR with which code. */
+        end({ place }, how, by, code = null) {
+            const { transactions } = this.log;
+            transactions.end.values[place] = how;
+            transactions.by.values[place] = by + 1;
             if (code !== null) {
-                transaction.code = code;
+                transactions.code.values[place] = code + 1;
             }
         }
 
@@ -214,51 +233,54 @@
             }
             channel.asked = null;
             if (held) {
-                this.end(held, held.cancelled ? "dropped" : "replaced", held.cancelled ?? asked.line);
-                const behind = asked.lines[asked.lines.length - 1].number;
-                const later = works(asked) ? held.keepalives.filter((it) => it.number > behind) : [];
-                if (later.length) {
-                    held.keepalives.length -= later.length;
-                    asked.keepalives = later;
-                }
-                later.forEach((it) => {
-                    it.transaction = asked;
-                });
+                const isCancelled = held.cancelled !== NO_LINE;
+                this.end(held, isCancelled ? END.DROPPED : END.REPLACED, isCancelled ? held.cancelled : asked.start);
+                this.handOn(held, asked);
             }
             this.hold(channel, asked);
+        }
+
+        /** The KEEPALIVEs behind the next message's last packet are of that one. */
+        handOn(held, asked) {
+            const later = works(asked) ? held.keepalives.filter((it) => it > asked.lastLine) : [];
+            held.keepalives = held.keepalives.slice(0, held.keepalives.length - later.length);
+            asked.keepalives = later;
+            later.forEach((it) => this.own(it, asked));
         }
 
         // Packets of the device.
 
         device(line, channel) {
-            const command = line.byte(4) & 0x7f;
-            if (line.byte(4) < 0x80) {
+            const { log } = this;
+            const [first, command] = [log.byte(line, 4), log.byte(line, 4) & 0x7f];
+            if (first < 0x80) {
                 const { told } = channel;
-                if (told && line.byte(4) === told.next && told.came < told.length) {
-                    told.take(line);
-                    line.transaction = told.asks;
+                if (told && first === told.next && told.came < told.length) {
+                    take(told, line);
+                    log.owners.values[line] = log.answers.asks.values[told.place];
                 }
                 return;
             }
             channel.told = null;
-            line.message = new Message(line);
+            const answer = new Answer(log, begin(log.answers, line));
+            log.messages.values[line] = answer.id;
             if (command === KEEPALIVE) {
-                line.transaction = this.keepalive(line, channel);
+                this.own(line, this.keepalive(line, channel));
             } else if (command === ERROR) {
-                line.transaction = this.error(line, channel, line.byte(7));
+                this.own(line, this.error(line, channel, log.byte(line, 7)));
             } else {
-                this.answer(line, channel, line.message);
+                this.answer(line, channel, answer);
             }
         }
 
         answer(line, channel, answer) {
             channel.told = answer;
             const found = answer.command === INIT ? this.initOf(channel, answer) : this.answered(channel, answer);
-            line.transaction = found;
-            answer.asks = found;
+            this.own(line, found);
             if (found) {
-                found.answer = answer;
-                this.end(found, "answered", line);
+                this.log.answers.asks.values[answer.place] = found.id;
+                this.log.transactions.answer.values[found.place] = answer.place + 1;
+                this.end(found, END.ANSWERED, line);
             }
         }
 
@@ -270,11 +292,7 @@
             if (!works(held)) {
                 return null;
             }
-            if (Object.hasOwn(held, "keepalives")) {
-                held.keepalives.push(line);
-            } else {
-                held.keepalives = [line];
-            }
+            held.keepalives = pushed(held.keepalives, line);
             return held;
         }
 
@@ -287,8 +305,9 @@
             const { held } = channel;
             if (code === TIMED_OUT && held) {
                 this.takeBack(held);
+                this.hold(channel, held);
                 if (!held.isWhole) {
-                    this.end(held, "timed out", line, code);
+                    this.end(held, END.TIMED_OUT, line, code);
                     this.free(channel);
                     return held;
                 }
@@ -306,26 +325,24 @@
 
         /** A continuation that came after the message had timed out isn't in it (section 11.2.5.2). */
         takeBack(held) {
-            const { first } = this;
-            if (first && first.transaction === held && this.isMore && this.taken >= NO_TIME_OUT) {
-                if (first.message === held) {
-                    held.lines.pop();
-                    first.message = null;
+            const { first, log } = this;
+            const isOfHeld = first !== NO_LINE && log.owners.values[first] === held.id;
+            if (isOfHeld && this.isMore && this.taken >= NO_TIME_OUT) {
+                if (log.messages.values[first] === held.id) {
+                    held.giveBack(first);
                 }
-                first.transaction = null;
+                this.own(first, null);
             }
         }
 
         refuse(line, channel, start, code) {
             const { held } = channel;
-            this.end(start, "refused", line, code);
+            this.end(start, END.REFUSED, line, code);
             channel.asked = channel.asked === start ? null : channel.asked;
-            if (start.command === INIT) {
-                channel.inits.splice(channel.inits.indexOf(start), 1);
-            }
+            channel.inits = without(channel.inits, start);
             const cause = start.command === INIT ? INVALID_LENGTH : INVALID_SEQUENCE;
-            if (held && !held.isWhole && held.line.number < start.line.number && code === cause) {
-                this.end(held, start.command === INIT ? "dropped" : "replaced", start.line);
+            if (held && !held.isWhole && held.start < start.start && code === cause) {
+                this.end(held, start.command === INIT ? END.DROPPED : END.REPLACED, start.start);
                 this.free(channel);
             }
         }
@@ -335,11 +352,12 @@
             if (found) {
                 this.free(channel);
             } else if (channel.inits.length) {
-                found = channel.inits.pop();
+                found = channel.inits.at(-1);
+                channel.inits = without(channel.inits, found);
                 channel.asked = null;
             }
             if (found) {
-                this.end(found, code === TIMED_OUT ? "timed out" : "refused", line, code);
+                this.end(found, code === TIMED_OUT ? END.TIMED_OUT : END.REFUSED, line, code);
             }
             return found;
         }
@@ -350,10 +368,10 @@
             if (!found) {
                 return null;
             }
-            channel.inits.splice(channel.inits.indexOf(found), 1);
+            channel.inits = without(channel.inits, found);
             channel.asked = channel.asked === found ? null : channel.asked;
-            if (answer.channel !== BROADCAST && channel.held && channel.held.line.number < found.line.number) {
-                this.end(channel.held, "dropped", found.line);
+            if (!isOnBroadcast(answer) && channel.held && channel.held.start < found.start) {
+                this.end(channel.held, END.DROPPED, found.start);
                 this.free(channel);
             }
             return found;
@@ -364,7 +382,7 @@
             const { asked } = channel;
             let found = channel.held;
             if (asked?.isWhole && asked.command === answer.command && asked.command !== INIT) {
-                const isCancel = found?.isWhole && found.cancelled && found.command === CBOR
+                const isCancel = found?.isWhole && found.cancelled !== NO_LINE && found.command === CBOR
                     && answer.byteAt(0) === CANCELLED;
                 if (!isCancel) {
                     this.settle(channel);
@@ -377,14 +395,7 @@
             this.free(channel);
             return found;
         }
-
-        /** Ends the walk: what has no end is unanswered, or never became whole. */
-        close() {
-            for (const it of this.transactions) {
-                it.end ||= it.isWhole ? "unanswered" : "not whole";
-            }
-        }
     }
 
-    globalThis.hidlogWalk = { Walk, BROADCAST, COMMANDS: { PING, INIT, CBOR, CANCEL, KEEPALIVE, ERROR } };
+    globalThis.hidlogWalk = { Walk, COMMANDS: { PING, INIT, CBOR, CANCEL, KEEPALIVE, ERROR } };
 })();

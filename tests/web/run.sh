@@ -24,6 +24,7 @@ run_pages() {
         "$with_fido2" "$here/from_file.py" || [ $? = 3 ] || failed=1
         "$with_fido2" "$here/virtual_authenticator.py" || [ $? = 3 ] || failed=1
         "$with_fido2" "$here/two_tabs.py" || [ $? = 3 ] || failed=1
+        "$here/walks_fuzzed.py" --program "$program" || [ $? = 3 ] || failed=1
         run_examples
     fi
     check_logs "$room/$browser"

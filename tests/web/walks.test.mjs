@@ -6,7 +6,7 @@ import { test } from "node:test";
 import vm from "node:vm";
 
 const fileOf = (name) => new URL(`../../${name}`, import.meta.url);
-for (const name of ["web/dist/bytes.js", "web/walk.js", "web/session.js"]) {
+for (const name of ["web/dist/bytes.js", "web/log.js", "web/walk.js", "web/session.js"]) {
     vm.runInThisContext(readFileSync(fileOf(name), "utf8"));
 }
 const NAMES = {
@@ -30,10 +30,11 @@ const ended = ({ answer, by, came, code, end, isWhole, length }) => {
 
 /** What the walk finds in a log. */
 const found = (name) => {
-    const { lines, transactions } = globalThis.hidlogSession.readSession(new Uint8Array(readFileSync(fileOf(name))));
+    const session = globalThis.hidlogSession.readSession(new Uint8Array(readFileSync(fileOf(name))));
     const isWalked = (line) => !["comment", "need", "count", "empty"].includes(line.kind);
+    const transactions = Array.from({ length: session.transactions }, (_, place) => session.transaction(place));
     return [
-        ...lines.filter(isWalked).map(({ number, transaction }) =>
+        ...session.slice(0, session.length).filter(isWalked).map(({ number, transaction }) =>
             `${number} of ${transaction ? transaction.line.number : "none"}`),
         ...transactions.map((it) => `${it.line.number}: ${it.channel} ${nameOf(it.command)} ${it.length}: ${ended(it)}`),
     ];

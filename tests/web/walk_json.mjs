@@ -1,0 +1,43 @@
+// Reads the paths of logs from standard input, and writes what the page's walk (web/walk.js) says of each, in a line of
+// JSON: the objects `packet`, `presence`, `key`, `signature` and `transaction` of `hidlog show --json`, without what they
+// say besides.
+import { readFileSync } from "node:fs";
+import vm from "node:vm";
+
+for (const name of ["web/dist/bytes.js", "web/log.js", "web/walk.js", "web/session.js"]) {
+    vm.runInThisContext(readFileSync(new URL(`../../${name}`, import.meta.url), "utf8"));
+}
+const [CBOR, KEEPALIVE] = [0x10, 0x3b];
+const KINDS = { host: "packet", key: "packet", presence: "presence", "new key": "key", signature: "signature" };
+
+/** How a transaction ended, in the words of `show --json`. */
+const endOf = ({ answer, by, code, end }) => {
+    if (code !== null) {
+        return { end: "error", code };
+    }
+    if (end === "answered") {
+        return answer.command === CBOR ? { end: "status", status: answer.byteAt(0) } : { end: "answer" };
+    }
+    return by ? { end, by: by.number } : { end: "open" };
+};
+
+const transactionOf = (it) => {
+    const keepalives = it.all.filter((line) => line.kind === "key" && line.message?.command === KEEPALIVE).length;
+    const came = it.isWhole ? {} : { came: it.came };
+    return { kind: "transaction", transaction: it.line.number, keepalives, ...came, ...endOf(it) };
+};
+
+const saidOf = (path) => {
+    const session = globalThis.hidlogSession.readSession(new Uint8Array(readFileSync(path)));
+    const lines = session.slice(0, session.length).filter((line) => KINDS[line.kind]);
+    const transactions = Array.from({ length: session.transactions }, (_, place) => session.transaction(place));
+    return [
+        ...lines.map(({ kind, number, transaction }) =>
+            ({ kind: KINDS[kind], line: number, transaction: transaction?.line.number })),
+        ...transactions.map(transactionOf),
+    ];
+};
+
+for (const path of readFileSync(0, "utf8").split("\n").filter(Boolean)) {
+    process.stdout.write(`${JSON.stringify(saidOf(path))}\n`);
+}

@@ -1,0 +1,392 @@
+// A log's lines and messages as numbers in typed arrays: a long log has millions of lines, and an object for each would
+// stop the page whenever the browser collects what it no longer needs. A line, a message or a transaction is made as an
+// object when it is asked for, and reads its numbers and the log's bytes. It sets `globalThis.hidlogLog`.
+"use strict";
+
+(() => {
+    const FIRST_LENGTH = 1024;
+    const PACKET_DIGITS = 128;
+    // More digits than these may be a number that isn't exact.
+    const EXACT_DIGITS = 15;
+    const LONGEST = 7609;
+    const KINDS = ["host", "key", "tick", "presence", "new key", "signature", "comment", "need", "count", "empty"];
+    const [HOST, KEY, TICK, PRESENCE, NEW_KEY, SIGNATURE, COMMENT, NEED, COUNT, EMPTY] = KINDS.keys();
+    const ENDS = ["", "answered", "refused", "timed out", "replaced", "dropped"];
+    const [, ANSWERED, REFUSED, TIMED_OUT, REPLACED, DROPPED] = ENDS.keys();
+    // Lines whose words are kept.
+    const MOST_WORDS = 300_000;
+    const decoder = new TextDecoder("utf-8", { ignoreBOM: true });
+
+    /** The value of a hexadecimal digit by its character code, or 16 and more for others. */
+    const digits = Uint8Array.from({ length: 256 }, (_, code) => {
+        const value = parseInt(String.fromCharCode(code), 16);
+        return Number.isNaN(value) ? 99 : value;
+    });
+
+    /** Numbers of one type, to which more are added at the end. */
+    class Column {
+        constructor(Type) {
+            this.values = new Type(FIRST_LENGTH);
+            this.length = 0;
+        }
+
+        push(value) {
+            if (this.length === this.values.length) {
+                const more = new this.values.constructor(2 * this.length);
+                more.set(this.values);
+                this.values = more;
+            }
+            this.values[this.length] = value;
+            this.length += 1;
+        }
+    }
+
+    /** Rows of numbers, each in a column by its name. */
+    class Table {
+        constructor(types) {
+            Object.entries(types).forEach(([name, Type]) => {
+                this[name] = new Column(Type);
+            });
+            this.columns = Object.values(this);
+            this.length = 0;
+        }
+
+        /** Adds a row of zeros, and returns its place. */
+        add() {
+            this.columns.forEach((it) => it.push(0));
+            this.length += 1;
+            return this.length - 1;
+        }
+    }
+
+    /** The number in decimal digits from a place on, and the place after it; or null. */
+    const readMoment = (bytes, from, to) => {
+        let [at, value] = [from, 0];
+        while (at < to && bytes[at] >= 48 && bytes[at] <= 57) {
+            value = value * 10 + bytes[at] - 48;
+            at += 1;
+        }
+        if (at === from) {
+            return null;
+        }
+        const isExact = at - from <= EXACT_DIGITS;
+        return { at: isExact ? value : BigInt(decoder.decode(bytes.subarray(from, at))), next: at };
+    };
+
+    /** A line of the log. */
+    class Line {
+        constructor(log, place) {
+            this.log = log;
+            this.place = place;
+        }
+
+        get number() {
+            return this.place + 1;
+        }
+
+        get from() {
+            return this.log.starts.values[this.place];
+        }
+
+        get to() {
+            return this.log.endOf(this.place);
+        }
+
+        get bytes() {
+            return this.log.bytes;
+        }
+
+        get text() {
+            return decoder.decode(this.bytes.subarray(this.from, this.to));
+        }
+
+        get kind() {
+            return KINDS[this.log.kinds.values[this.place]];
+        }
+
+        /** Its own moment, or null. */
+        get at() {
+            const kind = this.log.kinds.values[this.place];
+            return kind === HOST || (kind >= TICK && kind <= SIGNATURE) ? this.log.momentAt(this.place) : null;
+        }
+
+        /** The latest moment so far. */
+        get moment() {
+            const latest = this.log.latest.values[this.place];
+            return latest ? this.log.momentAt(latest - 1) : 0;
+        }
+
+        get isPacket() {
+            return this.log.kinds.values[this.place] <= KEY;
+        }
+
+        get channel() {
+            return this.isPacket ? this.log.channelAt(this.place).toString(16).padStart(8, "0") : null;
+        }
+
+        /** A byte of the packet. */
+        byte(place) {
+            return this.log.byte(this.place, place);
+        }
+
+        /** The message that it is a packet of, or null. */
+        get message() {
+            return this.log.message(this.log.messages.values[this.place]);
+        }
+
+        /** The transaction that it belongs to, or null. */
+        get transaction() {
+            const owner = this.log.owners.values[this.place];
+            return owner ? new Transaction(this.log, owner - 1) : null;
+        }
+
+        /** The core's words, once they were asked for. */
+        get words() {
+            return this.log.words.get(this.place);
+        }
+
+        set words(words) {
+            this.log.words.set(this.place, words);
+        }
+
+        get says() {
+            const { text, kind } = this;
+            if (kind === "need") {
+                return text.slice(2);
+            }
+            if (kind === "comment" || kind === "count") {
+                return text.slice(1).trim();
+            }
+            const word = text.split(" ")[2];
+            return { tick: "time passes", presence: word, host: "", key: "", empty: "" }[kind]
+                ?? (word === "no" ? "no" : "yes");
+        }
+    }
+
+    // What few lines have: in a quiet log the line that was there before, and its text.
+    Object.assign(Line.prototype, { source: null, went: undefined, isFault: false });
+
+    /** A line of a quiet log that stands in the place of noise. */
+    class QuietLine extends Line {
+        get source() {
+            return this.log.before.line(this.log.sources.get(this.place));
+        }
+
+        get went() {
+            return this.source.text;
+        }
+
+        get kind() {
+            return this.source.kind;
+        }
+
+        get channel() {
+            return this.source.channel;
+        }
+
+        get message() {
+            return this.source.message;
+        }
+
+        get says() {
+            return this.source.says;
+        }
+    }
+
+    /** A message: what its packets carry. */
+    class Message {
+        constructor(log, table, place) {
+            this.log = log;
+            this.table = table;
+            this.place = place;
+            this.start = table.first.values[place];
+            this.command = log.byte(this.start, 4) & 0x7f;
+            this.length = log.byte(this.start, 5) * 256 + log.byte(this.start, 6);
+        }
+
+        /** How many packets it has so far, without the first: what the next one's sequence number has to be. */
+        get next() {
+            return this.table.more.values[this.place];
+        }
+
+        get came() {
+            return Math.min(this.length, 57 + 59 * this.next);
+        }
+
+        get isWhole() {
+            return this.came === this.length && this.length <= LONGEST;
+        }
+
+        /** A byte of its first packet's data. */
+        byteAt(place) {
+            return this.log.byte(this.start, 7 + place);
+        }
+
+        get line() {
+            return this.log.line(this.start);
+        }
+
+        get channel() {
+            return this.line.channel;
+        }
+
+        /** The lines of its packets. */
+        get lines() {
+            const { log, id } = this;
+            const all = [];
+            for (let at = this.start; at <= this.table.last.values[this.place]; at += 1) {
+                if (log.messages.values[at] === id) {
+                    all.push(log.line(at));
+                }
+            }
+            return all;
+        }
+    }
+
+    /** A host's message, and what became of it. */
+    class Transaction extends Message {
+        constructor(log, place) {
+            super(log, log.transactions, place);
+        }
+
+        get id() {
+            return this.place + 1;
+        }
+
+        get end() {
+            return ENDS[this.table.end.values[this.place]] || (this.isWhole ? "unanswered" : "not whole");
+        }
+
+        /** The line that ended it, or null. */
+        get by() {
+            const by = this.table.by.values[this.place];
+            return by ? this.log.line(by - 1) : null;
+        }
+
+        /** The code of the ERROR that ended it, or null. */
+        get code() {
+            const code = this.table.code.values[this.place];
+            return code ? code - 1 : null;
+        }
+
+        get answer() {
+            const answer = this.table.answer.values[this.place];
+            return answer ? new Answer(this.log, answer - 1) : null;
+        }
+
+        /** How many lines belong to it. */
+        get count() {
+            return this.table.count.values[this.place];
+        }
+
+        /** All lines that belong to it. */
+        get all() {
+            const { log, id } = this;
+            const all = [];
+            for (let at = this.start; at < this.table.until.values[this.place]; at += 1) {
+                if (log.owners.values[at] === id) {
+                    all.push(log.line(at));
+                }
+            }
+            return all;
+        }
+    }
+
+    /** A message of the key: an answer, a KEEPALIVE or an ERROR. */
+    class Answer extends Message {
+        constructor(log, place) {
+            super(log, log.answers, place);
+        }
+
+        get id() {
+            return -this.place - 1;
+        }
+
+        /** The transaction that it answers, or null. */
+        get asks() {
+            const asks = this.table.asks.values[this.place];
+            return asks ? new Transaction(this.log, asks - 1) : null;
+        }
+    }
+
+    /** A log, as far as it was read. Numbers that name a line, a transaction or an answer in a column are its place + 1. */
+    class Log {
+        constructor(bytes) {
+            this.bytes = bytes;
+            // Of each line: where it begins, what it is, which line has the latest moment so far, which transaction it
+            // belongs to, and of a packet the message (above 0 a transaction, below 0 an answer).
+            this.starts = new Column(Uint32Array);
+            this.kinds = new Column(Uint8Array);
+            this.latest = new Column(Uint32Array);
+            this.owners = new Column(Uint32Array);
+            this.messages = new Column(Int32Array);
+            this.end = 0;
+            const packets = { first: Uint32Array, last: Uint32Array, more: Uint8Array };
+            this.transactions = new Table({
+                ...packets, end: Uint8Array, by: Uint32Array, code: Uint16Array, answer: Uint32Array, count: Uint32Array,
+                until: Uint32Array,
+            });
+            this.answers = new Table({ ...packets, asks: Uint32Array });
+            this.words = new Map();
+            this.sources = new Map();
+            this.before = null;
+        }
+
+        get length() {
+            return this.starts.length;
+        }
+
+        /** Adds a line between two places. */
+        add(kind, from, to) {
+            this.starts.push(from);
+            this.kinds.push(kind);
+            this.latest.push(0);
+            this.owners.push(0);
+            this.messages.push(0);
+            this.end = to;
+        }
+
+        line(place) {
+            return this.sources.has(place) ? new QuietLine(this, place) : new Line(this, place);
+        }
+
+        message(id) {
+            if (!id) {
+                return null;
+            }
+            return id > 0 ? new Transaction(this, id - 1) : new Answer(this, -id - 1);
+        }
+
+        /** Where a line ends: without its line feed. */
+        endOf(place) {
+            return place + 1 < this.length ? this.starts.values[place + 1] - 1 : this.end;
+        }
+
+        momentAt(place) {
+            return readMoment(this.bytes, this.starts.values[place] + 2, this.endOf(place)).at;
+        }
+
+        /** A byte of a packet, whose digits end its line. */
+        byte(line, place) {
+            const at = this.endOf(line) - PACKET_DIGITS + 2 * place;
+            return digits[this.bytes[at]] * 16 + digits[this.bytes[at + 1]];
+        }
+
+        channelAt(line) {
+            return this.byte(line, 0) * 2 ** 24 + this.byte(line, 1) * 65536 + this.byte(line, 2) * 256 + this.byte(line, 3);
+        }
+
+        /** Forgets the words of lines, which are asked for again then, where so many more would be too many. */
+        makePlace(count) {
+            if (this.words.size + count > MOST_WORDS) {
+                this.words.clear();
+            }
+        }
+    }
+
+    globalThis.hidlogLog = {
+        Log, Answer, Transaction, digits, readMoment, PACKET_DIGITS,
+        KIND: { HOST, KEY, TICK, PRESENCE, NEW_KEY, SIGNATURE, COMMENT, NEED, COUNT, EMPTY },
+        END: { ANSWERED, REFUSED, TIMED_OUT, REPLACED, DROPPED },
+    };
+})();
