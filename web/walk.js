@@ -145,8 +145,8 @@
 
         /** A reply of the caller belongs to the CBOR message that waits, if exactly one does. */
         reply(line) {
-            const [first] = this.waiting;
-            this.own(line, this.waiting.size === 1 ? first.held : null);
+            // All of them are taken, since in Firefox an iterator that isn't at its end slows the set down.
+            this.own(line, this.waiting.size === 1 ? [...this.waiting][0].held : null);
         }
 
         // Packets of hosts.
