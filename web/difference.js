@@ -60,6 +60,13 @@
         return made;
     };
 
+    const packetLine = (parts) => {
+        const made = document.createElement("span");
+        made.className = "packet";
+        made.append(...parts);
+        return made;
+    };
+
     /** A packet's line, with each digit marked that the other one hasn't at its place. */
     const markedDigits = (text, other) => {
         const isOther = (at) => text[at].toLowerCase() !== other[at]?.toLowerCase();
@@ -101,7 +108,7 @@
         const isNone = otherSays.join().includes(NONE) && !ownSays.join().includes(NONE);
         return [
             `${says}\n`, isNone ? HINT : "", ...glance(ownSays, otherSays),
-            "\nThe log has:\n", ...packets[0], "\nThe key sends:\n", ...packets[1],
+            "\nThe log has:\n", packetLine(packets[0]), "\nThe key sends:\n", packetLine(packets[1]),
             "\n\nThe log's message:\n", ...messages[0], "\nThe key's message:\n", ...messages[1],
         ];
     };

@@ -70,14 +70,18 @@
             to.fill();
         }
 
+        widthOf(text) {
+            return this.to.measureText(text).width;
+        }
+
         /** A text over whatever is drawn there, cut to a width. */
         label(text, x, y, colour, most, align = "center") {
             const { to } = this;
             let shown = text;
-            while (shown.length > 1 && to.measureText(shown).width > most) {
+            while (shown.length > 1 && this.widthOf(shown) > most) {
                 shown = `${shown.slice(0, -2)}…`;
             }
-            const wide = to.measureText(shown).width;
+            const wide = this.widthOf(shown);
             const from = align === "center" ? x - wide / 2 : x;
             to.fillStyle = this.colour(this.behind);
             to.fillRect(from - 3, y - 8, wide + 6, 16);
@@ -97,13 +101,20 @@
     /** What a row says, in fewer words. */
     const brief = (says) => says.replace(/^CBOR \d+ {2}|^KEEPALIVE 1 \d\d {2}/, "");
 
-    /** A text between two lifelines; where there is little space, a whole one from the first lifeline on. */
+    /**
+     * A text between two lifelines; else a whole one beside them, where it has the space. Where there is little space it
+     * begins at the first lifeline.
+     */
     const between = (pen, lanes, [from, to], y, text, colour) => {
+        const said = brief(text);
+        const [least, most] = [Math.min(from, to), Math.max(from, to)];
         if (lanes.isNarrow) {
             const left = lanes.places[0] + 12;
-            pen.label(brief(text), left, y, colour, pen.width - left - 12, "left");
+            pen.label(said, left, y, colour, pen.width - left - 12, "left");
+        } else if (pen.widthOf(said) > most - least - 26 && pen.widthOf(said) < pen.width - most - 20) {
+            pen.label(said, most + 10, y, colour, pen.width - most - 20, "left");
         } else {
-            pen.label(brief(text), (from + to) / 2, y, colour, Math.abs(to - from) - 26);
+            pen.label(said, (from + to) / 2, y, colour, most - least - 26);
         }
     };
 
@@ -134,10 +145,13 @@
         }
     };
 
+    /** A bar from its host to the key, and what came of it, over all that is to the right of its host. */
     const drawTransaction = (pen, lanes, row, y) => {
         const host = lanes.ofChannel(row.transaction.channel);
-        pen.line(host, y, lanes.key, y, "host", [], 3);
-        between(pen, lanes, [host - 8, lanes.key + 8], y, row.says, "ink");
+        const colour = row.isRefused ? "fault" : "host";
+        const left = lanes.isNarrow ? lanes.places[0] + 12 : host + 24;
+        pen.line(host, y, lanes.key, y, colour, [], 3);
+        pen.label(row.outcome, left, y, row.isRefused ? "fault" : "ink", pen.width - left - 12, "left");
         pen.label(`${row.line.moment} ms`, lanes.isNarrow ? 2 : 10, y, "faint", lanes.isNarrow ? 62 : 90, "left");
     };
 

@@ -6,7 +6,7 @@
     const { CBOR, INIT, PING } = globalThis.hidlogWalk.COMMANDS;
     const BATCH = 1024;
     const COMMANDS = {
-        0x01: ["Registration", "registration"], 0x02: ["Sign-in", "sign-in"], 0x04: ["Question what the key is", ""],
+        0x01: ["Registration", "registration"], 0x02: ["Sign-in", "sign-in"], 0x04: ["Capabilities", ""],
         0x06: ["PIN", ""], 0x07: ["Reset", "reset"], 0x08: ["Next account", ""], 0x0b: ["Selection", "selection"],
     };
     const ENDS = {
@@ -43,6 +43,9 @@
         return { replaced: `given up for line ${by?.number}`, dropped: `given up at line ${by?.number}` }[end]
             ?? (end === "not whole" ? "it never came whole" : "no answer");
     };
+
+    /** Whether it ended as its host wanted. */
+    const isDone = (transaction) => endOf(transaction) === ENDS[0];
 
     const plural = (count, word) => `${count.toLocaleString("en")} ${word}${count === 1 ? "" : "s"}`;
 
@@ -88,5 +91,5 @@
         return inWords(counts, session, refused);
     };
 
-    globalThis.hidlogStory = { kindOf, endOf, summing };
+    globalThis.hidlogStory = { kindOf, endOf, isDone, summing };
 })();

@@ -17,7 +17,7 @@
     const { Reader, firstLines } = globalThis.hidlogSession;
     const { making } = globalThis.hidlogRows;
     const { drive, run } = globalThis.hidlogBackground;
-    const { kindOf, endOf, summing } = globalThis.hidlogStory;
+    const { kindOf, endOf, isDone, summing } = globalThis.hidlogStory;
     const { draw, HEAD } = globalThis.hidlogDrawing;
     const difference = globalThis.hidlogDifference;
     const at = (id) => document.getElementById(id);
@@ -63,14 +63,24 @@
         get says() {
             const { line, transaction } = this;
             if (transaction) {
-                const rp = state.shown.rpIdOf(transaction);
-                const said = `${kindOf(transaction)}${rp ? ` at ${visible(rp)}` : ""}: ${endOf(transaction)}`;
-                return `${said}  ·  ${state.shown.title(transaction)}  (${transaction.count} lines)`;
+                return `${this.outcome}  ·  ${state.shown.title(transaction)}  (${transaction.count} lines)`;
             }
             if (SHOWN_KINDS.includes(line.kind) && !line.isFault) {
-                return state.shown.says(line).replace(/^# ?/, "");
+                const isStray = line.isPacket && session().transactions > 0 && !this.line.transaction;
+                return `${state.shown.says(line).replace(/^# ?/, "")}${isStray ? "  (of no open message)" : ""}`;
             }
             return CALLER_KINDS.includes(line.kind) ? `${line.kind}: ${line.says}` : visible(line.says);
+        }
+
+        /** What was asked in a transaction, and what came of it, in words. */
+        get outcome() {
+            const rp = state.shown.rpIdOf(this.transaction);
+            return `${kindOf(this.transaction)}: ${endOf(this.transaction)}${rp ? ` at ${visible(rp)}` : ""}`;
+        }
+
+        /** Whether it is a transaction that didn't end as its host wanted. */
+        get isRefused() {
+            return Boolean(this.transaction) && !isDone(this.transaction);
         }
 
         /** All that is said of it, in lines. */
@@ -120,8 +130,8 @@
 
     const makeRow = (row, place) => {
         const made = document.createElement("div");
-        const { transaction, noise, differs } = row;
-        const classes = { transaction, noise, differs, fault: row.kind === "fault" };
+        const { transaction, noise, differs, isRefused } = row;
+        const classes = { transaction, noise, differs, refused: isRefused, fault: row.kind === "fault" };
         made.className = ["row", ...Object.keys(classes).filter((name) => classes[name])].join(" ");
         made.style.transform = `translateY(${place * ROW}px)`;
         made.id = `row-${place}`;
@@ -357,8 +367,9 @@
         state.summing.end();
         state.summing = drive(summing(session()), () => {}, (summary) => {
             at("story").hidden = false;
-            at("story").className = state.reason ? "fault" : "";
-            at("story").textContent = `${state.reason ? `${state.reason} ` : ""}${summary}`;
+            const reason = document.createElement("strong");
+            reason.textContent = state.reason;
+            at("story").replaceChildren(...(state.reason ? [reason, " "] : []), summary);
         }, isLong() ? undefined : Infinity);
     };
 

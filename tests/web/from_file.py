@@ -21,7 +21,7 @@ ROLES = [
     ("combobox", "Channel"),
     ("checkbox", "Fold transactions"),
     ("tab", "Drawing"),
-    ("option", "Registration at example.com: done"),
+    ("option", "Registration: done at example.com"),
     ("complementary", "The line that is chosen"),
 ]
 

@@ -35,11 +35,27 @@ const folds = async () => {
     at("fold").click();
     expect(rows().length === 3 && lines > 10, `a row for each transaction: ${rows().length}`);
     expect(at("story").textContent.startsWith("1 registration: done. 2 messages of hosts on 2 channels."), "in words");
-    expect(texts()[2].includes("Registration at example.com: done"), texts()[2]);
+    expect(texts()[2].includes("Registration: done at example.com"), texts()[2]);
     expect(texts().some((text) => text.includes("authenticatorMakeCredential → CTAP2_OK")), "folded");
     const place = texts().findIndex((text) => text.includes("MakeCredential"));
     rows()[place].click();
     expect(texts().some((text) => text.includes("presence: granted")), "unfolded");
+};
+
+/** What was refused has a colour of its own, in the table and in the drawing; packets of no message are said to be so. */
+const marksRefusals = async () => {
+    await open("two_clients.log", await fetched("failing/two_clients.log"), true);
+    const refused = rows().filter((row) => row.classList.contains("refused")).map((row) => row.lastChild);
+    expect(refused.length === 1 && refused[0].textContent.startsWith("Registration: the key was busy"), texts().join());
+    const probe = page().document.createElement("span");
+    probe.style.color = "var(--fault)";
+    page().document.body.append(probe);
+    const { color } = page().getComputedStyle(probe);
+    expect(page().getComputedStyle(refused[0]).color === color, page().getComputedStyle(refused[0]).color);
+    expect(texts().filter((text) => text.includes("(of no open message)")).length === 2, texts().join());
+    const drawn = drawnTexts();
+    at("drawing-tab").click();
+    expect(drawn.has("Registration: the key was busy") && drawn.has("Registration: done at example.com"), [...drawn].join());
 };
 
 /** A request that is refused meanwhile doesn't take the answer of the one that waits. */
@@ -416,6 +432,7 @@ run({
     ...loaded,
     "a message is decoded": decodesAMessage,
     "transactions fold": folds,
+    "what is refused is marked": marksRefusals,
     "one request is refused while another waits": keepsTheWaitingRequest,
     "one channel alone": filtersByChannel,
     "check marks the first difference": marksTheDifference,
