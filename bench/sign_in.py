@@ -5,7 +5,8 @@
     sign in     milliseconds of a sign-in by an allow list, through the package's browser
     register    milliseconds of a registration with a sign-in after it, with a new key each time
     count       milliseconds of `len(key.credentials)` where 64 are held
-    change      milliseconds of one change to the counter of one of 64
+    change      milliseconds of one change to the counter of the oldest of 64
+    newest      the same of the newest
     memory      megabytes that pytest has held at most after 4,000 tests with a key, beyond as many without
 
 Each figure is the median of ROUNDS runs (by default 15) of a process; of the processes of both clones one runs after
@@ -71,7 +72,7 @@ import time, hidlog
 key = hidlog.SecurityKey()
 for number in range(64):
     key.credentials.add("example.com", bytes([number]))
-first, times = key.credentials[0].id, []
+first, newest, times = key.credentials[0].id, key.credentials[63].id, []
 for number in range(1, 20):
     began = time.perf_counter()
     {}
@@ -96,6 +97,7 @@ PARTS = {
     "register": REGISTER,
     "count": HELD.format("len(key.credentials)"),
     "change": HELD.format("key.credentials.change(first, counter=number)"),
+    "newest": HELD.format("key.credentials.change(newest, counter=number)"),
     "memory": MEMORY,
 }
 

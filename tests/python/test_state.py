@@ -6,6 +6,7 @@ from collections.abc import Callable
 from dataclasses import replace
 from hashlib import sha256
 from pathlib import Path
+from random import Random
 from typing import Any
 
 import pytest
@@ -116,6 +117,79 @@ def _attested(credential: hidlog.Credential) -> Any:
 
     public = ES256({1: 2, 3: -7, -1: 1, -2: credential.x, -3: credential.y})
     return AttestedCredentialData.create(bytes(16), credential.id, public)
+
+
+def changed_at_random(key: hidlog.SecurityKey, chance: Random) -> None:
+    """Adds, changes and removes credentials of three users at two services."""
+    for _ in range(60):
+        ids = [it.id for it in key.credentials]
+        what = chance.randrange(8)
+        if what < 3 or not ids:
+            rp, user, kind = (
+                chance.choice(["a.example", "b.example"]),
+                bytes([chance.randrange(3)]),
+                chance.random() < 0.6,
+            )
+            name = chance.choice([None, None, chance.randbytes(chance.choice([1, 32, 100]))])
+            key.credentials.add(rp, user, f"name {user.hex()}", discoverable=kind, credential_id=name)
+        elif what < 6:
+            members = {"counter": chance.randrange(1000), "user_name": "\u00e9" * chance.randrange(30)}
+            key.credentials.change(chance.choice([*ids, ids[-1]]), **members)
+        elif what < 7:
+            key.credentials.remove(chance.choice(ids))
+        else:
+            key.restart()
+
+
+def test_both_forms_hold_the_same_after_changes() -> None:
+    """The key in this process changes credentials by the C library, and one in a process by snapshots."""
+    for seed in range(4):
+        keys = []
+        for process in (False, True):
+            with hidlog.SecurityKey(process=process, random=Random(seed).randbytes) as key:
+                changed_at_random(key, Random(seed))
+                keys.append((list(key.credentials), key.snapshot(), key.recordings, sorted(key.private_keys)))
+        assert keys[0] == keys[1]
+        held, _, recordings, private = keys[0]
+        assert len(private) == len(held)
+        for it in recordings:
+            hidlog.check(it.log, it.snapshot).raise_for_fault()
+
+
+def test_a_change_leaves_the_others_where_they_are() -> None:
+    with hidlog.SecurityKey() as key:
+        ids = [key.credentials.add("example.com", bytes([it])).id for it in range(5)]
+        for place in (0, 2, 4):
+            before = key.credentials[place]
+            assert key.credentials.change(before.id, counter=7, user_name="bob") == key.credentials[place]
+            assert key.credentials[place] == replace(before, counter=7, user_name="bob")
+            assert [it.id for it in key.credentials] == ids
+
+
+def test_private_keys_of_replaced_credentials_go(make: Make) -> None:
+    key = make()
+    for _ in range(3):
+        key.credentials.add("example.com", b"ann")
+    assert len(key.credentials) == len(key.private_keys) == 1
+    key.credentials.clear()
+    assert not key.private_keys
+
+
+def test_a_key_that_registers_for_ever_keeps_few_private_keys() -> None:
+    with hidlog.SecurityKey() as key:
+        service = Service(key)
+        for _ in range(300):
+            alice = service.register()
+        assert len(key.credentials) == 1 and len(key.private_keys) <= 257
+        service.sign_in([alice])
+
+
+def test_a_refused_snapshot_leaves_the_key_as_it_was() -> None:
+    with hidlog.SecurityKey() as key:
+        alice = Service(key).register()
+        with pytest.raises(hidlog.SnapshotError):
+            key._take_snapshot(b"\xa2")
+        assert Service(key).sign_in([alice]).authenticator_data.counter == 1
 
 
 def test_wrong_credentials_are_refused(make: Make) -> None:

@@ -22,13 +22,17 @@ _FAULTS = {
     -5: "an argument that there isn't",
     -6: "the buffer is too small",
     -7: "work waits",
-    -8: "64 credentials are held",
+    -8: "another credential is discoverable, with the same relying party and user",
     -17: "snapshot refused: 1 (it is no snapshot)",
     -18: "snapshot refused: 2 (it has more than 64 credentials)",
     -19: "snapshot refused: 3 (a credential in it is broken)",
 }
 _SNAPSHOT_FAULTS = (-17, -18, -19)
 _PRESENCE = {"granted": 0, "denied": 1, "timeout": 2}
+# HIDLOG_KEY_CLASHES and HIDLOG_KEY_TOO_MANY_ROWS.
+_NO_SPACE = (-8, -18)
+# HIDLOG_SNAPSHOT_LONGEST.
+_SNAPSHOT_MOST = 18125
 # enum hidlog_need_kind.
 _NEEDS = ("nothing", "presence", "key", "signature")
 _SIGNATURE = 3
@@ -152,6 +156,9 @@ _KEY_FUNCTIONS: dict[str, list[Any]] = {
     "need": [_OUT],
     "credentials": [],
     "credential": [_SIZE, _OUT],
+    "add": [_AT, _OUT],
+    "remove": [_AT, _BYTES],
+    "save": [_OUT, _SIZE],
     "meters": [_OUT],
 }
 # How many bytes a word of these functions has to have: a number, or that of the word after it. The library reads so
@@ -162,6 +169,7 @@ _BUFFERS: dict[str, dict[int, int]] = {
     "packet": {1: 64},
     "new_key": {1: 32, 2: 32, 3: 32},
     "signature": {1: _NEXT},
+    "remove": {1: 32},
     "next": {0: 64},
 }
 _NONE: dict[int, int] = {}
@@ -247,13 +255,31 @@ class Handle:
             return _NEEDS[kind], b"", b""
         return _NEEDS[kind], bytes(need.id), bytes(need.signed_bytes)[: need.signed_len]
 
+    def credential(self, place: int) -> HeldCredential:
+        """Returns the credential at a place, from 0."""
+        held = HeldCredential()
+        self.call("credential", place, ctypes.byref(held))
+        return held
+
     def credentials(self) -> list[HeldCredential]:
         """Returns the credentials, the newest last."""
-        listed = []
-        for place in range(self.call("credentials")):
-            listed.append(HeldCredential())
-            self.call("credential", place, ctypes.byref(listed[-1]))
-        return listed
+        return [self.credential(place) for place in range(self.call("credentials"))]
+
+    def put(self, credential: HeldCredential) -> bool:
+        """Puts a credential after the others, and takes out the one with its id. Returns whether it could: not where
+        another one has its relying party and user, or 64 others are held."""
+        words = self._pointer, 0, ctypes.byref(credential)
+        answer: int = self._functions["add"](*words)
+        if answer < 0 and answer not in _NO_SPACE:
+            self.call("add", *words[1:])  # which raises
+        return answer == 0
+
+    def save(self) -> bytes:
+        """Returns a snapshot of the credentials: no bytes where there are none."""
+        if not self.call("credentials"):
+            return b""
+        out = ctypes.create_string_buffer(_SNAPSHOT_MOST)
+        return ctypes.string_at(out, self.call("save", out, _SNAPSHOT_MOST))
 
     def meters(self) -> dict[str, int]:
         """Returns what the session has held and served, in the order of a log's last line."""

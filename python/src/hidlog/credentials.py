@@ -7,11 +7,14 @@ from contextlib import AbstractContextManager
 from dataclasses import dataclass, fields, replace
 from functools import wraps
 from hashlib import sha256
-from typing import Any, Protocol, TypeVar, cast, overload
+from typing import TYPE_CHECKING, Any, Protocol, TypeVar, cast, overload
 
 from . import cbor, names, private_keys
 from .errors import ArgumentError, SnapshotError, bytes_of, number_of, one_of, utf8
 from .outside import CORE_ID, ID_MOST, Backup, Outside
+
+if TYPE_CHECKING:
+    from .held import HeldKey
 
 MOST = 64
 _COUNTER_MOST = 2**32 - 1
@@ -163,6 +166,15 @@ class _Holder(Protocol):
     def _held(self) -> list[Credential]:
         """Returns the credentials of the core, the newest last."""
 
+    def _find(self, core_id: bytes) -> Credential | None:
+        """Returns the credential of the core with this id, where there is one."""
+
+    def snapshot(self) -> bytes:
+        """Returns a snapshot of the credentials."""
+
+    def _change_held(self, change: Callable[[HeldKey], bool]) -> bool:
+        """Has the key that is held start with other credentials. Returns whether it could; else it is as it was."""
+
     def _count(self) -> int:
         """Returns how many there are."""
 
@@ -174,15 +186,6 @@ class _Holder(Protocol):
 
     def _random_bytes(self, count: int) -> bytes:
         """Returns so many random bytes."""
-
-
-def _named(listed: Sequence[Credential], credential_id: bytes) -> Credential:
-    """Returns the credential with an id."""
-    name = bytes_of("the credential id", credential_id)
-    for it in listed:
-        if it.id == name:
-            return it
-    raise ArgumentError(f"the key holds no credential with the id {name.hex()}")
 
 
 class Credentials(Sequence[Credential]):
@@ -209,14 +212,34 @@ class Credentials(Sequence[Credential]):
             return held
         return replace(held, id=name, backup_eligibility=backup.eligibility, backup_state=backup.state)
 
+    def _in_core(self, shown: Credential) -> Credential:
+        """Returns a credential as the core has it."""
+        core = self._key._outside.core_id(shown.id)
+        return shown if core is shown.id else replace(shown, id=core)
+
     def _take(self, listed: Sequence[Credential]) -> None:
-        """Goes on with these credentials."""
-        outside = self._key._outside
-        cores = [(it, outside.core_id(it.id)) for it in listed]
-        rows = [it if core is it.id else replace(it, id=core) for it, core in cores]
+        """Goes on with these credentials, and forgets what is kept of others."""
+        before = [it.id for it in self._key._held()]
+        rows = [self._in_core(it) for it in listed]
         self._key._take_snapshot(write_snapshot(rows))
-        for it, core in cores:
-            outside.back_up(core, it.backup)
+        for it in rows:
+            self._key._outside.back_up(it.id, it.backup)
+        kept = {it.id for it in rows}
+        for gone in before:
+            if gone not in kept:
+                self._forget(gone)
+
+    def _forget(self, core_id: bytes) -> None:
+        """Forgets what is kept of a credential outside of the core."""
+        self._key.private_keys.pop(core_id, None)
+        self._key._outside.forget(core_id)
+
+    def _replace(self, held: Credential, changed: Credential) -> None:
+        """Goes on with a credential of the core in the place of another one with its id, its relying party and user."""
+        if not self._key._change_held(lambda key: key.put_last(changed)):
+            before, _, after = self._key.snapshot().partition(_row(held))
+            self._key._take_snapshot(before + _row(changed) + after)
+        self._key._outside.back_up(changed.id, changed.backup)
 
     def __len__(self) -> int:
         return self._key._count()
@@ -240,7 +263,15 @@ class Credentials(Sequence[Credential]):
 
     def get(self, credential_id: bytes) -> Credential:
         """Returns the credential with this id."""
-        return _named(self._listed(), credential_id)
+        shown = self._named(bytes_of("the credential id", credential_id))
+        if shown is None:
+            raise ArgumentError(f"the key holds no credential with the id {credential_id.hex()}")
+        return shown
+
+    def _named(self, page_id: bytes) -> Credential | None:
+        held = self._key._find(self._key._outside.core_id(page_id))
+        shown = held and self._shown(held)
+        return shown if shown is not None and shown.id == page_id else None
 
     def of(self, rp_id: str) -> list[Credential]:
         """Returns the credentials of a relying party."""
@@ -282,13 +313,21 @@ class Credentials(Sequence[Credential]):
             backup_eligibility,
             backup_state,
         )
-        kept = self._with(made)
         if len(name) == CORE_ID:
             core_id = name
+        if self._named(name) is not None or not self._put(replace(made, id=core_id)):
+            kept = self._with(made)
+            self._key._outside.name(core_id, name)
+            self._take([*kept, made])
         self._key._outside.name(core_id, name)
-        self._take([*kept, made])
+        self._key._outside.back_up(core_id, made.backup)
         self._key.private_keys[core_id] = private
         return made
+
+    def _put(self, made: Credential) -> bool:
+        """Puts a new credential of the core after the others. Returns whether it could: where its id is held, where it
+        takes the place of another one, and in a process of its own it can't."""
+        return self._key._find(made.id) is None and self._key._change_held(lambda key: key.put(made))
 
     def _with(self, made: Credential) -> list[Credential]:
         """Returns the credentials that stay where this one is added."""
@@ -305,9 +344,15 @@ class Credentials(Sequence[Credential]):
     @_alone
     def remove(self, credential_id: bytes) -> None:
         """Removes a credential."""
-        held = self._listed()
-        gone = _named(held, credential_id)
-        self._take([it for it in held if it.id != gone.id])
+        gone = self._in_core(self.get(credential_id)).id
+
+        def remove(key: HeldKey) -> bool:
+            key.remove(gone)
+            return True
+
+        if not self._key._change_held(remove):
+            self._take([it for it in self._listed() if self._in_core(it).id != gone])
+        self._forget(gone)
 
     @_alone
     def clear(self) -> None:
@@ -320,9 +365,12 @@ class Credentials(Sequence[Credential]):
         for name in members:
             if name not in _CHANGED:
                 raise names.unknown("member to change", name, _CHANGED)
-        held = self._listed()
-        changed = replace(_named(held, credential_id), **members)
-        listed = [changed if it.id == changed.id else it for it in held]
+        held = self.get(credential_id)
+        changed = replace(held, **members)
+        if (changed.user_id, changed.discoverable) == (held.user_id, held.discoverable):
+            self._replace(self._in_core(held), self._in_core(changed))
+            return changed
+        listed = [changed if it.id == changed.id else it for it in self._listed()]
         found = [(it.rp_id_hash, it.user_id) for it in listed if it.discoverable]
         if len(set(found)) < len(found):
             raise ArgumentError("two discoverable credentials would have the same relying party and user")

@@ -2,16 +2,19 @@
 
 from __future__ import annotations
 
+from struct import Struct
 from typing import Any
 
 from .core import Handle, HeldCredential
-from .credentials import Credential, write_snapshot
+from .credentials import Credential, read_snapshot
 from .errors import LogError
 from .lines import Field, Need, Reply, line_of
 
 # A comment "# signed" has at most so many bytes to sign.
 _SIGNED_MOST = 96
 _INPUTS = (">", "t", "p", "k", "s")
+# The numbers at the end of struct hidlog_credential.
+_NUMBERS = Struct("=4I")
 _NOTHING = Need()
 
 
@@ -30,12 +33,23 @@ def _credential_of(held: HeldCredential) -> Credential:
     )
 
 
-class HeldKey:
-    """A key over the C library, which takes the lines of a log as `hidlog live` does."""
+def _held_of(it: Credential) -> HeldCredential:
+    user, name = it.user_id, it.user_name.encode()
+    numbers = _NUMBERS.pack(len(user), len(name), it.discoverable, it.counter)
+    filled = user.ljust(64, b"\0"), name.ljust(64, b"\0")
+    return HeldCredential.from_buffer_copy(b"".join((it.rp_id_hash, it.id, it.x, it.y, *filled, numbers)))
 
-    def __init__(self, snapshot: bytes = b""):
+
+class HeldKey:
+    """A key over the C library, which takes the lines of a log as `hidlog live` does.
+
+    places   where credentials were found, by their ids: looked at first, and kept from one key to the next.
+    """
+
+    def __init__(self, snapshot: bytes = b"", places: dict[bytes, int] | None = None):
         self._handle = Handle(snapshot)
-        self._last: list[HeldCredential] | None = None
+        self._places: dict[bytes, int] = {} if places is None else places
+        self._last: bytes | None = None
 
     def exchange(self, line: bytes) -> Reply:
         """Hands in a line of a log, and returns what comes of it."""
@@ -83,21 +97,53 @@ class HeldKey:
 
     def credentials(self, _: bytes) -> list[Credential]:
         """Returns the credentials, also once the key has ended."""
-        held = self._handle.credentials() if self._last is None else self._last
-        return [_credential_of(it) for it in held]
+        if self._last is not None:
+            return read_snapshot(self._last)
+        return [_credential_of(it) for it in self._handle.credentials()]
+
+    def find(self, _: bytes, credential_id: bytes) -> Credential | None:
+        """Returns the credential with this id, also once the key has ended."""
+        if self._last is not None:
+            return next((it for it in self.credentials(b"") if it.id == credential_id), None)
+        held = self._at(self._places.get(credential_id, -1))
+        if held is None or bytes(held.id) != credential_id:
+            self._places.clear()
+            self._places.update((bytes(it.id), place) for place, it in enumerate(self._handle.credentials()))
+            held = self._at(self._places.get(credential_id, -1))
+        return None if held is None else _credential_of(held)
+
+    def _at(self, place: int) -> HeldCredential | None:
+        return self._handle.credential(place) if 0 <= place < self._handle.call("credentials") else None
+
+    def put(self, credential: Credential) -> bool:
+        """Starts again with a credential after the others, and without the one with its id. Returns whether it could."""
+        return self._handle.put(_held_of(credential))
+
+    def put_last(self, credential: Credential) -> bool:
+        """Does the same for the last one, which stays in its place then."""
+        last = self._handle.credential(self._handle.call("credentials") - 1)
+        return bytes(last.id) == credential.id and self.put(credential)
+
+    def remove(self, credential_id: bytes) -> None:
+        """Starts again without a credential."""
+        self._handle.call("remove", 0, credential_id)
 
     def count(self, _: bytes) -> int:
         """Returns how many credentials are held."""
-        return self._handle.call("credentials") if self._last is None else len(self._last)
+        return self._handle.call("credentials") if self._last is None else len(read_snapshot(self._last))
 
-    def snapshot(self, log: bytes) -> bytes:
+    def snapshot(self, _: bytes) -> bytes:
         """Returns a snapshot of the credentials, also once the key has ended."""
-        return write_snapshot(self.credentials(log))
+        return self._handle.save() if self._last is None else self._last
 
     def finish(self) -> bytes:
         """Ends the key, and returns the line of what its session counted."""
-        self._last = self._handle.credentials()
-        counts = self._handle.meters()
+        self._last, counts = self._handle.save(), self.counts()
         self._handle.call("free")
         del self._handle  # its memory is 40 kB
+        return counts
+
+    def counts(self) -> bytes:
+        """Returns the line of what the session counted so far."""
+        counts = self._handle.meters()
         return ("= " + " ".join(f"{name} {count}" for name, count in counts.items()) + "\n").encode()

@@ -6,6 +6,7 @@ import json
 import os
 import time
 from base64 import b64decode, b64encode
+from collections.abc import Callable
 from dataclasses import replace
 from pathlib import Path
 from typing import TYPE_CHECKING, Any, TypeVar
@@ -14,6 +15,8 @@ from . import packets, private_keys
 from .credentials import Credential, Credentials, read_snapshot, write_snapshot
 from .errors import ArgumentError, ArgumentTypeError, HidlogError, KeyBusy, number_of, path_of
 from .files import write_private, write_whole
+from .held import HeldKey
+from .lines import Engine
 from .outside import Backup
 from .session import Recording, Session
 
@@ -22,6 +25,8 @@ if TYPE_CHECKING:
     from .replayed import ReplayedKey
 
 _FORM = "hidlog key 1"
+_CHANGED = b"# the credentials were changed; the channels are given out again"
+_INIT = packets.packets_of(packets.Message(packets.BROADCAST, packets.INIT, bytes(8)))[0]
 _Key = TypeVar("_Key", bound="SecurityKey")
 
 
@@ -100,29 +105,63 @@ class SecurityKey(Session):
             raise HidlogError("a key in a process knows its credentials by its recording, and has none (record=False)")
         return self._log
 
+    def _find(self, core_id: bytes) -> Credential | None:
+        """Returns the credential of the core with this id, where there is one."""
+        with self._locked():
+            return self._engine.find(self._recorded(), core_id)
+
+    def _check_idle(self) -> None:
+        """Raises where a request is served or comes in."""
+        if self._work.need.kind != "nothing" or self._from_host.is_open:
+            raise KeyBusy("credentials are changed only while the key serves no request")
+
     def _take_snapshot(self, snapshot: bytes) -> None:
         """Goes on with the credentials of a snapshot: the clock and the clients' channels stay."""
         with self._locked():
-            if self._work.need.kind != "nothing" or self._from_host.is_open:
-                raise KeyBusy("credentials are changed only while the key serves no request")
-            now, waiting = self._time, self._packets
-            self._end()
-            self._begin(snapshot)
-            self._time = now
-            self.note("the credentials were changed; the channels are given out again")
-            self._play("t")
-            init = packets.packets_of(packets.Message(packets.BROADCAST, packets.INIT, bytes(8)))[0]
-            for _ in range(self._channels):
-                self._play(">", init)
-            self._packets = waiting
+            self._check_idle()
+            engine = self._make_engine(snapshot)
+            before = self._engine
+            self._part(before.counts() if isinstance(before, HeldKey) else before.finish())
+            self._go_on(snapshot, engine)
+
+    def _change_held(self, change: Callable[[HeldKey], bool]) -> bool:
+        """Has the key that is held start with other credentials. Returns whether it could; else it is as it was."""
+        with self._locked():
+            self._check_idle()
+            engine = self._engine
+            if not isinstance(engine, HeldKey) or not self._is_open:
+                return False
+            counts = engine.counts()
+            if not change(engine):
+                return False
+            self._part(counts)
+            self._go_on(engine.snapshot(b""), engine)
+            return True
+
+    def _part(self, counts: bytes) -> None:
+        """Ends a recording with the line of what its session counted."""
+        self._keep(counts)
+        self._ended.append(Recording(self._start, bytes(self._log)))
+
+    def _go_on(self, snapshot: bytes, engine: Engine) -> None:
+        """Begins a session with other credentials, in which the clock and the clients' channels stay."""
+        now, waiting = self._time, self._packets
+        self._begin(snapshot, engine)
+        self._time = now
+        self._exchange(_CHANGED)
+        self._play("t")
+        for _ in range(self._channels):
+            self._play(">", _INIT)
+        self._packets = waiting
 
     def restart(self) -> None:
         """Switches the key off and on again: credentials stay; channels, what waits and the clock are lost."""
         with self._locked():
             snapshot = self.snapshot()
+            engine = self._make_engine(snapshot)
             self._end()
             self._channels = 0
-            self._begin(snapshot)
+            self._begin(snapshot, engine)
 
     def save(self, path: str | os.PathLike[str]) -> None:
         """Writes the credentials and their private keys to a file, for `load`. They are for tests alone."""
@@ -216,9 +255,7 @@ class SecurityKey(Session):
         """Ends the session, whose recording is kept."""
         if self._is_open:
             self._is_open = False
-            counts = self._engine.finish()
-            self._keep(counts)
-            self._ended.append(Recording(self._start, bytes(self._log)))
+            self._part(self._engine.finish())
 
     def close(self) -> None:
         """Ends the key. Its recordings stay."""

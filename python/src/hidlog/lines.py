@@ -49,6 +49,9 @@ class Engine(Protocol):
     def credentials(self, log: bytes) -> list[Credential]:
         """Returns the credentials, where this is the log of the session so far."""
 
+    def find(self, log: bytes, credential_id: bytes) -> Credential | None:
+        """Returns the one with this id, where there is one."""
+
     def count(self, log: bytes) -> int:
         """Returns how many there are."""
 

@@ -57,6 +57,11 @@ class Outside:
             return sha256(page_id).digest()
         return self._cores.get(page_id, page_id)
 
+    def forget(self, core_id: bytes) -> None:
+        """Forgets what is kept of a credential."""
+        self._cores.pop(self._pages.pop(core_id, b""), None)
+        self._backups.pop(core_id, None)
+
     def back_up(self, core_id: bytes, backup: Backup) -> None:
         """Sets the flags of a credential."""
         if backup.flags:

@@ -120,6 +120,10 @@ class ProcessKey:
 
         return read_snapshot(self.snapshot(log))
 
+    def find(self, log: bytes, credential_id: bytes) -> Credential | None:
+        """Returns the credential with this id after this log."""
+        return next((it for it in self.credentials(log) if it.id == credential_id), None)
+
     def count(self, log: bytes) -> int:
         """Returns how many credentials are held after this log."""
         return len(self.credentials(log))

@@ -26,6 +26,8 @@ KEEPALIVE_MS = 100
 # A little more of real time, since moments are whole milliseconds.
 _KEEPALIVE_SECONDS = 0.101
 Clock = Union[str, Callable[[], int]]
+# Private keys of which a registration forgets those that nothing is signed with any more.
+_PRIVATE_KEYS_MOST = 256
 _VERIFICATION = ("none", "verified", "failed")
 _AS_IT_IS = nullcontext()
 _ATTACHMENT = ("cross-platform", "platform")
@@ -130,7 +132,9 @@ class Session:
         self._process = not core.has_held_key() if process is None else process
         self._ended: list[Recording] = []
         self._channels = 0
-        self._begin(bytes_of("the snapshot", snapshot))
+        self._places: dict[bytes, int] = {}
+        start = bytes_of("the snapshot", snapshot)
+        self._begin(start, self._make_engine(start))
 
     def __setattr__(self, name: str, value: Any) -> None:
         if name[:1] != "_":
@@ -171,11 +175,11 @@ class Session:
     def _make_engine(self, snapshot: bytes) -> Engine:
         if self._process:
             return ProcessKey(snapshot, self._program)
-        return HeldKey(snapshot)
+        return HeldKey(snapshot, self._places)
 
-    def _begin(self, snapshot: bytes) -> None:
+    def _begin(self, snapshot: bytes, engine: Engine) -> None:
         """Begins a session with these credentials, at the moment 0."""
-        self._engine = self._make_engine(snapshot)
+        self._engine = engine
         self._is_open = True
         self._start, self._log = snapshot, bytearray()
         self._time, self._work = _Time(), _Work()
@@ -418,9 +422,18 @@ class Session:
         """Hands in a new key pair under a new credential id."""
         private, credential = private_keys.make(self._random_bytes), self._random_bytes(32)
         x, y = private_keys.point_of(private)
+        if len(self.private_keys) >= _PRIVATE_KEYS_MOST and not self._process:
+            self._forget_keys()
         self.private_keys[credential] = private
         self._outside.back_up(credential, self._backup)
         self._play("k", credential, x, y)
+
+    def _forget_keys(self) -> None:
+        """Forgets the private keys of credentials that the key holds no more."""
+        held = {it.id for it in self._engine.credentials(self._log)}
+        for gone in [it for it in self.private_keys if it not in held]:
+            del self.private_keys[gone]
+            self._outside.forget(gone)
 
     def _sign(self) -> None:
         """Signs the bytes that the key named, with the credential's private key."""
