@@ -21,11 +21,15 @@ lines, to the definition itself. Three things shorten the way:
   counted apart. No packet depends on it.
 - ASIDE: so is a definition whose value only goes into a field that is only copied: no packet depends on that either.
 
-The pages' prose is written by hand, that of the second page in tests/reading_more.md, whose texts come when it is printed. A comment `<!-- KIND: FILE: NAMES -->`, with the names in backquotes, is followed by
+The pages' prose is written by hand, that of the second page in tests/reading_more.md, whose texts come when it is
+printed. A comment `<!-- KIND: FILE: NAMES -->`, with the names in backquotes, is followed by
 
 - definitions: these definitions, each below its comment;
 - code: the types and constants of the code that definitions name; quoted: others; documented: their own text;
 - clauses: clauses of the contract of the function that is named first, and its signature where that is named.
+
+`<!-- definitions -->` alone is of the file that its first line has, and shows those of its definitions of which a line
+begins there. To take one in, write a line with its name, and call --write.
 
 A type is shown in a line: a record's fields, a data type's constructors with their arguments. The type of a field or an
 argument is left out where it is in PLAIN or has the same name. A record with parameters, or of statements, is shown as
@@ -73,9 +77,9 @@ TOKEN = re.compile(r"[^\s(){}\[\],.;:]+")
 FIELDS = re.compile(r"(?<=[\w)])\.[a-z]\w*|^ +pub \w+ :|(?<=[{;])\s*[a-z]\w* =(?= )", re.MULTILINE)
 # (a b : T), λ x., let x =
 BINDERS = re.compile(r"\(([a-z][\w ]*) :|λ \(?([a-z][\w ]*?)[.:]|let (\w+) ")
-BLOCK = re.compile(
-    r"<!-- (definitions|code|documented|quoted|clauses): (\S+): `([^`]*)` -->\n(.*?)<!-- end -->", re.DOTALL
-)
+BLOCK = re.compile(r"<!-- (definitions|code|documented|quoted|clauses)(?:: (\S+): `([^`]*)`)? -->\n((?:\n|    .*\n)*)")
+# A line with which a definition begins on a page: an equation, or a data type or a record in a line.
+BEGINS = re.compile(r"    (?:record |data )?(\S+?):?(?= |$)")
 SECTION = re.compile(r"^(?=## Only for )", re.MULTILINE)
 COUNTS = re.compile(r"\*\*\d+\s+definitions,\s+[\d,]+\s+lines,\s+\d+\s+files?\*\*")
 MORE = re.compile(r"\*\*\d+\s+more\s+definitions\*\*\s+\(`(\w+)`\)")
@@ -412,6 +416,33 @@ def read_aside(needed: set[Name]) -> list[str]:
     return found
 
 
+@dataclass
+class Block:
+    """A block of a page: its kind, and what it shows of a file."""
+
+    kind: str
+    path: Path
+    names: list[str]
+
+
+def block_of(found: re.Match[str]) -> Block:
+    """Returns a block. Where its comment names nothing it is of the file that its first line has, and shows the file's
+    definitions of which a line begins here."""
+    if found[2]:
+        return Block(found[1], TOP / found[2], found[3].split())
+    lines = found[4].strip("\n").splitlines()
+    path = TOP / lines[0].strip().removeprefix("-- ")
+    begun = (BEGINS.match(line) for line in lines[1:])
+    names = dict.fromkeys(it[1] for it in begun if it and it[1] in read(path).definitions)
+    return Block(found[1], path, list(names))
+
+
+def filled(found: re.Match[str]) -> str:
+    """Returns a block with the texts of today."""
+    block = block_of(found)
+    return found[0].partition("\n")[0] + "\n" + shown(block.kind, block.path, block.names)
+
+
 def shown(kind: str, path: Path, names: list[str]) -> str:
     """Returns the text of a block: what it has, and the file above it."""
     if kind == "definitions":
@@ -510,9 +541,7 @@ def count(names: set[Name]) -> str:
 
 def written(needs: Needs, page: str) -> str:
     """Returns the text of both pages with the texts and the counts of today."""
-    page = BLOCK.sub(
-        lambda it: f"<!-- {it[1]}: {it[2]}: `{it[3]}` -->\n{shown(it[1], TOP / it[2], it[3].split())}<!-- end -->", page
-    )
+    page = BLOCK.sub(filled, page)
     counts = iter([count(it.definitions) for it in needs.parts])
     page = COUNTS.sub(lambda it: with_numbers(it[0], next(counts, it[0])), page)
     return MORE.sub(lambda it: re.sub(r"\d+", str(needs.more.get(it[1], 0)), str(it[0]), count=1), page)
@@ -525,7 +554,8 @@ def with_numbers(text: str, counted: str) -> str:
 
 
 def names_on(page: str, *kinds: str) -> list[Name]:
-    return [Name(TOP / it[2], name) for it in BLOCK.finditer(page) if it[1] in kinds for name in it[3].split()]
+    blocks = (block_of(it) for it in BLOCK.finditer(page))
+    return [Name(it.path, name) for it in blocks if it.kind in kinds for name in it.names]
 
 
 def differences(where: str, has: list[Name], needs: set[Name]) -> list[str]:
