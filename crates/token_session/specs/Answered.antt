@@ -1,17 +1,17 @@
 -- What a history of inputs sends, from what happened alone: no state of the authenticator is kept, and none of its turns
 -- is looked at. Its events have the answers that what came before them names.
-use Rattle.std.specs.Prelude.{ℕ, max, List, [], ◌∷◌, ◌++◌, ◌&&◌, Option, Some, None, option_map, is_some, is_none, if◌then◌else◌}
+use Rattle.std.specs.Prelude.{◌≡◌, ℕ, max, List, [], ◌∷◌, ◌++◌, ◌&&◌, Option, Some, None, option_map, is_some, is_none, if◌then◌else◌}
 use Rattle.std.specs.List.{list_any}
 use Rattle.hid_packet.specs.Commands.{KEEPALIVE}
 use Rattle.hid_packet.specs.Packet.{is_command}
 use Rattle.authn_core.specs.Answers.{answer_to, exchange}
-use Rattle.authn_core.specs.Exchanges.{Exchange, unanswered, waiting_in}
+use Rattle.authn_core.specs.Exchanges.{Exchange, rows_after, unanswered, waiting_in}
 use Rattle.authn_core.specs.State.{Event}
 use Rattle.authn_core.specs.Turn.{Start, Work}
 use Rattle.token_session.specs.declared.input.Timed.{Timed}
 use Rattle.token_session.specs.Inputs.{Judged, end, given, is_packet}
 use Rattle.token_session.specs.Messages.{open_at, finished, finished_at}
-use Rattle.token_session.specs.History.{admits, cut_packets, event, table_packets}
+use Rattle.token_session.specs.History.{judged, sent, core, admits, cut_packets, event, table_packets}
 use Rattle.token_session.specs.Events.{keepalive_due, keepalive_packets}
 use Rattle.token_session.specs.Replies.{asker, status_of, answer_packets, ping_packets}
 
@@ -89,3 +89,10 @@ sent_told_at start e past = time_told start past (keepalive_told start past) e.a
 unfoldable pub sent_told : Start → List Judged → List (List ℕ)
 sent_told start [] = []
 sent_told start (e ∷ past) = sent_told start past ++ sent_told_at start e past
+
+-- What is told of a history is what the headline says of it: its inputs are judged alike, it sends the same, and the
+-- credentials are those that were made and are left.
+pub record IsTold (start : Start) (h : List Timed) : Type 0 where
+  pub inputs : judged start h ≡ judged_told start h
+  pub packets : sent start (judged start h) ≡ sent_told start (judged_told start h)
+  pub rows : (core start (judged start h)).state.rows ≡ rows_after start (happened start (judged_told start h))

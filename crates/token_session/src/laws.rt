@@ -5,7 +5,6 @@ ghost use Rattle.std.specs.Prelude.{◌≡◌, ◌≤◌, ◌⊎◌, ◌+◌, �
 ghost use Rattle.token_session.specs.declared.input.Timed.{Timed as OneInput};
 ghost use Rattle.authn_core.specs.State.{Request};
 ghost use Rattle.cred_table.specs.Rows.{Lawful};
-ghost use Rattle.authn_core.specs.Exchanges.{rows_after};
 ghost use Rattle.authn_core.specs.Turn.{Start, working, first_state, waiting};
 ghost use Rattle.authn_core.specs.Marks.{marks, rows_of, signs_by, texts, all_differ};
 ghost use Rattle.authn_core.specs.Rising.{all_rise, IsNewest};
@@ -28,7 +27,7 @@ ghost use Rattle.token_session.specs.Events.{event_packets};
 ghost use Rattle.token_session.specs.Law.{all_open, IsAfter, sent_now, onto, sent_from, run_state, run_sent, turns_send, keeps_alive};
 ghost use Rattle.token_session.specs.Credentials.{steps};
 ghost use Rattle.token_session.specs.Signing.{came, IsAnsweredBy};
-ghost use Rattle.token_session.specs.Answered.{happened, judged_told, service_told, sent_told, waits_in};
+ghost use Rattle.token_session.specs.Answered.{IsTold, happened, waits_in};
 ghost use Rattle.token_session.specs.Headline.{IsAnswered};
 ghost use Rattle.token_session.specs.Meters.{SessionState, meters_of, session_of, stepped};
 ghost use Rattle.token_session.specs.Noise.{Quiet, is_noise_at, is_noise_after, quiet_from, quiet_sent, tick_at};
@@ -196,15 +195,7 @@ pub fn what_is_signed_is_answered()
 /// without its turns: the answer to each event, from the events before it and their answers. So are its credentials,
 /// and what waits.
 pub fn answers_follow_history()
-    ensures sent { (start : Start) (h : List OneInput) → Lawful start.room start.rows
-        → sent start (judged start h) ≡ sent_told start (judged_told start h) }
-    ensures judged { (start : Start) (h : List OneInput) → Lawful start.room start.rows
-        → judged start h ≡ judged_told start h }
-    ensures service { (start : Start) (h : List OneInput) (x : OneInput) → Lawful start.room start.rows
-        → service_packets start (judged_after start h x) (judged start h)
-        ≡ service_told start (judged_after start h x) (judged start h) }
-    ensures rows { (start : Start) (h : List OneInput) → Lawful start.room start.rows
-        → (core start (judged start h)).state.rows ≡ rows_after start (happened start (judged start h)) }
+    ensures told { (start : Start) (h : List OneInput) → Lawful start.room start.rows → IsTold start h }
     ensures waits { (start : Start) (h : List OneInput) → Lawful start.room start.rows
         → waiting (core start (judged start h)) ≡ waits_in (happened start (judged start h)) }
 {

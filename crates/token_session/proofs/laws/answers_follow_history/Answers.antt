@@ -5,7 +5,7 @@ use Rattle.authn_core.specs.Turn.{Start}
 use Rattle.token_session.specs.Credentials.{steps}
 use Rattle.token_session.specs.History.{judge, judged}
 use Rattle.token_session.proofs.Credentials.{core_is, orderly}
-use Rattle.token_session.proofs.Answered.{Law, judged_told_so, happened_steps, waits_told, service_told_so, sent_told_so}
+use Rattle.token_session.proofs.Answered.{Law, judged_told_so, happened_steps, waits_told, sent_told_so}
 use Rattle.token_session.proofs.laws.answers_follow_history.Goals as goal
 
 pub returns : goal.returns
@@ -16,9 +16,13 @@ returns c =
       waits = λ h o. c.answers_follow_history.ensures.waits start h l o;
     } in
     record {
-      sent = λ start h l. sent_told_so start (law start l) h ∙ ap (sent_told start) (judged_told_so start (law start l) h);
-      judged = λ start h l. judged_told_so start (law start l) h;
-      service = λ start h x l. service_told_so start (law start l) h x;
-      rows = λ start h l. rw (core_is start (judged start h), happened_steps start (law start l) h) (c.answers_follow_history.ensures.rows start (steps start (judged start h)) l (orderly start h));
+      told = λ start h l.
+          let k = judged_told_so start (law start l) h in
+          record {
+            inputs = k;
+            packets = sent_told_so start (law start l) h ∙ ap (sent_told start) k;
+            rows = rw (← k) (rw (core_is start (judged start h), happened_steps start (law start l) h)
+                (c.answers_follow_history.ensures.rows start (steps start (judged start h)) l (orderly start h)));
+          };
       waits = λ start h l. waits_told start (law start l) h;
     }
