@@ -66,8 +66,9 @@ APART = ("carried", "steps")
 ASIDE = {"cut": "name"}
 # A definition, and the law that is read in its place: a function of src/laws.rt in the definition's crate.
 LAWS = {"canonical_tree": "trees_are_told", "outcome_of": "bytes_tell"}
+LAWS |= {it: "answers_follow_history" for it in ("sent", "judged", "core")}
 # Those that the first page needs. The last section of the second needs the others.
-PAGE_LAWS = {"canonical_tree"}
+PAGE_LAWS = {"canonical_tree", "sent", "judged", "core"}
 CLAUSE = re.compile(r"pub fn drive_new<.*?ensures answered \{(.*?)\n    (?://|ensures)", re.DOTALL)
 USE = re.compile(r"use ([\w.]+)\.\{(.*)\}")
 MODIFIERS = re.compile(r"(?:(?:unfoldable|abbrev|pub) )+")
@@ -365,7 +366,7 @@ class Walk:
         """Takes the statement of the law that is read in the place of a definition."""
         law = self.laws[it.name]
         path = it.path.parent.parent / "src" / "laws.rt"
-        clause = re.compile(rf"pub fn {law}\(\)\s+ensures \{{(.*?)\}}", re.DOTALL)
+        clause = re.compile(rf"pub fn {law}\(\)\s+ensures (?:\w+ )?\{{(.*?)\}}", re.DOTALL)
         named = statement(path, clause, f"law {law}")
         said = {word for of in named for word in held(of).words()}
         if it.name not in said:
@@ -395,14 +396,20 @@ class Needs:
             title = f"in the section of `{name}`"
             self.parts.append(Part(title, walk.needed - before.needed, walk.declared - before.declared))
         self.faults, self.library = [*walks[-1].faults, *read_aside(main.needed)], walks[-1].library
-        # The first page without laws; all of it without the last section's own law.
+        # The first page without one of its laws; all of it without the last section's own law.
         read_anew = {it: law for it, law in LAWS.items() if it in PAGE_LAWS}
-        self.more = {LAWS[it]: len(Walk(APART, {}, ASIDE).needed - main.needed) for it in PAGE_LAWS}
+        self.more = {law: self.more_than(main, law, read_anew) for law in read_anew.values()}
         self.more |= {
             law: len(Walk((), read_anew, ASIDE).needed - whole.needed)
             for it, law in LAWS.items()
             if it not in PAGE_LAWS
         }
+
+
+    @staticmethod
+    def more_than(main: Walk, law: str, laws: dict[str, str]) -> int:
+        """Returns how many more definitions the first page had without a law."""
+        return len(Walk(APART, {it: other for it, other in laws.items() if other != law}, ASIDE).needed - main.needed)
 
 
 def read_aside(needed: set[Name]) -> list[str]:

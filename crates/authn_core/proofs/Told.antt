@@ -23,8 +23,8 @@ use Rattle.authn_core.specs.Ready.{TaskReady, WorkReady, AllThere}
 use Rattle.authn_core.specs.Signed.{AllOf, rp_of}
 use Rattle.authn_core.specs.Views.{as_work}
 use Rattle.authn_core.specs.Exchanges.{waiting_in, Exchange, Unanswered, asked_on, rows_after, unanswered, waits_after}
-use Rattle.authn_core.specs.Assertions.{Series, series_of, is_next, number_of, first_signs, next_signs_in, is_in_time, may_go_on, signers, goes_on, is_signed, signed_in, series, begun_by, assertion_for}
-use Rattle.authn_core.specs.Answers.{is_status, waits_for_user, is_processed, to_assertion, to_request, assertion_of_read, assertion_of_open, made_in, resets_in, to_any_reply, to_reply, made_by_reply, raised_for, resets_for, answer_to, did, exchange, exchanges}
+use Rattle.authn_core.specs.Assertions.{Series, series_of, asks_next, number_of, first_signs, next_signs_in, is_in_time, may_go_on, signers, continues, is_signed, signed_in, series, begins_series, assertion_for}
+use Rattle.authn_core.specs.Answers.{status_alone, waits_for_user, is_processed, to_assertion, to_request, asked_assertion, made_in, resets_in, to_any_reply, to_reply, made_by_reply, raised_for, resets_for, answer_to, did, exchange, exchanges}
 use Rattle.authn_core.proofs.Answering.{any_find, excluded_named, full_fits, signers_apply, rows_marked}
 use Rattle.authn_core.proofs.Histories.{none_later, mark_keeps, mark_resets, mark_raises, mark_makes}
 use Rattle.authn_core.proofs.Readiness.{all_along, all_found, applicable_all, applicable_there, find_raised, core_sound}
@@ -118,7 +118,7 @@ GoingOrNot false cid hash rp presence all done s = s.pending ≡ None
 
 abbrev pub PendingTold : Start → State → Option Series → Type 0
 PendingTold start s None = s.pending ≡ None
-PendingTold start s (Some x) = GoingOrNot (list_all (λ y. goes_on y.event y.answer) x.since) x.cid x.hash x.rp x.presence
+PendingTold start s (Some x) = GoingOrNot (list_all (λ y. continues y.event y.answer) x.since) x.cid x.hash x.rp x.presence
     (signers (rows_after start x.before) x.rp x.given x.allow) (signed_in x) s
 
 stamped_pending : (cid : ℕ) (hash : List ℕ) (presence : Bool) (moment at : ℕ) (ids : List (List ℕ))
@@ -134,7 +134,7 @@ reply_goes : (start : Start) (s : State) (at on : ℕ) (task : Task) (e : Event)
     → s.work ≡ Some (record { cid = on; task = task }) → GoingOrNot b cid hash rp presence all done s
     → let t = replied (first_state start).setup s at on task e in
     let x : Exchange = record { at = at; event = e; answer = t.answer; did = m } in
-    GoingOrNot (goes_on e t.answer && b) cid hash rp presence all (cond (is_signed e t.answer) (x ∷ done) done) t.state
+    GoingOrNot (continues e t.answer && b) cid hash rp presence all (cond (is_signed e t.answer) (x ∷ done) done) t.state
 reply_goes start s at on task e false cid hash rp presence all done m w g = grind arith
 reply_goes start s at on (AsksAssert a) (PresenceIs Granted) true cid hash rp presence all done m w g =
     let d : drop (length done + 1) all ≡ drop (length done + busy s.work) all = rw w refl in
@@ -159,6 +159,15 @@ reply_goes start s at on task e true cid hash rp presence all done m w g = grind
 
 -- ---- requests
 
+abbrev pub assertion_of_read : Start → List Exchange → Result Asked ℕ → Option Asserting
+assertion_of_read start past (Ok asked) = assertion_for start past asked
+assertion_of_read start past (Err code) = None
+
+asked_read : (start : Start) (past : List Exchange) (cid status : ℕ) (read : Result Asked ℕ)
+    → asked_assertion start (asked_on cid status past read) ≡ assertion_of_read start past read
+asked_read start past cid status (Ok asked) = refl
+asked_read start past cid status (Err code) = refl
+
 -- what waits after a request with this answer
 abbrev pub BeginsTold : List Row → Option Job → (cid : ℕ) → Result Asked ℕ → Option Asserting → Answer → Type 0
 BeginsTold rows work cid (Ok asked) a (Waits now) = JobTold rows work cid now asked [] a
@@ -166,7 +175,7 @@ BeginsTold rows work cid read a answer = work ≡ None
 
 begins_answers : (rows : List Row) (at cid : ℕ) (hash rp : List ℕ) (presence given : Bool) (ids : List (List ℕ))
     → (begins rows at cid hash rp presence given ids).answer
-    ≡ to_assertion rows (is_status 0x2e) (cond presence waits_for_user is_processed) (first_signs hash rp presence (number_of given (length ids)) (slice_get ids 0))
+    ≡ to_assertion rows (status_alone 0x2e) (cond presence waits_for_user is_processed) (first_signs hash rp presence (number_of given (length ids)) (slice_get ids 0))
 begins_answers rows at cid hash rp presence given [] = refl
 begins_answers rows at cid hash rp presence given (id ∷ ids) = grind (arith, nat_tests)
 
@@ -191,7 +200,7 @@ begins_waits rows at cid asked hash rp presence given (id ∷ ids) k h = grind (
 
 next_answers : (rows : List Row) (at on cid moment : ℕ) (hash rp : List ℕ) (presence : Bool) (ids : List (List ℕ)) → AllOf rp rows ids
     → (next_begins rows (pending_of on hash presence moment ids) at cid).answer
-    ≡ cond (on == cid && nat_le at (moment + 30000)) (to_assertion rows (is_status 0x30) is_processed (first_signs hash rp presence None (slice_get ids 0))) (is_status 0x30)
+    ≡ cond (on == cid && nat_le at (moment + 30000)) (to_assertion rows (status_alone 0x30) is_processed (first_signs hash rp presence None (slice_get ids 0))) (status_alone 0x30)
 next_answers rows at on cid moment hash rp presence [] h = grind arith
 next_answers rows at on cid moment hash rp presence (id ∷ ids) h = grind (arith, nat_tests)
 
@@ -226,13 +235,13 @@ abbrev pub series_begun : (cid : ℕ) → List Exchange → Result Asked ℕ →
 series_begun cid past read answer = where_taken answer (series_of cid past read)
 
 abbrev pub next_goes_on : Result Asked ℕ → Answer → Bool
-next_goes_on read (Waits status) = is_next read
+next_goes_on read (Waits status) = asks_next read
 next_goes_on read answer = false
 
 abbrev pub since_too : Exchange → Option Series → Option Series
 since_too y o = option_map (λ (x : Series). record x { since = y ∷ x.since }) o
 
-ends : (start : Start) (s : State) (y : Exchange) (o : Option Series) → goes_on y.event y.answer ≡ false → s.pending ≡ None
+ends : (start : Start) (s : State) (y : Exchange) (o : Option Series) → continues y.event y.answer ≡ false → s.pending ≡ None
     → PendingTold start s (since_too y o)
 ends start s y None g p = p
 ends start s y (Some x) g p = rw g p
@@ -242,7 +251,7 @@ pub record Served (start : Start) (past : List Exchange) (before : List Row) (at
   pub answer : t.answer ≡ to_request start past at cid read
   pub rows : t.state.rows ≡ marked (record { made = None; raises = raised_for (assertion_of_read start past read) t.answer; resets = false }) before
   pub work : BeginsTold t.state.rows t.state.work cid read (assertion_of_read start past read) t.answer
-  pub pending : (y : Exchange) → is_signed y.event y.answer ≡ false → goes_on y.event y.answer ≡ next_goes_on read t.answer
+  pub pending : (y : Exchange) → is_signed y.event y.answer ≡ false → continues y.event y.answer ≡ next_goes_on read t.answer
       → PendingTold start t.state (option_or (series_begun cid past read t.answer) (since_too y (series past)))
 
 abbrev pub GoesIfBegun : (cid : ℕ) (hash rp : List ℕ) (presence : Bool) (ids : List (List ℕ)) → State → Answer → Type 0
@@ -269,7 +278,7 @@ waits_on (Waits status) = true
 waits_on answer = false
 
 begun_pending : (start : Start) (s : State) (y : Exchange) (o : Option Series) (answer : Answer) (x : Series) → x.since ≡ []
-    → (waits_on answer ≡ false → goes_on y.event y.answer ≡ false)
+    → (waits_on answer ≡ false → continues y.event y.answer ≡ false)
     → GoesIfBegun x.cid x.hash x.rp x.presence (signers (rows_after start x.before) x.rp x.given x.allow) s answer
     → PendingTold start s (option_or (where_taken answer (Some x)) (since_too y o))
 begun_pending start s y o (Waits status) x e g h = rw e h
@@ -360,11 +369,11 @@ going_next false s at on cid hash rp presence all done w g = rw g refl
 
 next_pending : (start : Start) (s : State) (at cid : ℕ) (y : Exchange) (o : Option Series) → s.work ≡ None
     → is_signed y.event y.answer ≡ false
-    → let t = next_begins s.rows s.pending at cid in goes_on y.event y.answer ≡ waits_on t.answer
+    → let t = next_begins s.rows s.pending at cid in continues y.event y.answer ≡ waits_on t.answer
     → PendingTold start s o → PendingTold start t.state (since_too y o)
 next_pending start s at cid y None w n g p = rw p refl
 next_pending start s at cid y (Some x) w n g p =
-    rw (n, g) (going_next (list_all (λ y. goes_on y.event y.answer) x.since) s at x.cid cid x.hash x.rp x.presence
+    rw (n, g) (going_next (list_all (λ y. continues y.event y.answer) x.since) s at x.cid cid x.hash x.rp x.presence
     (signers (rows_after start x.before) x.rp x.given x.allow) (signed_in x) w p)
 
 -- the next assertion of a series is the first of the ids that are left
@@ -383,7 +392,7 @@ next_of_going : (start : Start) (s : State) (at cid : ℕ) (b : Bool) (on : ℕ)
     → s.work ≡ None → GoingOrNot b on hash rp presence all done s
     → let t = next_begins s.rows s.pending at cid in
     let a = first_signs hash rp presence None (slice_get all (length done)) in
-    (t.answer ≡ cond (b && ((on == cid) && is_in_time at done)) (to_assertion s.rows (is_status 0x30) is_processed a) (is_status 0x30))
+    (t.answer ≡ cond (b && ((on == cid) && is_in_time at done)) (to_assertion s.rows (status_alone 0x30) is_processed a) (status_alone 0x30))
     × (t.state.rows ≡ marked (record { made = None; raises = raised_for a t.answer; resets = false }) s.rows)
     × BeginsTold t.state.rows t.state.work cid (Ok GetNextAssertion) a t.answer
 next_of_going start s at cid false on hash rp presence all done w g = rw g (refl, sym (mark_keeps s.rows), refl)
@@ -399,7 +408,7 @@ next_of_going start s at cid true on hash rp presence all done w g =
 
 next_served : (start : Start) (past : List Exchange) (s : State) (at cid : ℕ) (o : Option Series) → s.work ≡ None → PendingTold start s o
     → let t = next_begins s.rows s.pending at cid in
-    (t.answer ≡ cond (may_go_on at cid o) (to_assertion s.rows (is_status 0x30) is_processed (next_signs_in start o)) (is_status 0x30))
+    (t.answer ≡ cond (may_go_on at cid o) (to_assertion s.rows (status_alone 0x30) is_processed (next_signs_in start o)) (status_alone 0x30))
     × (t.state.rows ≡ marked (record { made = None; raises = raised_for (next_signs_in start o) t.answer; resets = false }) s.rows)
     × BeginsTold t.state.rows t.state.work cid (Ok GetNextAssertion) (next_signs_in start o) t.answer
 next_served start past s at cid None w p = rw p (refl, sym (mark_keeps s.rows), refl)
@@ -467,7 +476,7 @@ request_served start past s at cid (Ok GetNextAssertion) w r p d =
 
 abbrev pub reply_did : Start → Option Unanswered → Event → Answer → Mark
 reply_did start o e answer =
-    record { made = made_in o e; raises = raised_for (assertion_of_open start o) answer; resets = resets_in o e }
+    record { made = made_in o e; raises = raised_for (asked_assertion start o) answer; resets = resets_in o e }
 
 any_reply_answers : (start : Start) (past : List Exchange) (s : State) (at : ℕ) (w : Option Job) (o : Option Unanswered) (e : Event)
     → s.rows ≡ rows_after start past → WorkTold start s.rows w o
@@ -508,10 +517,10 @@ any_reply_waits start past s at (Some job) (Some u) e i k r h =
     still_waits start past t.state.rows t.state.work job.cid (status job.task) u e t.answer i h.0 h.1
     (reply_waits start s at job.cid job.task u.asked u.took (assertion_for start u.before u.asked) e h.2 k r)
 
-none_begun : (e : Event) (answer : Answer) (past : List Exchange) → IsReply e → begun_by e answer past ≡ None
+none_begun : (e : Event) (answer : Answer) (past : List Exchange) → IsReply e → begins_series e answer past ≡ None
 none_begun e answer past i = grind arith
 
-ignored_goes : (e : Event) → IsReply e → goes_on e Ignored ≡ true
+ignored_goes : (e : Event) → IsReply e → continues e Ignored ≡ true
 ignored_goes e i = grind arith
 
 ignored_signs : (e : Event) → is_signed e Ignored ≡ false
@@ -533,7 +542,7 @@ reply_since start s at (Some job) (Some x) e m i k p =
 any_reply_goes : (start : Start) (past : List Exchange) (s : State) (at : ℕ) (w : Option Job) (o : Option Series) (e : Event) (m : Mark)
     → IsReply e → s.work ≡ w → PendingTold start s o
     → let t = reply_turn (first_state start).setup s at w e in
-    PendingTold start t.state (option_or (begun_by e t.answer past) (since_too (record { at = at; event = e; answer = t.answer; did = m }) o))
+    PendingTold start t.state (option_or (begins_series e t.answer past) (since_too (record { at = at; event = e; answer = t.answer; did = m }) o))
 any_reply_goes start past s at w o e m i k p =
     rw (none_begun e (reply_turn (first_state start).setup s at w e).answer past i) (reply_since start s at w o e m i k p)
 
@@ -544,7 +553,7 @@ pub record Kept (start : Start) (past : List Exchange) (at : ℕ) (e : Event) (t
   pub answer : t.answer ≡ answer_to start past at e
   pub rows : t.state.rows ≡ marked (did start past e t.answer) (rows_after start past)
   pub work : WorkTold start t.state.rows t.state.work (waits_after e t.answer past (unanswered past))
-  pub pending : PendingTold start t.state (option_or (begun_by e t.answer past) (since_too (record { at = at; event = e; answer = t.answer; did = did start past e t.answer }) (series past)))
+  pub pending : PendingTold start t.state (option_or (begins_series e t.answer past) (since_too (record { at = at; event = e; answer = t.answer; did = did start past e t.answer }) (series past)))
 
 reply_kept : (start : Start) (past : List Exchange) (s : State) (at : ℕ) (e : Event) → IsReply e
     → s.rows ≡ rows_after start past → WorkTold start s.rows s.work (unanswered past) → PendingTold start s (series past)
@@ -587,7 +596,7 @@ request_taken start past at cid (Ok (GetAssertion hash rp_id allow false)) =
     assertion_taken (rows_after start past) _ _ (assertion_for start past (GetAssertion hash rp_id allow false)) tt tt
 request_taken start past at cid (Ok GetNextAssertion) = next_taken (may_go_on at cid (series past))
   where
-    next_taken : (b : Bool) → IsTaken (if b then to_assertion (rows_after start past) (is_status 0x30) is_processed (assertion_for start past GetNextAssertion) else is_status 0x30)
+    next_taken : (b : Bool) → IsTaken (if b then to_assertion (rows_after start past) (status_alone 0x30) is_processed (assertion_for start past GetNextAssertion) else status_alone 0x30)
     next_taken true = assertion_taken (rows_after start past) _ _ (assertion_for start past GetNextAssertion) tt tt
     next_taken false = tt
 request_taken start past at cid read = grind arith
@@ -616,11 +625,11 @@ begins_so start past rows w cid bytes o (Answered sent) i h = ended_told rows w 
 begins_so start past rows w cid bytes o answer i h = grind arith
 
 goes_so : (cid : ℕ) (bytes : List ℕ) (answer : Answer) → IsTaken answer
-    → goes_on (Request cid bytes) answer ≡ next_goes_on (read_of bytes) answer
+    → continues (Request cid bytes) answer ≡ next_goes_on (read_of bytes) answer
 goes_so cid bytes answer i = grind arith
 
 begun_so : (cid : ℕ) (bytes : List ℕ) (answer : Answer) (past : List Exchange)
-    → begun_by (Request cid bytes) answer past ≡ series_begun cid past (read_of bytes) answer
+    → begins_series (Request cid bytes) answer past ≡ series_begun cid past (read_of bytes) answer
 begun_so cid bytes answer past = grind arith
 
 request_kept : (start : Start) (past : List Exchange) (s : State) (at cid : ℕ) (bytes : List ℕ) → s.work ≡ None
@@ -633,7 +642,8 @@ request_kept start past s at cid bytes w r p d =
     let i : IsTaken t.answer = rw v.answer (request_taken start past at cid (read_of bytes)) in
     record {
       answer = v.answer;
-      rows = rw (made_none (unanswered past) cid bytes, resets_none (unanswered past) cid bytes, ← r) v.rows;
+      rows = rw (made_none (asked_on cid 0 past (read_of bytes)) cid bytes, resets_none (asked_on cid 0 past (read_of bytes)) cid bytes,
+          asked_read start past cid 0 (read_of bytes), ← r) v.rows;
       work = begins_so start past t.state.rows t.state.work cid bytes (unanswered past) t.answer i v.work;
       pending = rw (begun_so cid bytes t.answer past)
           (v.pending (record { at = at; event = Request cid bytes; answer = t.answer; did = did start past (Request cid bytes) t.answer }) refl

@@ -17,12 +17,12 @@ use Rattle.authn_core.specs.declared.replies.NewKey.{NewKey}
 use Rattle.authn_core.specs.Marks.{Mark, Step, takes_place}
 use Rattle.authn_core.specs.State.{Asserting, Event, Request, PresenceIs, KeyIs, SignatureIs, Cancel, Drop, Answer, Answered, Waits, Ignored, Nothing}
 use Rattle.authn_core.specs.Turn.{Start}
-use Rattle.authn_core.specs.Exchanges.{Exchange, Unanswered, rows_after, unanswered}
+use Rattle.authn_core.specs.Exchanges.{Exchange, Unanswered, asked_on, rows_after, unanswered}
 use Rattle.authn_core.specs.Assertions.{assertion_for, may_go_on, series}
 
 -- a status alone
-abbrev pub is_status : ℕ → Answer
-is_status code = Answered (code ∷ [])
+abbrev pub status_alone : ℕ → Answer
+status_alone code = Answered (code ∷ [])
 
 -- KEEPALIVE's status while the user's presence is needed, and while the platform need only wait (section 11.2.9.1.7)
 abbrev pub waits_for_user : Answer
@@ -39,9 +39,9 @@ row_with id rows = find (λ r. bytes_eq r.id id) rows
 
 -- The user's reply alone is answered.
 abbrev pub to_consent : Presence → Answer
-to_consent Granted = is_status 0x00
-to_consent Denied = is_status 0x27  -- OPERATION_DENIED
-to_consent TimedOut = is_status 0x2f  -- USER_ACTION_TIMEOUT
+to_consent Granted = status_alone 0x00
+to_consent Denied = status_alone 0x27  -- OPERATION_DENIED
+to_consent TimedOut = status_alone 0x2f  -- USER_ACTION_TIMEOUT
 
 -- ---- authenticatorMakeCredential (section 6.1.2)
 
@@ -61,35 +61,35 @@ is_granted reply = false
 -- After any reply an excluded credential is refused first, then what the user didn't grant.
 abbrev pub to_presence : (excluded full : Bool) → Presence → Answer
 to_presence excluded full reply =
-    if excluded then is_status 0x19  -- CREDENTIAL_EXCLUDED
-    else if not (is_granted reply) then is_status 0x27  -- OPERATION_DENIED
-    else if full then is_status 0x28  -- KEY_STORE_FULL
+    if excluded then status_alone 0x19  -- CREDENTIAL_EXCLUDED
+    else if not (is_granted reply) then status_alone 0x27  -- OPERATION_DENIED
+    else if full then status_alone 0x28  -- KEY_STORE_FULL
     else is_processed
 
 -- A key is refused, or has an id that a credential has, or is signed for.
 abbrev pub to_key : List Row → Option NewKey → Answer
-to_key rows None = is_status 0x7f  -- OTHER
+to_key rows None = status_alone 0x7f  -- OTHER
 to_key rows (Some key) =
-    if list_any (λ r. bytes_eq r.id key.id) rows then is_status 0x7f  -- OTHER
+    if list_any (λ r. bytes_eq r.id key.id) rows then status_alone 0x7f  -- OTHER
     else is_processed
 
 abbrev pub to_new_signature : (aaguid rp : List ℕ) → NewKey → Option (List ℕ) → Answer
-to_new_signature aaguid rp key None = is_status 0x7f  -- OTHER
+to_new_signature aaguid rp key None = status_alone 0x7f  -- OTHER
 to_new_signature aaguid rp key (Some sig) =
     Answered (created_answer (created_bytes rp aaguid key.id key.x key.y) sig)
 
 -- ---- authenticatorGetAssertion and authenticatorGetNextAssertion (sections 6.2.2 and 6.3)
 
 -- the counter of the credential with the id
-abbrev pub counted : Option Row → ℕ
-counted None = 0
-counted (Some r) = r.counter
+abbrev pub signature_count : Option Row → ℕ
+signature_count None = 0
+signature_count (Some r) = r.counter
 
 -- A credential signs while its counter can rise.
 abbrev pub to_assertion : List Row → (none waits : Answer) → Option Asserting → Answer
 to_assertion rows none waits None = none
 to_assertion rows none waits (Some a) =
-    if nat_le 4294967295 (counted (row_with a.id rows)) then is_status 0x15  -- LIMIT_EXCEEDED
+    if nat_le 4294967295 (signature_count (row_with a.id rows)) then status_alone 0x15  -- LIMIT_EXCEEDED
     else waits
 
 -- the user handle of a discoverable credential
@@ -100,28 +100,28 @@ handle (Some r) = if r.discoverable then Some r.user.items else None
 -- The credential's counter is signed, raised once since it was asked.
 abbrev pub to_signature : List Row → Option Asserting → Option (List ℕ) → Answer
 to_signature rows None sig = Ignored
-to_signature rows (Some a) None = is_status 0x7f  -- OTHER
+to_signature rows (Some a) None = status_alone 0x7f  -- OTHER
 to_signature rows (Some a) (Some sig) =
     let row = row_with a.id rows in
-    Answered (assertion_answer a.id (assertion_bytes a.rp a.presence (counted row)) sig (handle row) a.number)
+    Answered (assertion_answer a.id (assertion_bytes a.rp a.presence (signature_count row)) sig (handle row) a.number)
 
 -- ---- what is answered
 
 -- to a request
 abbrev pub to_request : Start → List Exchange → (now cid : ℕ) → Result Asked ℕ → Answer
-to_request start past now cid (Err code) = is_status code
+to_request start past now cid (Err code) = status_alone code
 to_request start past now cid (Ok GetInfo) = Answered (info_answer start.aaguid)
 to_request start past now cid (Ok Selection) = waits_for_user
 to_request start past now cid (Ok Reset) =
-    if nat_le now (start.moment + 10000) then waits_for_user else is_status 0x30  -- NOT_ALLOWED
+    if nat_le now (start.moment + 10000) then waits_for_user else status_alone 0x30  -- NOT_ALLOWED
 to_request start past now cid (Ok (MakeCredential hash rp_id user_id user_name discoverable exclude)) = waits_for_user
 to_request start past now cid (Ok (GetAssertion hash rp_id allow presence)) =
-    to_assertion (rows_after start past) (is_status 0x2e)  -- NO_CREDENTIALS
+    to_assertion (rows_after start past) (status_alone 0x2e)  -- NO_CREDENTIALS
     (if presence then waits_for_user else is_processed) (assertion_for start past (GetAssertion hash rp_id allow presence))
 to_request start past now cid (Ok GetNextAssertion) =
     if may_go_on now cid (series past)
-    then to_assertion (rows_after start past) (is_status 0x30) is_processed (assertion_for start past GetNextAssertion)
-    else is_status 0x30  -- NOT_ALLOWED
+    then to_assertion (rows_after start past) (status_alone 0x30) is_processed (assertion_for start past GetNextAssertion)
+    else status_alone 0x30  -- NOT_ALLOWED
 
 -- To a reply, after the replies that the request took; `a` is the assertion that it asks for. What isn't asked for is
 -- ignored.
@@ -136,7 +136,7 @@ to_reply start rows a (MakeCredential hash rp_id user_id user_name discoverable 
 to_reply start rows a (MakeCredential hash rp_id user_id user_name discoverable exclude) (KeyIs (Some key) ∷ took) (SignatureIs sig) =
     to_new_signature start.aaguid (sha256 rp_id) key sig
 to_reply start rows a (GetAssertion hash rp_id allow true) [] (PresenceIs reply) =
-    if is_granted reply then is_processed else is_status 0x27  -- OPERATION_DENIED
+    if is_granted reply then is_processed else status_alone 0x27  -- OPERATION_DENIED
 to_reply start rows a (GetAssertion hash rp_id allow true) [] reply = Ignored
 to_reply start rows a (GetAssertion hash rp_id allow presence) took (SignatureIs sig) = to_signature rows a sig
 to_reply start rows a GetNextAssertion took (SignatureIs sig) = to_signature rows a sig
@@ -150,7 +150,7 @@ to_any_reply start past (Some u) reply =
 -- The answer to an event at a moment, after this history.
 unfoldable pub answer_to : Start → List Exchange → (now : ℕ) → Event → Answer
 answer_to start past now (Request cid bytes) = to_request start past now cid (read_of bytes)
-answer_to start past now Cancel = is_status 0x2d  -- KEEPALIVE_CANCEL
+answer_to start past now Cancel = status_alone 0x2d  -- KEEPALIVE_CANCEL
 answer_to start past now Drop = Nothing
 answer_to start past now reply = to_any_reply start past (unanswered past) reply
 
@@ -188,17 +188,9 @@ abbrev pub raised_for : Option Asserting → Answer → Option (List ℕ)
 raised_for a (Waits status) = if status == 1 then id_in a else None
 raised_for a answer = None
 
-abbrev pub assertion_of_read : Start → List Exchange → Result Asked ℕ → Option Asserting
-assertion_of_read start past (Ok asked) = assertion_for start past asked
-assertion_of_read start past (Err code) = None
-
-abbrev pub assertion_of_open : Start → Option Unanswered → Option Asserting
-assertion_of_open start None = None
-assertion_of_open start (Some u) = assertion_for start u.before u.asked
-
-abbrev pub raised_in : Start → List Exchange → Event → Answer → Option (List ℕ)
-raised_in start past (Request cid bytes) answer = raised_for (assertion_of_read start past (read_of bytes)) answer
-raised_in start past reply answer = raised_for (assertion_of_open start (unanswered past)) answer
+abbrev pub asked_assertion : Start → Option Unanswered → Option Asserting
+asked_assertion start None = None
+asked_assertion start (Some u) = assertion_for start u.before u.asked
 
 -- A granted reset empties the table (section 6.6).
 abbrev pub resets_for : Asked → (reply : Event) → Bool
@@ -209,12 +201,15 @@ abbrev pub resets_in : Option Unanswered → Event → Bool
 resets_in None event = false
 resets_in (Some u) event = resets_for u.asked event
 
+-- the request that an event is, or that a reply is for
+abbrev pub in_question : List Exchange → Event → Option Unanswered
+in_question past (Request cid bytes) = asked_on cid 0 past (read_of bytes)
+in_question past event = unanswered past
+
 abbrev pub did : Start → List Exchange → Event → Answer → Mark
-did start past event answer = record {
-  made = made_in (unanswered past) event;
-  raises = raised_in start past event answer;
-  resets = resets_in (unanswered past) event;
-}
+did start past event answer =
+    let u = in_question past event in
+    record { made = made_in u event; raises = raised_for (asked_assertion start u) answer; resets = resets_in u event }
 
 -- ---- histories
 

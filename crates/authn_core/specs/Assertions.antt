@@ -51,26 +51,26 @@ series_of cid past (Ok (GetAssertion hash rp_id allow presence)) =
     })
 series_of cid past read = None
 
-abbrev pub begun_by : Event → Answer → List Exchange → Option Series
-begun_by (Request cid bytes) (Waits status) past = series_of cid past (read_of bytes)
-begun_by event answer past = None
+abbrev pub begins_series : Event → Answer → List Exchange → Option Series
+begins_series (Request cid bytes) (Waits status) past = series_of cid past (read_of bytes)
+begins_series event answer past = None
 
 unfoldable pub series : List Exchange → Option Series
 series [] = None
 series (x ∷ past) =
-    option_or (begun_by x.event x.answer past) (option_map (λ (s : Series). record s { since = x ∷ s.since }) (series past))
+    option_or (begins_series x.event x.answer past) (option_map (λ (s : Series). record s { since = x ∷ s.since }) (series past))
 
-abbrev pub is_next : Result Asked ℕ → Bool
-is_next (Ok GetNextAssertion) = true
-is_next read = false
+abbrev pub asks_next : Result Asked ℕ → Bool
+asks_next (Ok GetNextAssertion) = true
+asks_next read = false
 
 -- Nothing else came between: a getNextAssertion that was taken up, a reply that was taken or ignored, or a signature.
-abbrev pub goes_on : Event → Answer → Bool
-goes_on (Request cid bytes) (Waits status) = is_next (read_of bytes)
-goes_on reply (Waits status) = true
-goes_on (SignatureIs (Some sig)) (Answered bytes) = true
-goes_on event Ignored = true
-goes_on event answer = false
+abbrev pub continues : Event → Answer → Bool
+continues (Request cid bytes) (Waits status) = asks_next (read_of bytes)
+continues reply (Waits status) = true
+continues (SignatureIs (Some sig)) (Answered bytes) = true
+continues event Ignored = true
+continues event answer = false
 
 -- an assertion was answered
 abbrev pub is_signed : Event → Answer → Bool
@@ -90,7 +90,7 @@ is_in_time now (x ∷ older) = nat_le now (x.at + 30000)
 abbrev pub may_go_on : (now cid : ℕ) → Option Series → Bool
 may_go_on now cid None = false
 may_go_on now cid (Some s) =
-    list_all (λ x. goes_on x.event x.answer) s.since && (s.cid == cid && is_in_time now (signed_in s))
+    list_all (λ x. continues x.event x.answer) s.since && (s.cid == cid && is_in_time now (signed_in s))
 
 -- ---- the assertion that a request asks for
 
