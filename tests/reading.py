@@ -61,7 +61,7 @@ MORE_PAGE = TOP / "tests" / "reading_more.md"
 HEADLINE = TOP / "crates" / "token_session" / "src" / "driving.rt"
 RECORD = "IsAnswered"
 # Fields of the headline's record, in the order of their sections.
-APART = ("carried", "steps")
+APART = ("pending", "carried", "steps")
 # A definition whose value only goes into this field, and the definitions that it needs alone: the section after those.
 ASIDE = {"cut": "name"}
 # A definition, and the law that is read in its place: a function of src/laws.rt in the definition's crate.
@@ -69,6 +69,8 @@ LAWS = {"canonical_tree": "trees_are_told", "outcome_of": "bytes_tell"}
 LAWS |= {it: "answers_follow_history" for it in ("sent", "judged", "core")}
 # Those that the first page needs. The last section of the second needs the others.
 PAGE_LAWS = {"canonical_tree", "sent", "judged", "core"}
+# A law's premise that the types of the headline's arguments meet: the page says it in words.
+PREMISES = {"Lawful"}
 CLAUSE = re.compile(r"pub fn drive_new<.*?ensures answered \{(.*?)\n    (?://|ensures)", re.DOTALL)
 USE = re.compile(r"use ([\w.]+)\.\{(.*)\}")
 MODIFIERS = re.compile(r"(?:(?:unfoldable|abbrev|pub) )+")
@@ -368,11 +370,12 @@ class Walk:
         path = it.path.parent.parent / "src" / "laws.rt"
         clause = re.compile(rf"pub fn {law}\(\)\s+ensures (?:\w+ )?\{{(.*?)\}}", re.DOTALL)
         named = statement(path, clause, f"law {law}")
-        said = {word for of in named for word in held(of).words()}
+        said = {word for of in named if of.name not in PREMISES for word in held(of).words()}
         if it.name not in said:
             self.faults.append(f"{path.relative_to(TOP)}: {law} doesn't speak of {it.name}")
         for of in named:
-            self.visit(of)
+            if of.name not in PREMISES:
+                self.visit(of)
 
 
 @dataclass

@@ -24,7 +24,7 @@ use Rattle.authn_core.specs.Signed.{AllOf, rp_of}
 use Rattle.authn_core.specs.Views.{as_work}
 use Rattle.authn_core.specs.Exchanges.{waiting_in, Exchange, Unanswered, asked_on, rows_after, unanswered, waits_after}
 use Rattle.authn_core.specs.Assertions.{Series, series_of, asks_next, number_of, first_signs, next_signs_in, is_in_time, may_go_on, signers, continues, is_signed, signed_in, series, begins_series, assertion_for}
-use Rattle.authn_core.specs.Answers.{status_alone, waits_for_user, is_processed, to_assertion, to_request, asked_assertion, made_in, resets_in, to_any_reply, to_reply, made_by_reply, raised_for, resets_for, answer_to, did, exchange, exchanges}
+use Rattle.authn_core.specs.Answers.{made_for, status_alone, waits_for_user, is_processed, to_assertion, to_request, asked_assertion, made_in, resets_in, to_any_reply, to_reply, raised_for, resets_for, answer_to, did, exchange, exchanges}
 use Rattle.authn_core.proofs.Answering.{any_find, excluded_named, full_fits, signers_apply, rows_marked}
 use Rattle.authn_core.proofs.Histories.{none_later, mark_keeps, mark_resets, mark_raises, mark_makes}
 use Rattle.authn_core.proofs.Readiness.{all_along, all_found, applicable_all, applicable_there, find_raised, core_sound}
@@ -64,6 +64,13 @@ reply_answers : (start : Start) (s : State) (at cid : ℕ) (task : Task) (asked 
     → TaskTold s.rows task asked took a
     → (replied (first_state start).setup s at cid task e).answer ≡ to_reply start s.rows a asked took e
 reply_answers start s at cid task asked took a e h = grind (arith, excluded_named, full_fits, any_find)
+
+abbrev pub made_by_reply : Asked → (took : List Event) → (reply : Event) → Option Row
+made_by_reply asked took (SignatureIs (Some sig)) = made_for asked took
+made_by_reply asked took reply = None
+
+made_same : (u : Unanswered) (e : Event) → made_in (Some u) e ≡ made_by_reply u.asked u.took e
+made_same u e = grind arith
 
 reply_rows : (start : Start) (s : State) (at cid : ℕ) (task : Task) (asked : Asked) (took : List Event) (a : Option Asserting) (e : Event)
     → TaskTold s.rows task asked took a
@@ -492,7 +499,7 @@ any_reply_rows : (start : Start) (s : State) (at : ℕ) (w : Option Job) (o : Op
 any_reply_rows start s at w None e h = rw h (sym (mark_keeps s.rows))
 any_reply_rows start s at None (Some u) e h = absurd h
 any_reply_rows start s at (Some job) (Some u) e h =
-    reply_rows start s at job.cid job.task u.asked u.took (assertion_for start u.before u.asked) e h.2
+    rw (made_same u e) (reply_rows start s at job.cid job.task u.asked u.took (assertion_for start u.before u.asked) e h.2)
 
 -- a reply is not a request
 abbrev pub IsReply : Event → Type 0
@@ -642,8 +649,12 @@ request_kept start past s at cid bytes w r p d =
     let i : IsTaken t.answer = rw v.answer (request_taken start past at cid (read_of bytes)) in
     record {
       answer = v.answer;
-      rows = rw (made_none (asked_on cid 0 past (read_of bytes)) cid bytes, resets_none (asked_on cid 0 past (read_of bytes)) cid bytes,
-          asked_read start past cid 0 (read_of bytes), ← r) v.rows;
+      rows = rw (
+        made_none (asked_on cid 0 past (read_of bytes)) cid bytes,
+        resets_none (asked_on cid 0 past (read_of bytes)) cid bytes,
+        asked_read start past cid 0 (read_of bytes),
+        ← r,
+      ) v.rows;
       work = begins_so start past t.state.rows t.state.work cid bytes (unanswered past) t.answer i v.work;
       pending = rw (begun_so cid bytes t.answer past)
           (v.pending (record { at = at; event = Request cid bytes; answer = t.answer; did = did start past (Request cid bytes) t.answer }) refl

@@ -24,7 +24,7 @@ use Rattle.authn_core.specs.Assertions.{assertion_for, may_go_on, series}
 abbrev pub status_alone : ℕ → Answer
 status_alone code = Answered (code ∷ [])
 
--- KEEPALIVE's status while the user's presence is needed, and while the platform need only wait (section 11.2.9.1.7)
+-- while the user's presence is needed, and while it isn't (section 11.2.9.1.7)
 abbrev pub waits_for_user : Answer
 waits_for_user = Waits 2
 
@@ -174,16 +174,11 @@ made_for (MakeCredential hash rp_id user_id user_name discoverable exclude) (Key
 })
 made_for asked took = None
 
-abbrev pub made_by_reply : Asked → (took : List Event) → (reply : Event) → Option Row
-made_by_reply asked took (SignatureIs (Some sig)) = made_for asked took
-made_by_reply asked took reply = None
-
 abbrev pub made_in : Option Unanswered → Event → Option Row
-made_in None event = None
-made_in (Some u) event = made_by_reply u.asked u.took event
+made_in (Some u) (SignatureIs (Some sig)) = made_for u.asked u.took
+made_in u event = None
 
--- An assertion raises its credential's counter when its signature begins to be waited for (WebAuthn Level 2, section
--- 6.3.3).
+-- A counter is raised when the signature begins to be waited for (WebAuthn Level 2, section 6.3.3).
 abbrev pub raised_for : Option Asserting → Answer → Option (List ℕ)
 raised_for a (Waits status) = if status == 1 then id_in a else None
 raised_for a answer = None
