@@ -24,7 +24,7 @@ use Rattle.authn_core.specs.Assertions.{assertion_for, may_go_on, series}
 abbrev pub status_alone : ℕ → Answer
 status_alone code = Answered (code ∷ [])
 
--- while the user's presence is needed, and while it isn't (section 11.2.9.1.7)
+-- while the user's presence is needed, and while it isn't (CTAP 2.1, section 11.2.9.1.7)
 abbrev pub waits_for_user : Answer
 waits_for_user = Waits 2
 
@@ -97,7 +97,7 @@ abbrev pub handle : Option Row → Option (List ℕ)
 handle None = None
 handle (Some r) = if r.discoverable then Some r.user.items else None
 
--- The credential's counter is signed, raised once since it was asked.
+-- The credential's counter is signed, raised since it was asked.
 abbrev pub to_signature : List Row → Option Asserting → Option (List ℕ) → Answer
 to_signature rows None sig = Ignored
 to_signature rows (Some a) None = status_alone 0x7f  -- OTHER
@@ -160,7 +160,7 @@ abbrev pub id_in : Option Asserting → Option (List ℕ)
 id_in None = None
 id_in (Some a) = Some a.id
 
--- A signature makes a credential with the new key, of what was asked (section 6.1.2, step 19).
+-- A signature makes a credential with the new key, of what was asked (CTAP 2.1, section 6.1.2).
 abbrev pub made_for : Asked → (took : List Event) → Option Row
 made_for (MakeCredential hash rp_id user_id user_name discoverable exclude) (KeyIs (Some key) ∷ took) = Some (record {
   rp = sha256 rp_id;
@@ -187,7 +187,7 @@ abbrev pub asked_assertion : Start → Option Unanswered → Option Asserting
 asked_assertion start None = None
 asked_assertion start (Some u) = assertion_for start u.before u.asked
 
--- A granted reset empties the table (section 6.6).
+-- A granted reset empties the table (CTAP 2.1, section 6.6).
 abbrev pub resets_for : Asked → (reply : Event) → Bool
 resets_for Reset (PresenceIs Granted) = true
 resets_for asked reply = false

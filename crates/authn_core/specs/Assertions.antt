@@ -13,14 +13,14 @@ use Rattle.authn_core.specs.Exchanges.{Exchange, rows_after}
 use Rattle.authn_core.specs.State.{Asserting, Event, Request, SignatureIs, Answer, Answered, Waits, Ignored}
 use Rattle.authn_core.specs.Turn.{Start}
 
--- The ids of the RP's credentials that may sign, the first one first. With an allow list it is one, that of the first
--- descriptor that names a credential of the RP; without, they are all discoverable ones, newest first (steps 7 and 12).
+-- The ids of the RP's credentials that may sign, the first one first. With an allow list it is the first that names one
+-- of them; without, they are the discoverable ones, newest first (CTAP 2.1, section 6.2.2).
 abbrev pub signers : List Row → (rp : List ℕ) → (given : Bool) → (allow : List (List ℕ)) → List (List ℕ)
 signers rows rp given allow =
     if given then take 1 (filter (λ id. list_any (λ r. bytes_eq r.rp rp && bytes_eq r.id id) rows) allow)
     else map (λ r. r.id) (reverse (filter (λ r. r.discoverable && bytes_eq r.rp rp) rows))
 
--- numberOfCredentials: of several credentials, without an allow list (section 6.2.2)
+-- what numberOfCredentials says: of several, without an allow list (CTAP 2.1, section 6.2.2)
 abbrev pub number_of : (given : Bool) → ℕ → Option ℕ
 number_of given n = if given then None else if nat_le n 1 then None else Some n
 
@@ -64,7 +64,7 @@ abbrev pub asks_next : Result Asked ℕ → Bool
 asks_next (Ok GetNextAssertion) = true
 asks_next read = false
 
--- Nothing else came between: a getNextAssertion that was taken up, a reply that was taken or ignored, or a signature.
+-- a getNextAssertion that was taken up, a reply that was taken or ignored, or a signature that was answered
 abbrev pub continues : Event → Answer → Bool
 continues (Request cid bytes) (Waits status) = asks_next (read_of bytes)
 continues reply (Waits status) = true
@@ -81,7 +81,7 @@ is_signed event answer = false
 abbrev pub signed_in : Series → List Exchange
 signed_in s = filter (λ x. is_signed x.event x.answer) s.since
 
--- at most 30,000 ms after the latest of them (section 6.3)
+-- at most 30,000 ms after the latest of them (CTAP 2.1, section 6.3)
 abbrev pub is_in_time : (now : ℕ) → List Exchange → Bool
 is_in_time now [] = false
 is_in_time now (x ∷ older) = nat_le now (x.at + 30000)

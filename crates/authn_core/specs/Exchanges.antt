@@ -19,8 +19,8 @@ pub record Exchange : Type 0 where
 abbrev pub rows_after : Start → List Exchange → List Row
 rows_after start past = rows_of start.rows (map (λ x. x.did) past)
 
--- A request that isn't answered yet: its channel, what it asks, the replies that it took, newest first, the status of
--- KEEPALIVE that it waits with, and what was before it.
+-- A request that isn't answered yet: its channel, what it asks, the replies that it took, newest first, the status that
+-- it waits with, and what was before it.
 pub record Unanswered : Type 0 where
   pub cid : ℕ
   pub asked : Asked
@@ -33,8 +33,8 @@ asked_on cid status past (Ok asked) =
     Some (record { cid = cid; asked = asked; took = []; status = status; before = past })
 asked_on cid status past (Err code) = None
 
--- A request that isn't answered at once waits; it takes a reply after which it still waits; what is ignored changes
--- nothing; every answer ends it, and so does a drop.
+-- A request that isn't answered at once waits, and takes replies while it does; an ignored one changes nothing; an answer
+-- or a drop ends it.
 abbrev pub waits_after : Event → Answer → List Exchange → Option Unanswered → Option Unanswered
 waits_after (Request cid bytes) (Waits status) past older = asked_on cid status past (read_of bytes)
 waits_after reply (Waits status) past older =

@@ -6,11 +6,11 @@ use Rattle.std.specs.Prelude.{ℕ, ◌+◌, ◌*◌}
 abbrev pub INITIALIZATION_DATA : ℕ
 INITIALIZATION_DATA = 57
 
--- those of a continuation packet: 64 without channel and number (section 11.2.4)
+-- those of a continuation packet: 64 without channel and number (CTAP 2.1, section 11.2.4)
 abbrev pub CONTINUATION_DATA : ℕ
 CONTINUATION_DATA = 59
 
--- the longest message: one initialization packet, and 128 others, numbered from 0 to 127 (section 11.2.4)
+-- the longest message: one initialization packet, and 128 others, numbered from 0 to 127 (CTAP 2.1, section 11.2.4)
 abbrev pub LONGEST_MESSAGE : ℕ
 LONGEST_MESSAGE = 7609
 
@@ -18,11 +18,11 @@ LONGEST_MESSAGE = 7609
 abbrev pub OUTBOX_CAPACITY : ℕ
 OUTBOX_CAPACITY = 130
 
--- the milliseconds after which an unfinished message is dropped (section 11.2.5.2)
+-- the milliseconds after which an unfinished message is dropped (CTAP 2.1, section 11.2.5.2)
 abbrev pub MESSAGE_TIMEOUT : ℕ
 MESSAGE_TIMEOUT = 500
 
--- the milliseconds between two KEEPALIVEs (section 11.2.9.1.7)
+-- the milliseconds between two KEEPALIVEs (CTAP 2.1, section 11.2.9.1.7)
 abbrev pub KEEPALIVE_PERIOD : ℕ
 KEEPALIVE_PERIOD = 100
 
