@@ -1,6 +1,7 @@
 //! What hosts and a device do on one channel, by the transport's own rules (CTAP 2.1, sections 11.2.4 and 11.2.5). Nothing
 //! is known of the device but its packets.
 
+use crate::credentials::Excluded;
 use crate::exchange::{End, Ended, Ends, Exchange, Transaction, carried, is_whole};
 use crate::rp_id::RpId;
 use arrayvec::ArrayVec;
@@ -147,8 +148,8 @@ impl Channel {
 
     /// Returns whether nothing on it is open.
     pub fn is_idle(&self) -> bool {
-        let is_told = self.told.is_none_or(|told| told.is_whole());
-        self.held.is_none() && self.asked.is_none() && self.greetings.is_empty() && is_told
+        let is_answering = matches!(&self.told, Some(told) if !told.is_whole());
+        self.held.is_none() && self.asked.is_none() && self.greetings.is_empty() && !is_answering
     }
 
     /// Returns the transaction of a greeting.
@@ -216,11 +217,14 @@ impl Channel {
     /// (section 11.2.9.1.5).
     pub fn cancel(&mut self, line: u64) -> Option<Transaction> {
         self.is_stray = true;
-        let is_first_cancelled = self.held.is_some_and(|held| held.cancelled.is_some());
-        let is_second_cancelled = self.asked.is_some_and(|asked| asked.cancelled.is_some());
-        let is_first = self.held.is_some_and(|held| held.is_served());
-        let is_second = self.asked.is_some_and(|asked| asked.is_served());
-        if is_second && (!is_first || is_first_cancelled && !is_second_cancelled) {
+        let is_second = match (&self.held, &self.asked) {
+            (Some(held), Some(asked)) if held.is_served() => {
+                asked.is_served() && held.cancelled.is_some() && asked.cancelled.is_none()
+            }
+            (_, Some(asked)) => asked.is_served(),
+            (_, None) => false,
+        };
+        if is_second {
             cancel_in(&mut self.asked, line)
         } else {
             cancel_in(&mut self.held, line)
@@ -229,9 +233,8 @@ impl Channel {
 
     /// Takes a continuation packet.
     pub fn go_on(&mut self, number: u8, now: u64) -> Continuation {
-        let is_of_asked = self
-            .asked
-            .is_some_and(|asked| asked.continuations == number && !asked.is_whole());
+        let is_of_asked = matches!(&self.asked, Some(asked)
+            if asked.continuations == number && !asked.is_whole());
         let found = if is_of_asked {
             self.since = 0;
             go_on_in(&mut self.asked, number, now)
@@ -279,10 +282,10 @@ impl Channel {
         Some(held.transaction)
     }
 
-    /// Keeps the RP id of the request that began at a line.
-    pub fn name(&mut self, line: u64, rp_id: &RpId) {
-        name_in(&mut self.held, line, rp_id);
-        name_in(&mut self.asked, line, rp_id);
+    /// Keeps what the request that began at a line names: an RP id, and the credential that it excludes.
+    pub fn name(&mut self, line: u64, rp_id: &RpId, excluded: Option<Excluded>) {
+        name_in(&mut self.held, line, rp_id, excluded);
+        name_in(&mut self.asked, line, rp_id, excluded);
     }
 
     // ---- which message goes on
@@ -365,27 +368,27 @@ fn go_on_in(place: &mut Option<Exchange>, number: u8, now: u64) -> Continuation 
     }
 }
 
-/// Keeps the RP id that a request names, if it began at this line.
-fn name_in(place: &mut Option<Exchange>, line: u64, rp_id: &RpId) {
+/// Keeps what a request names, if it began at this line.
+fn name_in(place: &mut Option<Exchange>, line: u64, rp_id: &RpId, excluded: Option<Excluded>) {
     if let Some(exchange) = place
         && exchange.transaction.line == line
     {
         exchange.rp_id = *rp_id;
+        exchange.excluded = excluded;
     }
 }
 
 /// Returns whether a message is whole that began at this line.
 fn is_whole_at(place: &Option<Exchange>, line: u64) -> bool {
-    place.is_some_and(|exchange| exchange.transaction.line == line && exchange.is_whole())
+    matches!(place, Some(exchange) if exchange.transaction.line == line && exchange.is_whole())
 }
 
 /// Returns the earlier of two transactions, of those that began after a line.
-fn earlier(first: Option<Ended>, exchange: Exchange, end: End, line: u64) -> Option<Ended> {
+pub fn earlier(first: Option<Ended>, exchange: Exchange, end: End, line: u64) -> Option<Ended> {
     let began = exchange.transaction.line;
-    let is_first = first.is_none_or(|first| began < first.exchange.transaction.line);
-    if began > line && is_first {
-        Some(Ended { exchange, end })
-    } else {
-        first
+    match first {
+        Some(first) if began <= line || first.exchange.transaction.line <= began => Some(first),
+        None if began <= line => None,
+        _ => Some(Ended { exchange, end }),
     }
 }

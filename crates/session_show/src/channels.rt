@@ -1,7 +1,7 @@
 //! The channels of a log that are followed: a few at once.
 ghost use Rattle.std.specs.Prelude.{◌<◌, IfSome};
 
-use crate::channel::Channel;
+use crate::channel::{Channel, Told, earlier};
 use crate::exchange::{Ended, Ends, Exchange};
 
 /// How many channels are followed at once.
@@ -83,52 +83,55 @@ impl Channels {
         oldest
     }
 
-    /// Returns a channel that is in use.
-    pub fn on(&self, number: u32) -> Option<&Channel> {
+    /// Returns the message that holds a channel.
+    pub fn held_on(&self, number: u32) -> Option<&Exchange> {
         let place = self.find(number)?;
-        Some(&self.list[place])
+        self.list[place].held.as_ref()
+    }
+
+    /// Returns the device's last message on a channel.
+    pub fn told_on(&self, number: u32) -> Option<&Told> {
+        let place = self.find(number)?;
+        self.list[place].told.as_ref()
     }
 
     /// Returns where the one request is that waits for its answer, if exactly one does.
     pub fn waiting(&self) -> Option<usize>
         ensures { IfSome result (λ place. place < 6) }
     {
-        let mut waiting = None;
-        let mut is_one = true;
+        let mut waiting = CHANNELS;
+        let mut count = 0_usize;
         for place in 0..CHANNELS {
-            if self.list[place]
-                .held
-                .as_ref()
-                .is_some_and(|held| held.waits())
-            {
-                is_one = waiting.is_none();
-                waiting = Some(place);
+            if matches!(&self.list[place].held, Some(held) if held.waits()) {
+                count = count.saturating_add(1);
+                waiting = place;
             }
         }
-        waiting.filter(|place| is_one && *place < CHANNELS)
+        if count == 1 && waiting < CHANNELS {
+            Some(waiting)
+        } else {
+            None
+        }
     }
 
     /// Returns the first transaction that is open of those that began after a line.
     pub fn open_after(&self, line: u64) -> Option<Ended> {
-        let mut first: Option<Ended> = None;
+        let mut first = None;
         for channel in self.list.as_slice() {
             if let Some(found) = channel.open_after(line) {
-                let began = found.exchange.transaction.line;
-                if first.is_none_or(|first| began < first.exchange.transaction.line) {
-                    first = Some(found);
-                }
+                first = earlier(first, found.exchange, found.end, line);
             }
         }
         first
     }
 
-    /// Returns a message that holds another channel than this one.
+    /// Returns a message that holds another channel than this one, or else the one that holds it.
     pub fn held_beside(&self, number: u32) -> Option<&Exchange> {
         for channel in self.list.as_slice() {
             if channel.number != number && channel.held.is_some() {
                 return channel.held.as_ref();
             }
         }
-        None
+        self.held_on(number)
     }
 }

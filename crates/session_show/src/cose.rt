@@ -1,6 +1,7 @@
 //! A COSE key in lines (RFC 9053, section 7), and the algorithms' names.
 
 use crate::diagnostic::{Diagnostic, write_scalar};
+use crate::member_names::name_at;
 use crate::members::next_value;
 use crate::pen::Pen;
 use crate::putting::Written;
@@ -36,10 +37,10 @@ pub fn write_key(pen: &mut Pen, number: u64, item: &[u8]) {
 
 /// Returns whether a key is one of RSA (RFC 8230, section 4), by its type.
 fn is_rsa(item: &[u8]) -> bool {
-    match value_at(item, Item::Int(1)).map(|value| Cursor::new(value).item(1)) {
-        Some(Ok(Item::Int(kind))) => kind == RSA,
-        _ => false,
-    }
+    let Some(value) = value_at(item, Item::Int(1)) else {
+        return false;
+    };
+    matches!(Cursor::new(value).item(1), Ok(Item::Int(RSA)))
 }
 
 /// Writes a member: its key, its name where it has one, and its value, with what that means.
@@ -75,21 +76,27 @@ fn member_name(key: i128, is_rsa: bool) -> Option<&'static str> {
     }
 }
 
+/// The names of a key's types.
+const TYPES: &[&str] = &["OKP", "EC2", "RSA"];
+
+/// The names of curves.
+const CURVES: &[&str] = &[
+    "P-256",
+    "P-384",
+    "P-521",
+    "X25519",
+    "X448",
+    "Ed25519",
+    "Ed448",
+    "secp256k1",
+];
+
 /// Returns the name of a value that the member with this key has.
 fn value_name(key: i128, value: i128) -> Option<&'static str> {
     match key {
-        1 => type_name(value),
+        1 => name_at(TYPES, value),
         3 => algorithm_name(value),
-        -1 => curve_name(value),
-        _ => None,
-    }
-}
-
-fn type_name(value: i128) -> Option<&'static str> {
-    match value {
-        1 => Some("OKP"),
-        2 => Some("EC2"),
-        3 => Some("RSA"),
+        -1 => name_at(CURVES, value),
         _ => None,
     }
 }
@@ -109,20 +116,6 @@ pub fn algorithm_name(value: i128) -> Option<&'static str> {
         -258 => Some("RS384"),
         -259 => Some("RS512"),
         -65535 => Some("RS1"),
-        _ => None,
-    }
-}
-
-fn curve_name(value: i128) -> Option<&'static str> {
-    match value {
-        1 => Some("P-256"),
-        2 => Some("P-384"),
-        3 => Some("P-521"),
-        4 => Some("X25519"),
-        5 => Some("X448"),
-        6 => Some("Ed25519"),
-        7 => Some("Ed448"),
-        8 => Some("secp256k1"),
         _ => None,
     }
 }

@@ -1,13 +1,11 @@
 //! What a session comes to in numbers.
 
+use crate::entry::EXCLUDED;
 use crate::exchange::{End, Ended};
 use crate::json::{write_name, write_number, write_some_word};
 use crate::pen::Pen;
 use crate::walk::{Part, Walk};
 use crate::words::{error_name, status_name};
-
-/// The credential of a request is on the key already.
-const EXCLUDED: u8 = 0x19;
 
 /// What the numbers of a tally are.
 #[derive(Clone, Copy)]
@@ -141,10 +139,10 @@ impl Counts {
 
     /// Counts what the last line of a walk is, and ends.
     pub fn add_line(&mut self, walk: &Walk) {
-        if walk.decided().is_some_and(|decided| decided.of.is_none()) {
+        if matches!(walk.decided(), Some(decided) if decided.of.is_none()) {
             self.add_part(Part::Stray);
         }
-        self.add_part(walk.part());
+        self.add_part(walk.part);
         for ended in walk.ended() {
             self.add(ended);
         }

@@ -50,8 +50,8 @@ pub struct Answered {
 impl Channel {
     /// Takes a KEEPALIVE, and returns the transaction that is worked on.
     pub fn keep_alive(&mut self, ends: &mut Ends) -> Option<Transaction> {
-        let is_held = self.held.is_some_and(|held| held.is_served());
-        let is_asked = self.asked.is_some_and(|asked| asked.is_served());
+        let is_held = matches!(&self.held, Some(held) if held.is_served());
+        let is_asked = matches!(&self.asked, Some(asked) if asked.is_served());
         if is_asked && !is_held {
             self.settle(ends);
         }
@@ -79,7 +79,7 @@ impl Channel {
             self.settle(ends);
         }
         let is_late = self.leave_out(doubtful);
-        let is_open = self.held.is_some_and(|held| !held.is_whole());
+        let is_open = matches!(&self.held, Some(held) if !held.is_whole());
         if is_open && let Some(held) = self.free(ends) {
             ends.add(held, End::Refused(code));
             return (Some(held.transaction), is_late);
@@ -117,9 +117,8 @@ impl Channel {
         } else {
             (INVALID_SEQUENCE, End::Replaced(refused.line))
         };
-        let is_ended = self.held.is_some_and(|held| {
-            !held.is_whole() && held.transaction.line < refused.line
-        });
+        let is_ended = matches!(&self.held, Some(held)
+            if !held.is_whole() && held.transaction.line < refused.line);
         if is_ended
             && code == cause
             && let Some(held) = self.free(ends)
@@ -163,12 +162,10 @@ impl Channel {
     /// wrong length first.
     fn refused_start(&mut self, code: u8) -> Option<Exchange> {
         if code == INVALID_LENGTH {
-            let wrong = self
-                .greetings
-                .iter()
-                .position(|greeting| greeting.length != 8);
-            if let Some(place) = wrong {
-                return self.take_greeting(place);
+            for place in 0..self.greetings.len() {
+                if matches!(self.greetings.get(place), Some(greeting) if greeting.length != 8) {
+                    return self.take_greeting(place);
+                }
             }
         }
         if self.is_greeted {
@@ -203,18 +200,26 @@ impl Channel {
             exchange,
         });
         self.end_told(ends);
-        exchange.map(|exchange| exchange.transaction)
+        Some(exchange?.transaction)
     }
 
     /// Takes the INIT with the nonce of an answer. On a channel of its own it drops what began before it (section
     /// 11.2.5.3).
     fn answer_greeting(&mut self, answer: &Answer<'_>, ends: &mut Ends) -> Option<Exchange> {
         let nonce = answer.part.get(..8)?;
-        let place = self.greetings.iter().position(|greeting| greeting.length == 8
-            && greeting.nonce.as_slice() == nonce)?;
-        let exchange = self.take_greeting(place)?;
+        let mut found = self.greetings.len();
+        for place in 0..self.greetings.len() {
+            if let Some(greeting) = self.greetings.get(place)
+                && greeting.length == 8
+                && greeting.nonce.as_slice() == nonce
+            {
+                found = place;
+                break;
+            }
+        }
+        let exchange = self.take_greeting(found)?;
         let line = exchange.transaction.line;
-        let is_before = self.held.is_some_and(|held| held.transaction.line < line);
+        let is_before = matches!(&self.held, Some(held) if held.transaction.line < line);
         if self.number != BROADCAST
             && is_before
             && let Some(held) = self.free(ends)
@@ -226,18 +231,17 @@ impl Channel {
 
     /// Takes the message that an answer is for: the newest whole one of its command.
     fn answer_message(&mut self, answer: &Answer<'_>, ends: &mut Ends) -> Option<Exchange> {
-        let is_of_asked = self.asked.is_some_and(|asked| asked.is_whole()
-            && asked.transaction.message == answer.command);
+        let is_of_asked = is_answered(&self.asked, answer);
         let is_of_cancelled = status_in(answer) == Some(CANCELLED)
-            && self
-                .held
-                .is_some_and(|held| held.waits() && held.cancelled.is_some());
+            && matches!(&self.held, Some(held) if held.waits() && held.cancelled.is_some());
         if is_of_asked && !is_of_cancelled {
             self.settle(ends);
         }
-        let is_its = self.held.is_some_and(|held| held.is_whole()
-            && held.transaction.message == answer.command);
-        if is_its { self.free(ends) } else { None }
+        if is_answered(&self.held, answer) {
+            self.free(ends)
+        } else {
+            None
+        }
     }
 
     /// Takes a continuation packet of the device's last message, if it is the next one.
@@ -247,9 +251,13 @@ impl Channel {
             return None;
         }
         told.continuations = told.continuations.saturating_add(1);
+        let of = match &told.exchange {
+            Some(exchange) => Some(exchange.transaction),
+            None => None,
+        };
         let answered = Answered {
             line: told.line,
-            of: told.exchange.map(|exchange| exchange.transaction),
+            of,
             is_whole: told.is_whole(),
         };
         self.end_told(ends);
@@ -269,6 +277,12 @@ impl Channel {
             ends.add(exchange, end);
         }
     }
+}
+
+/// Returns whether an answer can be that of a message: of a whole one with its command.
+fn is_answered(place: &Option<Exchange>, answer: &Answer<'_>) -> bool {
+    matches!(place, Some(exchange)
+        if exchange.is_whole() && exchange.transaction.message == answer.command)
 }
 
 /// Returns the status of a CBOR answer.

@@ -7,6 +7,7 @@ use crate::packet_line::channel_of;
 use crate::pen::Pen;
 use crate::putting::put_written;
 use crate::reason::{Awaited, Reason};
+use crate::signed::{Signed, SignedOtherwise};
 use crate::walk::Walk;
 use crate::wording::Wording;
 use hid_packet::{Outbox, Packet};
@@ -89,6 +90,7 @@ struct Played {
     awaited: Option<Awaited>,
     /// What the last input is, where it is a reply.
     reply: Option<Awaited>,
+    signed: Signed,
 }
 
 impl Played {
@@ -104,6 +106,7 @@ impl Played {
             has_sent: false,
             awaited: None,
             reply: None,
+            signed: Signed::new(),
         }
     }
 
@@ -120,7 +123,8 @@ impl Played {
         match &said {
             Line::Sent(packet) => self.compare(number, *packet)?,
             Line::Input(timed) => self.play(number, timed, session)?,
-            Line::Comment | Line::Count => {}
+            Line::Comment => self.signed.take(number, line, &session.need()),
+            Line::Count => {}
         }
         self.walk.take(number, &said);
         Ok(())
@@ -157,6 +161,7 @@ impl Played {
         session.step(timed.at, timed.input, &mut self.outbox);
         self.awaited = Awaited::of(&session.need());
         self.reply = Awaited::in_input(&timed.input);
+        self.signed.begin();
         self.input = number;
         self.compared = 0;
         self.has_differed = false;
@@ -196,7 +201,7 @@ impl Played {
 
 /// Returns the front of some bytes.
 fn front(bytes: &[u8], len: usize) -> &[u8] {
-    bytes.split_at_checked(len).map_or(bytes, |parts| parts.0)
+    bytes.get(..len).unwrap_or(bytes)
 }
 
 /// A log beside a session that plays its inputs.
@@ -277,16 +282,21 @@ impl Comparison {
         let packet = difference.sent.or(difference.logged)?;
         self.aside.copy_from(&self.played.walk);
         self.aside.take(difference.line, &Line::Sent(packet));
-        if self.aside.transaction().is_some() {
-            return self.aside.transaction();
+        if self.aside.of.is_some() {
+            return self.aside.of;
         }
         let channel = channel_of(&packet);
-        let walk = &self.played.walk;
-        if let Some(held) = walk.held_on(channel) {
+        let channels = &self.played.walk.channels;
+        if let Some(held) = channels.held_on(channel) {
             return Some(held.transaction);
         }
-        let answered = walk.told_on(channel)?.exchange.as_ref()?;
+        let answered = channels.told_on(channel)?.exchange.as_ref()?;
         Some(answered.transaction)
+    }
+
+    /// Returns the first line so far that says that other bytes were signed than the session asks to be signed.
+    pub fn signed_otherwise(&self) -> Option<SignedOtherwise> {
+        self.played.signed.otherwise
     }
 
     /// Writes why the key doesn't send what the log has, `  it needs a new key; line 9 is a signature`, where that is seen
@@ -427,5 +437,6 @@ fn put_message<T: Target>(
     if let Some(message) = walk.message() {
         put_written(writer, pen, &MessageLines(line, message))?;
     }
-    Ok(walk.is_answering(channel_of(packet)))
+    let told = walk.channels.told_on(channel_of(packet));
+    Ok(matches!(told, Some(told) if !told.is_whole()))
 }

@@ -9,12 +9,15 @@ use crate::packet_line::write_packet;
 use crate::pen::Pen;
 use crate::putting::Written;
 use crate::rp_id::RpId;
-use crate::words::{command_name, fault_name, status_name, write_name};
-use authn_core::Presence;
+use crate::walk::Walk;
+use crate::words::{command_name, fault_name, presence_word, status_name, write_name};
 use ctap_cbor::{Fault, check};
 use hid_packet::Packet;
 use session_log::Line;
 use token_session::{Input, Timed};
+
+/// CTAP2_ERR_CREDENTIAL_EXCLUDED.
+pub const EXCLUDED: u8 = 0x19;
 
 /// A CBOR message that isn't empty.
 #[derive(Clone, Copy)]
@@ -46,6 +49,20 @@ pub struct Entry<'a> {
 pub trait Follows {
     /// Takes the next line, which has this number and says this, and returns what is shown for it.
     fn next_entry<'a>(&'a mut self, number: u64, line: &'a [u8], said: Line) -> Entry<'a>;
+}
+
+impl Follows for Walk {
+    fn next_entry<'a>(&'a mut self, number: u64, line: &'a [u8], said: Line) -> Entry<'a> {
+        self.take(number, &said);
+        Entry {
+            number,
+            line,
+            said,
+            message: self.message(),
+            late: self.late(),
+            ended: self.ended(),
+        }
+    }
 }
 
 /// A packet alone.
@@ -147,15 +164,6 @@ fn write_by(pen: &mut Pen, joint: &str, how: &str, line: u64) {
     pen.decimal(line);
 }
 
-/// Returns what is after the letter and the moment of a reply.
-fn presence_word(presence: Presence) -> &'static str {
-    match presence {
-        Presence::Granted => " granted",
-        Presence::Denied => " denied",
-        Presence::TimedOut => " timeout",
-    }
-}
-
 fn yes_or_no(flag: bool) -> &'static str {
     if flag { " yes" } else { " no" }
 }
@@ -171,6 +179,7 @@ fn write_input(pen: &mut Pen, timed: &Timed) {
         Input::Tick => write_moment(pen, "t ", timed.at),
         Input::Presence(presence) => {
             write_moment(pen, "p ", timed.at);
+            pen.text(" ");
             pen.text(presence_word(*presence));
         }
         Input::Key(key) => {
@@ -228,6 +237,11 @@ fn write_answer(pen: &mut Pen, number: u64, exchange: Option<&Exchange>, message
         && checked.is_ok()
     {
         write_members(pen, number, Map::Answer(command), item, &exchange.rp_id);
+        if let (EXCLUDED, Some(excluded)) = (*status, &exchange.excluded) {
+            pen.decimal(number);
+            pen.text("   ");
+            excluded.write(pen);
+        }
     }
 }
 

@@ -3,6 +3,7 @@
 ghost use Rattle.std.specs.Prelude.{◌<◌, ◌-◌, ◌^◌};
 ghost use Rattle.session_show.specs.Written.{Writes};
 
+use crate::credentials::Excluded;
 use crate::packet_line::name_of;
 use crate::pen::Pen;
 use crate::putting::{Written, put_written};
@@ -107,6 +108,8 @@ pub struct Exchange {
     pub keepalives: u64,
     /// The RP id that its request names.
     pub rp_id: RpId,
+    /// The credential of the log that its request excludes.
+    pub excluded: Option<Excluded>,
 }
 
 impl Exchange {

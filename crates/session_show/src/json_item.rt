@@ -81,9 +81,12 @@ fn write_key(pen: &mut Pen, key: Item<'_>, map: Option<Map>) {
     match key {
         Item::Int(number) => {
             pen.text("\"");
-            match map.and_then(|map| map.name_of(number)) {
-                Some(name) => pen.text(name),
-                None => pen.integer(number),
+            if let Some(map) = map
+                && let Some(name) = map.name_of(number)
+            {
+                pen.text(name);
+            } else {
+                pen.integer(number);
             }
             pen.text("\"");
         }

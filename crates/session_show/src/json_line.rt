@@ -14,8 +14,7 @@ use crate::pen::Pen;
 use crate::putting::Written;
 use crate::rp_id::RpId;
 use crate::walk::Walk;
-use crate::words::{command_name, error_name, keepalive_name, status_name};
-use authn_core::Presence;
+use crate::words::{command_name, error_name, keepalive_name, presence_word, status_name};
 use ctap_cbor::check;
 use hid_packet::command::{ERROR, KEEPALIVE};
 use hid_packet::{Packet, View};
@@ -53,13 +52,17 @@ pub struct Pending {
 impl Pending {
     /// Writes its object, where the walk's last line shows what it belongs to.
     pub fn write(&self, pen: &mut Pen, walk: &Walk) {
+        let message = match walk.late() {
+            Some((_, message)) => Some(message),
+            None => None,
+        };
         if let Some(decided) = walk.decided() {
             let line = JsonLine {
                 number: self.number,
                 line: b"",
                 said: &self.said,
                 transaction: decided.of,
-                message: walk.late().map(|(_, message)| message),
+                message,
             };
             line.write(pen);
         }
@@ -86,7 +89,7 @@ impl Written for JsonLines<'_> {
                 number: self.number,
                 line: self.line,
                 said: self.said,
-                transaction: self.walk.transaction(),
+                transaction: self.walk.of,
                 message: self.walk.message(),
             };
             line.write(pen);
@@ -117,20 +120,14 @@ fn write_comment(pen: &mut Pen, number: u64, line: &[u8]) {
     pen.text("}\n");
 }
 
-/// Returns what a reply to a test of the user's presence says.
-fn presence_word(presence: Presence) -> &'static str {
-    match presence {
-        Presence::Granted => "granted",
-        Presence::Denied => "denied",
-        Presence::TimedOut => "timeout",
-    }
-}
-
 impl JsonLine<'_> {
     fn write_input(&self, pen: &mut Pen, timed: &Timed) {
         match &timed.input {
             Input::Packet(packet) => self.write_packet(pen, "host", Some(timed.at), packet),
-            Input::Tick => self.write_moment(pen, "tick", timed.at),
+            Input::Tick => {
+                self.write_reply(pen, "tick", timed.at);
+                pen.text("}\n");
+            }
             Input::Presence(presence) => {
                 self.write_reply(pen, "presence", timed.at);
                 write_word(pen, "reply", presence_word(*presence));
@@ -147,12 +144,6 @@ impl JsonLine<'_> {
                 pen.text("}\n");
             }
         }
-    }
-
-    /// Writes the object of a tick.
-    fn write_moment(&self, pen: &mut Pen, kind: &str, at: u64) {
-        self.write_reply(pen, kind, at);
-        pen.text("}\n");
     }
 
     /// Writes the front of the object of a tick or a reply.
@@ -270,9 +261,10 @@ fn write_answered(pen: &mut Pen, status: u8, exchange: Option<&Exchange>) {
 
 /// Returns the command that an answer is for; 0, which is none, where it isn't known.
 fn command_of(exchange: Option<&Exchange>) -> u8 {
-    exchange
-        .and_then(|exchange| exchange.transaction.command)
-        .unwrap_or(0)
+    match exchange {
+        Some(exchange) => exchange.transaction.command.unwrap_or(0),
+        None => 0,
+    }
 }
 
 /// Writes the data item after a message's first byte: as text and as JSON, or as why it is none, and its bytes.

@@ -68,7 +68,7 @@ impl Written for Left<'_> {
         }
         let mut line = 0;
         for _ in 0..OPEN {
-            let Some(open) = self.walk.open_after(line) else {
+            let Some(open) = self.walk.channels.open_after(line) else {
                 break;
             };
             write_transaction(pen, self.last, &open);

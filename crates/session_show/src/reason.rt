@@ -1,13 +1,14 @@
 //! Why the key doesn't send what a log has, as far as the lines before it show that.
 
 use crate::difference::Difference;
+use crate::entry::EXCLUDED;
 use crate::exchange::Exchange;
 use crate::packet_line::channel_of;
 use crate::pen::Pen;
 use crate::putting::Written;
 use crate::walk::Walk;
 use authn_core::Need;
-use hid_packet::command::ERROR;
+use hid_packet::command::{CBOR, ERROR};
 use hid_packet::{Packet, View};
 use token_session::Input;
 
@@ -65,13 +66,7 @@ impl Written for Reason<'_> {
     fn write(&self, pen: &mut Pen) {
         match (&self.difference.logged, &self.difference.sent) {
             (Some(logged), None) => self.write_waiting(pen, channel_of(logged)),
-            (_, Some(sent)) if is_busy(sent) => {
-                if let Some(other) = self.walk.held_beside(channel_of(sent)) {
-                    pen.text("  it serves ");
-                    other.transaction.write(pen);
-                    pen.text("\n");
-                }
-            }
+            (_, Some(sent)) => self.write_refusal(pen, sent),
             _ => {}
         }
     }
@@ -80,7 +75,7 @@ impl Written for Reason<'_> {
 impl Reason<'_> {
     /// Writes what the key waits for before it answers on a channel.
     fn write_waiting(&self, pen: &mut Pen, channel: u32) {
-        if let Some(open) = self.walk.held_on(channel)
+        if let Some(open) = self.walk.channels.held_on(channel)
             && !open.is_whole()
         {
             write_missing(pen, open);
@@ -103,9 +98,41 @@ impl Reason<'_> {
         pen.text("\n");
     }
 
+    /// Writes what a packet refers to that refuses: the message that is served, or the credential that is excluded.
+    fn write_refusal(&self, pen: &mut Pen, sent: &Packet) {
+        match sent.view() {
+            View::Start {
+                cid,
+                cmd: ERROR,
+                part: [CHANNEL_BUSY, ..],
+                ..
+            } => {
+                if let Some(other) = self.walk.channels.held_beside(cid) {
+                    pen.text("  it serves ");
+                    other.transaction.write(pen);
+                    pen.text("\n");
+                }
+            }
+            View::Start {
+                cid,
+                cmd: CBOR,
+                part: [EXCLUDED, ..],
+                ..
+            } => {
+                if let Some(held) = self.walk.channels.held_on(cid)
+                    && let Some(excluded) = held.excluded
+                {
+                    pen.text("  ");
+                    excluded.write(pen);
+                }
+            }
+            _ => {}
+        }
+    }
+
     /// Writes where the key's last message on a channel is, where it answers one and nothing waits.
     fn write_answered(&self, pen: &mut Pen, channel: u32) {
-        if let Some(told) = self.walk.told_on(channel)
+        if let Some(told) = self.walk.channels.told_on(channel)
             && told.is_whole()
         {
             pen.text("  nothing waits: its last answer on this channel is that of line ");
@@ -126,16 +153,4 @@ fn write_missing(pen: &mut Pen, open: &Exchange) {
     pen.text(" of ");
     pen.decimal(u64::from(open.length));
     pen.text(" bytes came\n");
-}
-
-/// Returns whether a packet says that another message is served.
-fn is_busy(packet: &Packet) -> bool {
-    match packet.view() {
-        View::Start {
-            cmd: ERROR,
-            part,
-            ..
-        } => part.first() == Some(&CHANNEL_BUSY),
-        _ => false,
-    }
 }

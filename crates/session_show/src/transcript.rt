@@ -30,12 +30,14 @@ impl Follows for Transcript {
                     input: Input::Packet(packet),
                     ..
                 },
-            ) => self.requests.add(packet).map(Message::Request),
-            Line::Sent(packet) => {
-                self.answers
-                    .add(packet)
-                    .map(|bytes| Message::Answer(None, bytes))
-            }
+            ) => match self.requests.add(packet) {
+                Some(bytes) => Some(Message::Request(bytes)),
+                None => None,
+            },
+            Line::Sent(packet) => match self.answers.add(packet) {
+                Some(bytes) => Some(Message::Answer(None, bytes)),
+                None => None,
+            },
             Line::Input(_) | Line::Comment | Line::Count => None,
         };
         Entry {

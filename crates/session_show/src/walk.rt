@@ -1,10 +1,11 @@
 //! One walk over a log: which transaction each line belongs to, which message ends at it, and which transactions end.
 ghost use Rattle.std.specs.Prelude.{◌<◌};
 
-use crate::channel::{Continuation, Greeting, Told};
+use crate::channel::{Continuation, Greeting};
 use crate::channels::Channels;
+use crate::credentials::Credentials;
 use crate::device::{Answer, NO_TIME_OUT, TIMED_OUT};
-use crate::entry::{Entry, Follows, Message};
+use crate::entry::Message;
 use crate::exchange::{Ended, Ends, Exchange, Transaction, is_whole};
 use crate::packet_line::channel_of;
 use crate::pool::Pool;
@@ -15,11 +16,15 @@ use hid_packet::{LONGEST_MESSAGE, Packet, View};
 use session_log::Line;
 use token_session::{Input, Timed};
 
-/// authenticatorGetNextAssertion.
+/// authenticatorMakeCredential, authenticatorReset and authenticatorGetNextAssertion.
+const MAKE: u8 = 0x01;
+
+const RESET: u8 = 0x07;
+
 const NEXT: u8 = 0x08;
 
 /// What a line is to the transactions.
-#[derive(Clone, Copy, PartialEq, Eq)]
+#[derive(Clone, Copy)]
 pub enum Part {
     /// It is of a transaction, or is no packet and no reply.
     Own,
@@ -66,16 +71,18 @@ pub struct Decided {
 /// What the lines of a log so far began.
 #[derive(Drop)]
 pub struct Walk {
-    channels: Channels,
+    pub channels: Channels,
     pool: Pool,
+    credentials: Credentials,
     /// The latest moment.
     now: u64,
     doubtful: Option<Doubtful>,
     /// Of the last line: the transactions that it ends, ..
     ends: Ends,
     /// .. the one that it belongs to, ..
-    of: Option<Transaction>,
-    part: Part,
+    pub of: Option<Transaction>,
+    /// .. or what it is, where it belongs to none, ..
+    pub part: Part,
     /// .. the message that ends at it, ..
     shown: Option<Shown>,
     /// .. and what it shows of a doubtful one before it.
@@ -88,6 +95,7 @@ impl Walk {
         Walk {
             channels: Channels::new(),
             pool: Pool::new(),
+            credentials: Credentials::new(),
             now: 0,
             doubtful: None,
             ends: Ends::new(),
@@ -103,6 +111,7 @@ impl Walk {
         self.clear();
         self.channels.copy_from(&other.channels);
         self.pool.copy_from(&other.pool);
+        self.credentials = other.credentials;
         self.now = other.now;
         self.doubtful = other.doubtful;
     }
@@ -123,8 +132,9 @@ impl Walk {
             self.pool.release(ended.exchange.transaction.line);
         }
         self.ends.clear();
-        let decided = self.decided.and_then(|decided| decided.shown);
-        self.release(decided);
+        if let Some(decided) = self.decided {
+            self.release(decided.shown);
+        }
         self.release(self.shown);
         self.of = None;
         self.part = Part::Own;
@@ -141,16 +151,6 @@ impl Walk {
 
     // ---- what the last line is
 
-    /// Returns the transaction that it belongs to.
-    pub fn transaction(&self) -> Option<Transaction> {
-        self.of
-    }
-
-    /// Returns what it is, where it belongs to no transaction.
-    pub fn part(&self) -> Part {
-        self.part
-    }
-
     /// Returns the transactions that it ends.
     pub fn ended(&self) -> &[Ended] {
         self.ends.as_slice()
@@ -158,7 +158,7 @@ impl Walk {
 
     /// Returns whether a line has a packet of which a later line shows what it belongs to.
     pub fn is_doubtful(&self, line: u64) -> bool {
-        self.doubtful.is_some_and(|doubtful| doubtful.line == line)
+        matches!(&self.doubtful, Some(doubtful) if doubtful.line == line)
     }
 
     /// Returns what it shows of such a packet before it.
@@ -185,45 +185,14 @@ impl Walk {
                 None => Message::Lost,
             }),
             Shown::Answer(line, place) => {
-                let told = self
-                    .channels
-                    .list
-                    .get(place)
-                    .and_then(|channel| channel.told.as_ref());
-                let exchange = told.and_then(|told| told.exchange.as_ref());
+                let told = self.channels.list.get(place)?.told.as_ref()?;
+                let exchange = told.exchange.as_ref();
                 Some(match self.pool.bytes(line) {
                     Some(bytes) => Message::Answer(exchange, bytes),
                     None => Message::Lost,
                 })
             }
         }
-    }
-
-    /// Returns the first transaction that is open of those that began after a line.
-    pub fn open_after(&self, line: u64) -> Option<Ended> {
-        self.channels.open_after(line)
-    }
-
-    /// Returns the message that holds a channel.
-    pub fn held_on(&self, number: u32) -> Option<&Exchange> {
-        self.channels.on(number)?.held.as_ref()
-    }
-
-    /// Returns the device's last message on a channel.
-    pub fn told_on(&self, number: u32) -> Option<&Told> {
-        self.channels.on(number)?.told.as_ref()
-    }
-
-    /// Returns a message that holds another channel than this one, or else the one that holds it.
-    pub fn held_beside(&self, number: u32) -> Option<&Exchange> {
-        self.channels
-            .held_beside(number)
-            .or_else(|| self.held_on(number))
-    }
-
-    /// Returns whether further packets of the device's last message on a channel are to come.
-    pub fn is_answering(&self, number: u32) -> bool {
-        self.told_on(number).is_some_and(|told| !told.is_whole())
     }
 
     /// Takes the log's end: what is doubtful belongs to its message.
@@ -343,12 +312,18 @@ impl Walk {
         }
     }
 
-    /// Keeps the RP id that a whole request names, and returns the request as one that is shown.
+    /// Keeps what a whole request names, and returns the request as one that is shown.
     fn complete(&mut self, place: usize, of: &Transaction) -> Option<Shown>
         requires { place < 6 }
     {
         let rp_id = self.rp_id_of(place, of);
-        self.channels.list[place].name(of.line, &rp_id);
+        let excluded = match (of.command, self.pool.bytes(of.line)) {
+            (Some(MAKE), Some([_, item @ ..])) if !rp_id.bytes().is_empty() => {
+                self.credentials.excluded_in(&rp_id, item)
+            }
+            _ => None,
+        };
+        self.channels.list[place].name(of.line, &rp_id, excluded);
         Some(Shown::Request(of.line))
     }
 
@@ -417,7 +392,7 @@ impl Walk {
                 };
                 self.take_answer(place, &answer);
             }
-            View::More { seq, part, .. } => self.answer_on(place, seq, part),
+            View::More { seq, part, .. } => self.answer_on(place, number, seq, part),
         }
     }
 
@@ -465,13 +440,28 @@ impl Walk {
         if is_kept {
             self.pool.begin(answer.line, answer.length, answer.part);
             if is_whole(answer.length, 0) {
+                self.learn(answer.line, answer.line);
                 self.shown = Some(Shown::Answer(answer.line, place));
             }
         }
     }
 
+    /// Keeps the credential that an answer made, which began at a line and ends at this one; a reset forgets all.
+    fn learn(&mut self, number: u64, line: u64) {
+        let Some(of) = self.of else {
+            return;
+        };
+        match (of.command, self.pool.bytes(line)) {
+            (Some(MAKE), Some([0, item @ ..])) if check(item).result.is_ok() => {
+                self.credentials.add(number, item);
+            }
+            (Some(RESET), Some([0, ..])) => self.credentials = Credentials::new(),
+            _ => {}
+        }
+    }
+
     /// Takes a continuation packet of the device.
-    fn answer_on(&mut self, place: usize, sequence: u8, part: &[u8])
+    fn answer_on(&mut self, place: usize, number: u64, sequence: u8, part: &[u8])
         requires { place < 6 }
     {
         let Some(answered) = self.channels.list[place].answer_on(sequence, &mut self.ends) else {
@@ -480,21 +470,8 @@ impl Walk {
         self.of = answered.of;
         self.pool.add(answered.line, part);
         if answered.is_whole && self.pool.bytes(answered.line).is_some() {
+            self.learn(number, answered.line);
             self.shown = Some(Shown::Answer(answered.line, place));
-        }
-    }
-}
-
-impl Follows for Walk {
-    fn next_entry<'a>(&'a mut self, number: u64, line: &'a [u8], said: Line) -> Entry<'a> {
-        self.take(number, &said);
-        Entry {
-            number,
-            line,
-            said,
-            message: self.message(),
-            late: self.late(),
-            ended: self.ended(),
         }
     }
 }

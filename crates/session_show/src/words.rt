@@ -1,6 +1,7 @@
 //! The names that CTAP 2.1 has for numbers. What has no name is shown by its number alone.
 
 use crate::pen::Pen;
+use authn_core::Presence;
 use ctap_cbor::Kind;
 
 /// Writes two spaces and a name, where there is one and the text is explained.
@@ -29,142 +30,130 @@ pub fn fault_name(kind: Kind) -> &'static str {
     }
 }
 
-/// Returns the name of an ERROR's code (section 11.2.9.1.6).
+/// Returns what a reply to a test of the user's presence says.
+pub fn presence_word(presence: Presence) -> &'static str {
+    match presence {
+        Presence::Granted => "granted",
+        Presence::Denied => "denied",
+        Presence::TimedOut => "timeout",
+    }
+}
+
+/// A number and its name.
+type Named = (u8, &'static str);
+
+/// The names of an ERROR's codes (section 11.2.9.1.6).
+const ERRORS: &[Named] = &[
+    (0x01, "ERR_INVALID_CMD"),
+    (0x02, "ERR_INVALID_PAR"),
+    (0x03, "ERR_INVALID_LEN"),
+    (0x04, "ERR_INVALID_SEQ"),
+    (0x05, "ERR_MSG_TIMEOUT"),
+    (0x06, "ERR_CHANNEL_BUSY"),
+    (0x0a, "ERR_LOCK_REQUIRED"),
+    (0x0b, "ERR_INVALID_CHANNEL"),
+    (0x7f, "ERR_OTHER"),
+];
+
+/// The names of a KEEPALIVE's statuses (section 11.2.9.2.1).
+const KEEPALIVES: &[Named] = &[(0x01, "STATUS_PROCESSING"), (0x02, "STATUS_UPNEEDED")];
+
+/// The names of the authenticator's commands (section 6).
+const COMMANDS: &[Named] = &[
+    (0x01, "authenticatorMakeCredential"),
+    (0x02, "authenticatorGetAssertion"),
+    (0x04, "authenticatorGetInfo"),
+    (0x06, "authenticatorClientPIN"),
+    (0x07, "authenticatorReset"),
+    (0x08, "authenticatorGetNextAssertion"),
+    (0x09, "authenticatorBioEnrollment"),
+    (0x0a, "authenticatorCredentialManagement"),
+    (0x0b, "authenticatorSelection"),
+    (0x0c, "authenticatorLargeBlobs"),
+    (0x0d, "authenticatorConfig"),
+];
+
+/// The names of statuses (section 8.2).
+const STATUSES: &[Named] = &[
+    (0x00, "CTAP2_OK"),
+    (0x01, "CTAP1_ERR_INVALID_COMMAND"),
+    (0x02, "CTAP1_ERR_INVALID_PARAMETER"),
+    (0x03, "CTAP1_ERR_INVALID_LENGTH"),
+    (0x04, "CTAP1_ERR_INVALID_SEQ"),
+    (0x05, "CTAP1_ERR_TIMEOUT"),
+    (0x06, "CTAP1_ERR_CHANNEL_BUSY"),
+    (0x0a, "CTAP1_ERR_LOCK_REQUIRED"),
+    (0x0b, "CTAP1_ERR_INVALID_CHANNEL"),
+    (0x11, "CTAP2_ERR_CBOR_UNEXPECTED_TYPE"),
+    (0x12, "CTAP2_ERR_INVALID_CBOR"),
+    (0x14, "CTAP2_ERR_MISSING_PARAMETER"),
+    (0x15, "CTAP2_ERR_LIMIT_EXCEEDED"),
+    (0x17, "CTAP2_ERR_FP_DATABASE_FULL"),
+    (0x18, "CTAP2_ERR_LARGE_BLOB_STORAGE_FULL"),
+    (0x19, "CTAP2_ERR_CREDENTIAL_EXCLUDED"),
+    (0x21, "CTAP2_ERR_PROCESSING"),
+    (0x22, "CTAP2_ERR_INVALID_CREDENTIAL"),
+    (0x23, "CTAP2_ERR_USER_ACTION_PENDING"),
+    (0x24, "CTAP2_ERR_OPERATION_PENDING"),
+    (0x25, "CTAP2_ERR_NO_OPERATIONS"),
+    (0x26, "CTAP2_ERR_UNSUPPORTED_ALGORITHM"),
+    (0x27, "CTAP2_ERR_OPERATION_DENIED"),
+    (0x28, "CTAP2_ERR_KEY_STORE_FULL"),
+    (0x2b, "CTAP2_ERR_UNSUPPORTED_OPTION"),
+    (0x2c, "CTAP2_ERR_INVALID_OPTION"),
+    (0x2d, "CTAP2_ERR_KEEPALIVE_CANCEL"),
+    (0x2e, "CTAP2_ERR_NO_CREDENTIALS"),
+    (0x2f, "CTAP2_ERR_USER_ACTION_TIMEOUT"),
+    (0x30, "CTAP2_ERR_NOT_ALLOWED"),
+    (0x31, "CTAP2_ERR_PIN_INVALID"),
+    (0x32, "CTAP2_ERR_PIN_BLOCKED"),
+    (0x33, "CTAP2_ERR_PIN_AUTH_INVALID"),
+    (0x34, "CTAP2_ERR_PIN_AUTH_BLOCKED"),
+    (0x35, "CTAP2_ERR_PIN_NOT_SET"),
+    (0x36, "CTAP2_ERR_PUAT_REQUIRED"),
+    (0x37, "CTAP2_ERR_PIN_POLICY_VIOLATION"),
+    (0x39, "CTAP2_ERR_REQUEST_TOO_LARGE"),
+    (0x3a, "CTAP2_ERR_ACTION_TIMEOUT"),
+    (0x3b, "CTAP2_ERR_UP_REQUIRED"),
+    (0x3c, "CTAP2_ERR_UV_BLOCKED"),
+    (0x3d, "CTAP2_ERR_INTEGRITY_FAILURE"),
+    (0x3e, "CTAP2_ERR_INVALID_SUBCOMMAND"),
+    (0x3f, "CTAP2_ERR_UV_INVALID"),
+    (0x40, "CTAP2_ERR_UNAUTHORIZED_PERMISSION"),
+    (0x7f, "CTAP1_ERR_OTHER"),
+    (0xdf, "CTAP2_ERR_SPEC_LAST"),
+    (0xe0, "CTAP2_ERR_EXTENSION_FIRST"),
+    (0xef, "CTAP2_ERR_EXTENSION_LAST"),
+    (0xf0, "CTAP2_ERR_VENDOR_FIRST"),
+    (0xff, "CTAP2_ERR_VENDOR_LAST"),
+];
+
+/// Returns the name that a number has in a list.
+fn name_in(names: &'static [Named], number: u8) -> Option<&'static str> {
+    for (named, name) in names {
+        if *named == number {
+            return Some(*name);
+        }
+    }
+    None
+}
+
+/// Returns the name of an ERROR's code.
 pub fn error_name(code: u8) -> Option<&'static str> {
-    match code {
-        0x01 => Some("ERR_INVALID_CMD"),
-        0x02 => Some("ERR_INVALID_PAR"),
-        0x03 => Some("ERR_INVALID_LEN"),
-        0x04 => Some("ERR_INVALID_SEQ"),
-        0x05 => Some("ERR_MSG_TIMEOUT"),
-        0x06 => Some("ERR_CHANNEL_BUSY"),
-        0x0a => Some("ERR_LOCK_REQUIRED"),
-        0x0b => Some("ERR_INVALID_CHANNEL"),
-        0x7f => Some("ERR_OTHER"),
-        _ => None,
-    }
+    name_in(ERRORS, code)
 }
 
-/// Returns the name of a KEEPALIVE's status (section 11.2.9.2.1).
+/// Returns the name of a KEEPALIVE's status.
 pub fn keepalive_name(status: u8) -> Option<&'static str> {
-    match status {
-        1 => Some("STATUS_PROCESSING"),
-        2 => Some("STATUS_UPNEEDED"),
-        _ => None,
-    }
+    name_in(KEEPALIVES, status)
 }
 
-/// Returns the name of a command of the authenticator (section 6).
+/// Returns the name of a command of the authenticator.
 pub fn command_name(command: u8) -> Option<&'static str> {
-    match command {
-        0x01 => Some("authenticatorMakeCredential"),
-        0x02 => Some("authenticatorGetAssertion"),
-        0x04 => Some("authenticatorGetInfo"),
-        0x06 => Some("authenticatorClientPIN"),
-        0x07 => Some("authenticatorReset"),
-        0x08 => Some("authenticatorGetNextAssertion"),
-        0x09 => Some("authenticatorBioEnrollment"),
-        0x0a => Some("authenticatorCredentialManagement"),
-        0x0b => Some("authenticatorSelection"),
-        0x0c => Some("authenticatorLargeBlobs"),
-        0x0d => Some("authenticatorConfig"),
-        _ => None,
-    }
+    name_in(COMMANDS, command)
 }
 
-/// Returns the name of a status (section 8.2).
+/// Returns the name of a status.
 pub fn status_name(status: u8) -> Option<&'static str> {
-    match status {
-        0x00..=0x10 | 0x7f => first_status_name(status),
-        0x11..=0x2a => request_status_name(status),
-        0x2b..=0x30 | 0x39..=0x3b => user_status_name(status),
-        0xdf.. => bound_name(status),
-        _ => verification_status_name(status),
-    }
-}
-
-/// Returns the name of a status that bounds those of a kind.
-fn bound_name(status: u8) -> Option<&'static str> {
-    match status {
-        0xdf => Some("CTAP2_ERR_SPEC_LAST"),
-        0xe0 => Some("CTAP2_ERR_EXTENSION_FIRST"),
-        0xef => Some("CTAP2_ERR_EXTENSION_LAST"),
-        0xf0 => Some("CTAP2_ERR_VENDOR_FIRST"),
-        0xff => Some("CTAP2_ERR_VENDOR_LAST"),
-        _ => None,
-    }
-}
-
-/// Returns the name of a status that CTAP1 has too.
-fn first_status_name(status: u8) -> Option<&'static str> {
-    match status {
-        0x00 => Some("CTAP2_OK"),
-        0x01 => Some("CTAP1_ERR_INVALID_COMMAND"),
-        0x02 => Some("CTAP1_ERR_INVALID_PARAMETER"),
-        0x03 => Some("CTAP1_ERR_INVALID_LENGTH"),
-        0x04 => Some("CTAP1_ERR_INVALID_SEQ"),
-        0x05 => Some("CTAP1_ERR_TIMEOUT"),
-        0x06 => Some("CTAP1_ERR_CHANNEL_BUSY"),
-        0x0a => Some("CTAP1_ERR_LOCK_REQUIRED"),
-        0x0b => Some("CTAP1_ERR_INVALID_CHANNEL"),
-        0x7f => Some("CTAP1_ERR_OTHER"),
-        _ => None,
-    }
-}
-
-/// Returns the name of a status that is about a request, or about what the key holds.
-fn request_status_name(status: u8) -> Option<&'static str> {
-    match status {
-        0x11 => Some("CTAP2_ERR_CBOR_UNEXPECTED_TYPE"),
-        0x12 => Some("CTAP2_ERR_INVALID_CBOR"),
-        0x14 => Some("CTAP2_ERR_MISSING_PARAMETER"),
-        0x15 => Some("CTAP2_ERR_LIMIT_EXCEEDED"),
-        0x17 => Some("CTAP2_ERR_FP_DATABASE_FULL"),
-        0x18 => Some("CTAP2_ERR_LARGE_BLOB_STORAGE_FULL"),
-        0x19 => Some("CTAP2_ERR_CREDENTIAL_EXCLUDED"),
-        0x21 => Some("CTAP2_ERR_PROCESSING"),
-        0x22 => Some("CTAP2_ERR_INVALID_CREDENTIAL"),
-        0x23 => Some("CTAP2_ERR_USER_ACTION_PENDING"),
-        0x24 => Some("CTAP2_ERR_OPERATION_PENDING"),
-        0x25 => Some("CTAP2_ERR_NO_OPERATIONS"),
-        0x26 => Some("CTAP2_ERR_UNSUPPORTED_ALGORITHM"),
-        0x27 => Some("CTAP2_ERR_OPERATION_DENIED"),
-        0x28 => Some("CTAP2_ERR_KEY_STORE_FULL"),
-        _ => None,
-    }
-}
-
-/// Returns the name of a status that is about options, or about what the user did.
-fn user_status_name(status: u8) -> Option<&'static str> {
-    match status {
-        0x2b => Some("CTAP2_ERR_UNSUPPORTED_OPTION"),
-        0x2c => Some("CTAP2_ERR_INVALID_OPTION"),
-        0x2d => Some("CTAP2_ERR_KEEPALIVE_CANCEL"),
-        0x2e => Some("CTAP2_ERR_NO_CREDENTIALS"),
-        0x2f => Some("CTAP2_ERR_USER_ACTION_TIMEOUT"),
-        0x30 => Some("CTAP2_ERR_NOT_ALLOWED"),
-        0x39 => Some("CTAP2_ERR_REQUEST_TOO_LARGE"),
-        0x3a => Some("CTAP2_ERR_ACTION_TIMEOUT"),
-        0x3b => Some("CTAP2_ERR_UP_REQUIRED"),
-        _ => None,
-    }
-}
-
-/// Returns the name of a status that is about a PIN or user verification.
-fn verification_status_name(status: u8) -> Option<&'static str> {
-    match status {
-        0x31 => Some("CTAP2_ERR_PIN_INVALID"),
-        0x32 => Some("CTAP2_ERR_PIN_BLOCKED"),
-        0x33 => Some("CTAP2_ERR_PIN_AUTH_INVALID"),
-        0x34 => Some("CTAP2_ERR_PIN_AUTH_BLOCKED"),
-        0x35 => Some("CTAP2_ERR_PIN_NOT_SET"),
-        0x36 => Some("CTAP2_ERR_PUAT_REQUIRED"),
-        0x37 => Some("CTAP2_ERR_PIN_POLICY_VIOLATION"),
-        0x3c => Some("CTAP2_ERR_UV_BLOCKED"),
-        0x3d => Some("CTAP2_ERR_INTEGRITY_FAILURE"),
-        0x3e => Some("CTAP2_ERR_INVALID_SUBCOMMAND"),
-        0x3f => Some("CTAP2_ERR_UV_INVALID"),
-        0x40 => Some("CTAP2_ERR_UNAUTHORIZED_PERMISSION"),
-        _ => None,
-    }
+    name_in(STATUSES, status)
 }
