@@ -241,6 +241,9 @@ path_is found id path is = is ∙ first_value-rows found id
 pub three_parts : {A B C D : Type 0} (f : A → B → C → D) {a a' : A} {b b' : B} {d d' : C} → a ≡ a' → b ≡ b' → d ≡ d' → f a b d ≡ f a' b' d'
 three_parts f {a} {a'} {b} {b'} {d} {d'} p q r = ap (λ x. f x b d) p ∙ (ap (λ x. f a' x d) q ∙ ap (f a' b') r)
 
+pub four_parts : {A B C D E : Type 0} (f : A → B → C → D → E) {a a' : A} {b b' : B} {c c' : C} {d d' : D} → a ≡ a' → b ≡ b' → c ≡ c' → d ≡ d' → f a b c d ≡ f a' b' c' d'
+four_parts f {a} {a'} {b} {b'} {c} {c'} {d} {d'} p q r s = ap (λ x. f x b c d) p ∙ three_parts (f a') q r s
+
 -- the paths of logs, where some were found, and where none was
 pub logs_are : (found : Found) (logs : List Text) → Some logs ≡ option_map raw_values (matched_of found (codes "log"))
     → logs ≡ logs_of (rows_of found)
@@ -264,7 +267,7 @@ pub plain_live : (name : Text) → asked_by (name ∷ codes "live" ∷ []) ≡ S
 unfolding asked_by answers_to clap_on_literals
 plain_live name = refl
 
-pub plain_check : (name : Text) → asked_by (name ∷ codes "check" ∷ []) ≡ Some (check None false [], ByTerminal)
+pub plain_check : (name : Text) → asked_by (name ∷ codes "check" ∷ []) ≡ Some (check None false false [], ByTerminal)
 unfolding asked_by answers_to clap_on_literals
 plain_check name = refl
 

@@ -1,5 +1,5 @@
 -- Several logs that are compared, one after the other.
-use Rattle.std.proofs.Common.{◌≡◌, ◌∙◌, inl, inr, ℕ, ◌+◌, ◌<◌, ◌≤◌, Bool, false, List, [], ◌∷◌, ◌++◌, length, take, get_or, Option, Some, None, Ok, Err, OnOk, MatchOption, is_err, refl, sym, ap, subst, arith}
+use Rattle.std.proofs.Common.{◌≡◌, ◌∙◌, inl, inr, ℕ, ◌+◌, ◌<◌, ◌≤◌, Bool, true, false, List, [], ◌∷◌, ◌++◌, length, take, get_or, Option, Some, None, Ok, Err, OnOk, MatchOption, is_err, refl, sym, ap, subst, arith}
 use Rattle.std.specs.Borrow.{Bor}
 use Rattle.std.proofs.lemmas.List.{map-append, take_more}
 use Rattle.session_log.specs.Command.{RunsLog, Status, start_with}
@@ -46,10 +46,17 @@ module _ {D I O F : Type 0} (holds : D → List ℕ → List ℕ → Type 0) (un
   -- what is asked of several logs is done
   pub several_do : (load : Option (List ℕ)) (all : Bool) (logs : List (Bor (List ℕ))) (wording : Wording) (r : Status) (files : D × D) (input : I × I) (output : O × O) (faults : F × F) → 2 ≤ length logs → files.1 ≡ files.0
       → OnOk r (AreSame holds opened left ended load files.0 (texts_of logs) input)
-      → Does holds unreadable written unwritten unwritable opened unopenable left unread ended taken unput said unsaid explained (check load all (texts_of logs)) wording r files input output faults
+      → Does holds unreadable written unwritten unwritable opened unopenable left unread ended taken unput said unsaid explained (check load all false (texts_of logs)) wording r files input output faults
   several_do load all [] wording r files input output faults many kept same = absurd (omega arith)
   several_do load all (log ∷ []) wording r files input output faults many kept same = absurd (omega arith)
   several_do load all (log ∷ next ∷ logs) wording r files input output faults many kept same = (kept, same)
+
+  -- and what is asked of logs of which JSON is written
+  pub as_json_do : (load : Option (List ℕ)) (all : Bool) (logs : List (Bor (List ℕ))) (wording : Wording) (r : Status) (files : D × D) (input : I × I) (output : O × O) (faults : F × F) → 1 ≤ length logs → files.1 ≡ files.0
+      → OnOk r (AreSame holds opened left ended load files.0 (texts_of logs) input)
+      → Does holds unreadable written unwritten unwritable opened unopenable left unread ended taken unput said unsaid explained (check load all true (texts_of logs)) wording r files input output faults
+  as_json_do load all [] wording r files input output faults some kept same = absurd (omega arith)
+  as_json_do load all (log ∷ logs) wording r files input output faults some kept same = (kept, same)
 
 module _ {D I : Type 0} (holds : D → List ℕ → List ℕ → Type 0) (opened : I → List ℕ → I → Type 0)
     (left : I → Option (List ℕ)) (ended : I → Bool) where

@@ -35,7 +35,7 @@ unfolding asked
 live_alone = refl
 
 -- a value may stand after `=`
-attached : asked (codes "check" ∷ codes "--load=old" ∷ []) ≡ Some (check (Some (codes "old")) false [], ByTerminal)
+attached : asked (codes "check" ∷ codes "--load=old" ∷ []) ≡ Some (check (Some (codes "old")) false false [], ByTerminal)
 unfolding asked
 attached = refl
 
@@ -52,7 +52,7 @@ log_named : asked (codes "replay" ∷ codes "a.log" ∷ codes "--save" ∷ codes
 unfolding asked
 log_named = refl
 
-logs_named : asked (codes "check" ∷ codes "a.log" ∷ codes "-" ∷ codes "b.log" ∷ []) ≡ Some (check None false (codes "a.log" ∷ codes "-" ∷ codes "b.log" ∷ []), ByTerminal)
+logs_named : asked (codes "check" ∷ codes "a.log" ∷ codes "-" ∷ codes "b.log" ∷ []) ≡ Some (check None false false (codes "a.log" ∷ codes "-" ∷ codes "b.log" ∷ []), ByTerminal)
 unfolding asked
 logs_named = refl
 
@@ -79,9 +79,13 @@ unfolding asked
 json_summary_asked = refl
 
 -- a comparison that goes on after a difference, and lines that aren't cut
-all_asked : asked (codes "check" ∷ codes "--all" ∷ codes "a.log" ∷ []) ≡ Some (check None true (codes "a.log" ∷ []), ByTerminal)
+all_asked : asked (codes "check" ∷ codes "--all" ∷ codes "a.log" ∷ []) ≡ Some (check None true false (codes "a.log" ∷ []), ByTerminal)
 unfolding asked
 all_asked = refl
+
+check_as_json : asked (codes "check" ∷ codes "--json" ∷ codes "a.log" ∷ []) ≡ Some (check None false true (codes "a.log" ∷ []), ByTerminal)
+unfolding asked
+check_as_json = refl
 
 wide_asked : asked (codes "show" ∷ codes "--wide" ∷ codes "a.log" ∷ []) ≡ Some (show Lines true (Some (codes "a.log")), ByTerminal)
 unfolding asked
@@ -96,7 +100,7 @@ plain_asked : asked (codes "show" ∷ codes "a.log" ∷ codes "--plain" ∷ []) 
 unfolding asked
 plain_asked = refl
 
-both_asked : asked (codes "check" ∷ codes "--plain" ∷ codes "--explain" ∷ []) ≡ Some (check None false [], Fixed)
+both_asked : asked (codes "check" ∷ codes "--plain" ∷ codes "--explain" ∷ []) ≡ Some (check None false false [], Fixed)
 unfolding asked
 both_asked = refl
 

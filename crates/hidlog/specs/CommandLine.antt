@@ -71,7 +71,7 @@ word_for name.Show = codes "show"
 abbrev pub parameters_for : Name → List Parameter
 parameters_for name.Replay = Load ∷ Save ∷ Explain ∷ Plain ∷ Log ∷ []
 parameters_for name.Live = Load ∷ Save ∷ Explain ∷ Plain ∷ Log ∷ []
-parameters_for name.Check = Load ∷ All ∷ Explain ∷ Plain ∷ Logs ∷ []
+parameters_for name.Check = Load ∷ All ∷ JsonFlag ∷ Explain ∷ Plain ∷ Logs ∷ []
 parameters_for name.Quiet = Load ∷ Explain ∷ Plain ∷ Log ∷ []
 parameters_for name.Show = SummaryFlag ∷ JsonFlag ∷ Wide ∷ Explain ∷ Plain ∷ Log ∷ []
 
@@ -84,7 +84,7 @@ grammar = record {
   top = record (new_shape (codes "hidlog")) { has_version = true; subcommand_required = true; is_leaf = false };
   subs = command (codes "replay") (path_option (codes "load") ∷ path_option (codes "save") ∷ worded log_path)
       ∷ command (codes "live") (path_option (codes "load") ∷ path_option (codes "save") ∷ worded log_path)
-      ∷ command (codes "check") (path_option (codes "load") ∷ flag (codes "all") ∷ worded log_paths)
+      ∷ command (codes "check") (path_option (codes "load") ∷ flag (codes "all") ∷ flag (codes "json") ∷ worded log_paths)
       ∷ command (codes "quiet") (path_option (codes "load") ∷ worded log_path)
       ∷ command (codes "show") (flag (codes "summary") ∷ flag (codes "json") ∷ flag (codes "wide") ∷ worded log_path)
       ∷ [];
@@ -100,7 +100,7 @@ answers_to words = fault_of grammar words
 -- what words ask for, with the paths that they have
 pub data Ask : Type 0 where
   play : (command : LogCommand) (load save log : Option (List ℕ)) → Ask
-  check : (load : Option (List ℕ)) (all : Bool) (logs : List (List ℕ)) → Ask
+  check : (load : Option (List ℕ)) (all json : Bool) (logs : List (List ℕ)) → Ask
   show : (form : Form) (wide : Bool) (log : Option (List ℕ)) → Ask
 
 abbrev pub path_of : Option (Bor (List ℕ)) → Option (List ℕ)
@@ -112,7 +112,7 @@ texts_of words = map (λ word. word.now) words
 
 abbrev pub asks : Task → Ask
 asks (Play p) = play p.command (path_of p.load) (path_of p.save) (path_of p.log)
-asks (Check load all logs) = check (path_of load) all (texts_of logs.items)
+asks (Check load all json logs) = check (path_of load) all json (texts_of logs.items)
 asks (Show form wide log) = show form wide (path_of log)
 
 -- whether an option without a value was found
@@ -152,7 +152,7 @@ task_by name found =
     else if bytes_eq name (codes "live") then Some (play playing.Live (first_of (codes "load") found)
     (first_of (codes "save") found) (first_of (codes "log") found))
     else if bytes_eq name (codes "check") then Some (check (first_of (codes "load") found)
-    (is_set (codes "all") found) (logs_of found))
+    (is_set (codes "all") found) (is_set (codes "json") found) (logs_of found))
     else if bytes_eq name (codes "quiet") then Some (play playing.Quiet (first_of (codes "load") found) None
     (first_of (codes "log") found))
     else if bytes_eq name (codes "show") then Some (show (form_of found) (is_set (codes "wide") found)

@@ -1,5 +1,5 @@
 -- What each command does. A pair is the files, a source or a target before and after the call.
-use Rattle.std.specs.Prelude.{◌≡◌, ◌⊎◌, ℕ, Bool, true, false, List, [], ◌∷◌, Option, Some, None, Result, Err, MatchOption, MatchResult, IsSomeAnd, OnOk}
+use Rattle.std.specs.Prelude.{◌≡◌, ◌⊎◌, ℕ, Bool, true, false, List, [], ◌∷◌, Option, Some, None, Result, Err, MatchOption, MatchResult, IsSomeAnd, OnOk, codes}
 use Rattle.clap.specs.Words.{IsAmong}
 use Rattle.clap.specs.declared.error.kind.ErrorKind.{ErrorKind}
 use Rattle.clap.specs.declared.error.kind.ErrorKind.TheVariants.{OutOfMemory}
@@ -28,6 +28,11 @@ use Rattle.hidlog.specs.Several.{AreSame}
 abbrev pub looked_at : Command → Option (List ℕ) → Option (List ℕ)
 looked_at Live save = save
 looked_at _ save = None
+
+-- the logs that are compared: that on standard input where none is named
+abbrev pub or_input : List (List ℕ) → List (List ℕ)
+or_input [] = codes "-" ∷ []
+or_input (log ∷ logs) = log ∷ logs
 
 -- what is said of the files, of the log's source, of the target of the result and of that of the faults
 module _ {D I O F : Type 0} (holds : D → List ℕ → List ℕ → Type 0) (unreadable : D → List ℕ → Type 0)
@@ -83,16 +88,18 @@ module _ {D I O F : Type 0} (holds : D → List ℕ → List ℕ → Type 0) (un
   ShowsLog _ wording status files input output faults =
       (files.1 ≡ files.0) × OnOk status (IsWhole left ended unread unput input output × (faults.1 ≡ faults.0))
 
-  -- What is asked for is done. Of several logs each is compared, the files stay as they are, and the status is 0 only
-  -- where none differs.
+  -- What is asked for is done. Of several logs, and where the answer is JSON, each is compared, the files stay as they are,
+  -- and the status is 0 only where none differs.
   abbrev pub Does : Ask → Wording → Status → (D × D) → (I × I) → (O × O) → (F × F) → Type 0
   Does (play command load save log) wording status files input output faults =
       RunsCommand command load save log status files input output faults
-  Does (check load all []) wording status files input output faults =
+  Does (check load all true logs) wording status files input output faults =
+      (files.1 ≡ files.0) × OnOk status (AreSame holds opened left ended load files.0 (or_input logs) input)
+  Does (check load all false []) wording status files input output faults =
       RunsCommand Check load None None status files input output faults
-  Does (check load all (log ∷ [])) wording status files input output faults =
+  Does (check load all false (log ∷ [])) wording status files input output faults =
       RunsCommand Check load None (Some log) status files input output faults
-  Does (check load all (log ∷ next ∷ logs)) wording status files input output faults =
+  Does (check load all false (log ∷ next ∷ logs)) wording status files input output faults =
       (files.1 ≡ files.0) × OnOk status (AreSame holds opened left ended load files.0 (log ∷ next ∷ logs) input)
   Does (show form wide log) wording status files input output faults =
       Reads log (λ read. ShowsLog form wording status files read output faults) status files input output faults

@@ -35,10 +35,11 @@ pub enum Form {
 pub enum Task<'a> {
     /// `hidlog replay [--load F] [--save F] [FILE]`, the same with `live`, and `hidlog quiet [--load F] [FILE]`
     Play(Play<'a>),
-    /// `hidlog check [--load F] [--all] [FILE]..`
+    /// `hidlog check [--load F] [--all] [--json] [FILE]..`
     Check {
         load: Option<&'a str>,
         all: bool,
+        json: bool,
         logs: Vec<&'a str>,
     },
     /// `hidlog show [--summary] [--json] [--wide] [FILE]`
@@ -236,6 +237,7 @@ impl Name {
                 &[
                     Parameter::Load,
                     Parameter::All,
+                    Parameter::Json,
                     Parameter::Explain,
                     Parameter::Plain,
                     Parameter::Logs,
@@ -376,6 +378,7 @@ fn task_named<'a>(
         "check" => Ok(Some(Task::Check {
             load: options.get_str("load"),
             all: is_set(options, "all"),
+            json: is_set(options, "json"),
             logs: logs_in(alloc, options)?,
         })),
         "quiet" => Ok(Some(play_in(LogCommand::Quiet, options, None))),
@@ -426,6 +429,7 @@ fn plain_task<'a>(alloc: Global, program: &str, name: &str) -> Option<Task<'a>>
         "check" => Some(Task::Check {
             load: None,
             all: false,
+            json: false,
             logs: Vec::new(alloc),
         }),
         "quiet" => Some(plain_play(LogCommand::Quiet)),

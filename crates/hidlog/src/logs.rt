@@ -47,6 +47,9 @@ pub trait Logs: Source {
     fn again(&mut self) -> Option<Self::Again>
         ensures { Self.failed self.new ≡ Self.failed self.old };
 
+    /// Returns the log from its front once more, where it is a file.
+    fn reread(&self) -> Option<Self::Again>;
+
     /// Returns what was seen of the log so far.
     fn seen(&self) -> &Seen;
 }
@@ -321,18 +324,21 @@ impl<S: Opens> Logs for HostLog<'_, S> {
     }
 
     fn again(&mut self) -> Option<FromRead<BufReader<FromFront<S>>>> {
-        let (kept, rest) = match (&self.path, self.seen.take_kept()) {
-            (Some(path), _) => {
-                let stream = S::open(self.rt, path.as_str()).ok()?.0;
-                (Vec::new(self.rt.alloc()), Noting::new(stream))
-            }
-            (None, Some(kept)) => {
-                let spent = Noting::new(S::standard(self.rt));
-                (kept, mem::replace(&mut self.stream, spent))
-            }
-            (None, None) => return None,
-        };
+        if self.path.is_some() {
+            return self.reread();
+        }
+        let kept = self.seen.take_kept()?;
+        let spent = Noting::new(S::standard(self.rt));
+        let rest = mem::replace(&mut self.stream, spent);
         let reader = BufReader::new(self.rt.alloc(), Cursor::new(kept).chain(rest)).ok()?;
+        Some(FromRead::new(reader))
+    }
+
+    fn reread(&self) -> Option<FromRead<BufReader<FromFront<S>>>> {
+        let path = self.path.as_ref()?;
+        let stream = Noting::new(S::open(self.rt, path.as_str()).ok()?.0);
+        let none = Cursor::new(Vec::new(self.rt.alloc()));
+        let reader = BufReader::new(self.rt.alloc(), none.chain(stream)).ok()?;
         Some(FromRead::new(reader))
     }
 

@@ -13,6 +13,8 @@ mod escaped;
 mod files;
 mod logs;
 mod misfit;
+mod objects;
+mod pieces;
 mod process;
 mod program;
 mod progress;
@@ -35,9 +37,10 @@ use logs::{HostLog, Logs, ProcessLog};
 use misfit::first_reason;
 use process::{Reporting, no_memory, tell, words_of};
 use program::run;
-use remarks::{Remarks, Terminals, note};
+use remarks::{Remarks, Terminals};
 use screen::Screen;
 use session_log::{Target, ToWrite};
+use several::note_one;
 use std::alloc::Global;
 use std::io;
 use std::process::ExitCode;
@@ -59,19 +62,20 @@ fn more_of<D: Files, L: Logs, E: Target>(
 {
     let mut more = Vec::new(alloc);
     let mut target = ToWrite::new(&mut more);
-    if let Some(told) = faults.difference() {
+    let told = faults.difference();
+    if told.is_some() || remarks.ending.is_some() {
+        let told = told.unwrap_or(Told::new());
         say_differences(files, alloc, words, input, remarks, &told, &mut target);
     } else if remarks.explains {
-        say_why(alloc, input, remarks, faults, &mut target);
+        say_why(alloc, input, faults, &mut target);
     }
     more
 }
 
-/// Says why a line of the log is none or why reading it failed; and, where nothing is wrong, what may be.
+/// Says why a line of the log is none or why reading it failed.
 fn say_why<L: Logs, E: Target, T: Target>(
     alloc: Global,
     input: &L,
-    remarks: &Remarks,
     faults: &Faults<E>,
     target: &mut T,
 )
@@ -85,8 +89,6 @@ fn say_why<L: Logs, E: Target, T: Target>(
         if let Some(error) = input.failure() {
             say_failure(alloc, input.name(), error, target);
         }
-    } else if let Some(ending) = &remarks.ending {
-        note(target, alloc, "hidlog", input.seen(), ending);
     }
 }
 
@@ -99,7 +101,7 @@ fn say_failure<T: Target>(alloc: Global, name: &str, error: &io::Error, target: 
     }
 }
 
-/// Says what differs in a log that isn't one of several.
+/// Says what differs in a log that isn't one of several; explained, where nothing does, what may be wrong all the same.
 fn say_differences<D: Files, L: Logs, T: Target>(
     files: &D,
     alloc: Global,
@@ -118,17 +120,12 @@ fn say_differences<D: Files, L: Logs, T: Target>(
     else {
         return;
     };
-    let wish = Wish {
-        reporting: Reporting {
-            alloc,
-            explains: remarks.explains,
-        },
-        name: "hidlog",
-        load,
-        is_all: all,
-        width: remarks.width,
-    };
-    tell_differences(files, &wish, input.again(), told.as_slice(), target);
+    let explains = remarks.explains;
+    let wish = Wish::of(Reporting { alloc, explains }, load, all, remarks.width);
+    match &remarks.ending {
+        Some(ending) => note_one(files, &wish, input, ending, target),
+        None => tell_differences(files, &wish, input.again(), told.as_slice(), target),
+    }
 }
 
 /// Runs the program on these words, and says more of what came of it. An error holds the exit status.
@@ -173,7 +170,7 @@ fn play_here<E: Target>(rt: &HostRuntime, words: &[&str], faults: &mut Faults<E>
 {
     let alloc = rt.alloc();
     let terminals = terminals_of(rt);
-    let is_check = words.get(1).is_some_and(|word| *word == "check");
+    let is_check = matches!(words.get(1), Some(word) if *word == "check");
     let audience = audience_of(rt, words, terminals, is_check);
     let made: io::Result<ProcessLog<'_>> = HostLog::new(rt, is_check, audience);
     let Ok(mut input) = made else {

@@ -1,23 +1,21 @@
 //! Why a line isn't a log line.
+use crate::pieces::{after, count_in_front, is_line_feed};
 use session_log::read_line;
 use std::alloc::{AllocError, Global};
 
 /// Returns how many bytes in front are hexadecimal digits, at most `most`.
 fn hex_len(field: &[u8], most: usize) -> usize {
-    field
-        .iter()
-        .take(most)
-        .take_while(|byte| matches!(**byte, b'0'..=b'9' | b'a'..=b'f' | b'A'..=b'F'))
-        .count()
+    count_in_front(field, b"0123456789abcdefABCDEF").min(most)
 }
 
 /// Returns how many bytes in front two texts share.
 fn shared_len(field: &[u8], word: &[u8]) -> usize {
-    field
-        .iter()
-        .zip(word.iter())
-        .take_while(|(a, b)| **a == **b)
-        .count()
+    for (place, byte) in word.iter().enumerate() {
+        if field.get(place) != Some(byte) {
+            return place;
+        }
+    }
+    word.len()
 }
 
 /// Returns how many bytes in front are the digits of a moment.
@@ -30,11 +28,13 @@ fn moment_len(fields: &[u8]) -> usize {
         if place > 0 && number == 0 {
             return place;
         }
-        let longer = number.checked_mul(10);
-        match longer.and_then(|n| n.checked_add(u64::from(digit))) {
-            Some(longer) => number = longer,
-            None => return place,
-        }
+        let Some(longer) = number.checked_mul(10) else {
+            return place;
+        };
+        let Some(longer) = longer.checked_add(u64::from(digit)) else {
+            return place;
+        };
+        number = longer;
     }
     fields.len()
 }
@@ -54,7 +54,7 @@ fn key_len(field: &[u8]) -> usize {
     }
     let mut len = id;
     for _ in 0..2 {
-        let rest = field.split_at_checked(len).map_or(field, |parts| parts.1);
+        let rest = after(field, len);
         let digits = match rest {
             [b' ', digits @ ..] => hex_len(digits, 64),
             _ => return len,
@@ -129,7 +129,7 @@ fn reason(alloc: Global, line: &[u8]) -> Result<String, AllocError> {
 
 /// Returns why the first line that is none of a log isn't one, if there is such a line.
 pub fn first_reason(alloc: Global, lines: &[u8]) -> Option<String> {
-    for line in lines.split(|byte| *byte == b'\n') {
+    for line in lines.split(is_line_feed) {
         if line.len() < 256 && read_line(line).is_none() {
             return reason(alloc, line).ok();
         }

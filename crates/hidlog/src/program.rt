@@ -1,5 +1,5 @@
 //! The program over any source and targets.
-ghost use Rattle.std.specs.Prelude.{◌≡◌, ◌<◌, ◌-◌, ◌^◌, ◌⊎◌, ◌∷◌, ℕ, List, [], false, None, Some, Result, IfErr, IsSomeAnd, MatchOption, OnOk, OnErr, codes, option_and_then};
+ghost use Rattle.std.specs.Prelude.{◌≡◌, ◌<◌, ◌-◌, ◌^◌, ◌⊎◌, ◌∷◌, ℕ, List, [], false, true, None, Some, Result, IfErr, IsSomeAnd, MatchOption, OnOk, OnErr, codes, option_and_then};
 ghost use Rattle.clap.specs.Words.{kind_of};
 ghost use Rattle.session_log.specs.Command.{IsCounted, start_with, status_of};
 ghost use Rattle.session_log.specs.Ending.{ending_of};
@@ -14,6 +14,7 @@ ghost use Rattle.hidlog.specs.Commands.{Answers, Does, RunsCommand, wording_for}
 
 use crate::command_line::{Asked, Form, Task, task_of};
 use crate::commands::{Play, play_on};
+use crate::differing::Wish;
 use crate::escaped::escaped_lines;
 use crate::files::Files;
 use crate::logs::Logs;
@@ -319,9 +320,7 @@ where
 /// Compares the logs at these paths, each on a session of its own. Of several it is said which is meant.
 fn check_logs<'a, D, L, O, E>(
     files: &mut D,
-    reporting: Reporting,
-    load: Option<&'a str>,
-    all: bool,
+    wish: &Wish<'a>,
     logs: &[&'a str],
     input: &mut L,
     output: &mut O,
@@ -338,13 +337,14 @@ where
     requires tells { E.failed faults.old < 2 ^ 64 - 1 }
     ensures status { IfErr result (λ code. (code ≡ 1) ⊎ (code ≡ 2)) }
     ensures does { Does D.holds D.unreadable D.written D.unwritten D.unwritable L.opened L.unopenable L.left L.failed L.ended
-        O.taken O.failed E.taken E.failed reporting.explains
-        (check (path_of load.entry) all (texts_of logs.now)) fixed result
+        O.taken O.failed E.taken E.failed wish.now.reporting.explains
+        (check (path_of wish.now.load) wish.now.is_all false (texts_of logs.now)) fixed result
         (files.old, files.new) (input.old, input.new) (output.old, output.new) (faults.old, faults.new) }
 {
+    let reporting = wish.reporting;
     let play = Play {
         command: Command::Check,
-        load,
+        load: wish.load,
         save: None,
         log: None,
     };
@@ -357,9 +357,38 @@ where
             };
             play_log(&named, files, reporting, input, output, remarks, faults)
         }
-        _ => check_each(
-            files, reporting, load, all, logs, input, output, remarks, faults,
-        ),
+        _ => check_each(files, wish, logs, input, output, remarks, faults),
+    }
+}
+
+/// Compares the logs at these paths, or that on standard input where there is none, and says as JSON what differs.
+fn check_as_json<'a, D, L, O, E>(
+    files: &mut D,
+    wish: &Wish<'a>,
+    logs: &[&'a str],
+    input: &mut L,
+    output: &mut O,
+    remarks: &mut Remarks,
+    faults: &mut E,
+) -> Result<(), u8>
+where
+    D: Files,
+    L: Logs,
+    O: Target,
+    E: Target,
+    ensures status { IfErr result (λ code. (code ≡ 1) ⊎ (code ≡ 2)) }
+    ensures does { Does D.holds D.unreadable D.written D.unwritten D.unwritable L.opened L.unopenable L.left L.failed L.ended
+        O.taken O.failed E.taken E.failed wish.now.reporting.explains
+        (check (path_of wish.now.load) wish.now.is_all true (texts_of logs.now)) fixed result
+        (files.old, files.new) (input.old, input.new) (output.old, output.new) (faults.old, faults.new) }
+{
+    let wish = Wish {
+        is_json: true,
+        ..*wish
+    };
+    match logs {
+        [] => check_each(files, &wish, &["-"], input, output, remarks, faults),
+        _ => check_each(files, &wish, logs, input, output, remarks, faults),
     }
 }
 
@@ -399,10 +428,18 @@ where
     let reporting = Reporting { alloc, explains };
     match asked.task {
         Task::Play(play) => play_log(&play, files, reporting, input, output, remarks, faults),
-        Task::Check { load, all, logs } => {
-            check_logs(
-                files, reporting, load, all, &logs, input, output, remarks, faults,
-            )
+        Task::Check {
+            load,
+            all,
+            json,
+            logs,
+        } => {
+            let wish = Wish::of(reporting, load, all, remarks.width);
+            if json {
+                check_as_json(files, &wish, &logs, input, output, remarks, faults)
+            } else {
+                check_logs(files, &wish, &logs, input, output, remarks, faults)
+            }
         }
         // Whether lines are whole is a matter of the output.
         Task::Show { form, wide: _, log } => {

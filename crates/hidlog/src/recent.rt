@@ -3,6 +3,7 @@ ghost use Rattle.std.specs.Prelude.{◌≡◌, ◌<◌, ◌≤◌, ◌+◌, ◌�
 ghost use Rattle.std.specs.Io.KnownBytes.{Consumes, Keeps, IsAtEnd, prepend_known};
 ghost use Rattle.hidlog.specs.Streams.{unread};
 
+use crate::pieces::is_line_feed;
 use std::alloc::{AllocError, Global};
 use std::io::{self, Read};
 
@@ -110,7 +111,7 @@ impl Recent {
         if !self.forgot {
             return read;
         }
-        match read.iter().position(|byte| *byte == b'\n') {
+        match read.iter().position(is_line_feed) {
             Some(end) => read.split_at(end).1,
             None => &[],
         }

@@ -1,7 +1,5 @@
 //! What is said beside the result of `check`.
-ghost use Rattle.std.specs.Prelude.{◌<◌, ◌-◌, ◌^◌};
-
-use crate::process::tell;
+use crate::differing::{Wish, say_note};
 use crate::seen::Seen;
 use session_log::{CAPACITY, Command, Target};
 use session_show::Awaited;
@@ -16,7 +14,12 @@ pub struct Ending {
     awaited: Option<Awaited>,
     /// How many bytes of an open message it holds.
     held: u16,
+    /// Whether it served a request, so that something may have been signed.
+    has_served: bool,
 }
+
+/// The most bytes of a log that is read once more to see whether what was signed is what the key asks for.
+const READ_AGAIN_AT_MOST: u64 = 1 << 26;
 
 impl Ending {
     /// Returns that of a session.
@@ -26,7 +29,13 @@ impl Ending {
         Ending {
             awaited,
             held: session.held(),
+            has_served: session.meters().requests > 0,
         }
+    }
+
+    /// Returns whether the log is to be read once more to see whether what was signed is what the key asks for.
+    pub fn is_read_again(&self, seen: &Seen) -> bool {
+        self.has_served && seen.len() <= READ_AGAIN_AT_MOST
     }
 }
 
@@ -59,44 +68,39 @@ impl Remarks {
     }
 }
 
-/// Returns what may be wrong with a log in which nothing differs: a line for each, with this name in front.
-fn notes(alloc: Global, name: &str, seen: &Seen, ending: &Ending) -> Result<String, AllocError> {
+/// Returns what may be wrong with a log in which nothing differs: a line for each.
+fn notes(alloc: Global, seen: &Seen, ending: &Ending) -> Result<String, AllocError> {
     let mut text = String::new(alloc);
     if seen.len() == 0 {
-        writeln!(text, "{name}: note: the log is empty")?;
+        writeln!(text, "the log is empty")?;
     } else if !seen.has_input() {
-        writeln!(text, "{name}: note: the log has no inputs")?;
+        writeln!(text, "the log has no inputs")?;
     }
     if !seen.ends_line() {
         writeln!(
             text,
-            "{name}: note: the last line has no line feed, so the log may be cut off"
+            "the last line has no line feed, so the log may be cut off"
         )?;
     }
     if let Some(awaited) = ending.awaited {
         let awaited = awaited.name();
-        writeln!(
-            text,
-            "{name}: note: the log ends while the key waits for {awaited}"
-        )?;
+        writeln!(text, "the log ends while the key waits for {awaited}")?;
     }
     if ending.held > 0 {
         let held = ending.held;
         writeln!(
             text,
-            "{name}: note: the log ends inside a message, after {held} bytes of it"
+            "the log ends inside a message, after {held} bytes of it"
         )?;
     }
     Ok(text)
 }
 
-/// Writes what may be wrong with a log in which nothing differs. Where memory is refused, nothing is written.
-pub fn note<E: Target>(faults: &mut E, alloc: Global, name: &str, seen: &Seen, ending: &Ending)
-    requires { E.failed faults.old < 2 ^ 64 - 1 }
-{
-    if let Ok(text) = notes(alloc, name, seen, ending) {
-        if !text.is_empty() {
-            tell(faults, text.as_bytes());
+/// Says what may be wrong with a log in which nothing differs. Where memory is refused, nothing is said.
+pub fn note<E: Target>(wish: &Wish<'_>, seen: &Seen, ending: &Ending, faults: &mut E) {
+    if let Ok(notes) = notes(wish.reporting.alloc, seen, ending) {
+        for text in notes.as_str().lines() {
+            say_note(wish, text, faults);
         }
     }
 }

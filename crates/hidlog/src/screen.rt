@@ -1,6 +1,7 @@
 //! A log that is shown at a terminal: lines that are cut at its width, and in colours.
 ghost use Rattle.std.specs.Prelude.{◌≡◌, None, is_none, if◌then◌else◌};
 
+use crate::pieces::{after, digits_in, has_part, is_line_feed};
 use session_log::{Failed, Target, put_all};
 use std::alloc::{AllocError, Global};
 use std::io;
@@ -56,19 +57,19 @@ fn cut_at(line: &[u8], width: usize) -> Option<usize> {
 
 /// Writes a line without its line feed, or what fits of it and two dots.
 fn put_line(out: &mut Vec<u8>, line: &[u8], width: Option<usize>) -> Result<(), AllocError> {
-    match width.and_then(|width| cut_at(line, width)) {
-        None => out.extend_from_slice(line),
-        Some(end) => {
-            out.extend_from_slice(line.split_at_checked(end).map_or(line, |parts| parts.0))?;
-            out.extend_from_slice(b"..")
-        }
+    if let Some(width) = width
+        && let Some(end) = cut_at(line, width)
+    {
+        out.extend_from_slice(line.get(..end).unwrap_or(line))?;
+        return out.extend_from_slice(b"..");
     }
+    out.extend_from_slice(line)
 }
 
 /// Returns lines that end with line feeds, cut at a width.
 pub fn put_cut(alloc: Global, text: &[u8], width: Option<usize>) -> io::Result<Vec<u8>> {
     let mut out = Vec::new(alloc);
-    for line in text.split(|byte| *byte == b'\n') {
+    for line in text.split(is_line_feed) {
         if !line.is_empty() {
             put_line(&mut out, line, width)?;
             out.extend_from_slice(b"\n")?;
@@ -77,24 +78,14 @@ pub fn put_cut(alloc: Global, text: &[u8], width: Option<usize>) -> io::Result<V
     Ok(out)
 }
 
-/// Returns whether a line names an error.
-fn names_error(line: &[u8]) -> bool {
-    line.windows(4).any(|part| part == b"ERR_".as_slice())
-}
-
-/// Returns whether what comes after the number of a line is an ERROR of the key, ` < 00000001 ERROR 1 06`.
-fn is_error(text: &[u8]) -> bool {
-    text.split_at_checked(12)
-        .is_some_and(|parts| parts.1.starts_with(b"ERROR "))
-}
-
 /// Returns the colour of a line that begins with so many digits.
 fn colour_of(line: &[u8], digits: usize) -> &'static [u8] {
-    let text = line.split_at_checked(digits).map_or(line, |parts| parts.1);
+    let text = after(line, digits);
     match text {
-        _ if digits == 0 && names_error(text) => RED,
+        _ if digits == 0 && has_part(text, b"ERR_") => RED,
         _ if digits == 0 => b"",
-        [b' ', b'<', ..] if is_error(text) => RED,
+        // An ERROR of the key, ` < 00000001 ERROR 1 06`.
+        [b' ', b'<', ..] if after(text, 12).starts_with(b"ERROR ") => RED,
         [b' ', b'<', ..] => GREEN,
         [b' ', b'>', ..] => CYAN,
         [b' ', b'p' | b'k' | b's', ..] => YELLOW,
@@ -107,7 +98,7 @@ fn colour_of(line: &[u8], digits: usize) -> &'static [u8] {
 
 /// Writes a line as the style has it. Its number ends in a column of its own.
 fn put_styled(out: &mut Vec<u8>, line: &[u8], style: &Style) -> Result<(), AllocError> {
-    let digits = line.iter().take_while(|byte| byte.is_ascii_digit()).count();
+    let digits = digits_in(line);
     let colour = if style.has_colours {
         colour_of(line, digits)
     } else {
@@ -122,7 +113,10 @@ fn put_styled(out: &mut Vec<u8>, line: &[u8], style: &Style) -> Result<(), Alloc
     for _ in 0..pad {
         out.extend_from_slice(b" ")?;
     }
-    let width = style.width.map(|width| width.saturating_sub(pad));
+    let width = match style.width {
+        Some(width) => Some(width.saturating_sub(pad)),
+        None => None,
+    };
     put_line(out, line, width)?;
     if !colour.is_empty() {
         out.extend_from_slice(PLAIN)?;
@@ -134,7 +128,7 @@ fn put_styled(out: &mut Vec<u8>, line: &[u8], style: &Style) -> Result<(), Alloc
 fn styled(line: &mut Vec<u8>, style: &Style, piece: &[u8]) -> Result<Vec<u8>, AllocError> {
     let mut out = Vec::new(*line.allocator());
     let mut is_first = true;
-    for part in piece.split(|byte| *byte == b'\n') {
+    for part in piece.split(is_line_feed) {
         if !is_first {
             put_styled(&mut out, line, style)?;
             line.clear();

@@ -9,9 +9,10 @@ use crate::escaped::Escaped;
 use crate::files::Files;
 use crate::logs::Logs;
 use crate::misfit::first_reason;
+use crate::objects::{put_fault, put_same};
 use crate::process::{Reporting, WRITING_FAILED, tell};
 use crate::program::play_log;
-use crate::remarks::{Remarks, note};
+use crate::remarks::{Ending, Remarks, note};
 use crate::streams::is_difference;
 use session_log::{Command, Failed, Target, ToWrite, put_all};
 use std::alloc::Global;
@@ -119,11 +120,8 @@ where
         &mut ToWrite::new(&mut told),
     );
     if ended.is_err() {
-        tell_of(faults, wish.reporting, wish.name, input, &told);
-        if is_difference(&told) {
-            tell_differences(files, wish, input.again(), &told, faults);
-        }
-    } else if put_about(output, wish.name, &same).is_err() {
+        say_wrong(files, wish, input, &told, output, faults);
+    } else if say_same(output, wish, &same).is_err() {
         if faults.failures() < u64::MAX {
             tell(faults, WRITING_FAILED);
         }
@@ -132,19 +130,69 @@ where
     ended
 }
 
-/// Writes what may be wrong with a log in which nothing differs, where that is explained.
-fn note_one<L: Logs, E: Target>(
-    reporting: Reporting,
-    path: &str,
+/// Writes that nothing differs in a log, by the text that says it.
+fn say_same<O: Target>(output: &mut O, wish: &Wish<'_>, same: &[u8]) -> Result<(), Failed>
+    requires { O.failed output.old < 2 ^ 64 - 1 }
+{
+    if !wish.is_json {
+        return put_about(output, wish.name, same);
+    }
+    let mut object = Vec::new(wish.reporting.alloc);
+    match put_same(&mut object, wish, same) {
+        Ok(()) => put_all(output, &object),
+        Err(_) => Err(Failed),
+    }
+}
+
+/// Says what is wrong with a log by the text that says it, and what differs; as objects, where these are wished for.
+fn say_wrong<D: Files, L: Logs, O: Target, E: Target>(
+    files: &D,
+    wish: &Wish<'_>,
+    input: &mut L,
+    told: &[u8],
+    output: &mut O,
+    faults: &mut E,
+)
+    requires { E.failed faults.old < 2 ^ 64 - 1 }
+{
+    tell_of(faults, wish.reporting, wish.name, input, told);
+    let is_difference = is_difference(told);
+    if !wish.is_json {
+        if is_difference {
+            tell_differences(files, wish, input.again(), told, faults);
+        }
+        return;
+    }
+    if is_difference {
+        tell_differences(files, wish, input.again(), told, output);
+    }
+    let mut object = Vec::new(wish.reporting.alloc);
+    if put_fault(&mut object, wish, told).is_ok() && output.failures() < u64::MAX {
+        tell(output, &object);
+    }
+    if output.failures() > 0 && faults.failures() < u64::MAX {
+        tell(faults, WRITING_FAILED);
+    }
+}
+
+/// Says what may be wrong with a log in which nothing differs, where that is explained or JSON is wished for.
+pub fn note_one<D: Files, L: Logs, E: Target>(
+    files: &D,
+    wish: &Wish<'_>,
     input: &L,
-    remarks: &mut Remarks,
+    ending: &Ending,
     faults: &mut E,
 ) {
-    if let Some(ending) = remarks.ending.take()
-        && reporting.explains
-        && faults.failures() < u64::MAX
-    {
-        note(faults, reporting.alloc, path, input.seen(), &ending);
+    if !wish.reporting.explains && !wish.is_json {
+        return;
+    }
+    note(wish, input.seen(), ending, faults);
+    if ending.is_read_again(input.seen()) {
+        let same = Wish {
+            is_same: true,
+            ..*wish
+        };
+        tell_differences(files, &same, input.reread(), b"", faults);
     }
 }
 
@@ -152,9 +200,7 @@ fn note_one<L: Logs, E: Target>(
 /// differs or has a fault. After a snapshot that can't be loaded no further log is read.
 pub fn check_each<D, L, O, E>(
     files: &mut D,
-    reporting: Reporting,
-    load: Option<&str>,
-    is_all: bool,
+    wished: &Wish<'_>,
     paths: &[&str],
     input: &mut L,
     output: &mut O,
@@ -168,7 +214,7 @@ where
     E: Target,
     ensures status { IfErr result (λ code. (code ≡ 1) ⊎ (code ≡ 2)) }
     ensures kept { files.new ≡ files.old }
-    ensures same { OnOk result (AreSame D.holds L.opened L.left L.ended (path_of load.entry) files.old (texts_of paths.now)
+    ensures same { OnOk result (AreSame D.holds L.opened L.left L.ended (path_of wished.now.load) files.old (texts_of paths.now)
         (input.old, input.new)) }
 {
     let mut has_failed = false;
@@ -177,17 +223,25 @@ where
         if is_spent || output.failures() > 0 {
             return Err(1);
         }
-        let shown = format!(in reporting.alloc; "{}", Escaped(path)).ok();
-        let name = shown.as_ref().map_or("a log", |text| text.as_str());
+        let shown = format!(in wished.reporting.alloc; "{}", Escaped(path)).ok();
+        let name = match &shown {
+            Some(text) => text.as_str(),
+            None => "a log",
+        };
+        let is_one = paths.len() == 1;
         let wish = Wish {
-            reporting,
-            name,
-            load,
-            is_all,
-            width: remarks.width,
+            name: if is_one { wished.name } else { name },
+            path: if is_one { None } else { Some(*path) },
+            ..*wished
         };
         let one = check_one(files, &wish, path, input, output, remarks, faults);
-        note_one(reporting, name, input, remarks, faults);
+        if let Some(ending) = remarks.ending.take() {
+            if wish.is_json {
+                note_one(files, &wish, input, &ending, output);
+            } else {
+                note_one(files, &wish, input, &ending, faults);
+            }
+        }
         has_failed = has_failed || one.is_err();
         if one == Err(2) {
             return Err(2);

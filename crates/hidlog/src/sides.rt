@@ -1,4 +1,5 @@
 //! Two packets beside one another, in `show`'s words.
+use crate::pieces::{after, count_in_front, digits_in, is_line_feed};
 use hid_packet::command::CBOR;
 use hid_packet::{Packet, View};
 use session_show::Difference;
@@ -18,16 +19,15 @@ const LEVELS: usize = 3;
 
 /// Returns a line without the number at its front.
 fn without_number(line: &[u8]) -> &[u8] {
-    let digits = line.iter().take_while(|byte| byte.is_ascii_digit()).count();
-    line.split_at_checked(digits).map_or(line, |parts| parts.1)
+    after(line, digits_in(line))
 }
 
 /// Writes the lines of one side which the other one hasn't at their place, and always that of the packet.
 fn put_side(out: &mut Vec<u8>, own: &[u8], other: &[u8]) -> io::Result<()> {
-    let mut others = other.split(|byte| *byte == b'\n');
+    let mut others = other.split(is_line_feed);
     let mut is_packet = true;
-    for line in own.split(|byte| *byte == b'\n') {
-        let is_shared = others.next().is_some_and(|beside| beside == line);
+    for line in own.split(is_line_feed) {
+        let is_shared = others.next() == Some(line);
         if is_packet || !is_shared && !line.is_empty() {
             let front = if is_packet { "    " } else { "   " };
             out.extend_from_slice(front.as_bytes())?;
@@ -85,7 +85,7 @@ pub fn put_first(
     put_row(out, "key", &other, from)?;
     let column = 3 * (at % ROW) + 8;
     writeln!(out, "{:column$}^^", "")?;
-    put_members(out, logged, sent)
+    put_path(out, members_of(logged, sent).as_slice())
 }
 
 /// Returns what a byte of a packet is, where it isn't data.
@@ -115,7 +115,7 @@ fn level_of(line: &[u8]) -> Option<usize> {
     if text.len() == line.len() {
         return None;
     }
-    match text.iter().take_while(|byte| **byte == b' ').count() {
+    match count_in_front(text, b" ") {
         5 => Some(0),
         7 => Some(1),
         9 => Some(2),
@@ -126,22 +126,21 @@ fn level_of(line: &[u8]) -> Option<usize> {
 /// Returns the name of a member, by its line: `2 authData`, `signCount`.
 fn name_in(line: &[u8]) -> &[u8] {
     let text = without_number(line);
-    let spaces = text.iter().take_while(|byte| **byte == b' ').count();
-    let text = text.split_at_checked(spaces).map_or(text, |parts| parts.1);
+    let text = after(text, count_in_front(text, b" "));
     let is_keyed = matches!(text, [b'0'..=b'9' | b'-' | b'"' | b'h', ..]);
     let end = text
         .iter()
         .position(|byte| *byte == b':' || *byte == b' ' && !is_keyed);
     let end = end.unwrap_or(text.len());
-    text.split_at_checked(end).map_or(text, |parts| parts.0)
+    text.get(..end).unwrap_or(text)
 }
 
-/// Writes in which members two messages differ first.
-fn put_members(out: &mut Vec<u8>, logged: &[u8], sent: &[u8]) -> io::Result<()> {
+/// Returns the names of the members in which two messages differ first, that of the outermost first.
+pub fn members_of<'a>(logged: &'a [u8], sent: &[u8]) -> [&'a [u8]; LEVELS] {
     let mut names: [&[u8]; LEVELS] = [b""; LEVELS];
     let mut depth = 0;
-    let mut others = sent.split(|byte| *byte == b'\n');
-    for line in logged.split(|byte| *byte == b'\n') {
+    let mut others = sent.split(is_line_feed);
+    for line in logged.split(is_line_feed) {
         let Some(other) = others.next() else {
             break;
         };
@@ -157,7 +156,7 @@ fn put_members(out: &mut Vec<u8>, logged: &[u8], sent: &[u8]) -> io::Result<()> 
         names[level] = name_in(line);
         depth = level + 1;
     }
-    put_path(out, names.as_slice())
+    names
 }
 
 /// Writes the names of members, that of the innermost first.

@@ -1,6 +1,7 @@
 //! The streams of the program's process, with what is known of them when they fail.
 ghost use Rattle.std.specs.Prelude.{◌≡◌};
 
+use crate::pieces::has_part;
 use arrayvec::ArrayVec;
 use session_log::{Failed, Target};
 use std::io::{self, Read, Write};
@@ -126,8 +127,7 @@ impl<E: Target> Faults<E> {
 
 /// Returns whether a text is that of a difference.
 pub fn is_difference(text: &[u8]) -> bool {
-    let differs: &[u8] = b": differs at packet ";
-    text.windows(differs.len()).any(|part| part == differs)
+    has_part(text, b": differs at packet ")
 }
 
 impl<E: Target> Target for Faults<E> {

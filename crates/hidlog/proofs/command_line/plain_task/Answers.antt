@@ -12,7 +12,7 @@ returns-in-live c = rw c.in-live.is (plain_live c.args.program.now ∙ ap (λ as
 
 pub returns-in-check : goal.returns-in-check
 returns-in-check c =
-    rw c.in-check.is (plain_check c.args.program.now ∙ ap (λ logs. Some (check None false (texts_of logs), ByTerminal)) (sym c.new.ensures.items))
+    rw c.in-check.is (plain_check c.args.program.now ∙ ap (λ logs. Some (check None false false (texts_of logs), ByTerminal)) (sym c.new.ensures.items))
 
 pub returns-in-quiet : goal.returns-in-quiet
 returns-in-quiet c = rw c.in-quiet.is (plain_quiet c.args.program.now ∙ ap (λ ask. Some (ask, ByTerminal)) (sym c.plain_play-in-quiet.ensures))

@@ -3,7 +3,7 @@ use Rattle.clap.specs.Matches.{found_of}
 use Rattle.clap.specs.Walk.{first_of, rows_of}
 use Rattle.hidlog.specs.CommandLine.{play, check, show, path_of, task_by}
 use Rattle.session_log.specs.declared.command.Command.TheVariants.{Replay, Live}
-use Rattle.hidlog.proofs.CommandLine.{path_is, three_parts}
+use Rattle.hidlog.proofs.CommandLine.{path_is, three_parts, four_parts}
 use Rattle.hidlog.proofs.command_line.task_named.Goals as goal
 
 pub returns-in-replay : goal.returns-in-replay
@@ -23,9 +23,10 @@ returns-in-live c =
 pub returns-in_ok-logs_in-in-check : goal.returns-in_ok-logs_in-in-check
 returns-in_ok-logs_in-in-check c =
     let found = found_of c.args.options.now in
-    three_parts (λ load all logs. Some (check load all logs))
+    four_parts (λ load all json logs. Some (check load all json logs))
     (path_is found (codes "load") (path_of c.get_str.result) c.get_str.ensures)
     c.is_set.ensures
+    c.is_set-in-check.ensures
     c.in_ok-logs_in-in-check.ensures
     ∙ sym (ap (λ n. task_by n (rows_of found)) c.in-check.is)
 

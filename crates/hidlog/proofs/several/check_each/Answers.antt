@@ -10,7 +10,7 @@ loop-path-preserved g c = (
   λ none. elim c.if-has_failed.branch [
     | then-has_failed w ↦ cc
     | else-has_failed w ↦
-        next_same g.D.Files.holds g.L.Logs.opened g.L.Source.left g.L.Source.ended (path_of c.args.load) c.args.files.now c.loop-path.files c.args.paths.now c.loop-path.path-index _
+        next_same g.D.Files.holds g.L.Logs.opened g.L.Source.left g.L.Source.ended (path_of c.args.wished.now.load) c.args.files.now c.loop-path.files c.args.paths.now c.loop-path.path-index _
         c.check_one-one.result c.args.input.now c.loop-path.input c.check_one-one.new.input c.loop-path-test.true c.loop-path.invariant.0 (c.loop-path.invariant.1 w.if-has_failed.false)
         (sym w.is_err-has_failed.ensures.value ∙ (sym w.has_failed-is ∙ none)) c.check_one-one.ensures.same
   ],
