@@ -22,6 +22,7 @@ nothing failed it names the package, and the status is 3.
 
 from __future__ import annotations
 
+import contextlib
 import os
 import re
 import shutil
@@ -175,24 +176,28 @@ def environment(installed: Path) -> dict[str, str]:
 
 
 def run(command: str, folder: Path, installed: Path | None = None) -> tuple[int, str]:
-    """Runs a command in a folder, and returns its status and all that it printed. Ends it with its children in time."""
-    with subprocess.Popen(
-        ["bash", "-c", command],
-        cwd=folder,
-        env=environment(installed) if installed else None,
-        stdin=subprocess.DEVNULL,
-        stdout=subprocess.PIPE,
-        stderr=subprocess.STDOUT,
-        text=True,
-        errors="replace",
-        start_new_session=True,
-    ) as started:
+    """Runs a command in a folder, and returns its status and all that it printed. What it leaves running is ended."""
+    with (
+        tempfile.TemporaryFile() as printed,
+        subprocess.Popen(
+            ["bash", "-c", command],
+            cwd=folder,
+            env=environment(installed) if installed else None,
+            stdin=subprocess.DEVNULL,
+            stdout=printed,
+            stderr=subprocess.STDOUT,
+            start_new_session=True,
+        ) as started,
+    ):
         try:
-            printed, _ = started.communicate(timeout=SECONDS)
+            status = started.wait(timeout=SECONDS)
         except subprocess.TimeoutExpired:
-            os.killpg(started.pid, signal.SIGKILL)
-            printed = f"not ended after {SECONDS} seconds"
-    return started.returncode, printed
+            return MISSING + 1, f"not ended after {SECONDS} seconds"
+        finally:
+            with contextlib.suppress(ProcessLookupError):
+                os.killpg(started.pid, signal.SIGKILL)
+        printed.seek(0)
+        return status, printed.read().decode("utf-8", "replace")
 
 
 @dataclass

@@ -408,7 +408,6 @@ class Needs:
             if it not in PAGE_LAWS
         }
 
-
     @staticmethod
     def more_than(main: Walk, law: str, laws: dict[str, str]) -> int:
         """Returns how many more definitions the first page had without a law."""
