@@ -1,7 +1,8 @@
 // Registers a credential on a key that is held, in the WebAssembly module, and signs in so many times: what bench/key.c
 // does. What is timed is the calls alone.
 //
-//     node bench/key.mjs MODULE COUNT     writes seconds for the first and for the last thousand sign-ins
+//     node bench/key.mjs MODULE COUNT     writes seconds for the first and for the last thousand sign-ins, the least and
+//                                         the median of all thousands (beside other work: chrt -f 1 node ..)
 import { readFileSync } from "node:fs";
 
 const [path, count] = process.argv.slice(2);
@@ -84,7 +85,9 @@ const timed = (from, to) => {
     return ((performance.now() - begun) / 1000).toFixed(6);
 };
 
-const signIns = Number(count);
-const first = timed(0, 1000);
-timed(1000, signIns - 1000);
-console.log(`${signIns} sign-ins: the first 1000 took ${first} s, the last 1000 ${timed(signIns - 1000, signIns)} s`);
+const THOUSAND = 1000;
+const seconds = Array.from({ length: Math.ceil(Number(count) / THOUSAND) }, (_, at) =>
+    timed(at * THOUSAND, (at + 1) * THOUSAND));
+const sorted = [...seconds].sort();
+console.log(`${seconds.length * THOUSAND} sign-ins: the first 1000 took ${seconds[0]} s, the last 1000 ${seconds.at(-1)} s; `
+    + `of all thousands the least ${sorted[0]} s, the median ${sorted[sorted.length >> 1]} s`);

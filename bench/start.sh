@@ -3,6 +3,10 @@
 # a log of one INIT, and the least stack, in kB, with which each runs a whole session; then the stack of each call of the
 # C library (bench/stack.c). Needs valgrind, gcc and Python 3.
 #
+# Valgrind takes each byte of `rep stos` and `rep movs` for an instruction, with which glibc clears and copies more than a
+# few kB: 140,000 of 221,000 for an INIT. A processor takes some ten bytes or more a cycle. So glibc is told to use its
+# loops, and what valgrind says of the program as it runs is beside that.
+#
 #     bench/start.sh [PROGRAM [LIBRARY]]        release/hidlog and release/libhidlog.a where none is named
 set -euo pipefail
 cd "$(dirname "${BASH_SOURCE[0]}")/.."
@@ -13,15 +17,17 @@ trap 'rm -rf "$work"' EXIT
 printf '> 0 ffffffff8600080001020304050607%098d\n' 0 >"$work/init"
 "$program" replay <"$work/init" >"$work/log"
 
+# Instructions with glibc's settings: instructions TUNABLES WORD ..
 instructions() {
-    valgrind --tool=callgrind --callgrind-out-file=/dev/null "$program" "$@" <"$work/log" 2>&1 >/dev/null |
+    GLIBC_TUNABLES=$1 valgrind --tool=callgrind --callgrind-out-file=/dev/null "$program" "${@:2}" <"$work/log" 2>&1 >/dev/null |
         sed -n 's/.*Collected : \([0-9]*\).*/\1/p'
 }
 
-echo "instructions to start and to answer an INIT:"
+loops=glibc.cpu.x86_rep_stosb_threshold=100000000:glibc.cpu.x86_rep_movsb_threshold=100000000
+echo "instructions to start and to answer an INIT (with each byte of a string instruction as one):"
 for words in replay live check quiet show --help --version "replay --load examples/example_com.snapshot"; do
     # shellcheck disable=SC2086  # the words are to be split
-    echo "$(instructions $words)  $words"
+    echo "$(instructions $loops $words) ($(instructions "" $words))  $words"
 done
 echo "the least stack in kB, for whole sessions:"
 python3 - "$program" <<'PYTHON'

@@ -66,10 +66,9 @@ assert.equal(first.stdout, "true YW5u\n", first.stderr);
 const named = [...readme.matchAll(/hidlog\/([\w./]+)/g)].map(([, it]) => it);
 const have = readdirSync(join(folder, "node_modules/hidlog"));
 named.forEach((it) => assert.ok(have.includes(it), `README names ${it}`));
-for (const line of ["check session.log", "show --explain session.log"]) {
-    assert.ok(readme.includes(`npx hidlog ${line}`));
-}
-const { snapshot } = { snapshot: readFileSync(join(folder, "session.log"), "utf8") };
-assert.ok(snapshot.startsWith(">"), "the recording");
-assert.ok(ran("node", [command, "show", "--explain", "session.log"]).stdout.includes("GetAssertion"));
+const commands = [...readme.matchAll(/^ {4}npx hidlog ((?:check|show) .*)$/gm)].map(([, it]) => it.split(" "));
+assert.equal(commands.length, 2);
+const [checked, shown] = commands.map((words) => ran("node", [command, ...words]));
+assert.match(checked.stdout, /^same \d+ inputs \d+ packets\n$/, checked.stderr);
+assert.ok(shown.stdout.includes("GetAssertion"));
 console.log("ok  the lines of the npm README");
