@@ -44,19 +44,32 @@ if [ "$(id -u)" = 0 ]; then
     ran=1
 fi
 
-grep -E '^ *(- )?uses: ' "$top/action.yml" "$top"/.github/workflows/*.yml | while read -r line; do
-    [[ $line =~ @[0-9a-f]{40}( |$) ]] || stop "it isn't pinned by a commit: $line"
-done
+! grep -E '^ *(- )?uses: ' "$top/action.yml" "$top"/.github/workflows/*.yml || stop "an action of others is run"
 # Debian's names of packages are only in jobs that run in a Debian container.
 ! grep -q 'apt-get' "$top/action.yml" || stop "the action names packages of Debian, and runs anywhere"
 for workflow in "$top"/.github/workflows/*.yml; do
     ! grep -q 'apt-get' "$workflow" || grep -q 'container: debian:' "$workflow" || stop "$workflow is outside of Debian"
 done
+
+# Runs the action's last step on the recordings, with a summary of so many bytes: keep_recordings MOST
+keep_recordings() {
+    printf 'a snapshot' >"$HIDLOG_RECORDINGS/x.snapshot"
+    : >"$room/summary"
+    run_of 'it["name"] == "Keep the recordings"' >"$room/keep.sh"
+    FOLDER=$HIDLOG_RECORDINGS MOST=$1 GITHUB_STEP_SUMMARY=$room/summary bash -e "$room/keep.sh" ||
+        stop "the action keeps no recordings"
+}
+
+# The commands of a step of the action: run_of CONDITION
+run_of() {
+    /usr/bin/python3 -c "import sys, yaml
+steps = yaml.safe_load(open(sys.argv[1]))['runs']['steps']
+print(next(it['run'] for it in steps if $1))" "$top/action.yml"
+}
+
 if /usr/bin/python3 -c 'import yaml, hatchling, venv, pytest, cryptography' 2>/dev/null; then
     /usr/bin/python3 -m venv --system-site-packages "$room/venv"
-    /usr/bin/python3 -c 'import sys, yaml
-steps = yaml.safe_load(open(sys.argv[1]))["runs"]["steps"]
-print(next(it["run"] for it in steps if it.get("id") == "install"))' "$top/action.yml" >"$room/install.sh"
+    run_of 'it.get("id") == "install"' >"$room/install.sh"
     mkdir "$room/temp"
     touch "$room/path" "$room/env" "$room/output"
     RUNNER_TEMP=$room/temp GITHUB_PATH=$room/path GITHUB_ENV=$room/env GITHUB_OUTPUT=$room/output ACTION=$top \
@@ -79,6 +92,13 @@ END
     kept=("$HIDLOG_RECORDINGS"/*.log)
     [ -s "${kept[0]}" ] || stop "no recording was kept: $(cat "$room/said")"
     [[ $(hidlog check "${kept[0]}") = same\ * ]] || stop "the recording differs"
+    keep_recordings 900000
+    awk '/^```/ { n++; next } n == 1' "$room/summary" >"$room/kept.log"
+    awk '/^```/ { n++; next } n == 3' "$room/summary" | base64 -d | cmp - "$HIDLOG_RECORDINGS/x.snapshot" ||
+        stop "the summary has another snapshot"
+    cmp "$room/kept.log" "${kept[0]}" || stop "the summary has another recording: $(cat "$room/summary")"
+    keep_recordings 10
+    grep -q "^${kept[0]##*/} isn't here: [0-9]* bytes are too many" "$room/summary" || stop "too much is kept in silence"
     echo "tests/outside.sh: the action installs, and a failed test's recording is kept"
     ran=1
 fi
