@@ -79,12 +79,13 @@ compile_uhid() {
 }
 
 # The tarball: everything in one folder, to be unpacked anywhere.
+# Makes a tarball: make_tarball PROCESSOR PROGRAM SHARED STATIC
 make_tarball() {
     local folder=hidlog-$version name
-    local root=$room/$folder
-    put 755 release/hidlog "$root/bin/hidlog"
-    put 644 release/libhidlog.a "$root/lib/libhidlog.a"
-    put 755 release/libhidlog.so.0 "$root/lib/libhidlog.so.0"
+    local root=$room/tarball_$1/$folder
+    put 755 "$2" "$root/bin/hidlog"
+    install -D -m 755 "$(cd "$top" && realpath "$3")" "$root/lib/libhidlog.so.0"
+    put 644 "$4" "$root/lib/libhidlog.a"
     ln -s libhidlog.so.0 "$root/lib/libhidlog.so"
     put 644 release/hidlog.h "$root/include/hidlog.h"
     put 644 release/hidlog_recording.h "$root/include/hidlog_recording.h"
@@ -95,7 +96,7 @@ make_tarball() {
     put_completions "$root/share"
     put_documents "$root"
     put_c_examples "$root/examples/c"
-    if [ -e "$room/hidlog-uhid.program" ]; then
+    if [ "$1" = x86_64 ] && [ -e "$room/hidlog-uhid.program" ]; then
         install -D -m 755 "$room/hidlog-uhid.program" "$root/bin/hidlog-uhid"
         put 644 docs/use/hidlog-uhid.8 "$root/share/man/man8/hidlog-uhid.8"
         put 644 packages/uhid/70-hidlog.rules "$root/share/hidlog-uhid/70-hidlog.rules"
@@ -104,9 +105,21 @@ make_tarball() {
     for name in LICENSE-APACHE LICENSE-MIT packages/NOTICE CHANGELOG.md release/BUILD; do
         put 644 "$name" "$root/$(basename "$name")"
     done
-    put 644 packages/readme/tarball.md "$root/README.md"
-    tar -C "$room" --sort=name --owner=0 --group=0 --numeric-owner --mtime="@$SOURCE_DATE_EPOCH" -cf - "$folder" |
-        gzip -9n >"$to/$folder-linux-x86_64.tar.gz"
+    readme_of "$1" >"$root/README.md"
+    tar -C "$room/tarball_$1" --sort=name --owner=0 --group=0 --numeric-owner --mtime="@$SOURCE_DATE_EPOCH" -cf - "$folder" |
+        gzip -9n >"$to/$folder-linux-$1.tar.gz"
+}
+
+# Writes the tarball's README: readme_of PROCESSOR
+readme_of() {
+    if [ "$1" = x86_64 ]; then
+        cat "$top/packages/readme/tarball.md"
+        return
+    fi
+    # hidlog-uhid is made for x86-64 alone.
+    sed -e 's/Linux on x86-64/Linux on aarch64 (arm64)/' -e '/^| .bin.hidlog-uhid/d' \
+        -e '/^## A device of the kernel/,/^aren/d' -e 's/, the rule of udev.*hidlog-uhid |/ |/' \
+        "$top/packages/readme/tarball.md" | cat -s
 }
 
 # shellcheck disable=SC1091 # it is beside this file
@@ -171,10 +184,16 @@ make_crate() {
 
 "$top/packages/completions.py" "$top/release/hidlog" "$room/completions"
 ! compile_uhid || make_uhid
-make_tarball
-make_program
+make_tarball x86_64 release/hidlog release/libhidlog.so.0 release/libhidlog.a
+make_program amd64 release/hidlog
 make_library amd64 x86_64-linux-gnu release/libhidlog.so.0 release/libhidlog.a
-! link_aarch64 || make_library arm64 aarch64-linux-gnu "$room/aarch64/libhidlog.so.0" release/aarch64/libhidlog.a
+if link_aarch64; then
+    make_library arm64 aarch64-linux-gnu "$room/aarch64/libhidlog.so.0" release/aarch64/libhidlog.a
+    if [ -e "$top/release/aarch64/hidlog" ]; then
+        make_tarball aarch64 release/aarch64/hidlog "$room/aarch64/libhidlog.so.0" release/aarch64/libhidlog.a
+        make_program arm64 release/aarch64/hidlog
+    fi
+fi
 make_npm
 make_go
 make_crate hidlog-sys

@@ -83,9 +83,10 @@ pack() {
     dpkg-deb --root-owner-group -Zxz --build "$root" "$to/$1_${version}_$2.deb" >/dev/null
 }
 
+# Makes the package of the program: make_program PROCESSOR PROGRAM
 make_program() {
-    local root=$room/amd64/hidlog
-    put 755 release/hidlog "$root/usr/bin/hidlog"
+    local root=$room/$1/hidlog
+    put 755 "$2" "$root/usr/bin/hidlog"
     put 644 docs/use/hidlog.1 "$root/usr/share/man/man1/hidlog.1"
     gzip -9n "$root/usr/share/man/man1/hidlog.1"
     put_completions "$root/usr/share"
@@ -93,9 +94,9 @@ make_program() {
     put 644 packages/readme/hidlog.md "$root/usr/share/doc/hidlog/README.md"
     # Of a static program that is position-independent (its ELF type is 3) lintian says that a library lacks others.
     local tag=statically-linked-binary
-    [ "$(od -An -t u1 -j 16 -N 1 "$top/release/hidlog" | tr -d ' ')" != 3 ] || tag=shared-library-lacks-prerequisites
+    [ "$(od -An -t u1 -j 16 -N 1 "$top/$2" | tr -d ' ')" != 3 ] || tag=shared-library-lacks-prerequisites
     override hidlog "$root" "It runs on any Linux, also where the C library is another." "$tag [usr/bin/hidlog]"
-    pack hidlog amd64 utils "" "FIDO2 security key as a program, for tests" \
+    pack hidlog "$1" utils "" "FIDO2 security key as a program, for tests" \
         "It plays, checks and shows logs of sessions of a security key (CTAP 2.1)."
 }
 

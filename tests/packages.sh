@@ -51,7 +51,7 @@ is_program "$tarball/bin/hidlog"
 has_cases tarball "$tarball/bin/hidlog"
 # As dpkg does: python3-hidlog has the command, and the program that it diverts has another name.
 for package in "$room"/first/*.deb; do
-    [[ $package == */python3-hidlog_* ]] || dpkg-deb -x "$package" "$room/root"
+    [[ $package == */python3-hidlog_* || $package == *_arm64.deb ]] || dpkg-deb -x "$package" "$room/root"
 done
 mv "$room/root/usr/bin/hidlog" "$room/root/usr/bin/hidlog.plain"
 is_program "$room/root/usr/bin/hidlog.plain"
@@ -99,6 +99,18 @@ if command -v aarch64-linux-gnu-gcc >/dev/null && command -v qemu-aarch64-static
     qemu-aarch64-static -L /usr/aarch64-linux-gnu -E "LD_LIBRARY_PATH=$other" "$room/key_arm64" <"$log" | cmp - "$log" ||
         stop "a program with the library for arm64 fails"
     echo "tests/packages.sh: a C program with the packages for arm64 plays a session, by qemu"
+    if [ -e "$top/release/aarch64/hidlog" ]; then
+        mkdir "$room/tarball_arm64"
+        tar -C "$room/tarball_arm64" -xzf "$room"/first/hidlog-*-linux-aarch64.tar.gz
+        for program in "$room/arm64/usr/bin/hidlog" "$room"/tarball_arm64/hidlog-*/bin/hidlog; do
+            cmp "$program" "$top/release/aarch64/hidlog" || stop "$program is another program"
+        done
+        printf '#!/bin/sh\nexec qemu-aarch64-static -0 hidlog %s "$@"\n' "$top/release/aarch64/hidlog" >"$room/hidlog_arm64"
+        chmod +x "$room/hidlog_arm64"
+        has_cases arm64 "$room/hidlog_arm64"
+        "$top/tests/worked_logs.sh" "$room/hidlog_arm64" >"$room/worked_arm64" || stop "$(tail -5 "$room/worked_arm64")"
+        echo "tests/packages.sh: the program for arm64 plays the worked logs, by qemu"
+    fi
 fi
 # The npm package is found by its name, as a module, by `require`, and by a compiler of TypeScript.
 if command -v node >/dev/null; then
