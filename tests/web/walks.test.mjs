@@ -55,3 +55,45 @@ test("each line belongs to the transaction that the other walk found, which ends
         assert.deepEqual(found(name), lines, name);
     }
 });
+
+const packet = (channel, command, bytes) =>
+    `${channel}${hex(0x80 | command)}${hex(bytes.length >> 8)}${hex(bytes.length & 0xff)}${bytes.map(hex).join("")}`
+        .padEnd(128, "0");
+const host = (at, channel, command, bytes) => `> ${at} ${packet(channel, command, bytes)}`;
+const key = (channel, command, bytes) => `< ${packet(channel, command, bytes)}`;
+const [CBOR, CANCEL, KEEPALIVE, ERROR] = [0x10, 0x11, 0x3b, 0x3f];
+const [ONE, TWO] = ["00000001", "00000002"];
+
+// Sessions of keys that do what ours doesn't, with what the rules say of them, by hand.
+const OTHERS = {
+    "a request that takes the channel has the KEEPALIVEs behind it": [
+        [host(0, ONE, CBOR, [4]), key(ONE, KEEPALIVE, [1]), host(5, ONE, CBOR, [4]), key(ONE, KEEPALIVE, [1]),
+            key(ONE, CBOR, [0])],
+        [1, 1, 3, 3, 3], ["1 replaced by 3", "3 answered by 5"],
+    ],
+    "of two requests that wait none has the user's reply": [
+        [host(0, ONE, CBOR, [4]), host(1, TWO, CBOR, [4]), "p 2 granted", key(ONE, CBOR, [0]), "p 3 granted",
+            key(TWO, CBOR, [0])],
+        [1, 2, 0, 1, 2, 2], ["1 answered by 4", "2 answered by 6"],
+    ],
+    "a cancelled request is answered, and not the one behind it": [
+        [host(0, ONE, CBOR, [4]), host(1, ONE, CANCEL, []), host(2, ONE, CBOR, [4]), key(ONE, CBOR, [0x2d]),
+            key(ONE, CBOR, [0])],
+        [1, 1, 3, 1, 3], ["1 answered by 4", "3 answered by 5"],
+    ],
+    "a time-out within 100 ms is the older message's": [
+        [host(0, ONE, CBOR, Array(60).fill(4).slice(0, 57)).replace("900039", "90003c"), host(50, ONE, CBOR,
+            Array(57).fill(4)).replace("900039", "90003c"), key(ONE, ERROR, [5])],
+        [1, 2, 2], ["1 replaced by 2", "2 timed out by 3"],
+    ],
+};
+
+test("what other keys do is told as the rules have it", () => {
+    for (const [name, [lines, owners, ends]] of Object.entries(OTHERS)) {
+        const session = globalThis.hidlogSession.readSession(new TextEncoder().encode(`${lines.join("\n")}\n`));
+        const told = session.slice(0, session.length).map(({ transaction }) => transaction?.line.number ?? 0);
+        const all = Array.from({ length: session.transactions }, (_, place) => session.transaction(place));
+        assert.deepEqual(told, owners, name);
+        assert.deepEqual(all.map(({ by, end, line }) => `${line.number} ${end} by ${by?.number}`), ends, name);
+    }
+});
