@@ -37,11 +37,6 @@ static ssize_t put(const char *text, uint8_t *buffer, size_t size)
     return (ssize_t)length;
 }
 
-size_t rattle_arg_count(void)
-{
-    return (size_t)argument_count;
-}
-
 ssize_t rattle_arg(size_t place, uint8_t *buffer, size_t size)
 {
     if (place >= (size_t)argument_count || arguments[place] == NULL)
