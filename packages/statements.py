@@ -33,8 +33,10 @@ CRATES = {
     "sha2": ("0.11.1", "MIT OR Apache-2.0"),
     "thiserror": ("2.0.21", "MIT OR Apache-2.0"),
 }
-# Debian's versions of libc6-dev, by the front of the sum of its libc.a, which release/BUILD has.
-LIBC = {"8e5252c4b87e3d58": "2.36-9+deb12u14"}
+# Debian's versions of libc6-dev and libc6-dev-arm64-cross, by the front of the sum of their libc.a, which release/BUILD has.
+LIBC = {"8e5252c4b87e3d58": "2.36-9+deb12u14", "e8e575befa51c934": "2.36-8cross1"}
+# The C libraries in programs, by the lines of release/BUILD that say how these are linked: a name, and Debian's package.
+LIBRARIES = {"linker": ("glibc", "libc6-dev"), "linker for aarch64": ("glibc-arm64", "libc6-dev-arm64-cross")}
 # What is packed beside release/: the folders and files of each set of sources.
 OTHERS = {
     "python": ("python", "conformance/hidlog_conformance", "web/dist/security_key.js"),
@@ -43,17 +45,20 @@ OTHERS = {
     "go": ("go",),
     "rust": ("rust",),
     "docs": ("docs", "packages/readme", "examples"),
+    "arm64": ("packages/arm64",),
 }
 # Of which sets each package is made, beside release/, by the front of its name: the first that fits.
 MADE_OF = (
     ("hidlog-uhid_", ("uhid", "docs")),
     ("python3-hidlog_", ("python", "docs")),
     ("libhidlog", ("docs",)),
+    ("hidlog_VERSION_arm64", ("arm64", "docs")),
     ("hidlog_", ("docs",)),
     ("hidlog-go-", ("go",)),
     ("hidlog-sys-", ("rust",)),
     ("hidlog-VERSION.crate", ("rust",)),
     ("hidlog-VERSION.tgz", ("npm",)),
+    ("hidlog-VERSION-linux-aarch64", ("arm64", "docs")),
     ("hidlog-VERSION-linux-", ("uhid", "docs")),
     ("hidlog-VERSION", ("python",)),
 )
@@ -141,24 +146,28 @@ def materials(facts: dict[str, str]) -> list[Json]:
         spdx_package(f"{kit}-{name}", version, licence, comment=f"Of the kit {kit}, after the Rust crate {name}.")
         for name, (version, licence) in CRATES.items()
     )
-    libc = LIBC.get(facts["linker"].split(" ")[-2], "NOASSERTION")
-    glibc = spdx_package(
-        "glibc",
-        libc,
-        "LGPL-2.1-or-later",
-        comment=f"Debian's libc6-dev, linked into the program alone ({facts['linker']}).",
-        supplier="Organization: Debian",
+    libraries = (
+        spdx_package(
+            name,
+            LIBC.get(facts[line].split(" ")[-2], "NOASSERTION"),
+            "LGPL-2.1-or-later",
+            comment=f"Debian's {package}, linked into the program alone ({facts[line]}).",
+            supplier="Organization: Debian",
+        )
+        for line, (name, package) in LIBRARIES.items()
+        if line in facts
     )
-    return [*sources, spdx_package(kit, facts["kit"], "NOASSERTION"), *crates, glibc]
+    return [*sources, spdx_package(kit, facts["kit"], "NOASSERTION"), *crates, *libraries]
 
 
 def parts_of(name: str, version: str, parts: list[Json]) -> list[Json]:
-    """Returns the parts that a package is made from: all crates, its own sources, and the C library with the program."""
+    """Returns the parts that a package is made from: all crates, its own sources, and the C library of its program."""
     plain = name.replace(version, "VERSION")
     sets = next(found for front, found in MADE_OF if plain.startswith(front))
     own = {f"hidlog-sources-{it}" for it in OTHERS if it not in sets}
-    if not plain.startswith(WITH_PROGRAM) or name.endswith("aarch64.whl"):
-        own.add("glibc")
+    own |= {library for library, _ in LIBRARIES.values()}
+    if plain.startswith(WITH_PROGRAM) and not name.endswith("aarch64.whl"):
+        own.remove("glibc-arm64" if "arm64" in sets else "glibc")
     return [it for it in parts if it["name"] not in own]
 
 

@@ -22,7 +22,12 @@ from pathlib import Path
 
 TOP = Path(__file__).resolve().parent.parent
 FOLDER = Path(sys.argv[1])
-PROGRAM = (TOP / "release" / "hidlog").read_bytes()
+# The programs, by the names that the statements have for their C libraries.
+PROGRAMS = {
+    library: path.read_bytes()
+    for library, path in (("glibc", TOP / "release/hidlog"), ("glibc-arm64", TOP / "release/aarch64/hidlog"))
+    if path.exists()
+}
 Files = dict[str, bytes]
 
 
@@ -52,9 +57,13 @@ PACKAGES = {
 }
 
 
-def have_program() -> set[str]:
-    """Returns the packages that have the program, by its bytes."""
-    return {name for name, files in PACKAGES.items() if PROGRAM in files.values()}
+def have_program(program: bytes) -> set[str]:
+    """Returns the packages that have a program, by its bytes."""
+    return {name for name, files in PACKAGES.items() if program in files.values()}
+
+
+def have_any_program() -> set[str]:
+    return set().union(*(have_program(it) for it in PROGRAMS.values()))
 
 
 def licences_are_there() -> None:
@@ -63,9 +72,12 @@ def licences_are_there() -> None:
         texts = b"".join(data for it, data in files.items() if re.search(r"LICENSE|NOTICE|copyright$", it))
         assert b"Permission is hereby granted" in texts, f"{name} has no MIT licence"
         assert b"Apache License" in texts or b"common-licenses/Apache-2.0" in texts, f"{name} has no Apache licence"
-        if name in have_program():
+        if name in have_any_program():
             assert b"Free Software" in texts and b"LGPL" in texts or b"Lesser General" in texts, f"{name}: no notice"
-    assert {"hidlog_", "hidlog-"} == {it[:7] for it in have_program()} and len(have_program()) == 5, have_program()
+    for library, program in PROGRAMS.items():
+        found = have_program(program)
+        assert {"hidlog_", "hidlog-"} == {it[:7] for it in found}, found
+        assert len(found) == {"glibc": 5, "glibc-arm64": 2}[library], found
 
 
 def page_names_what_is_there() -> None:
@@ -128,7 +140,10 @@ def statements_name_all() -> None:
     for it in document["relationships"]:
         if it["relationshipType"] == "GENERATED_FROM":
             made[names[it["spdxElementId"]]].add(names[it["relatedSpdxElement"]])
-    assert {name for name, parts in made.items() if "glibc" in parts} == have_program(), have_program()
+    for library, program in PROGRAMS.items():
+        assert {name for name, parts in made.items() if library in parts} == have_program(program), library
+    for name in have_program(PROGRAMS.get("glibc-arm64", b"none")):
+        assert "hidlog-sources-arm64" in made[name] and "hidlog-sources-uhid" not in made[name], (name, made[name])
     for word, part in (("go-", "go"), (".crate", "rust"), (".tgz", "npm"), (".whl", "python"), ("uhid", "uhid")):
         for name in (it for it in sums if word in it):
             assert f"hidlog-sources-{part}" in made[name], (name, made[name])
