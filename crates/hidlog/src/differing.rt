@@ -101,8 +101,8 @@ impl Texts {
 }
 
 /// Says what differs in a log, after the text of the fault: explained, the packets; and all differences, where they are
-/// wished for. Where nothing differs, it says which bytes were signed otherwise than this key asks. The log is read once
-/// more, if it can be.
+/// wished for. Where nothing differs, it says which bytes were signed otherwise than this key asks. The log is read again,
+/// if it can be.
 pub fn tell_differences<D: Files, S: Source + Drop, E: Target>(
     files: &D,
     wish: &Wish<'_>,
