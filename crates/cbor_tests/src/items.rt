@@ -1,5 +1,5 @@
 //! Outside vectors, and each public call once. The vectors were worked out by hand from RFC 8949 and the rules in
-//! docs/PROFILE.md.
+//! docs/use/PROFILE.md.
 
 use ctap_cbor::*;
 use std::process::Abort;

@@ -1,4 +1,4 @@
--- The fault of one item: the table of docs/PROFILE.md, "Faults".
+-- The fault of one item: the table of docs/use/PROFILE.md, "Faults".
 use Rattle.std.specs.Prelude.{ℕ, ◌+◌, Bool, true, false, not, ◌&&◌, ◌||◌, List, [], ◌∷◌, ◌++◌, length, take, drop, Option, Some, None, if◌then◌else◌, nat_lt, nat_le, nat_eq}
 use Rattle.std.specs.Ordering.{is_lt, nat_cmp}
 use Rattle.std.specs.Str.{is_utf8}

@@ -1,4 +1,4 @@
--- The grammar of log lines (docs/LOG_FORMAT.md): what it is for a line to spell an input or a comment.
+-- The grammar of log lines (docs/use/LOG_FORMAT.md): what it is for a line to spell an input or a comment.
 use Rattle.std.specs.Prelude.{◌≡◌, ℕ, ◌<◌, ◌≤◌, ◌^◌, List, [], ◌++◌, length, codes, decimal, Some, None, Ok, ◌⊎◌}
 use Rattle.hex.specs.Hex.{decode_sized}
 use Rattle.token_session.specs.declared.input.Input.{Input as AnyInput}

@@ -1,4 +1,4 @@
--- The lines that say what is needed (docs/LOG_FORMAT.md).
+-- The lines that say what is needed (docs/use/LOG_FORMAT.md).
 use Rattle.std.specs.Prelude.{ℕ, ◌+◌, ◌/◌, ◌==◌, ◌||◌, Bool, List, [], ◌∷◌, ◌++◌, length, map, codes}
 use Rattle.std.specs.List.{starts_with}
 use Rattle.std.specs.Simd.{first_chunks}

@@ -168,7 +168,7 @@ impl<const C: usize> Player<C> for Checking {
     }
 }
 
-/// Compares a log with what a session sends for its inputs (docs/LOG_FORMAT.md): after each input line have to
+/// Compares a log with what a session sends for its inputs (docs/use/LOG_FORMAT.md): after each input line have to
 /// be the packets that are sent for it, all of them, in order, and no other ones; comments and the lines of what
 /// was counted may be between them. Hexadecimal digits are compared as what they say. Nothing is written before
 /// the reader's end, and there how many inputs and packets were the same. It allocates nothing.

@@ -1,5 +1,5 @@
 //! Text logs of CTAPHID sessions: lines are read, their inputs are stepped on a session, and each line
-//! is written again with the packets that the session sent for it (docs/LOG_FORMAT.md).
+//! is written again with the packets that the session sent for it (docs/use/LOG_FORMAT.md).
 //!
 //! An example, which the gate runs (`crates/log_tests/src/page.rt`):
 //!

@@ -122,7 +122,7 @@ pub fn live_lines<S: Source, T: Target, const C: usize>(
 }
 
 /// Replays a log on a session as [`crate::replay`] does, and says after the packets of each input line what the
-/// session needs ([`Session::need`]; docs/LOG_FORMAT.md): comments of which just one, the last, begins with
+/// session needs ([`Session::need`]; docs/use/LOG_FORMAT.md): comments of which just one, the last, begins with
 /// `# need `. Comments that begin with `# need ` or `# signed ` are dropped, so what was written is its own log, of
 /// this and of a replay. The text for a line is handed to the target whole, before more is asked of the source than the
 /// line that it is for. It allocates nothing.

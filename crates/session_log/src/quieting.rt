@@ -82,7 +82,7 @@ impl<const C: usize> Player<C> for Quieting {
     }
 }
 
-/// Makes a log quiet (docs/LOG_FORMAT.md): writes each input line and each comment again, but in place of an input
+/// Makes a log quiet (docs/use/LOG_FORMAT.md): writes each input line and each comment again, but in place of an input
 /// that is noise ([`Session::noise`]) the line of a tick at the same moment. The session steps the inputs as they are
 /// read; what it sends isn't written, nor what it counts. Replayed on an equal session, what was written sends what
 /// the log sends, without what answers the noise, and ends with equal meters. It allocates nothing.

@@ -68,7 +68,7 @@ impl<const C: usize> Player<C> for Replaying {
     }
 }
 
-/// Replays a log on a session (docs/LOG_FORMAT.md): writes each input line and each comment again, after an
+/// Replays a log on a session (docs/use/LOG_FORMAT.md): writes each input line and each comment again, after an
 /// input line the packets that the session sends for it, and at the end the session's meters, which it
 /// answers too. The text for a line is handed to the target whole, before more is asked of the source than
 /// the line that it is for. It allocates nothing.

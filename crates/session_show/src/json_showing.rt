@@ -111,7 +111,7 @@ impl Telling for Objects {
     }
 }
 
-/// Shows a log to a script (docs/LOG_FORMAT.md, "Shown to a script"): writes a JSON object a line for each packet,
+/// Shows a log to a script (docs/use/EXPLAINED.md, "Shown to a script"): writes a JSON object a line for each packet,
 /// tick, reply and comment, for each CBOR message and for each transaction that ended. Counts are left out. The objects
 /// for a line are handed to the target before more is asked of the source, except for that of a continuation packet which
 /// comes 100 ms or more after the one before it: whether that was too late, only the next line shows.

@@ -94,7 +94,7 @@ impl Telling for Explained {
     }
 }
 
-/// Shows a log in its fixed text (docs/LOG_FORMAT.md): writes a line for each packet, tick and reply, and after the last
+/// Shows a log in its fixed text (docs/use/LOG_FORMAT.md): writes a line for each packet, tick and reply, and after the last
 /// packet of a CBOR message a line with its item in diagnostic notation. Comments and counts are left out. The text for
 /// a line is handed to the target before more is asked of the source.
 ///
@@ -128,7 +128,7 @@ pub fn show<S: Source, T: Target>(reader: &mut S, writer: &mut T) -> Result<(), 
     )
 }
 
-/// Explains a log to a person (docs/LOG_FORMAT.md): writes what [`show`] writes with the standard's names behind its
+/// Explains a log to a person (docs/use/EXPLAINED.md): writes what [`show`] writes with the standard's names behind its
 /// numbers, comments, and after a message a line for each of its members. All else is as there.
 pub fn explain<S: Source, T: Target>(reader: &mut S, writer: &mut T) -> Result<(), LogFault>
     requires read { S.failed reader.old < 2 ^ 64 - 1 }
