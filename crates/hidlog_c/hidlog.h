@@ -64,8 +64,8 @@ void hidlog_check(const uint8_t *log, size_t log_len, const uint8_t *snapshot, s
 void hidlog_quiet(const uint8_t *log, size_t log_len, const uint8_t *snapshot, size_t snapshot_len, uint8_t *out,
                   size_t room, struct hidlog_outcome *outcome);
 
-/* Writes what the log's lines say (docs/use/LOG_FORMAT.md): where `explain` is 0 the fixed text, for programs; else with
- * names, members and comments, for people. No key plays the log: it takes no snapshot, and the status is never
+/* Writes what the log's lines say (docs/use/LOG_FORMAT.md): where `explain` is 0 the fixed text, for programs; else
+ * with names, members and comments, for people. No key plays the log: it takes no snapshot, and the status is never
  * HIDLOG_REFUSED. Its faults are HIDLOG_BAD_LINE, HIDLOG_TOO_LONG and HIDLOG_TOO_MANY_LINES, with the texts of the lines
  * before the faulty one in `out`, and HIDLOG_WRITE, with the front of the text. To have the text of any log, call again
  * with a larger buffer while the fault is HIDLOG_WRITE. */

@@ -1,6 +1,6 @@
 //! What is read of a recorded session of a security key: each line of a log as text, and each CBOR request and answer
-//! in diagnostic notation, in a fixed text or explained for people (docs/use/LOG_FORMAT.md). A session's summary, and the
-//! same as JSON for scripts. Nothing is allocated.
+//! in diagnostic notation, in a fixed text or explained for people (docs/use/LOG_FORMAT.md). A session's summary, and
+//! the same as JSON for scripts. Nothing is allocated.
 #![tactic(auto)]
 
 mod authenticator_data;

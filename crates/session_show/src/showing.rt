@@ -94,8 +94,8 @@ impl Telling for Explained {
     }
 }
 
-/// Shows a log in its fixed text (docs/use/LOG_FORMAT.md): writes a line for each packet, tick and reply, and after the last
-/// packet of a CBOR message a line with its item in diagnostic notation. Comments and counts are left out. The text for
+/// Shows a log in its fixed text (docs/use/LOG_FORMAT.md): writes a line for each packet, tick and reply, and after the
+/// last packet of a CBOR message a line with its item in diagnostic notation. Comments and counts are left out. The text for
 /// a line is handed to the target before more is asked of the source.
 ///
 /// It allocates nothing, and what it takes doesn't grow with the log.

@@ -169,8 +169,8 @@ impl Telling for Summary {
     }
 }
 
-/// Writes a session's transactions as the form of `summary` says, each as it ends, and keeps in `summary` what is still to be written: it
-/// has to be new, and [`Summary::put`] writes that after the lines (docs/use/EXPLAINED.md, "A session's summary").
+/// Writes a session's transactions as the form of `summary` says, each as it ends, and keeps in `summary` what is still
+/// to be written: it has to be new, and [`Summary::put`] writes that after the lines (docs/use/EXPLAINED.md, "A session's summary").
 ///
 /// It allocates nothing, and what it takes doesn't grow with the log. Faults are those of [`crate::show`].
 pub fn summarize<S: Source, T: Target>(
