@@ -1,4 +1,4 @@
-/* Session logs of a security key: the commands of `hidlog` as functions over bytes (docs/LOG_FORMAT.md). Link with
+/* Session logs of a security key: the commands of `hidlog` as functions over bytes (docs/use/LOG_FORMAT.md). Link with
  * libhidlog.a or libhidlog.so.0 of release/, which release/build.sh makes from crates/hidlog_c.
  *
  * Each function reads a whole log and a snapshot (0 bytes of it: no credentials; hidlog_show takes none), and writes
@@ -64,8 +64,8 @@ void hidlog_check(const uint8_t *log, size_t log_len, const uint8_t *snapshot, s
 void hidlog_quiet(const uint8_t *log, size_t log_len, const uint8_t *snapshot, size_t snapshot_len, uint8_t *out,
                   size_t room, struct hidlog_outcome *outcome);
 
-/* Writes what the log's lines say (docs/LOG_FORMAT.md): where `explain` is 0 the fixed text, for programs; else with
- * names, members and comments, for people. No key plays the log: it takes no snapshot, and the status is never
+/* Writes what the log's lines say (docs/use/LOG_FORMAT.md): where `explain` is 0 the fixed text, for programs; else
+ * with names, members and comments, for people. No key plays the log: it takes no snapshot, and the status is never
  * HIDLOG_REFUSED. Its faults are HIDLOG_BAD_LINE, HIDLOG_TOO_LONG and HIDLOG_TOO_MANY_LINES, with the texts of the lines
  * before the faulty one in `out`, and HIDLOG_WRITE, with the front of the text. To have the text of any log, call again
  * with a larger buffer while the fault is HIDLOG_WRITE. */
@@ -189,7 +189,7 @@ int32_t hidlog_key_save(struct hidlog_key *key, uint8_t *out, size_t room);
 int32_t hidlog_key_pending(struct hidlog_key *key);
 
 struct hidlog_meters { uint64_t requests, bytes, steps; uint32_t held, rows, pending, zero; };
-/* Writes what the session has held and served (docs/LOG_FORMAT.md, the last line). Returns 0. */
+/* Writes what the session has held and served (docs/use/LOG_FORMAT.md, the last line). Returns 0. */
 int32_t hidlog_key_meters(struct hidlog_key *key, struct hidlog_meters *meters);
 
 /* Plays lines of a log (each with its line feed) and writes what `hidlog_live` writes for them to the front of `out`,
