@@ -89,6 +89,11 @@ if command -v gcc >/dev/null; then
     LD_LIBRARY_PATH=$room/root/usr/lib/x86_64-linux-gnu "$room/key" mistakes || stop "a program with the library fails"
     echo "tests/packages.sh: a C program was built with the development package"
 fi
+# What a program sums up of a log at a terminal of 40 columns, which it reads in its environment: at_a_terminal PROGRAM
+at_a_terminal() {
+    COLUMNS=40 python3 -c 'import pty, sys; sys.exit(pty.spawn(sys.argv[1:]))' "$1" show --summary "$log" </dev/null
+}
+
 # Those for arm64, by its compiler and qemu: a C program of the development package plays a session.
 if command -v aarch64-linux-gnu-gcc >/dev/null && command -v qemu-aarch64-static >/dev/null; then
     for package in "$room"/first/*_arm64.deb; do
@@ -109,6 +114,8 @@ if command -v aarch64-linux-gnu-gcc >/dev/null && command -v qemu-aarch64-static
         chmod +x "$room/hidlog_arm64"
         has_cases arm64 "$room/hidlog_arm64"
         "$top/tests/worked_logs.sh" "$room/hidlog_arm64" >"$room/worked_arm64" || stop "$(tail -5 "$room/worked_arm64")"
+        [ "$(at_a_terminal "$room/hidlog_arm64")" = "$(at_a_terminal "$top/release/hidlog")" ] ||
+            stop "the program for arm64 doesn't know how wide a terminal is"
         echo "tests/packages.sh: the program for arm64 plays the worked logs, by qemu"
     fi
 fi

@@ -1,7 +1,7 @@
 // What the program calls that is neither its own nor the C library's under its own name: arguments, the environment, errno
 // and the heap, by plain calls of POSIX. The toolchain has these for x86-64 alone. Each does what the contract of the
 // function with its name says (the toolchain's libraries `os` and `libc`), and nothing proves it, here or there: the
-// worked logs and the program's tests are run with it (tests/packages_arm64.sh).
+// worked logs and the program's tests are run with it (tests/packages.sh).
 #include <errno.h>
 #include <stdbool.h>
 #include <stddef.h>
