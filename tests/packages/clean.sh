@@ -11,7 +11,12 @@ folder=${1:?usage: tests/packages/clean.sh FOLDER [PACKAGES]}
 [ "$(id -u)" = 0 ] || { echo "root is needed for a folder of debootstrap; nothing was run" >&2 && exit 3; }
 [ -d "$folder/usr" ] || debootstrap --variant=minbase bookworm "$folder" >"${folder%/}.log" || exit 3
 room=$(mktemp -d)
-trap 'rm -rf "$room"' EXIT
+# What a program of the copy still holds is let go, and nothing is removed through a mount.
+away() {
+    umount -l "$room/system/proc" "$room/system/dev" 2>/dev/null || true
+    rm -rf --one-file-system "$room"
+}
+trap away EXIT
 packages=${2-}
 if [ -z "$packages" ]; then
     packages=$room/packages
@@ -24,7 +29,7 @@ failed=0
 clean() {
     [[ $1 == *${HIDLOG_CASES-}* ]] || return 0
     local began=$SECONDS system=$room/system
-    rm -rf "$system"
+    rm -rf --one-file-system "$system"
     cp -a "$folder" "$system"
     mkdir -p "$system/packages" "$system/work"
     cp "$packages"/* "$system/packages"
@@ -34,7 +39,7 @@ clean() {
     chroot "$system" /usr/bin/env -i PATH=/usr/sbin:/usr/bin:/sbin:/bin HOME=/root LANG=C.UTF-8 \
         DEBIAN_FRONTEND=noninteractive bash -euo pipefail -c "$start
 $2" >"$room/said" 2>&1 </dev/null && status=ok || status=FAILED
-    umount "$system/proc" "$system/dev"
+    umount -l "$system/proc" "$system/dev"
     echo "$status $1, $((SECONDS - began)) s: $(tail -1 "$room/said")"
     if [ "$status" = FAILED ]; then
         tail -25 "$room/said" | sed 's/^/    /'
