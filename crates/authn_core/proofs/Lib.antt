@@ -6,3 +6,5 @@ pub mod Histories
 mod SignedExamples
 mod Answering
 mod Told
+mod Served
+mod Kept

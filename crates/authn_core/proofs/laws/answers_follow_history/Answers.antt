@@ -2,7 +2,7 @@ use Rattle.authn_core.specs.Answers.{exchanges}
 use Rattle.authn_core.specs.Exchanges.{unanswered}
 use Rattle.authn_core.specs.Marks.{Orderly, core_at}
 use Rattle.authn_core.specs.Turn.{first_state}
-use Rattle.authn_core.proofs.Told.{told_at, turn_at, waits_told}
+use Rattle.authn_core.proofs.Kept.{told_at, turn_at, waits_told}
 use Rattle.authn_core.proofs.laws.answers_follow_history.Goals as goal
 
 pub returns : goal.returns
