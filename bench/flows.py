@@ -1,7 +1,8 @@
 #!/usr/bin/env python3
 """Counts the instructions that `hidlog replay` takes for a PING, a getInfo, a registration and a sign-in.
 
-    bench/flows.py [PROGRAM]    PROGRAM is another hidlog, as of an older commit (default: release/hidlog)
+    bench/flows.py [PROGRAM]        PROGRAM is another hidlog, as of an older commit (default: release/hidlog)
+    bench/flows.py --logs FOLDER    writes a log of each flow into a folder, and counts nothing
 
 A flow is the lines of a log that a host and a user make of it: a registration is authenticatorMakeCredential in two
 packets, the user's presence, a key and a signature; a sign-in is authenticatorGetAssertion, presence and a signature.
@@ -39,6 +40,7 @@ def registration(number: int) -> list[str]:
 
 FLOWS: dict[str, Callable[[int], list[str]]] = {
     "ping": lambda number: ["> 5 00000001810005" + b"hello".hex()],
+    "long_ping": lambda number: ["> 5 00000001810039" + "61" * 57],
     "get_info": lambda number: ["> 5 0000000190000104"],
     "registration": registration,
     "sign_in": lambda number: [*GET, GRANTED, SIGNED],
@@ -66,6 +68,10 @@ def instructions(program: str, log: str) -> int:
 
 
 def main() -> None:
+    if sys.argv[1:2] == ["--logs"]:
+        for name, flow in FLOWS.items():
+            Path(sys.argv[2], f"{name}.log").write_text(log_of(flow, COUNT), encoding="ascii")
+        return
     program = sys.argv[1] if len(sys.argv) > 1 else str(TOP / "release/hidlog")
     if not shutil.which("valgrind") or not Path(program).is_file():
         sys.exit(

@@ -1,9 +1,8 @@
 #!/usr/bin/env bash
 # Counts what a line costs that `hidlog replay` plays: instructions (callgrind), system calls (strace) and processor
 # time, for logs of PINGs of 5 and of 57 bytes, authenticatorGetInfo, ticks and comments, of 1,000 and 100,000 lines,
-# from a file to a file;
-# beside bench/replay_c.c, a C program of the same promises for these lines. Needs rt, gcc, valgrind, strace and
-# Python 3.
+# from a file to a file; beside bench/peer, a program in C that keeps the same promises for these lines. Needs rt, gcc,
+# libssl-dev, valgrind, strace and Python 3.
 #
 # What a log of no line costs is taken off, so start-up doesn't count.
 #
@@ -14,7 +13,7 @@ work=${1:-$(mktemp -d)}
 mkdir -p "$work"
 "$here/../hidlog" --help >"$work/help"
 program=$here/../$(sed 's/^program=\([^ ]*\).*/\1/' "$here/../release/out/ran")
-gcc -O2 -march=x86-64-v2 -o "$work/replay_c" "$here/replay_c.c"
+gcc -std=c11 -D_GNU_SOURCE -O3 -march=x86-64-v2 -flto -Wno-deprecated-declarations -o "$work/peer" "$here"/peer/*.c -lcrypto
 
 # A log of so many lines of a kind, after the INIT that gives channel 1.
 log() {
@@ -56,7 +55,7 @@ def took(command, lines):
     return after.ru_utime + after.ru_stime - before.ru_utime - before.ru_stime
 
 
-programs = [program, "replay"], [f"{work}/replay_c"]
+programs = [program, "replay"], [f"{work}/peer"]
 rounds = [[took(it, lines) for it in programs for lines in (count, 0)] for _ in range(25)]
 whole, none, whole_c, none_c = (statistics.median(it) for it in zip(*rounds))
 print(f"  {1e9 * (whole - none) / count:10.0f} {f'({1e9 * (whole_c - none_c) / count:.0f})':>10}", end="")
@@ -76,11 +75,11 @@ for kind in ping long_ping get_info tick long_tick comment; do
     for count in 1000 100000; do
         log "$kind" "$count" >"$work/$kind.$count"
         "$program" replay <"$work/$kind.$count" >"$work/first"
-        "$work/replay_c" <"$work/$kind.$count" | cmp - "$work/first"
+        "$work/peer" <"$work/$kind.$count" | cmp - "$work/first"
         printf '%-9s %7s' "$kind" "$count"
         for measure in instructions calls; do
             printf '  %10s %10s' "$(per_line $measure $kind $count "$program" replay)" \
-                "($(per_line $measure $kind $count "$work/replay_c"))"
+                "($(per_line $measure $kind $count "$work/peer"))"
         done
         if [ "$count" -gt 1000 ]; then
             nanoseconds "$kind" "$count"
