@@ -26,7 +26,7 @@ TAG = "py3-none-manylinux_2_17_{0}.manylinux2014_{0}.musllinux_1_1_{0}"
 # By processor: where a clone has the files of prebuilt/PROCESSOR.
 FILES = {
     "x86_64": {"hidlog": "../release/hidlog", LIBRARY: f"../release/{LIBRARY}"},
-    "aarch64": {"libhidlog.a": "../release/aarch64/libhidlog.a"},
+    "aarch64": {"hidlog": "../release/aarch64/hidlog", "libhidlog.a": "../release/aarch64/libhidlog.a"},
 }
 
 
@@ -118,6 +118,7 @@ class CustomBuildHook(BuildHookInterface[Any]):
         if processor == "aarch64":
             self._folder = tempfile.TemporaryDirectory()
             added[str(linked(released(processor, "libhidlog.a"), Path(self._folder.name)))] = f"hidlog/{LIBRARY}"
+            added[str(released(processor, "hidlog"))] = "hidlog/hidlog"
             return
         for name in FILES[processor]:
             added[str(released(processor, name))] = f"hidlog/{name}"

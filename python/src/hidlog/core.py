@@ -1,6 +1,7 @@
 """The C library: the commands on logs, and a key that is held (release/hidlog.h). Nothing else knows its functions.
 
-The library is in the package; in a clone it is release/libhidlog.so.0. The variable HIDLOG_LIBRARY names another.
+The library is in the package; in a clone it is release/libhidlog.so.0. The variable HIDLOG_LIBRARY names another:
+libhidlog-256.so.0 has the same functions, and keys with capacity for 256 credentials in place of 64.
 """
 
 from __future__ import annotations
@@ -24,15 +25,15 @@ _FAULTS = {
     -7: "work waits",
     -8: "another credential is discoverable, with the same relying party and user",
     -17: "snapshot refused: 1 (it is no snapshot)",
-    -18: "snapshot refused: 2 (it has more than 64 credentials)",
+    -18: "snapshot refused: 2 (it has more than {capacity} credentials)",
     -19: "snapshot refused: 3 (a credential in it is broken)",
 }
 _SNAPSHOT_FAULTS = (-17, -18, -19)
 _PRESENCE = {"granted": 0, "denied": 1, "timeout": 2}
 # HIDLOG_KEY_CLASHES and HIDLOG_KEY_TOO_MANY_ROWS.
 _NO_SPACE = (-8, -18)
-# HIDLOG_SNAPSHOT_LONGEST.
-_SNAPSHOT_MOST = 18125
+# HIDLOG_CAPACITY, where the library doesn't say its own.
+_CAPACITY = 64
 # enum hidlog_need_kind.
 _NEEDS = ("nothing", "presence", "key", "signature")
 _SIGNATURE = 3
@@ -121,6 +122,21 @@ def library() -> ctypes.CDLL:
             except OSError as error:
                 raise MissingPart(f"{path} can't be loaded here: {error}") from None
     raise MissingPart(f"the C library is missing: looked for {' and '.join(map(str, paths))}")
+
+
+@lru_cache(maxsize=None)
+def capacity() -> int:
+    """Returns for how many credentials a key of the library has capacity."""
+    function = getattr(library(), "hidlog_key_capacity", None)
+    if function is None:
+        return _CAPACITY
+    function.restype = ctypes.c_size_t
+    return int(function())
+
+
+def _snapshot_most() -> int:
+    """Returns HIDLOG_SNAPSHOT_LONGEST."""
+    return 13 + 283 * capacity()
 
 
 def run(command: str, log: bytes, snapshot: bytes, capacity: int) -> tuple[Outcome, bytes]:
@@ -224,7 +240,7 @@ class Handle:
         answer: int = self._functions[name](self._pointer, *words)
         if answer >= 0:
             return answer
-        text = _FAULTS.get(answer, f"fault {answer}")
+        text = _FAULTS.get(answer, f"fault {answer}").format(capacity=capacity())
         if answer in _SNAPSHOT_FAULTS:
             raise SnapshotError(text)
         raise KeyEnded("the key is closed") if answer == -1 else HidlogError(f"hidlog_key_{name}: {text}")
@@ -267,7 +283,7 @@ class Handle:
 
     def put(self, credential: HeldCredential) -> bool:
         """Puts a credential after the others, and takes out the one with its id. Returns whether it could: not where
-        another one has its relying party and user, or 64 others are held."""
+        another one has its relying party and user, or the key is full."""
         words = self._pointer, 0, ctypes.byref(credential)
         answer: int = self._functions["add"](*words)
         if answer < 0 and answer not in _NO_SPACE:
@@ -278,8 +294,9 @@ class Handle:
         """Returns a snapshot of the credentials: no bytes where there are none."""
         if not self.call("credentials"):
             return b""
-        out = ctypes.create_string_buffer(_SNAPSHOT_MOST)
-        return ctypes.string_at(out, self.call("save", out, _SNAPSHOT_MOST))
+        most = _snapshot_most()
+        out = ctypes.create_string_buffer(most)
+        return ctypes.string_at(out, self.call("save", out, most))
 
     def meters(self) -> dict[str, int]:
         """Returns what the session has held and served, in the order of a log's last line."""

@@ -16,7 +16,6 @@ from .outside import CORE_ID, ID_MOST, Backup, Outside
 if TYPE_CHECKING:
     from .held import HeldKey
 
-MOST = 64
 _COUNTER_MOST = 2**32 - 1
 _CHANGED = ("counter", "user_name", "user_id", "discoverable", "backup_eligibility", "backup_state")
 
@@ -168,6 +167,10 @@ class _Holder(Protocol):
 
     def _find(self, core_id: bytes) -> Credential | None:
         """Returns the credential of the core with this id, where there is one."""
+
+    @property
+    def capacity(self) -> int:
+        """How many credentials the key has capacity for."""
 
     def snapshot(self) -> bytes:
         """Returns a snapshot of the credentials."""
@@ -337,8 +340,8 @@ class Credentials(Sequence[Credential]):
         same = (made.rp_id_hash, made.user_id, True)
         is_kept = [not made.discoverable or (it.rp_id_hash, it.user_id, it.discoverable) != same for it in listed]
         kept = [it for it, stays in zip(listed, is_kept) if stays]
-        if len(kept) >= MOST:
-            raise ArgumentError(f"the key holds {MOST} credentials, and that is the most")
+        if len(kept) >= self._key.capacity:
+            raise ArgumentError(f"the key holds {self._key.capacity} credentials, and that is the most")
         return kept
 
     @_alone

@@ -20,7 +20,11 @@ _FAULTS = {
     5: "writing failed",
     6: "too many lines",
 }
-_REFUSALS = {1: "it is no snapshot", 2: "it has more than 64 credentials", 3: "a credential in it is broken"}
+_REFUSALS = {
+    1: "it is no snapshot",
+    2: "it has more credentials than the key has capacity for",
+    3: "a credential in it is broken",
+}
 _WRITE = 5
 
 

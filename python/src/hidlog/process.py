@@ -44,7 +44,7 @@ def program() -> str:
             return str(path.resolve())
     looked = " nor ".join(map(str, paths))
     raise MissingPart(
-        f"the program is missing: it is not {looked}. The package has it for Linux on x86-64; the variable HIDLOG names "
+        f"the program is missing: it is not {looked}. The wheels have it, for Linux on x86-64 and aarch64; the variable HIDLOG names "
         "another, and hidlog.check, replay, quiet, live and show need no program"
     )
 

@@ -26,8 +26,10 @@ KEEPALIVE_MS = 100
 # A little more of real time, since moments are whole milliseconds.
 _KEEPALIVE_SECONDS = 0.101
 Clock = Union[str, Callable[[], int]]
-# Private keys of which a registration forgets those that nothing is signed with any more.
-_PRIVATE_KEYS_MOST = 256
+# So many private keys for each credential that fits: then a registration forgets those that nothing is signed with.
+_PRIVATE_KEYS_MOST = 4
+# For how many credentials a key of the program has capacity.
+_PROGRAM_CAPACITY = 64
 _VERIFICATION = ("none", "verified", "failed")
 _AS_IT_IS = nullcontext()
 _ATTACHMENT = ("cross-platform", "platform")
@@ -187,6 +189,11 @@ class Session:
         self._from_host, self._from_key = packets.Collector(), packets.Collector()
         # The packets of an answer that isn't whole yet.
         self._answer: list[bytes] = []
+
+    @property
+    def capacity(self) -> int:
+        """How many credentials the key has capacity for: 64, and 256 where HIDLOG_LIBRARY names libhidlog-256.so.0."""
+        return _PROGRAM_CAPACITY if self._process else core.capacity()
 
     @property
     def presence(self) -> Presence:
@@ -422,7 +429,7 @@ class Session:
         """Hands in a new key pair under a new credential id."""
         private, credential = private_keys.make(self._random_bytes), self._random_bytes(32)
         x, y = private_keys.point_of(private)
-        if len(self.private_keys) >= _PRIVATE_KEYS_MOST and not self._process:
+        if len(self.private_keys) >= _PRIVATE_KEYS_MOST * self.capacity and not self._process:
             self._forget_keys()
         self.private_keys[credential] = private
         self._outside.back_up(credential, self._backup)

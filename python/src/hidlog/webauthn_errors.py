@@ -81,7 +81,7 @@ class WebAuthnSyntaxError(WebAuthnError, ArgumentError):
 _CAUSES = {
     0x26: "none of pubKeyCredParams is ES256, the key's one algorithm",
     0x27: "the user denied it, or was too slow",
-    0x28: "the key holds 64 credentials, and that is the most",
+    0x28: "the key holds as many credentials as it has capacity for",
     0x2D: "it was cancelled",
     0x2E: "the key holds no credential for this",
     0x2F: "the user was too slow",
