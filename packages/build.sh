@@ -78,6 +78,13 @@ compile_uhid() {
         examples/c/{held_key,private_file,software_keys,snapshot}.c release/libhidlog.a -lcrypto)
 }
 
+# What pkg-config reads of a library in a tarball: put_pkg_config FOLDER NAME
+put_pkg_config() {
+    mkdir -p "$1/lib/pkgconfig"
+    sed -e "s|^prefix=.*|prefix=\${pcfiledir}/../..|" -e "s|^Cflags: -I[^ ]*|Cflags: -I\${prefix}/include|" \
+        -e "s|^Libs:.*|Libs: -L\${prefix}/lib -l$2|" "$top/release/$2.pc" >"$1/lib/pkgconfig/$2.pc"
+}
+
 # The tarball: everything in one folder, to be unpacked anywhere.
 # Makes a tarball: make_tarball PROCESSOR PROGRAM SHARED STATIC
 make_tarball() {
@@ -89,9 +96,13 @@ make_tarball() {
     ln -s libhidlog.so.0 "$root/lib/libhidlog.so"
     put 644 release/hidlog.h "$root/include/hidlog.h"
     put 644 release/hidlog_recording.h "$root/include/hidlog_recording.h"
-    mkdir -p "$root/lib/pkgconfig"
-    sed -e "s|^prefix=.*|prefix=\${pcfiledir}/../..|" -e "s|^Cflags:.*|Cflags: -I\${prefix}/include|" \
-        -e "s|^Libs:.*|Libs: -L\${prefix}/lib -lhidlog|" "$top/release/hidlog.pc" >"$root/lib/pkgconfig/hidlog.pc"
+    put_pkg_config "$root" hidlog
+    if [ "$1" = x86_64 ]; then
+        install -D -m 755 "$top/release/libhidlog-256.so.0" "$root/lib/libhidlog-256.so.0"
+        put 644 release/libhidlog-256.a "$root/lib/libhidlog-256.a"
+        ln -s libhidlog-256.so.0 "$root/lib/libhidlog-256.so"
+        put_pkg_config "$root" hidlog-256
+    fi
     put 644 docs/use/hidlog.1 "$root/share/man/man1/hidlog.1"
     put_completions "$root/share"
     put_documents "$root"
@@ -116,8 +127,8 @@ readme_of() {
         cat "$top/packages/readme/tarball.md"
         return
     fi
-    # hidlog-uhid is made for x86-64 alone.
-    sed -e 's/Linux on x86-64/Linux on aarch64 (arm64)/' -e '/^| .bin.hidlog-uhid/d' \
+    # hidlog-uhid and the larger library are made for x86-64 alone.
+    sed -e 's/Linux on x86-64/Linux on aarch64 (arm64)/' -e 's/; .hidlog-256. is the same.* |$/ |/' -e '/^| .bin.hidlog-uhid/d' \
         -e '/^## A device of the kernel/,/^aren/d' -e 's/, the rule of udev.*hidlog-uhid |/ |/' \
         "$top/packages/readme/tarball.md" | cat -s
 }

@@ -60,6 +60,8 @@ MADE_OF = (
     ("hidlog-VERSION.tgz", ("npm",)),
     ("hidlog-VERSION-linux-aarch64", ("arm64", "docs")),
     ("hidlog-VERSION-linux-", ("uhid", "docs")),
+    ("hidlog-VERSION-py3-none-manylinux_2_17_aarch64", ("python", "arm64")),
+    ("hidlog-VERSION.tar.gz", ("python", "arm64")),
     ("hidlog-VERSION", ("python",)),
 )
 # Packages that have the program, which holds parts of the C library.
@@ -67,9 +69,10 @@ WITH_PROGRAM = (
     "hidlog_",
     "hidlog-VERSION.tgz",
     "hidlog-VERSION-linux-",
-    "hidlog-VERSION-py3-none-manylinux_2_17_x86_64",
-    "hidlog-VERSION.tar.gz",
+    "hidlog-VERSION-py3-none-manylinux_2_17_",
 )
+# The sources of the Python package, which have the programs for both processors.
+SDIST = "hidlog-VERSION.tar.gz"
 # Names of these forms; they lead nowhere.
 BUILD_TYPE, BUILDER = "urn:x-hidlog:packages:1", "urn:x-hidlog:release-build:1"
 COMMANDS = ("rt ci", "release/build.sh", "packages/build.sh FOLDER")
@@ -166,7 +169,9 @@ def parts_of(name: str, version: str, parts: list[Json]) -> list[Json]:
     sets = next(found for front, found in MADE_OF if plain.startswith(front))
     own = {f"hidlog-sources-{it}" for it in OTHERS if it not in sets}
     own |= {library for library, _ in LIBRARIES.values()}
-    if plain.startswith(WITH_PROGRAM) and not name.endswith("aarch64.whl"):
+    if plain == SDIST:
+        own -= {"glibc", "glibc-arm64"}
+    elif plain.startswith(WITH_PROGRAM):
         own.remove("glibc-arm64" if "arm64" in sets else "glibc")
     return [it for it in parts if it["name"] not in own]
 

@@ -2,11 +2,14 @@
 # Makes the files of release/ from what the gate has proved and built in crates/*/out: the program, the C library for
 # two processors and as a WebAssembly module, their header, their sums, and BUILD, which says what they were made from.
 #
-#     release/build.sh            writes release/ anew; run it after `rt ci`, and commit what it changed
-#     release/build.sh --check    compares release/ with what is made now, byte for byte; status 1 where it differs
+#     release/build.sh                writes release/ anew; run it after `rt ci`, and commit what it changed
+#     release/build.sh --check        compares release/ with what is made now, byte for byte; status 1 where it differs
+#     release/build.sh --check all    also makes anew what has to be proved once more for it: the program for aarch64, and
+#                                     the C library with capacity for 256 credentials. Without `all` their sums are read
 #
-# The same sources and tools give the same bytes, in any folder. It needs the toolchain (rt), gcc, libc6-dev and
-# wasm-opt (binaryen); without the last, --check compares the module as it is before wasm-opt lowers it.
+# The same sources and tools give the same bytes, in any folder. It needs the toolchain (rt), gcc, libc6-dev,
+# gcc-aarch64-linux-gnu with libc6-dev-arm64-cross, and wasm-opt (binaryen); without the last, --check compares the module
+# as it is before wasm-opt lowers it.
 set -euo pipefail
 cd "$(dirname "${BASH_SOURCE[0]}")/.."
 top=$PWD
@@ -25,31 +28,35 @@ sum_of() {
     sha256sum <"$1" | cut -c1-64
 }
 
-# The words of a check or a build of the C library, over the libraries below it as they were built.
-words=(--crate-name hidlog_c src/lib.rt --extern "std=$kit/rlibs/std.rlib" -L "dependency=$kit/rlibs"
-    --antt-project "$kit/rattle/logic/antt-project.json" --logic-built "$kit/logic_built" --links "hidlog_c="
-    --crate-type staticlib)
-read -ra libraries < <(sed -n 's/^hidlog_c staticlib://p' crates.txt)
-for name in "${libraries[@]}"; do
-    if [ -d "crates/$name" ]; then
-        words+=(--extern "$name=$top/crates/$name/out/rlib/$name.rlib")
-    else
-        words+=(--extern "$name=$kit/rlibs/$name.rlib")
-    fi
-done
-for folder in $(release/sources.sh | sed -n 's|^crates/\([^/]*\)/src$|\1|p'); do
-    if [ -d "crates/$folder/out/rlib" ]; then
-        words+=(-L "dependency=$top/crates/$folder/out/rlib")
-    fi
-done
-
-# Proves the C library and builds it for a target: build_library TARGET FILE. What is the same for all is proved once.
-build_library() {
-    (cd crates/hidlog_c && "$kit/bin/rattle" build "${words[@]}" --incremental "$work/proved" --target "$1" \
-        --toolchain "$kit/toolchain" --backend llvm -o "$2") >"$work/log" 2>&1 || {
+# Proves a crate in a folder and builds it for a target, over the libraries below it as they were built: build CRATE
+# FOLDER ROOT TARGET FILE WORD.. What is the same for all targets is proved once.
+build() {
+    local crate=$1 folder=$2 root=$3 target=$4 file=$5 name libraries words
+    words=(--crate-name "$crate" "$root" --extern "std=$kit/rlibs/std.rlib" -L "dependency=$kit/rlibs"
+        --antt-project "$kit/rattle/logic/antt-project.json" --logic-built "$kit/logic_built" --links "$crate=" "${@:6}")
+    read -ra libraries < <(sed -n "s/^$crate\( staticlib\)\{0,1\}://p" crates.txt)
+    for name in "${libraries[@]}"; do
+        if [ -d "crates/$name" ]; then
+            words+=(--extern "$name=$top/crates/$name/out/rlib/$name.rlib")
+        else
+            words+=(--extern "$name=$kit/rlibs/$name.rlib")
+        fi
+    done
+    for name in $(release/sources.sh | sed -n 's|^crates/\([^/]*\)/src$|\1|p'); do
+        if [ -d "crates/$name/out/rlib" ]; then
+            words+=(-L "dependency=$top/crates/$name/out/rlib")
+        fi
+    done
+    (cd "$folder" && "$kit/bin/rattle" build "${words[@]}" --incremental "$work/proved${folder//\//_}" --target "$target" \
+        --toolchain "$kit/toolchain" --backend llvm -o "$file") >"$work/log" 2>&1 || {
         tail -20 "$work/log" >&2
-        stop "the C library could not be built for $1"
+        stop "$crate could not be built for $target"
     }
+}
+
+# build_library FOLDER TARGET FILE
+build_library() {
+    build hidlog_c "$1" src/lib.rt "$2" "$3" --crate-type staticlib
 }
 
 # The program that the gate linked, linked again with no shared library. Of a program that an earlier run on this machine
@@ -80,14 +87,32 @@ object_sum() {
     fi
 }
 
+# Links the shared library of a static one, which has its name: build_shared NAME
 build_shared() {
-    "$kit/toolchain/bin/ld.lld" -shared -soname libhidlog.so.0 -z relro -z now --strip-all -o "$made/libhidlog.so.0" \
-        --whole-archive "$made/libhidlog.a"
+    "$kit/toolchain/bin/ld.lld" -shared -soname "$1.so.0" -z relro -z now --strip-all -o "$made/$1.so.0" \
+        --whole-archive "$made/$1.a"
+}
+
+# The program for aarch64. No gate made its object file, so the program is proved once more.
+build_program_for_aarch64() {
+    build hidlog crates/hidlog src/main.rt aarch64-unknown-linux-gnu "$work/hidlog_aarch64.o"
+    packages/arm64/link.sh "$work/hidlog_aarch64.o" "$made/aarch64/hidlog"
+}
+
+# The C library with capacity for 256 credentials, of the same sources but for the line that says how many.
+build_large_library() {
+    local large=$work/hidlog_c_256
+    mkdir "$large"
+    cp -r crates/hidlog_c/src crates/hidlog_c/specs crates/hidlog_c/proofs "$large"
+    sed -i 's/^pub const CAPACITY: usize = 64;$/pub const CAPACITY: usize = 256;/' "$large/src/capacity.rt"
+    grep -q '^pub const CAPACITY: usize = 256;$' "$large/src/capacity.rt" || stop "capacity.rt doesn't say how many"
+    build_library "$large" x86_64-unknown-linux-gnu "$made/libhidlog-256.a"
+    build_shared libhidlog-256
 }
 
 # Links the module, and lowers it to 32-bit memory, since node 20 and many browsers have no other. Its memory grows.
 build_module() {
-    build_library wasm64-unknown-unknown "$work/module.a"
+    build_library crates/hidlog_c wasm64-unknown-unknown "$work/module.a"
     "$kit/bin/rattle-link" --target wasm64-unknown-unknown --toolchain "$kit/toolchain" --stack 524288 \
         -o "$work/module.wasm" "$work/module.a"
     if command -v wasm-opt >/dev/null; then
@@ -109,6 +134,16 @@ lowering() {
     fi
 }
 
+# Returns the version of a compiler, and which C library it links.
+linker_of() {
+    echo "gcc $("$1" -dumpfullversion), $(sha256sum <"$("$1" -print-file-name=libc.a)" | cut -c1-16) libc.a"
+}
+
+# Returns what linked the program for aarch64 of release/.
+linker_for_aarch64() {
+    sed -n 's/^linker for aarch64: //p' release/BUILD
+}
+
 # Writes what the files are made from and with, a word and its value a line.
 write_build() {
     {
@@ -119,7 +154,8 @@ write_build() {
         echo "object: $(object_sum)"
         echo "module: $(sha256sum <"$work/module.wasm" | cut -c1-64)"
         echo "lowered by: $(lowering)"
-        echo "linker: gcc $(gcc -dumpfullversion), $(sha256sum <"$(gcc -print-file-name=libc.a)" | cut -c1-16) libc.a"
+        echo "linker: $(linker_of gcc)"
+        echo "linker for aarch64: $(if [ "$mode" = "" ]; then linker_of aarch64-linux-gnu-gcc; else linker_for_aarch64; fi)"
     } >"$made/BUILD"
 }
 
@@ -132,6 +168,8 @@ compare() {
             echo "same  release/$name"
         elif [ "$name" = hidlog ] && is_made_otherwise linker; then
             echo "same  release/hidlog, by its object file: this machine's gcc or C library is another"
+        elif [ "$name" = aarch64/hidlog ] && is_made_otherwise "linker for aarch64"; then
+            echo "same  release/aarch64/hidlog, but for its link: this machine's gcc or C library is another"
         elif [ "$name" = hidlog.wasm ] && is_made_otherwise "lowered by"; then
             echo "same  release/hidlog.wasm, as it was before wasm-opt: this machine's is another"
         elif [ "$name" = BUILD ] && is_same_but_tools; then
@@ -147,7 +185,7 @@ compare() {
 
 # Prints what a BUILD file says except for the linker, wasm-opt and the toolchain's name: its logic's sum stays.
 without_tools() {
-    grep -v '^linker:\|^lowered by:' "$1" | sed 's/^kit: .* logic /kit: logic /'
+    grep -v '^linker\(:\| for\)\|^lowered by:' "$1" | sed 's/^kit: .* logic /kit: logic /'
 }
 
 # Whether all that BUILD says except for the tools is the same: the sums of what they are handed, too.
@@ -160,33 +198,48 @@ is_made_otherwise() {
     ! diff <(grep "^$1:" release/BUILD) <(grep "^$1:" "$made/BUILD") >/dev/null && is_same_but_tools
 }
 
-# Writes how a C compiler finds the header and the shared library in this folder.
+# Writes how a C compiler finds the header and a shared library in this folder: write_pkg_config NAME [WORD]
 write_pkg_config() {
     {
         echo "prefix=\${pcfiledir}"
-        echo "Name: hidlog"
+        echo "Name: $1"
         echo "Description: a FIDO2 security key as software, for tests"
         echo "Version: $(sed -n 's/^version: //p' "$made/BUILD")"
-        echo "Cflags: -I\${prefix}"
-        echo "Libs: -L\${prefix} -l:libhidlog.so.0"
-    } >"$made/hidlog.pc"
+        echo "Cflags: -I\${prefix}${2:+ $2}"
+        echo "Libs: -L\${prefix} -l:lib$1.so.0"
+    } >"$made/$1.pc"
 }
 
-names=(BUILD hidlog hidlog.h hidlog_recording.h hidlog.pc hidlog.wasm libhidlog.a libhidlog.so.0 aarch64/libhidlog.a)
-if [ $# -gt 1 ] || [ "${1---check}" != --check ]; then
-    stop "usage: release/build.sh [--check]"
-fi
+# What --check makes anew only where it is asked to.
+make_slow() {
+    build_program_for_aarch64
+    build_large_library
+}
+
+names=(BUILD hidlog hidlog.h hidlog_recording.h hidlog.pc hidlog-256.pc hidlog.wasm libhidlog.a libhidlog.so.0
+    aarch64/libhidlog.a)
+slow=(aarch64/hidlog libhidlog-256.a libhidlog-256.so.0)
+case "$*" in
+"" | --check | "--check all") ;;
+*) stop "usage: release/build.sh [--check [all]]" ;;
+esac
 mode=${1-}
 build_program
-build_library x86_64-unknown-linux-gnu "$made/libhidlog.a"
-build_library aarch64-unknown-linux-gnu "$made/aarch64/libhidlog.a"
-build_shared
+build_library crates/hidlog_c x86_64-unknown-linux-gnu "$made/libhidlog.a"
+build_library crates/hidlog_c aarch64-unknown-linux-gnu "$made/aarch64/libhidlog.a"
+build_shared libhidlog
 build_module
 write_build
-write_pkg_config
+write_pkg_config hidlog
+write_pkg_config hidlog-256 -DHIDLOG_CAPACITY=256
 cp crates/hidlog_c/hidlog.h crates/hidlog_c/hidlog_recording.h "$made"
+if [ "$*" != --check ]; then
+    make_slow
+    names+=("${slow[@]}")
+fi
 if [ "$mode" = --check ]; then
     compare
+    [ $# = 2 ] || echo "not made anew, but the sums are right: ${slow[*]}"
 else
     (cd "$made" && sha256sum "${names[@]}" >SHA256SUMS)
     cp -a "$made/." release/

@@ -77,7 +77,7 @@ def licences_are_there() -> None:
     for library, program in PROGRAMS.items():
         found = have_program(program)
         assert {"hidlog_", "hidlog-"} == {it[:7] for it in found}, found
-        assert len(found) == {"glibc": 5, "glibc-arm64": 2}[library], found
+        assert len(found) == {"glibc": 5, "glibc-arm64": 4}[library], found
 
 
 def page_names_what_is_there() -> None:

@@ -5,8 +5,8 @@
 
 #include "hidlog.h"
 
-// A credential takes at most 290 bytes, and there are at most 64.
-enum { SNAPSHOT_MOST = 20000 };
+// A credential takes at most 290 bytes.
+enum { SNAPSHOT_MOST = 20 + 290 * HIDLOG_CAPACITY };
 
 // Writes the snapshot and returns its length, or 0 where the key has no credentials or isn't made.
 size_t snapshot_write(struct hidlog_key *key, uint8_t snapshot[SNAPSHOT_MOST]);

@@ -3,13 +3,15 @@
 #ifndef SOFTWARE_KEYS_H
 #define SOFTWARE_KEYS_H
 
+#include "hidlog.h"
+
 #include <openssl/evp.h>
 #include <stdbool.h>
 #include <stddef.h>
 #include <stdint.h>
 
-// A held key has at most 64 credentials; one more place is for a key whose credential is being made.
-enum { SOFTWARE_KEYS = 65, SIGNATURE_MOST = 72 };
+// One place for each credential, and one more for a key whose credential is being made.
+enum { SOFTWARE_KEYS = HIDLOG_CAPACITY + 1, SIGNATURE_MOST = 72 };
 
 struct software_key {
     uint8_t id[32];

@@ -1,7 +1,7 @@
 #!/usr/bin/env bash
 # Runs the C library from C programs: the commands on logs (commands.c), a log that is shown (show.c), a key that is held
-# (key.c), which have to write of each worked log what the program writes, and its credentials (credentials.c), saved as
-# the program saves them. Linked with the static and with the shared library of release/; with the sanitizers of gcc; with
+# (key.c), which have to write of each worked log what the program writes, its credentials (credentials.c), saved as
+# the program saves them, and as many as there is capacity for (capacity.c). Linked with the static and with the shared library of release/; with the sanitizers of gcc; with
 # musl, and for aarch64, where their compilers and qemu are there. Looks too at what the libraries call: no allocator, and
 # nothing else but three functions that move bytes; and whether C++ takes the header. Ends with 3 where gcc is missing.
 set -euo pipefail
@@ -86,6 +86,7 @@ run() {
     echo "tests/c: $1"
     "${@:2}" "$room/commands" "$top/examples"
     "${@:2}" "$room/key" mistakes
+    "${@:2}" "$room/capacity" 64
     played=0
     for log in "${logs[@]}"; do
         play_on "$log" "${@:2}"
@@ -98,12 +99,12 @@ run() {
 # Builds the programs: build COMPILER WORD ..
 build() {
     local name
-    for name in commands show key credentials; do
+    for name in commands show key credentials capacity; do
         "$1" "${options[@]}" -o "$room/$name" "$top/tests/c/$name.c" "${@:2}"
     done
 }
 
-for library in libhidlog.a aarch64/libhidlog.a; do
+for library in libhidlog.a libhidlog-256.a aarch64/libhidlog.a; do
     calls=$(nm --undefined-only --format=just-symbols "$top/release/$library" | grep -v ':$' | sort -u | xargs)
     [ "$calls" = "memcpy memmove memset" ] || stop "$library calls $calls, and not memcpy, memmove and memset alone"
 done
@@ -112,13 +113,22 @@ build gcc "$top/release/libhidlog.a"
 run "the static library"
 build gcc -L "$top/release" -l:libhidlog.so.0 "-Wl,-rpath,$top/release"
 run "the shared library"
+build gcc -DHIDLOG_CAPACITY=256 "$top/release/libhidlog-256.a"
+"$room/key" mistakes
+"$room/capacity" 256
+for log in "${logs[@]}"; do
+    play_on "$log"
+done
+echo "tests/c: $played logs played on a key with capacity for 256 credentials"
 build gcc -g -fsanitize=address,undefined -fno-sanitize-recover "$top/release/libhidlog.a"
 run "with the sanitizers of addresses and of undefined behaviour"
 if command -v pkg-config >/dev/null; then
-    read -ra words < <(PKG_CONFIG_PATH=$top/release pkg-config --cflags --libs hidlog)
-    gcc -std=c11 -o "$room/key" "$top/tests/c/key.c" "${words[@]}" "-Wl,-rpath,$top/release"
-    "$room/key" mistakes
-    echo "tests/c: pkg-config finds the library"
+    for name in hidlog hidlog-256; do
+        read -ra words < <(PKG_CONFIG_PATH=$top/release pkg-config --cflags --libs "$name")
+        gcc -std=c11 -o "$room/capacity" "$top/tests/c/capacity.c" "${words[@]}" "-Wl,-rpath,$top/release"
+        "$room/capacity" "$([ "$name" = hidlog ] && echo 64 || echo 256)"
+    done
+    echo "tests/c: pkg-config finds the libraries"
 else
     echo "tests/c: pkg-config was not tried (apt-get install pkgconf)"
 fi

@@ -221,6 +221,8 @@ aarch64() {
         attempt "aarch64 installs its wheel" env "PYTHONPATH=$wheels" "${python[@]}" -m pip install --quiet --no-index \
             --no-deps --root-user-action=ignore --target "$to" "$work"/dist/*aarch64.whl
         attempt "aarch64 signs in" env "PYTHONPATH=$to:$root$debian" "${python[@]}" "$work/tests/sign_in.py"
+        attempt "aarch64 has the program: $(qemu-aarch64-static "$to/hidlog/hidlog" --version)" \
+            qemu-aarch64-static "$to/hidlog/hidlog" check "$top/examples/sign_in.log"
     fi
 }
 

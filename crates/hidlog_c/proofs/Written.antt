@@ -7,7 +7,7 @@ use Rattle.session_log.specs.Ending.{Ending, Done, Refused, Unread, Unwritten, e
 use Rattle.session_log.specs.Replay.{Finds, IsShown, Makes, Reaches, ReadsTo}
 use Rattle.cred_table.specs.declared.row.Row.{Row}
 use Rattle.session_log.specs.Check.{Compared, begun, check_history}
-use Rattle.session_log.specs.Command.{IsCounted, PlaysLog, start_with}
+use Rattle.session_log.specs.Command.{IsCounted, PlaysLog}
 use Rattle.session_log.specs.Session.{history, live_history, quiet_history}
 use Rattle.session_log.specs.Streams.{IsAllRead, Moves}
 use Rattle.session_log.specs.World.{World}
@@ -16,6 +16,7 @@ use Rattle.session_log.specs.declared.command.Command.TheVariants.{Check, Live, 
 use Rattle.token_session.specs.Meters.{SessionState}
 use Rattle.token_session.specs.declared.input.Timed.{Timed}
 use Rattle.hidlog_c.specs.Commands.{IsWritten, PlaysSlice, PlaysSliceIn}
+use Rattle.hidlog_c.specs.Switched.{start_with}
 
 -- to what begins with the name of a borrow a text was appended
 appended : (old new : ℕ) (none front text : List ℕ) → none ≡ [] → new ∷ front ≡ (old ∷ none) ++ text → front ≡ text

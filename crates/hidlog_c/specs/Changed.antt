@@ -7,6 +7,7 @@ use Rattle.cred_table.specs.declared.row.Row.{Row}
 use Rattle.cred_table.specs.Rows.{has_id, without}
 use Rattle.cred_table.specs.Saving.{SavesInto, longest}
 use Rattle.cred_table.specs.Snapshots.{clashes}
+use Rattle.hidlog_c.specs.declared.capacity.TheConstants.{CAPACITY}
 use Rattle.hidlog_c.specs.declared.fault.TheConstants.{NOT_MADE, PACKETS_WAIT, BAD_ARGUMENT, TOO_SMALL, WORK_WAITS, CLASHES, TOO_MANY_ROWS}
 use Rattle.hidlog_c.specs.declared.reports.Credential.{Credential}
 use Rattle.hidlog_c.specs.Key.{DeviceState}
@@ -60,8 +61,8 @@ IsAdded d after at c = (row : Row) × (rows : List Row) × IsIdle d × Says c ro
 abbrev pub IsNotAdded : DeviceState → Credential → ℤ → Type 0
 IsNotAdded d c result = IsBusy d result ⊎ (IsIdle d × ((SaysNone c × (result ≡ BAD_ARGUMENT))
     ⊎ ((row : Row) × (rows : List Row) × Says c row × HasRows d rows
-    × (((64 ≤ length (without row.id rows)) × (result ≡ TOO_MANY_ROWS))
-    ⊎ ((length (without row.id rows) < 64) × (clashes row (without row.id rows) ≡ true) × (result ≡ CLASHES))))))
+    × (((CAPACITY ≤ length (without row.id rows)) × (result ≡ TOO_MANY_ROWS))
+    ⊎ ((length (without row.id rows) < CAPACITY) × (clashes row (without row.id rows) ≡ true) × (result ≡ CLASHES))))))
 
 abbrev pub Adds : (before after : Option DeviceState) → (at : ℕ) → Credential → ℤ → Type 0
 Adds None after at c result = (after ≡ None) × (result ≡ NOT_MADE)
@@ -91,7 +92,7 @@ Clears (Some d) after at result = (IsIdle d × StartsWith d after at [] × (resu
 -- The snapshot of the credentials is written to the buffer's front, so many bytes. A pair is the buffer before and
 -- after the call.
 abbrev pub SavesLen : DeviceState → (List ℕ × List ℕ) → (len : ℕ) → Type 0
-SavesLen d out len = (rows : List Row) × HasRows d rows × SavesInto 64 rows out.0 out.1 (Some len)
+SavesLen d out len = (rows : List Row) × HasRows d rows × SavesInto CAPACITY rows out.0 out.1 (Some len)
 
 abbrev pub IsSaved : DeviceState → (List ℕ × List ℕ) → ℤ → Type 0
 IsSaved d out result = (len : ℕ) × SavesLen d out len × (result ≡ pos len)
@@ -99,7 +100,7 @@ IsSaved d out result = (len : ℕ) × SavesLen d out len × (result ≡ pos len)
 -- Where the buffer is shorter than the longest snapshot, it stays as it is.
 abbrev pub SavesRows : DeviceState → (List ℕ × List ℕ) → ℤ → Type 0
 SavesRows d out result = IsSaved d out result
-    ⊎ ((length out.0 < longest 64) × (out.1 ≡ out.0) × (result ≡ TOO_SMALL))
+    ⊎ ((length out.0 < longest CAPACITY) × (out.1 ≡ out.0) × (result ≡ TOO_SMALL))
 
 abbrev pub SavesKey : Option DeviceState → (List ℕ × List ℕ) → ℤ → Type 0
 SavesKey None out result = (out.1 ≡ out.0) × (result ≡ NOT_MADE)

@@ -11,10 +11,11 @@ use Rattle.session_log.specs.Ending.{Ending, ending_of, read_fails, write_fails}
 use Rattle.session_log.specs.Replay.{Finds, Makes}
 use Rattle.session_log.specs.Session.{history, live_history, quiet_history}
 use Rattle.session_log.specs.World.{World}
+use Rattle.hidlog_c.specs.declared.capacity.TheConstants.{CAPACITY}
 use Rattle.hidlog_c.specs.declared.outcome.Outcome.{Outcome}
-use Rattle.session_log.specs.Command.{start_with}
 use Rattle.hidlog_c.specs.Begin.{Opens}
 use Rattle.hidlog_c.specs.Numbers.{outcome_of, refused}
+use Rattle.hidlog_c.specs.Switched.{start_with}
 
 -- A log was played in this world from the state x on: `bytes` of it were read, which is all but `rest`, and this text
 -- was written. Where it ended at a fault, no more need be read to find it.
@@ -51,5 +52,5 @@ Answers command log snapshot out outcome =
     ((rows : List Row) × (answer : Result (Unit {0}) LogFault) × Opens snapshot rows
     × (outcome ≡ outcome_of answer outcome.written)
     × IsWritten log out.1 outcome.written answer (PlaysSlice command rows))
-    ⊎ ((fault : SnapshotFault) × (snapshot ≢ []) × Refuses 64 snapshot fault × (outcome ≡ refused fault)
+    ⊎ ((fault : SnapshotFault) × (snapshot ≢ []) × Refuses CAPACITY snapshot fault × (outcome ≡ refused fault)
     × (out.1 ≡ out.0))

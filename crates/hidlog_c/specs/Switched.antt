@@ -1,5 +1,5 @@
 -- A key that is switched on.
-use Rattle.std.specs.Prelude.{◌≡◌, ◌≢◌, ◌⊎◌, ℕ, ℤ, pos, List, [], Option, Some, None}
+use Rattle.std.specs.Prelude.{◌≡◌, ◌≢◌, ◌⊎◌, ℕ, ℤ, pos, List, [], Option, Some, None, replicate}
 use Rattle.authn_core.specs.Turn.{Start}
 use Rattle.cred_table.specs.declared.fault.SnapshotFault.{SnapshotFault}
 use Rattle.cred_table.specs.declared.fault.SnapshotFault.TheVariants.{NotSnapshot, TooMany, RowBroken, Memory}
@@ -7,12 +7,17 @@ use Rattle.cred_table.specs.declared.row.Row.{Row}
 use Rattle.cred_table.specs.Snapshots.{Refuses}
 use Rattle.token_session.specs.Meters.{StandsAfter}
 use Rattle.hidlog_c.specs.Begin.{Opens}
+use Rattle.hidlog_c.specs.declared.capacity.TheConstants.{CAPACITY}
 use Rattle.hidlog_c.specs.declared.fault.TheConstants.{ALREADY_MADE, NOT_SNAPSHOT, TOO_MANY_ROWS, ROW_BROKEN, NO_MEMORY}
 use Rattle.hidlog_c.specs.Key.{DeviceState}
 
--- the start of a session with space for 64 credentials
+-- the start of a session with capacity for as many credentials as a key of this library
 abbrev pub start_of : (aaguid : List ℕ) → (moment : ℕ) → List Row → Start
-start_of aaguid moment rows = record { aaguid = aaguid; moment = moment; room = 64; rows = rows }
+start_of aaguid moment rows = record { aaguid = aaguid; moment = moment; room = CAPACITY; rows = rows }
+
+-- the start of a session that a log is played on: an AAGUID of sixteen zero bytes, the moment 0, and these credentials
+abbrev pub start_with : List Row → Start
+start_with rows = start_of (replicate 16 0) 0 rows
 
 abbrev pub refusal : SnapshotFault → ℤ
 refusal NotSnapshot = NOT_SNAPSHOT
@@ -32,7 +37,7 @@ Begins aaguid moment snapshot after = (rows : List Row) × (d : DeviceState) × 
 
 -- The snapshot is refused, and the key isn't made.
 abbrev pub IsRefused : (snapshot : List ℕ) → Option DeviceState → ℤ → Type 0
-IsRefused snapshot after result = (fault : SnapshotFault) × (snapshot ≢ []) × Refuses 64 snapshot fault
+IsRefused snapshot after result = (fault : SnapshotFault) × (snapshot ≢ []) × Refuses CAPACITY snapshot fault
     × (after ≡ None) × (result ≡ refusal fault)
 
 -- What making a key does. One that is made stays as it is.

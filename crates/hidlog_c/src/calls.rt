@@ -13,12 +13,12 @@ ghost use Rattle.hidlog_c.specs.Lines.{TakesLines};
 ghost use Rattle.hidlog_c.specs.Reports.{ReportsCredential, ReportsMeters, ReportsNeed, count_or, credential_count, pending_assertions, waiting_packets};
 ghost use Rattle.hidlog_c.specs.Switched.{Makes};
 
+use crate::capacity::CAPACITY;
 use crate::device::Device;
 use crate::fault::{ALREADY_MADE, NO_MEMORY, NOT_MADE, NOT_SNAPSHOT, ROW_BROKEN, TOO_MANY_ROWS};
 use crate::key::Key;
 use crate::outcome::Outcome;
 use crate::reports::{Credential, MetersReport, NeedReport};
-use crate::started::switched_on;
 use authn_core::{NewKey, Presence, Signature};
 use cred_table::SnapshotFault;
 use hid_packet::Packet;
@@ -44,6 +44,14 @@ pub extern "C" fn hidlog_key_size() -> usize
     std::mem::size_of::<Device>()
 }
 
+/// Returns how many credentials a key has capacity for.
+#[unsafe(no_mangle)]
+pub extern "C" fn hidlog_key_capacity() -> usize
+    ensures { result ≡ CAPACITY }
+{
+    CAPACITY
+}
+
 /// Makes a key that is switched on at `at`, with the credentials of the snapshot, or with none where it is empty.
 #[unsafe(no_mangle)]
 pub extern "C" fn hidlog_key_make(key: &mut Key, aaguid: &[u8; 16], at: u64, snapshot: &[u8]) -> i32
@@ -52,11 +60,8 @@ pub extern "C" fn hidlog_key_make(key: &mut Key, aaguid: &[u8; 16], at: u64, sna
     if key.is_made() {
         return ALREADY_MADE;
     }
-    match switched_on(*aaguid, at, snapshot) {
-        Ok(session) => {
-            key.hold(Device::new(*aaguid, session));
-            0
-        }
+    match key.make(*aaguid, at, snapshot) {
+        Ok(()) => 0,
         Err(SnapshotFault::NotSnapshot) => NOT_SNAPSHOT,
         Err(SnapshotFault::TooMany) => TOO_MANY_ROWS,
         Err(SnapshotFault::RowBroken(_)) => ROW_BROKEN,

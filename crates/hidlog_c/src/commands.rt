@@ -1,14 +1,15 @@
 //! The commands, from a log to the buffer.
-ghost use Rattle.session_log.specs.Command.{start_with};
 ghost use Rattle.std.specs.Prelude.{◌≡◌, [], List, ℕ, take, Option};
 ghost use Rattle.cred_table.specs.declared.row.Row.{Row as AnyRow};
 ghost use Rattle.token_session.specs.Meters.{StandsAfter, session_of};
 ghost use Rattle.hidlog_c.specs.Commands.{Answers, IsWritten, PlaysSlice};
+ghost use Rattle.hidlog_c.specs.Switched.{start_with};
 
+use crate::capacity::CAPACITY;
 use crate::lent::Lent;
 use crate::outcome::Outcome;
 use crate::started::{fresh, open};
-use session_log::{CAPACITY, Command, LogFault, SliceIn};
+use session_log::{Command, LogFault, SliceIn};
 use token_session::Session;
 
 /// Plays the log on the session. The target stays over its buffer.

@@ -1,15 +1,17 @@
 //! What a key holds.
-ghost use Rattle.std.specs.Prelude.{◌≡◌, ◌≤◌, List, Some, [], IfSome, IfNone, is_some, length};
+ghost use Rattle.std.specs.Prelude.{◌≡◌, ◌≤◌, List, Ok, Some, [], IfErr, IfSome, IfNone, OnOk, is_some, length};
 ghost use Rattle.authn_core.specs.Views.{needs};
 ghost use Rattle.cred_table.specs.declared.row.Row.{Row as AnyRow};
 ghost use Rattle.std.specs.List.{find};
 ghost use Rattle.cred_table.specs.Rows.{has_id, without};
+ghost use Rattle.cred_table.specs.Snapshots.{Loads, Refuses};
 ghost use Rattle.hidlog_c.specs.Changed.{Adds, Clears, HasRows, IsBusy, IsIdle, SavesLen, Removes, SavesRows};
 ghost use Rattle.hidlog_c.specs.Key.{Answers, Sends};
 ghost use Rattle.hidlog_c.specs.Lines.{TakesLines};
 ghost use Rattle.hidlog_c.specs.Switched.{IsStarted};
 ghost use Rattle.hidlog_c.specs.Reports.{ReportsRow, credential_count, meters_of, need_of, pending_assertions, waiting_packets};
 
+use crate::capacity::{CAPACITY, SNAPSHOT_LONGEST};
 use crate::fault::{
     BAD_ARGUMENT, CLASHES, NO_PACKET, PACKETS_WAIT, TOO_MANY_ROWS, TOO_SMALL, WORK_WAITS,
 };
@@ -20,15 +22,11 @@ use crate::reports::{
 };
 use crate::rows::row_of;
 use crate::started::session_with;
-use authn_core::Need;
-use cred_table::{Store, Table, copy_without, put_new, save_into};
+use authn_core::{Config, Need};
+use cred_table::{SnapshotFault, Store, Table, copy_without, put_new, save_into};
 use hid_packet::Outbox;
-use session_log::CAPACITY;
 use std::marker::Model;
 use token_session::{Input, Session};
-
-/// How many bytes the longest snapshot may have: 13, and 283 for each of 64 credentials.
-const SNAPSHOT_LONGEST: usize = 18125;
 
 /// A session, and the packets of its latest input that wait to be sent.
 #[derive(Drop)]
@@ -48,15 +46,30 @@ impl Model for Device {
 }
 
 impl Device {
-    /// Returns a device with this session of an authenticator with this AAGUID, for which no packet waits.
-    pub fn new(aaguid: [u8; 16], session: Session<CAPACITY>) -> Self
-        ensures { result ≡ record { aaguid = aaguid; session = session; waiting = [] } }
+    /// Returns a device that is switched on at `at` without credentials, of an authenticator with this AAGUID.
+    pub fn bare(aaguid: [u8; 16], at: u64) -> Self
+        ensures { IsStarted result aaguid at [] }
     {
         Device {
             aaguid,
-            session,
+            session: session_with(aaguid, at, Store::new()),
             outbox: Outbox::new(),
         }
+    }
+
+    /// Switches the device on anew at `at`, with the credentials of the snapshot. A snapshot that is refused leaves it as
+    /// it was. No packet waits.
+    pub fn load(&mut self, at: u64, snapshot: &[u8]) -> Result<(), SnapshotFault>
+        requires idle { self.old.waiting ≡ [] }
+        ensures started { OnOk result ((rows : List AnyRow) × Loads CAPACITY snapshot.now (Ok tt) rows
+            × IsStarted self.new self.old.aaguid at rows) }
+        ensures refused { IfErr result (Refuses CAPACITY snapshot.now) }
+    {
+        let config = Config {
+            aaguid: self.aaguid,
+        };
+        self.session.load(config, snapshot, at)?;
+        Ok(())
     }
 
     /// Takes an input, unless packets wait.
@@ -111,7 +124,7 @@ impl Device {
     /// Returns how many credentials are held.
     pub fn credentials(&self) -> usize
         ensures count { result ≡ credential_count self.now }
-        ensures limit { result ≤ 64 }
+        ensures limit { result ≤ CAPACITY }
     {
         self.session.credentials()
     }
@@ -119,7 +132,7 @@ impl Device {
     /// Returns how many assertions are pending.
     pub fn pending(&self) -> usize
         ensures count { result ≡ pending_assertions self.now }
-        ensures limit { result ≤ 64 }
+        ensures limit { result ≤ CAPACITY }
     {
         self.session.pending()
     }

@@ -1,17 +1,21 @@
 //! What a call does on a key.
-ghost use Rattle.std.specs.Prelude.{◌≡◌, None, Some, is_some};
+ghost use Rattle.std.specs.Prelude.{◌≡◌, ◌≢◌, [], None, Some, IfErr, OnOk, is_some};
+ghost use Rattle.cred_table.specs.Snapshots.{Refuses};
 ghost use Rattle.hidlog_c.specs.Held.{held};
 ghost use Rattle.hidlog_c.specs.Changed.{Adds, Clears, Removes, SavesKey};
 ghost use Rattle.hidlog_c.specs.Key.{Answers, Sends};
 ghost use Rattle.hidlog_c.specs.Words.{refusal_of};
 ghost use Rattle.hidlog_c.specs.Lines.{TakesLines};
+ghost use Rattle.hidlog_c.specs.Switched.{Begins};
 ghost use Rattle.hidlog_c.specs.Reports.{ReportsCredential, ReportsMeters, ReportsNeed, count_or, credential_count, pending_assertions, waiting_packets};
 
+use crate::capacity::CAPACITY;
 use crate::device::Device;
 use crate::fault::{BAD_ARGUMENT, NOT_MADE};
 use crate::key::{EMPTY, FREED, Key, MADE};
 use crate::outcome::Outcome;
 use crate::reports::{Credential, MetersReport, NeedReport};
+use cred_table::SnapshotFault;
 use token_session::Input;
 
 impl Key {
@@ -22,16 +26,27 @@ impl Key {
         self.state == MADE
     }
 
-    /// Makes the key hold a device. It isn't made before.
-    pub fn hold(&mut self, device: Device)
-        ensures { held self.new ≡ Some device }
+    /// Makes the key hold a device that is switched on at `at`, with the credentials of the snapshot, or with none where it
+    /// is empty. The key isn't made before, nor where the snapshot is refused.
+    // The snapshot is read where the device is: 39 kB that are moved are copied.
+    pub fn make(&mut self, aaguid: [u8; 16], at: u64, snapshot: &[u8]) -> Result<(), SnapshotFault>
+        requires { held self.old ≡ None }
+        ensures made { OnOk result (Begins aaguid at snapshot.now (held self.new)) }
+        ensures refused { IfErr result (λ fault. (snapshot.now ≢ []) × Refuses CAPACITY snapshot.now fault) }
+        ensures unmade { IfErr result (λ _. held self.new ≡ None) }
     {
+        let device = Device::bare(aaguid, at);
         if self.state == EMPTY {
             self.memory.put(device);
         } else {
             *self.memory.device() = device;
         }
+        self.state = FREED;
+        if !snapshot.is_empty() {
+            self.memory.device().load(at, snapshot)?;
+        }
         self.state = MADE;
+        Ok(())
     }
 
     /// Makes the key hold nothing.

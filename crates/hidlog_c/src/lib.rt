@@ -4,6 +4,7 @@
 #![tactic(auto)]
 
 mod calls;
+mod capacity;
 mod commands;
 mod device;
 mod fault;

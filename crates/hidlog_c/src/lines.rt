@@ -3,9 +3,10 @@ ghost use Rattle.std.specs.Prelude.{◌≡◌, [], take, Option};
 ghost use Rattle.hidlog_c.specs.Commands.{IsWritten};
 ghost use Rattle.hidlog_c.specs.Lines.{ArePlayed, FollowsLines, LinesDo};
 
+use crate::capacity::CAPACITY;
 use crate::lent::Lent;
 use crate::outcome::Outcome;
-use session_log::{CAPACITY, LogFault, SliceIn, live_lines};
+use session_log::{LogFault, SliceIn, live_lines};
 use token_session::Session;
 
 /// Plays the lines. The target stays over its buffer.

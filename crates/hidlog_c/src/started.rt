@@ -3,13 +3,12 @@ ghost use Rattle.std.specs.Prelude.{◌≡◌, ◌≢◌, [], List, IfOk, IfErr,
 ghost use Rattle.cred_table.specs.declared.row.Row.{Row as AnyRow};
 ghost use Rattle.cred_table.specs.Snapshots.{Refuses};
 ghost use Rattle.token_session.specs.Meters.{StandsAfter, session_of};
-ghost use Rattle.session_log.specs.Command.{start_with};
 ghost use Rattle.hidlog_c.specs.Begin.{Opens};
-ghost use Rattle.hidlog_c.specs.Switched.{start_of};
+ghost use Rattle.hidlog_c.specs.Switched.{start_of, start_with};
 
+use crate::capacity::CAPACITY;
 use authn_core::Config;
-use cred_table::{SnapshotFault, Store, Table, load};
-use session_log::CAPACITY;
+use cred_table::{SnapshotFault, Store, Table};
 use token_session::Session;
 
 /// Returns a session at its start with these credentials.
@@ -17,23 +16,6 @@ pub fn session_with(aaguid: [u8; 16], start: u64, rows: Store<CAPACITY>) -> Sess
     ensures { StandsAfter result (start_of aaguid start (⟦<Store<CAPACITY> as Table<CAPACITY>>⟧.rows rows)) [] }
 {
     Session::new(Config { aaguid }, rows, start)
-}
-
-/// Returns a session at its start with the credentials of the snapshot, or with none where the snapshot is empty.
-pub fn switched_on(
-    aaguid: [u8; 16],
-    start: u64,
-    snapshot: &[u8],
-) -> Result<Session<CAPACITY>, SnapshotFault>
-    ensures begins { IfOk result (λ session. (rows : List AnyRow) × Opens snapshot.now rows
-        × StandsAfter session (start_of aaguid start rows) []) }
-    ensures refused { IfErr result (λ fault. (snapshot.now ≢ []) × Refuses 64 snapshot.now fault) }
-{
-    let mut rows = Store::new();
-    if !snapshot.is_empty() {
-        load(snapshot, &mut rows)?;
-    }
-    Ok(session_with(aaguid, start, rows))
 }
 
 /// Returns a session without credentials, with an AAGUID of zeros, which begins at the moment 0.
@@ -49,7 +31,7 @@ pub fn open(session: &mut Session<CAPACITY>, snapshot: &[u8]) -> Result<(), Snap
     requires fresh { session.old ≡ session_of (start_with []) [] }
     ensures begins { OnOk result ((rows : List AnyRow) × Opens snapshot.now rows
         × StandsAfter session.new (start_with rows) []) }
-    ensures refused { IfErr result (λ fault. (snapshot.now ≢ []) × Refuses 64 snapshot.now fault) }
+    ensures refused { IfErr result (λ fault. (snapshot.now ≢ []) × Refuses CAPACITY snapshot.now fault) }
 {
     if snapshot.is_empty() {
         return Ok(());

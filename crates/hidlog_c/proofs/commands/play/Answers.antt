@@ -1,4 +1,4 @@
-use Rattle.session_log.specs.Command.{start_with}
+use Rattle.hidlog_c.specs.Switched.{start_with}
 use Rattle.std.proofs.Common.{[], take, rules}
 use Rattle.hidlog_c.proofs.Written.{by_command, on_all, plays}
 use Rattle.hidlog_c.specs.Commands.{IsWritten}

@@ -6,13 +6,14 @@ use Rattle.cred_table.specs.declared.row.Row.{Row}
 use Rattle.cred_table.specs.Snapshots.{Loads}
 use Rattle.session_log.proofs.Histories.{begins}
 use Rattle.hidlog_c.specs.Begin.{Opens}
+use Rattle.hidlog_c.specs.declared.capacity.TheConstants.{CAPACITY}
 use Rattle.hidlog_c.proofs.started.open.Goals as goal
 
 opens_none : (s : List ℕ) → s ≡ [] → Opens s []
 opens_none [] e = refl
 opens_none (x ∷ s) e = cc
 
-opens : (s : List ℕ) (rows : List Row) → s ≢ [] → Loads 64 s (Ok tt) rows → Opens s rows
+opens : (s : List ℕ) (rows : List Row) → s ≢ [] → Loads CAPACITY s (Ok tt) rows → Opens s rows
 opens [] rows some l = absurd (some refl)
 opens (x ∷ s) rows some l = l
 
