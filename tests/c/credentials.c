@@ -61,7 +61,7 @@ static void want_snapshot(struct hidlog_key *key, const uint8_t *snapshot, int32
     want(hidlog_key_save(key, saved, SNAPSHOT - 1), HIDLOG_KEY_TOO_SMALL, "save into a buffer that is too small");
 }
 
-// Reads all credentials into an array of 64. Returns how many there are.
+// Reads all credentials into an array that holds all. Returns how many there are.
 static int32_t read_all(struct hidlog_key *key, struct hidlog_credential *credentials) {
     int32_t count = hidlog_key_credentials(key);
     for (int32_t i = 0; i < count; i++) {
@@ -95,7 +95,7 @@ static void add_mistakes(struct hidlog_key *key, const struct hidlog_credential 
 
 // Takes all out and puts them in again, in their order.
 static void put_again(struct hidlog_key *key, const uint8_t *snapshot, int32_t len) {
-    static struct hidlog_credential credentials[64];
+    static struct hidlog_credential credentials[HIDLOG_CAPACITY];
     int32_t count = read_all(key, credentials);
     want(hidlog_key_clear(key, AT), 0, "clear");
     want(hidlog_key_credentials(key), 0, "credentials after clear");
@@ -118,15 +118,15 @@ static void put_again(struct hidlog_key *key, const uint8_t *snapshot, int32_t l
 // Fills the key with credentials that differ in their ids.
 static void fill(struct hidlog_key *key) {
     struct hidlog_credential credential = {.counter = 7};
-    for (uint8_t i = 0; i < 64; i++) {
-        credential.id[31] = i;
-        want(hidlog_key_add(key, AT, &credential), 0, "add of 64");
+    for (unsigned i = 0; i < HIDLOG_CAPACITY; i++) {
+        credential.id[31] = (uint8_t)i;
+        want(hidlog_key_add(key, AT, &credential), 0, "add until the key is full");
     }
-    credential.id[31] = 64;
-    want(hidlog_key_add(key, AT, &credential), HIDLOG_KEY_TOO_MANY_ROWS, "a 65th credential");
-    credential.id[31] = 63;
-    want(hidlog_key_add(key, AT, &credential), 0, "the 64th again");
-    want(hidlog_key_credentials(key), 64, "credentials of a full key");
+    credential.id[30] = 1;
+    want(hidlog_key_add(key, AT, &credential), HIDLOG_KEY_TOO_MANY_ROWS, "one more credential");
+    credential.id[30] = 0;
+    want(hidlog_key_add(key, AT, &credential), 0, "the last one again");
+    want(hidlog_key_credentials(key), HIDLOG_CAPACITY, "credentials of a full key");
 }
 
 static void wait_mistakes(struct hidlog_key *key, int32_t fault) {
