@@ -10,7 +10,7 @@ from pathlib import Path
 
 import pytest
 
-LIBRARY = Path(__file__).resolve().parents[2] / "release" / "libhidlog-256.so.0"
+LIBRARY = Path(os.environ["HIDLOG_EXAMPLES"]).resolve().parent / "release" / "libhidlog-256.so.0"
 PROGRAM = """
 import hidlog
 
@@ -29,7 +29,7 @@ with hidlog.SecurityKey() as key:
         got = other.browser("https://example.com").get({"challenge": "Yw", "rpId": "example.com"})
         # The newest, whose user handle is 00ff.
         assert got["response"]["userHandle"] == "AP8", got
-        log = other.log()
+        log = other.log
     assert hidlog.check(log, saved).status == 0
 """
 
