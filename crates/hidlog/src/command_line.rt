@@ -17,6 +17,11 @@ use std::alloc::{AllocError, Global};
 /// The version, which CHANGELOG.md describes.
 const VERSION: &str = "0.2.0";
 
+/// What help says first.
+const ABOUT: &str = "Replays text logs of CTAPHID sessions on a FIDO2 security key\n\n\
+     The Python package adds commands to this program: webdriver, browser, import, export, judge, shrink, check-many, \
+     mermaid";
+
 /// How a log is shown.
 #[derive(Clone, Copy)]
 pub enum Form {
@@ -283,7 +288,7 @@ fn program<'a>(alloc: Global) -> Result<Command<'a>, AllocError>
 {
     let mut program = Command::new(alloc, "hidlog")
         .version(VERSION)
-        .about("Replays text logs of CTAPHID sessions on a FIDO2 security key")
+        .about(ABOUT)
         .subcommand_required(true);
     for name in [
         Name::Replay,
