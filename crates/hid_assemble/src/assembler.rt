@@ -39,21 +39,6 @@ enum Contents {
     Finished(u16),
 }
 
-impl OpenMessage {
-    /// Returns it as its initialization packet says, before a moment is known.
-    fn new(cid: u32, cmd: u8, len: u16) -> Self
-        ensures { result ≡ record { cid = cid; cmd = cmd; len = len; kept = 0; last = 0 } }
-    {
-        OpenMessage {
-            cid,
-            cmd,
-            len,
-            kept: 0,
-            last: 0,
-        }
-    }
-}
-
 /// Writes the data bytes after those that are held already.
 fn put_data(message: &mut [u8], held: usize, part: &[u8])
     requires { held + length part.now ≤ length message.old }
@@ -254,9 +239,13 @@ impl Assembler {
             }
             Row::Long => {
                 put_data(&mut self.buffer, 0, part);
-                let mut message = OpenMessage::new(cid, cmd, len);
-                message.last = at;
-                self.contents = Contents::Open(message);
+                self.contents = Contents::Open(OpenMessage {
+                    cid,
+                    cmd,
+                    len,
+                    kept: 0,
+                    last: at,
+                });
                 Verdict::Kept
             }
         }

@@ -28,7 +28,7 @@ invariant_of-self-in-Long c =
     record {
       channels = c.self.invariant.channels;
       size = size;
-      held = subst (λ m. IsOpenMessage c.self.inside.given m.cid m.cmd m.len m.kept) (sym c.new-message.ensures) says;
+      held = says;
     }
 
 pub returns-in-Short-clause-state : goal.returns-in-Short-clause-state
@@ -42,5 +42,4 @@ pub returns-in-Long-clause-state : goal.returns-in-Long-clause-state
 returns-in-Long-clause-state c =
     let same = given-is _ _ _ _ c.self.view_is in
     let row = sym (c.initialization_row.ensures ∙ (λ i. initialization_row (same i) (c.open_on.ensures i) c.args.working c.args.cid c.args.cmd c.args.len)) ∙ c.in-Long.is in
-    (λ i. assembly c.self.inside.given (HoldsOpen (record (c.new-message.ensures i) { last = c.args.at })) c.put_data-in-Long.new.message)
-    ∙ long_state _ _ _ _ c.self.view_is c.args.at _ c.args.cmd _ _ c.args.working c.args.part.now _ c.requires.data c.put_data-in-Long.ensures row
+    long_state _ _ _ _ c.self.view_is c.args.at _ c.args.cmd _ _ c.args.working c.args.part.now _ c.requires.data c.put_data-in-Long.ensures row
