@@ -5,7 +5,7 @@
 //! - [`Cursor`] reads item by item: heads with the bytes of strings, map keys with their order, whole items. It
 //!   lends strings from the message, and keeps the count of steps. [`read_map`] and [`read_array`] hand the members
 //!   of a map and the entries of an array to what collects them.
-//! - [`Sink`] writes heads and items in their shortest form into a lent buffer.
+//! - [`Sink`] writes heads and items in their shortest form into a lent buffer, and [`head_into`] a head alone.
 //! - [`decode_value`] and [`encode_value`] read and write a [`Value`], an owned tree.
 //! - [`laws`] has what holds of the encoding itself, as that no encoding begins another.
 //!
@@ -64,5 +64,5 @@ pub use decoding::decode_value;
 pub use encoding::encode_value;
 pub use fault::{Fault, Kind};
 pub use item::{Item, Key};
-pub use sink::Sink;
+pub use sink::{Sink, head_into};
 pub use value::Value;

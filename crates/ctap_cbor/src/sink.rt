@@ -111,7 +111,7 @@ impl<'a> Sink<'a> {
         ensures appends { Appends self.old self.new (scalar_text (Flag value)) 1 }
         ensures same { SameBuffer self.old self.new }
     {
-        self.push(if value { 0xf5 } else { 0xf4 });
+        self.extend(&[if value { 0xf5 } else { 0xf4 }]);
     }
 
     /// Writes null.
@@ -120,41 +120,19 @@ impl<'a> Sink<'a> {
         ensures appends { Appends self.old self.new (scalar_text Null) 1 }
         ensures same { SameBuffer self.old self.new }
     {
-        self.push(0xf6);
+        self.extend(&[0xf6]);
     }
 
     /// Writes the shortest head of a major type with an argument.
-    #[tactic(auto, unfolding(crate::specs::Head::head))]
     fn head(&mut self, major: u8, argument: u64)
         requires low { major < 8 }
         requires room { head_len argument ≤ room_of self.old }
         ensures appends { Appends self.old self.new (head major argument) (head_len argument) }
         ensures same { SameBuffer self.old self.new }
     {
-        let first = 32 * major;
-        if argument < 24 {
-            self.push(first + argument as u8);
-        } else if argument < 0x100 {
-            self.extend(&[first + 24, argument as u8]);
-        } else if argument < 0x1_0000 {
-            self.push(first + 25);
-            self.extend(&(argument as u16).to_be_bytes());
-        } else if argument < 0x1_0000_0000 {
-            self.push(first + 26);
-            self.extend(&(argument as u32).to_be_bytes());
-        } else {
-            self.push(first + 27);
-            self.extend(&argument.to_be_bytes());
-        }
-    }
-
-    /// Writes one byte.
-    fn push(&mut self, byte: u8)
-        requires { 1 ≤ room_of self.old }
-        ensures appends { Appends self.old self.new (byte ∷ []) 1 }
-        ensures same { SameBuffer self.old self.new }
-    {
-        self.extend(&[byte]);
+        let mut head = [0; 9];
+        let len = head_into(major, argument, &mut head);
+        self.extend(&head[..len]);
     }
 
     /// Writes bytes.
@@ -169,14 +147,37 @@ impl<'a> Sink<'a> {
     }
 }
 
-/// Writes the shortest head of a major type with an argument into a buffer that holds any head, and returns its length.
-pub(crate) fn head_into(major: u8, argument: u64, out: &mut [u8]) -> usize
+/// Writes the shortest head of a major type with an argument to the front of a buffer that holds any head, and returns
+/// its length.
+#[tactic(auto, unfolding(crate::specs::Head::head))]
+pub fn head_into(major: u8, argument: u64, out: &mut [u8]) -> usize
     requires low { major < 8 }
     requires room { 9 ≤ length out.old }
+    ensures len { result ≡ head_len argument }
     ensures within { result ≤ 9 }
     ensures front { take result out.new ≡ head major argument }
 {
-    let mut sink = Sink::new(out);
-    sink.head(major, argument);
-    sink.len()
+    let first = 32 * major;
+    if argument < 24 {
+        out[0] = first + argument as u8;
+        return 1;
+    }
+    if argument < 0x100 {
+        out[0] = first + 24;
+        out[1] = argument as u8;
+        return 2;
+    }
+    if argument < 0x1_0000 {
+        out[0] = first + 25;
+        out[1..3].copy_from_slice(&(argument as u16).to_be_bytes());
+        return 3;
+    }
+    if argument < 0x1_0000_0000 {
+        out[0] = first + 26;
+        out[1..5].copy_from_slice(&(argument as u32).to_be_bytes());
+        return 5;
+    }
+    out[0] = first + 27;
+    out[1..9].copy_from_slice(&argument.to_be_bytes());
+    9
 }
