@@ -1,7 +1,8 @@
 //! The calls of `ctap_message` and `fido_authdata` that the examples on their pages leave out.
 
 use ctap_message::{
-    Command, Request, Status, read_request, write_assertion, write_created, write_status,
+    AssertRequest, Command, Request, Status, read_request, write_assertion, write_created,
+    write_status,
 };
 use fido_authdata::{AuthData, cose_key};
 
@@ -15,7 +16,7 @@ const ASSERT: &[u8] = b"\x02\xa3\x01\x6bexample.com\x02\x58\x20\
 #[test]
 fn a_list_is_walked(rt: HostRuntime) {
     let mut is_walked = false;
-    if let Ok(Request::Assert { mut allow, .. }) = read_request(ASSERT).0 {
+    if let Ok(Request::Assert(AssertRequest { mut allow, .. })) = read_request(ASSERT).0 {
         let is_first = allow.is_given() && allow.next() == Some(b"\x09".as_slice());
         is_walked = is_first && allow.next().is_none() && allow.steps() == 28;
     }

@@ -1,5 +1,6 @@
 -- All that the transport needs to know of the authenticator.
-use Rattle.std.proofs.Common.{◌≡◌, ℕ, ◌≤◌, List, false, Option, Some, None, Ok, refl, arith}
+use Rattle.std.proofs.Common.{◌≡◌, ℕ, ◌≤◌, List, take, false, Option, Some, None, Ok, refl, arith}
+use Rattle.std.proofs.Math.Seq.{take-append_seam}
 use Rattle.ctap_message.specs.Asked.{GetInfo}
 use Rattle.ctap_message.specs.Requests.{read_of}
 use Rattle.authn_core.specs.declared.replies.Presence.{Presence}
@@ -7,6 +8,7 @@ use Rattle.authn_core.specs.declared.replies.NewKey.{NewKey}
 use Rattle.authn_core.specs.State.{Setup, State, Event, Request, PresenceIs, KeyIs, SignatureIs, Drop, Answered, Nothing, ignores}
 use Rattle.ctap_message.specs.Answers.{info_answer}
 use Rattle.authn_core.specs.Turn.{CoreState, working, core_after, core_answer, turn}
+use Rattle.authn_core.specs.Ready.{Joins}
 use Rattle.authn_core.specs.Views.{wants_presence, wants_key, wants_signature}
 
 -- A reply that the waiting work doesn't need leaves the state, and is answered by nothing.
@@ -48,3 +50,8 @@ drop_answers_nothing core at = unfold turn in refl
 pub info_answered : (core : CoreState) (at cid : ℕ) (bytes : List ℕ) → read_of bytes ≡ Ok GetInfo
     → core_answer core at (Request cid bytes) ≡ Answered (info_answer core.setup.aaguid)
 info_answered core at cid bytes asks = unfold turn in cc
+
+-- The authenticator data are the front of what is signed.
+pub data_signed : {signed front hash : List ℕ} {n : ℕ} (bytes : List ℕ) → bytes ≡ signed → Joins signed front hash n
+    → take n bytes ≡ front
+data_signed {front = front} {hash = hash} bytes same j = rw (same, j.bytes, ← j.len) (take-append_seam front hash)

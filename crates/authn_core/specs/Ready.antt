@@ -1,9 +1,10 @@
 -- What work can count on between turns.
-use Rattle.std.specs.Prelude.{ℕ, ◌≡◌, ◌<◌, ◌-◌, ◌^◌, List, true, false, Option, Some, None, is_some}
+use Rattle.std.specs.Prelude.{ℕ, ◌≡◌, ◌<◌, ◌-◌, ◌^◌, List, ◌++◌, length, true, false, Option, Some, None, is_some}
 use Rattle.std.specs.List.{AllByRecursion, find}
 use Rattle.cred_table.specs.declared.row.Row.{Row}
 use Rattle.cred_table.specs.Rows.{has_id, counter_of}
 use Rattle.cred_table.specs.Waiting.{Waiting}
+use Rattle.fido_authdata.specs.AuthData.{assertion_bytes, created_bytes}
 use Rattle.authn_core.specs.State.{Task, WantsKey, SignsMake, AsksAssert, SignsAssert, Job, State}
 use Rattle.authn_core.specs.MakeCredential.{fits}
 
@@ -17,6 +18,20 @@ TaskReady room rows task = Unit {0}
 abbrev pub WorkReady : (room : ℕ) → List Row → Option Job → Type 0
 WorkReady room rows None = Unit {0}
 WorkReady room rows (Some job) = TaskReady room rows job.task
+
+-- What waits for a signature signs just the authenticator data that its answer will have, and the hash after it.
+pub record Joins (signed front hash : List ℕ) (n : ℕ) : Type 0 where
+  pub bytes : signed ≡ front ++ hash
+  pub len : length front ≡ n
+
+abbrev pub SignsItsAnswer : (aaguid : List ℕ) → Task → Type 0
+SignsItsAnswer aaguid (SignsMake m k signed) = Joins signed (created_bytes m.rp aaguid k.id k.x k.y) m.hash 164
+SignsItsAnswer aaguid (SignsAssert a counter signed) = Joins signed (assertion_bytes a.rp a.presence counter) a.hash 37
+SignsItsAnswer aaguid task = Unit {0}
+
+abbrev pub WorkSignsItsAnswer : (aaguid : List ℕ) → Option Job → Type 0
+WorkSignsItsAnswer aaguid None = Unit {0}
+WorkSignsItsAnswer aaguid (Some job) = SignsItsAnswer aaguid job.task
 
 -- all ids name rows
 abbrev pub AllThere : List Row → List (List ℕ) → Type 0

@@ -107,7 +107,7 @@ pub struct Core<T: Table<C>, const C: usize> {
 impl<T: Table<C>, const C: usize> Model for Core<T, C> {
     ghost use Rattle.std.specs.Prelude.{◌≤◌, option_map};
     ghost use Rattle.authn_core.specs.Turn.{Held};
-    ghost use Rattle.authn_core.specs.Ready.{Ready};
+    ghost use Rattle.authn_core.specs.Ready.{Ready, WorkSignsItsAnswer};
     ghost use Rattle.authn_core.specs.Views.{job_of};
 
     ghost Value = { Held };
@@ -121,7 +121,8 @@ impl<T: Table<C>, const C: usize> Model for Core<T, C> {
       last_steps = s.last_steps;
     } };
 
-    ghost invariant = { λ s. (s.began ≤ s.latest) × Ready C (record { rows = T.rows s.table; pending = s.pending; work = option_map job_of s.work }) };
+    ghost invariant = { λ s. (s.began ≤ s.latest) × Ready C (record { rows = T.rows s.table; pending = s.pending; work = option_map job_of s.work })
+        × WorkSignsItsAnswer s.config.aaguid (option_map job_of s.work) };
 }
 
 impl<T: Table<C>, const C: usize> Core<T, C> {

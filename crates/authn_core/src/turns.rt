@@ -3,7 +3,7 @@
 ghost use Rattle.std.specs.Prelude.{None};
 ghost use Rattle.ctap_message.specs.Shown.{shown, IsFresh, HasLengths};
 ghost use Rattle.authn_core.specs.State.{refuses, waits};
-ghost use Rattle.authn_core.specs.Ready.{TaskReady};
+ghost use Rattle.authn_core.specs.Ready.{TaskReady, SignsItsAnswer};
 ghost use Rattle.authn_core.specs.Turn.{requested, reply_turn};
 ghost use Rattle.authn_core.specs.Views.{Takes, event_of, task_of};
 
@@ -23,24 +23,8 @@ impl<T: Table<C>, const C: usize> Core<T, C> {
     {
         match read {
             Err(status) => self.refuse_all(status),
-            Ok(
-                Request::Make {
-                    hash,
-                    rp_id,
-                    user_id,
-                    user_name,
-                    discoverable,
-                    exclude,
-                },
-            ) => self.begin_make(cid, hash, rp_id, user_id, user_name, discoverable, exclude),
-            Ok(
-                Request::Assert {
-                    hash,
-                    rp_id,
-                    allow,
-                    presence,
-                },
-            ) => { self.begin_assert(cid, hash, rp_id, allow, presence) }
+            Ok(Request::Make(make)) => self.begin_make(cid, make),
+            Ok(Request::Assert(assert)) => self.begin_assert(cid, assert),
             Ok(Request::Info) => self.inform(),
             Ok(Request::Next) => self.next(cid),
             Ok(Request::Reset) => self.begin_reset(cid),
@@ -66,7 +50,8 @@ impl<T: Table<C>, const C: usize> Core<T, C> {
 
     /// Lets work begin or go on.
     pub(crate) fn wait(&mut self, cid: u32, task: Task) -> Turn
-        requires { TaskReady self.old.core.setup.room self.old.core.state.rows (task_of task) }
+        requires ready { TaskReady self.old.core.setup.room self.old.core.state.rows (task_of task) }
+        requires signs { SignsItsAnswer self.old.core.setup.aaguid (task_of task) }
         ensures { Takes self.old self.new result (waits self.old.core.state.rows self.old.core.state.pending cid
             (task_of task)) }
     {
@@ -91,11 +76,10 @@ impl<T: Table<C>, const C: usize> Core<T, C> {
             ),
             (Task::AsksAssert(a), Event::Presence(reply)) => self.assert_presence(cid, a, *reply),
             (Task::WantsKey(making), Event::Key(key)) => self.make_key(cid, making, key),
-            (Task::SignsMake(making, key, _), Event::Signature(signature)) => self.make_signature(
-                making, key, signature,
-            ),
-            (Task::SignsAssert(a, counter, _), Event::Signature(signature)) =>
-                self.assert_signature(a, counter, signature),
+            (Task::SignsMake(making, key, signed), Event::Signature(signature)) =>
+                self.make_signature(making, key, &signed, signature),
+            (Task::SignsAssert(a, counter, signed), Event::Signature(signature)) =>
+                self.assert_signature(a, counter, &signed, signature),
             (task, _) => {
                 self.work = Some(Job { cid, task });
                 Turn::Ignored

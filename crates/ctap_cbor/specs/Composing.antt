@@ -1,5 +1,5 @@
 -- What several calls of a sink append, by what each appends.
-use Rattle.std.proofs.Common.{◌≡◌, ℕ, ◌+◌, List, [], ◌++◌, drop, arith, refl, sym, ap, subst, ◌∙◌, append_assoc, append-nil}
+use Rattle.std.proofs.Common.{◌≡◌, ℕ, ◌+◌, List, [], ◌++◌, drop, arith, refl, sym, ap, ◌∙◌, append_assoc, append-nil}
 use Rattle.std.proofs.lemmas.List.{drop-drop}
 use Rattle.ctap_cbor.specs.declared.sink.Sink.{Sink}
 use Rattle.ctap_cbor.specs.Writing.{contents, Appends}
@@ -21,11 +21,3 @@ done {a = a} = record {
   room_is = omega arith;
   keeps = refl;
 }
-
--- so many bytes, by another sum
-pub sized : {a b : Sink} {x : List ℕ} {m n : ℕ} → m ≡ n → Appends a b x m → Appends a b x n
-sized {a = a} {b = b} {x = x} e p = subst (Appends a b x) e p
-
--- the same bytes, by another spelling
-pub spelled : {a b : Sink} {x y : List ℕ} {m : ℕ} → x ≡ y → Appends a b x m → Appends a b y m
-spelled {a = a} {b = b} {m = m} e p = subst (λ z. Appends a b z m) e p

@@ -9,6 +9,6 @@ pub mod Growing
 pub mod Listing
 pub mod Naming
 pub mod Asking
-pub mod Pairing
 pub mod AnsweredLawful
+pub mod Written
 pub mod WalkBounds

@@ -1,7 +1,6 @@
 -- Answers: a status byte, and after status 0x00 a map in canonical CBOR (CTAP 2.1, section 8, "Message Encoding").
-use Rattle.std.specs.Prelude.{ℕ, ◌+◌, pos, negsuc, Bool, true, false, List, [], ◌∷◌, ◌++◌, length, Option, Some, None, codes}
-use Rattle.ctap_cbor.specs.Tree.{Int, Bytes, Text, Flag, Tree, Plain, Array, Map, no_trees, tree, no_pairs, pair, Pairs, count_pairs}
-use Rattle.ctap_cbor.specs.Head.{head_len}
+use Rattle.std.specs.Prelude.{ℕ, pos, negsuc, Bool, true, false, List, ◌∷◌, [], Option, Some, None, codes}
+use Rattle.ctap_cbor.specs.Tree.{Int, Bytes, Text, Flag, Tree, Plain, Array, Map, no_trees, tree, no_pairs, pair, Pairs}
 use Rattle.ctap_cbor.specs.Grammar.{text}
 
 -- a refusal is its status alone
@@ -101,38 +100,3 @@ assertion_tree id auth sig user credentials =
 -- the answer of an assertion (CTAP 2.1, sections 6.2.2 and 6.3)
 unfoldable pub assertion_answer : (id auth sig : List ℕ) → (user : Option (List ℕ)) → (credentials : Option ℕ) → List ℕ
 assertion_answer id auth sig user credentials = success (assertion_tree id auth sig user credentials)
-
--- ---- lengths
-
--- how long a byte string's text is
-abbrev pub bytes_len : List ℕ → ℕ
-bytes_len s = head_len (length s) + length s
-
-abbrev pub user_len : Option (List ℕ) → ℕ
-user_len None = 0
-user_len (Some id) = 5 + bytes_len id
-
-abbrev pub number_len : Option ℕ → ℕ
-number_len None = 0
-number_len (Some n) = 1 + head_len n
-
--- ---- parts, as they are written
-
-abbrev pub user_member : List ℕ → Pairs
-user_member id = with_user (Some id) no_pairs
-
-abbrev pub number_member : ℕ → Pairs
-number_member n = pair (number 0x05) (number n) no_pairs
-
-abbrev pub member_count : Option (List ℕ) → Option ℕ → ℕ
-member_count user credentials = count_pairs (with_user user (with_number credentials)) + 1 + 1 + 1
-
--- the members that every assertion's answer has
-abbrev pub signed_text : (id auth sig : List ℕ) → List ℕ
-signed_text id auth sig =
-    text (number 0x01) ++ (text (credential id) ++ (text (number 0x02)
-    ++ (text (byte_string auth) ++ (text (number 0x03) ++ text (byte_string sig)))))
-
-abbrev pub assertion_len : (id auth sig : List ℕ) → Option (List ℕ) → Option ℕ → ℕ
-assertion_len id auth sig user credentials = 24 + bytes_len id + bytes_len auth + bytes_len sig + user_len user +
-    number_len credentials

@@ -1,22 +1,162 @@
-//! Answers, and those that are a status alone.
+//! Answers: a status alone, or status 0x00 and a map in canonical CBOR (CTAP 2.1, section 8, "Message Encoding").
+//!
+//! What is the same in every answer of a command is a literal, up to what is written next.
 
-ghost use Rattle.std.specs.Prelude.{◌≡◌};
-ghost use Rattle.ctap_message.specs.Answers.{refusal};
+ghost use Rattle.std.specs.Prelude.{◌≡◌, ◌+◌, ◌<◌, ◌≤◌, ◌++◌, ◌∷◌, [], length};
+ghost use Rattle.std.specs.Option.{ForSome, option_copied};
+ghost use Rattle.ctap_cbor.specs.Head.{head, head_len};
+ghost use Rattle.ctap_cbor.specs.Grammar.{text, pair_texts};
+ghost use Rattle.ctap_cbor.specs.Tree.{count_pairs, no_pairs};
+ghost use Rattle.ctap_message.specs.Answers as spec;
 
 use crate::status::Status;
 use arrayvec::ArrayVec;
+use ctap_cbor::head_into;
 
 /// An answer's message: a status byte, and at success a map after it.
 pub type Answer = ArrayVec<u8, 262>;
 
-/// How many bytes may be after an answer's status.
-pub(crate) const LONGEST_MAP: usize = 261;
-
 /// The answer that is a status alone.
 pub fn write_status(status: Status) -> Answer
-    ensures { result.items ≡ refusal status.0 }
+    ensures { result.items ≡ spec.refusal status.0 }
 {
     let mut answer = Answer::new();
     answer.push(status.0);
     answer
+}
+
+/// The answer of authenticatorGetInfo (CTAP 2.1, section 6.4), 81 bytes: status 0x00 and the map
+/// `{1: ["FIDO_2_0"], 3: aaguid, 4: {"rk": true, "up": true, "plat": false}, 5: 7609, 9: ["usb"],
+/// 10: [{"alg": -7, "type": "public-key"}]}` in canonical CBOR.
+// It isn't inlined, so that no other turn pays for the space of this answer.
+#[inline(never)]
+#[tactic(auto, unfolding(ctap_cbor::specs::Head::head, crate::specs::Answers::info_tree, crate::specs::Answers::info_answer))]
+pub fn write_info(aaguid: &[u8; 16]) -> Answer
+    ensures { result.items ≡ spec.info_answer aaguid.now }
+{
+    let mut answer = Answer::new();
+    answer
+        .try_extend_from_slice(b"\x00\xa6\x01\x81\x68FIDO_2_0\x03\x50")
+        .unwrap();
+    answer.try_extend_from_slice(aaguid).unwrap();
+    answer
+        .try_extend_from_slice(
+            b"\x04\xa3\x62rk\xf5\x62up\xf5\x64plat\xf4\x05\x19\x1d\xb9\x09\x81\x63usb\
+              \x0a\x81\xa2\x63alg\x26\x64type\x6apublic-key",
+        )
+        .unwrap();
+    answer
+}
+
+/// The answer of authenticatorMakeCredential (CTAP 2.1, section 6.1.2): status 0x00 and the map
+/// `{1: "packed", 2: auth, 3: {"alg": -7, "sig": sig}}` in canonical CBOR, by the authenticator data and the signature.
+pub fn write_created(auth: &[u8], sig: &[u8]) -> Answer
+    requires auth { length auth.now ≡ 164 }
+    requires sig { length sig.now ≤ 72 }
+    ensures { result.items ≡ spec.created_answer auth.now sig.now }
+{
+    let mut answer = Answer::new();
+    answer
+        .try_extend_from_slice(b"\x00\xa3\x01\x66packed\x02\x58\xa4")
+        .unwrap();
+    answer.try_extend_from_slice(auth).unwrap();
+    answer
+        .try_extend_from_slice(b"\x03\xa2\x63alg\x26\x63sig")
+        .unwrap();
+    put_bytes(&mut answer, sig);
+    answer
+}
+
+/// The answer of an assertion (CTAP 2.1, sections 6.2.2 and 6.3): status 0x00 and the map
+/// `{1: {"id": id, "type": "public-key"}, 2: auth, 3: sig, 4: {"id": user}, 5: number}` in canonical CBOR, 4 and 5
+/// where they are given.
+pub fn write_assertion(
+    id: &[u8; 32],
+    auth: &[u8],
+    sig: &[u8],
+    user: Option<&[u8]>,
+    number: Option<u16>,
+) -> Answer
+    requires auth { length auth.now ≡ 37 }
+    requires sig { length sig.now ≤ 72 }
+    requires user { ForSome user (λ u. length u.now ≤ 64) }
+    ensures { result.items ≡ spec.assertion_answer id.now auth.now sig.now (option_copied user.entry) number }
+{
+    let mut answer = Answer::new();
+    answer.push(0x00);
+    answer.push(map_head(user, number));
+    answer
+        .try_extend_from_slice(b"\x01\xa2\x62id\x58\x20")
+        .unwrap();
+    answer.try_extend_from_slice(id).unwrap();
+    answer
+        .try_extend_from_slice(b"\x64type\x6apublic-key\x02\x58\x25")
+        .unwrap();
+    answer.try_extend_from_slice(auth).unwrap();
+    answer.try_extend_from_slice(b"\x03").unwrap();
+    put_bytes(&mut answer, sig);
+    put_user(&mut answer, user);
+    put_number(&mut answer, number);
+    answer
+}
+
+/// Returns the head of the map, by how many members it has.
+#[tactic(auto, unfolding(ctap_cbor::specs::Head::head))]
+fn map_head(user: Option<&[u8]>, number: Option<u16>) -> u8
+    ensures { head 5 (count_pairs (spec.with_user (option_copied user.entry) (spec.with_number number)) + 1 + 1 + 1)
+        ≡ result ∷ [] }
+{
+    match (user, number) {
+        (None, None) => 0xa3,
+        (Some(_), Some(_)) => 0xa5,
+        _ => 0xa4,
+    }
+}
+
+/// Writes the user, where it is given.
+fn put_user(answer: &mut Answer, user: Option<&[u8]>)
+    requires capacity { length answer.old.items ≤ 191 }
+    requires user { ForSome user (λ u. length u.now ≤ 64) }
+    ensures appends { answer.new.items ≡ answer.old.items
+        ++ pair_texts (spec.with_user (option_copied user.entry) no_pairs) }
+    ensures few { length answer.new.items ≤ length answer.old.items + 71 }
+{
+    if let Some(user) = user {
+        answer.try_extend_from_slice(b"\x04\xa1\x62id").unwrap();
+        put_bytes(answer, user);
+    }
+}
+
+/// Writes the number of credentials, where it is given.
+fn put_number(answer: &mut Answer, number: Option<u16>)
+    requires { length answer.old.items ≤ 258 }
+    ensures { answer.new.items ≡ answer.old.items ++ pair_texts (spec.with_number number) }
+{
+    if let Some(number) = number {
+        answer.push(0x05);
+        put_head(answer, 0, u64::from(number));
+    }
+}
+
+/// Writes a byte string, its head first.
+fn put_bytes(answer: &mut Answer, bytes: &[u8])
+    requires short { length bytes.now < 256 }
+    requires capacity { length answer.old.items + 2 + length bytes.now ≤ 262 }
+    ensures appends { answer.new.items ≡ answer.old.items ++ text (spec.byte_string bytes.now) }
+    ensures few { length answer.new.items ≤ length answer.old.items + 2 + length bytes.now }
+{
+    put_head(answer, 2, bytes.len() as u64);
+    answer.try_extend_from_slice(bytes).unwrap();
+}
+
+/// Writes the head of a major type with an argument.
+fn put_head(answer: &mut Answer, major: u8, argument: u64)
+    requires low { major < 8 }
+    requires capacity { length answer.old.items + head_len argument ≤ 262 }
+    ensures appends { answer.new.items ≡ answer.old.items ++ head major argument }
+    ensures len { length answer.new.items ≡ length answer.old.items + head_len argument }
+{
+    let mut head = [0; 9];
+    let len = head_into(major, argument, &mut head);
+    answer.try_extend_from_slice(&head[..len]).unwrap();
 }

@@ -9,7 +9,7 @@ ghost use Rattle.ctap_message.specs.Shown.{shown, IsFresh, HasLengths};
 
 use crate::assert::Assert;
 use crate::make::Make;
-use crate::request::Request;
+use crate::request::{AssertRequest, MakeRequest, Request};
 use crate::status::Status;
 
 /// Returns what a makeCredential asks, or the status of the first check that it fails.
@@ -48,14 +48,14 @@ pub(crate) fn judge_make<'a>(typed: bool, make: Make<'a>) -> Result<Request<'a>,
     if make.enterprise_attestation.is_some() {
         return Err(Status::INVALID_PARAMETER);
     }
-    Ok(Request::Make {
+    Ok(Request::Make(MakeRequest {
         hash,
         rp_id,
         user_id,
         user_name: make.user.name.unwrap_or(""),
         discoverable: make.options.rk == Some(true),
         exclude: make.exclude.list,
-    })
+    }))
 }
 
 /// Returns what a getAssertion asks, or the status of the first check that it fails.
@@ -86,10 +86,10 @@ pub(crate) fn judge_assert<'a>(typed: bool, assert: Assert<'a>) -> Result<Reques
     if assert.options.rk.is_some() {
         return Err(Status::UNSUPPORTED_OPTION);
     }
-    Ok(Request::Assert {
+    Ok(Request::Assert(AssertRequest {
         hash,
         rp_id,
         allow: assert.allow.list,
         presence: assert.options.up != Some(false),
-    })
+    }))
 }

@@ -33,12 +33,9 @@
 
 mod answer;
 mod assert;
-mod assertion;
 mod command;
-mod created;
 mod descriptor;
 mod descriptors;
-mod info;
 mod item;
 mod judge;
 pub mod laws;
@@ -50,11 +47,8 @@ mod rp;
 mod status;
 mod user;
 
-pub use answer::{Answer, write_status};
-pub use assertion::write_assertion;
+pub use answer::{Answer, write_assertion, write_created, write_info, write_status};
 pub use command::Command;
-pub use created::write_created;
 pub use descriptors::Descriptors;
-pub use info::write_info;
-pub use request::{Request, read_request};
+pub use request::{AssertRequest, MakeRequest, Request, read_request};
 pub use status::Status;

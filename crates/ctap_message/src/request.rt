@@ -17,32 +17,40 @@ use crate::status::Status;
 use ctap_cbor::laws::whole_readings;
 use ctap_cbor::{Cursor, read_whole};
 
+/// What an authenticatorMakeCredential asks.
+#[derive(Drop)]
+pub struct MakeRequest<'a> {
+    /// clientDataHash, of 32 bytes.
+    pub hash: &'a [u8],
+    pub rp_id: &'a str,
+    /// At most 64 bytes.
+    pub user_id: &'a [u8],
+    /// Empty where none was given.
+    pub user_name: &'a str,
+    pub discoverable: bool,
+    /// The credentials of which none may be there.
+    pub exclude: Descriptors<'a>,
+}
+
+/// What an authenticatorGetAssertion asks.
+#[derive(Drop)]
+pub struct AssertRequest<'a> {
+    /// clientDataHash, of 32 bytes.
+    pub hash: &'a [u8],
+    pub rp_id: &'a str,
+    /// The credentials of which one is to be used.
+    pub allow: Descriptors<'a>,
+    /// Whether the user's presence is asked for.
+    pub presence: bool,
+}
+
 /// A request that passed all checks of its command. What it holds is lent from the message.
 #[derive(Drop)]
 pub enum Request<'a> {
     /// authenticatorMakeCredential (CTAP 2.1, section 6.1).
-    Make {
-        /// clientDataHash, of 32 bytes.
-        hash: &'a [u8],
-        rp_id: &'a str,
-        /// At most 64 bytes.
-        user_id: &'a [u8],
-        /// Empty where none was given.
-        user_name: &'a str,
-        discoverable: bool,
-        /// The credentials of which none may be there.
-        exclude: Descriptors<'a>,
-    },
+    Make(MakeRequest<'a>),
     /// authenticatorGetAssertion (CTAP 2.1, section 6.2).
-    Assert {
-        /// clientDataHash, of 32 bytes.
-        hash: &'a [u8],
-        rp_id: &'a str,
-        /// The credentials of which one is to be used.
-        allow: Descriptors<'a>,
-        /// Whether the user's presence is asked for.
-        presence: bool,
-    },
+    Assert(AssertRequest<'a>),
     /// authenticatorGetInfo (CTAP 2.1, section 6.4).
     Info,
     /// authenticatorGetNextAssertion (CTAP 2.1, section 6.3).

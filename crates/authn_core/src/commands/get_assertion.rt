@@ -8,10 +8,10 @@ ghost use Rattle.ctap_message.specs.Descriptors.{ids_of};
 ghost use Rattle.ctap_message.specs.Members.{has_entries};
 ghost use Rattle.ctap_message.specs.DescriptorWalk.{list_of, left_of};
 ghost use Rattle.sha2.specs.Sha256.{sha256};
-ghost use Rattle.authn_core.specs.State.{signs};
+ghost use Rattle.authn_core.specs.State.{SignsAssert, signs};
 ghost use Rattle.authn_core.specs.GetAssertion as get;
 ghost use Rattle.authn_core.specs.Views.{Takes, asserting_of};
-ghost use Rattle.authn_core.specs.Ready.{AllThere};
+ghost use Rattle.authn_core.specs.Ready.{AllThere, SignsItsAnswer};
 
 use crate::authenticator::{Core, Turn};
 use crate::refusals;
@@ -19,8 +19,8 @@ use crate::replies::{Presence, Signature};
 use crate::task::{Asserting, Task};
 use arrayvec::ArrayVec;
 use cred_table::Table;
-use ctap_message::{Descriptors, write_assertion};
-use fido_authdata::{AuthData, to_sign};
+use ctap_message::{AssertRequest, Descriptors, write_assertion};
+use fido_authdata::{ASSERTION_LEN, AuthData, to_sign};
 use sha2::{Digest, Sha256};
 
 /// How long after an assertion's answer the next one may be asked for, in milliseconds.
@@ -72,26 +72,22 @@ fn put_applicable<T: Table<C>, const C: usize>(
 
 impl<T: Table<C>, const C: usize> Core<T, C> {
     /// Lets the first applicable row sign.
-    pub(crate) fn begin_assert(
-        &mut self,
-        cid: u32,
-        hash: &[u8],
-        rp_id: &str,
-        allow: Descriptors<'_>,
-        presence: bool,
-    ) -> Turn
-        requires hash { length hash.now ≡ 32 }
-        requires fresh { list_of allow ≡ left_of allow }
-        ensures { Takes self.old self.new result (get.begins self.old.core.state.rows self.old.latest cid hash.now
-            (sha256 rp_id.now) presence (has_entries (left_of allow.entry)) (ids (get.applicable self.old.core.state.rows
-            (sha256 rp_id.now) (has_entries (left_of allow.entry)) (ids_of (left_of allow.entry))))) }
+    pub(crate) fn begin_assert(&mut self, cid: u32, asked: AssertRequest<'_>) -> Turn
+        requires hash { length asked.hash.now ≡ 32 }
+        requires fresh { list_of asked.allow ≡ left_of asked.allow }
+        ensures { Takes self.old self.new result (get.begins self.old.core.state.rows self.old.latest cid
+            asked.entry.hash.now (sha256 asked.entry.rp_id.now) asked.entry.presence
+            (has_entries (left_of asked.entry.allow)) (ids (get.applicable self.old.core.state.rows
+            (sha256 asked.entry.rp_id.now) (has_entries (left_of asked.entry.allow))
+            (ids_of (left_of asked.entry.allow))))) }
     {
-        let rp = Sha256::digest(rp_id);
+        let rp = Sha256::digest(asked.rp_id);
+        let presence = asked.presence;
         let mut client = [0; 32];
-        client.copy_from_slice(hash);
-        let given = allow.is_given();
+        client.copy_from_slice(asked.hash);
+        let given = asked.allow.is_given();
         let mut found: ArrayVec<[u8; 32], C> = ArrayVec::new();
-        put_applicable(&self.table, &rp, allow, &mut found);
+        put_applicable(&self.table, &rp, asked.allow, &mut found);
         self.begin_by(cid, &client, &rp, presence, given, found.as_slice())
     }
 
@@ -157,30 +153,26 @@ impl<T: Table<C>, const C: usize> Core<T, C> {
         }
     }
 
-    /// Answers with the signature, and the time to ask for the next one begins.
+    /// Answers with the signature and the authenticator data that were signed, and the time to ask for the next one begins.
     pub(crate) fn assert_signature(
         &mut self,
         a: Asserting,
         counter: u32,
+        signed: &ArrayVec<u8, 196>,
         signature: &Option<Signature>,
     ) -> Turn
+        requires { SignsItsAnswer self.old.core.setup.aaguid (SignsAssert (asserting_of a) counter signed.now.items) }
         ensures { Takes self.old self.new result (get.assert_signed self.old.core.state.rows
             self.old.core.state.pending self.old.latest (asserting_of a) counter signature.now) }
     {
         let Some(signature) = signature else {
             return self.refuse_all(refusals::OTHER);
         };
+        let data = &signed.as_slice()[..ASSERTION_LEN];
         self.pending.stamp(self.latest);
         self.work = None;
-        let data = AuthData::assertion(&a.rp, a.presence, counter);
         let user = user_of(&self.table, &a.id);
-        Turn::Answer(write_assertion(
-            &a.id,
-            data.bytes().as_slice(),
-            signature.bytes(),
-            user,
-            a.number,
-        ))
+        Turn::Answer(write_assertion(&a.id, data, signature.bytes(), user, a.number))
     }
 
     // ---- the next one

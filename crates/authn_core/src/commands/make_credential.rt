@@ -6,6 +6,8 @@ ghost use Rattle.cred_table.specs.Rows.{has_id, stored};
 ghost use Rattle.ctap_message.specs.Descriptors.{ids_of};
 ghost use Rattle.ctap_message.specs.DescriptorWalk.{left_of};
 ghost use Rattle.authn_core.specs.MakeCredential as make;
+ghost use Rattle.authn_core.specs.State.{SignsMake};
+ghost use Rattle.authn_core.specs.Ready.{SignsItsAnswer};
 ghost use Rattle.authn_core.specs.Views.{Takes, making_of};
 
 use crate::authenticator::{Core, Turn};
@@ -14,8 +16,8 @@ use crate::replies::{NewKey, Presence, Signature};
 use crate::task::{Making, Task};
 use arrayvec::ArrayVec;
 use cred_table::{Name, Row, Table};
-use ctap_message::{Descriptors, write_created};
-use fido_authdata::{AuthData, to_sign};
+use ctap_message::{Descriptors, MakeRequest, write_created};
+use fido_authdata::{AuthData, CREATED_LEN, to_sign};
 use sha2::{Digest, Sha256};
 
 /// Whether one of the ids names a row of the RP.
@@ -68,31 +70,23 @@ fn store<T: Table<C>, const C: usize>(table: &mut T, making: Making, key: NewKey
 
 impl<T: Table<C>, const C: usize> Core<T, C> {
     /// Asks for the user's presence, also where a credential is excluded.
-    pub(crate) fn begin_make(
-        &mut self,
-        cid: u32,
-        hash: &[u8],
-        rp_id: &str,
-        user_id: &[u8],
-        user_name: &str,
-        discoverable: bool,
-        exclude: Descriptors<'_>,
-    ) -> Turn
-        requires hash { length hash.now ≡ 32 }
-        requires user { length user_id.now ≤ 64 }
+    pub(crate) fn begin_make(&mut self, cid: u32, asked: MakeRequest<'_>) -> Turn
+        requires hash { length asked.hash.now ≡ 32 }
+        requires user { length asked.user_id.now ≤ 64 }
         ensures { Takes self.old self.new result (make.make_begins self.old.core.state.rows cid
-            (make.making hash.now rp_id.now user_id.now user_name.now discoverable) (ids_of (left_of exclude.entry))) }
+            (make.making asked.entry.hash.now asked.entry.rp_id.now asked.entry.user_id.now asked.entry.user_name.now
+            asked.entry.discoverable) (ids_of (left_of asked.entry.exclude))) }
     {
         let mut making = Making {
             hash: [0; 32],
-            rp: Sha256::digest(rp_id),
+            rp: Sha256::digest(asked.rp_id),
             user: ArrayVec::new(),
-            name: Name::cut(user_name),
-            discoverable,
+            name: Name::cut(asked.user_name),
+            discoverable: asked.discoverable,
         };
-        making.hash.copy_from_slice(hash);
-        making.user.try_extend_from_slice(user_id).unwrap();
-        let excluded = names_one(&self.table, &making.rp, exclude);
+        making.hash.copy_from_slice(asked.hash);
+        making.user.try_extend_from_slice(asked.user_id).unwrap();
+        let excluded = names_one(&self.table, &making.rp, asked.exclude);
         self.pending.clear();
         self.wait(cid, Task::AsksMake(making, excluded))
     }
@@ -139,25 +133,27 @@ impl<T: Table<C>, const C: usize> Core<T, C> {
         self.wait(cid, Task::SignsMake(making, *key, signed))
     }
 
-    /// Stores the row once it is signed.
+    /// Stores the row once it is signed. The answer has the authenticator data that were signed.
     pub(crate) fn make_signature(
         &mut self,
         making: Making,
         key: NewKey,
+        signed: &ArrayVec<u8, 196>,
         signature: &Option<Signature>,
     ) -> Turn
         requires room { make.fits C (making_of making) self.old.core.state.rows ≡ true }
         requires fresh { is_some (find (has_id key.id) self.old.core.state.rows) ≡ false }
+        requires signed { SignsItsAnswer self.old.core.setup.aaguid (SignsMake (making_of making) key signed.now.items) }
         ensures { Takes self.old self.new result (make.make_signed self.old.core.setup.aaguid
             self.old.core.state.rows self.old.core.state.pending (making_of making) key signature.now) }
     {
         let Some(signature) = signature else {
             return self.refuse(refusals::OTHER);
         };
-        let data = AuthData::created(&making.rp, &self.config.aaguid, &key.id, &key.x, &key.y);
+        let data = &signed.as_slice()[..CREATED_LEN];
         store(&mut self.table, making, key);
         self.pending.clear();
         self.work = None;
-        Turn::Answer(write_created(data.bytes().as_slice(), signature.bytes()))
+        Turn::Answer(write_created(data, signature.bytes()))
     }
 }
