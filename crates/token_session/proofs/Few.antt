@@ -35,10 +35,10 @@ answer_few : (c s : Option ℕ) (a : Answer) → length (answer_packets c s a) �
 unfolding answer_packets
 answer_few c s a = grind (arith, few_written)
 
-event_few : (k : CoreState) (t : ℕ) (e : Option Event) → length (event_packets k t e) ≤ 129
+pub event_few : (k : CoreState) (t : ℕ) (e : Option Event) → length (event_packets k t e) ≤ 129
 event_few k t e = grind (arith, answer_few)
 
-verdict_few : (k : CoreState) (t : ℕ) (v : Verdict) (bytes : List ℕ)
+pub verdict_few : (k : CoreState) (t : ℕ) (v : Verdict) (bytes : List ℕ)
     → length (verdict_packets v bytes ++ event_packets k t (verdict_event v bytes)) ≤ 129
 unfolding greeting
 verdict_few k t v bytes = grind (arith, few_written, event_few, drop_sends_nothing, append-nil, nat_tests)

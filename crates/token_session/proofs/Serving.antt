@@ -1,5 +1,5 @@
 -- An input that is served by what the transport makes of it is the composed turn.
-use Rattle.std.proofs.Common.{◌≡◌, ℕ, ◌+◌, ◌≤◌, List, ◌++◌, length, max, Option, append_assoc, cond, refl, subst, sym, ◌∙◌, ap, arith, length-append, Some, IfSome, min}
+use Rattle.std.proofs.Common.{◌≡◌, ℕ, ◌+◌, ◌≤◌, List, ◌++◌, length, max, Option, None, append_assoc, append-nil, cond, refl, subst, sym, ◌∙◌, ap, arith, length-append, Some, IfSome, min}
 use Rattle.hid_assemble.specs.declared.verdict.Verdict.{Verdict}
 use Rattle.hid_assemble.specs.Assembly.{Assembly, accepted}
 use Rattle.hid_assemble.specs.Verdicts.{verdict}
@@ -10,45 +10,58 @@ use Rattle.token_session.specs.declared.input.Input.TheVariants.{Packet}
 use Rattle.token_session.specs.declared.input.Timed.{Timed}
 use Rattle.token_session.specs.Machine.{State, Turn, event_keeps_alive, time_passed, turn, served, happens, answer_keeps_alive}
 use Rattle.token_session.specs.Events.{event_core, event_packets}
+use Rattle.token_session.specs.declared.input.Meters.{Meters}
+use Rattle.token_session.specs.Meters.{SessionState, counted}
 use Rattle.token_session.specs.Effects.{assembly_after, input_event, input_verdict, request_in, verdict_packets}
-use Rattle.token_session.proofs.Few.{served_few}
 use Rattle.token_session.proofs.Passing.{whole}
 use Rattle.ctap_message.specs.Requests.{steps_of, LARGEST}
 use Rattle.authn_core.specs.Views.{IsTurn, steps_after}
 use Rattle.token_session.specs.Replies.{answer_packets, asker, status_of}
 
-module _ (n b : ℕ) (a d : Assembly) (k : CoreState) (v : State) (early : List (List ℕ)) (w : Option ℕ) (V : Verdict) (B : List ℕ) (E : Option Event)
-    (e : whole n a k b ≡ v) (ew : w ≡ working k) (eB : B ≡ d.finished) where
-  pub input_turn : (i : Input) → d ≡ assembly_after a n w i → V ≡ input_verdict a w i → E ≡ input_event i V B
-      → happens n d.given d.current k b early (verdict_packets V B) E ≡ served v early i
+-- An input was served: what is left after it, and what it sent.
+pub record IsServed (v : SessionState) (early : List (List ℕ)) (i : Input) (left : SessionState) (sent : List (List ℕ)) : Type 0 where
+  pub state : left.machine ≡ (served v.machine early i).state
+  pub meters : left.meters ≡ counted v.meters (request_in (served v.machine early i).event)
+  pub packets : sent ≡ (served v.machine early i).packets
+
+module _ (n b : ℕ) (a d : Assembly) (k : CoreState) (m : Meters) (v : SessionState) (early : List (List ℕ)) (w : Option ℕ)
+    (is : record { machine = whole n a k b; meters = m } ≡ v) (ew : w ≡ working k)
+    (i : Input) (ed : d ≡ assembly_after a n w i) (V : Verdict) (eV : V ≡ input_verdict a w i) where
+  turned : (E : Option Event) → E ≡ input_event i V d.finished
+      → happens n d.given d.current k b early (verdict_packets V d.finished) E ≡ served v.machine early i
   unfolding accepted verdict
-  input_turn (Packet x) ed eV eE = rw (← e, eE, eB, ed, eV, ew) refl
-  input_turn other ed eV eE = rw (← e, eE, eV, ed) refl
+  turned E eE = rw (← is, eE, eV) (input_turn i ed)
+    where
+      input_turn : (i : Input) → d ≡ assembly_after a n w i
+          → happens n d.given d.current k b early (verdict_packets (input_verdict a w i) d.finished) (input_event i (input_verdict a w i) d.finished)
+          ≡ served (whole n a k b) early i
+      input_turn (Packet x) ed = rw (ed, ew) refl
+      input_turn other ed = rw ed refl
 
-  -- what is left after it, what it sent, and what it finished
-  pub record IsServed (i : Input) (left : State) (sent : List (List ℕ)) : Type 0 where
-    pub state : left ≡ (served v early i).state
-    pub packets : sent ≡ (served v early i).packets
-    pub request : request_in E ≡ request_in (served v early i).event
-
-  pub is_served : (i : Input) → d ≡ assembly_after a n w i → V ≡ input_verdict a w i → E ≡ input_event i V B
-      → (k' : CoreState) (b' : ℕ) (old out : List (List ℕ)) → k' ≡ event_core k n E
-      → b' ≡ cond (event_keeps_alive k n E) n b
-      → old ≡ early ++ verdict_packets V B → out ≡ old ++ event_packets k n E → IsServed i (whole n d k' b') out
-  is_served i ed eV eE k' b' old out ek eb eo es =
-      let turn = input_turn i ed eV eE in
+  -- by an input that is no event
+  pub served_quietly : None ≡ input_event i V d.finished → (out : List (List ℕ)) → out ≡ early ++ verdict_packets V d.finished
+      → IsServed v early i (record { machine = whole n d k b; meters = m }) out
+  unfolding counted
+  served_quietly eE out es =
+      let turn = turned None eE in
       record {
-        state = (λ j. whole n d (ek j) (eb j)) ∙ ap (λ (t : Turn). t.state) turn;
-        packets = es ∙ ap (λ (ps : List (List ℕ)). ps ++ event_packets k n E) eo ∙ append_assoc early _ _ ∙ ap (λ (t : Turn). t.packets) turn;
-        request = ap (λ (t : Turn). request_in t.event) turn;
+        state = ap (λ (t : Turn). t.state) turn;
+        meters = ap (λ (s : SessionState). s.meters) is ∙ ap (λ (t : Turn). counted v.meters (request_in t.event)) turn;
+        packets = es ∙ ap (λ (ps : List (List ℕ)). early ++ ps) (sym (append-nil (verdict_packets V d.finished))) ∙ ap (λ (t : Turn). t.packets) turn;
       }
 
-  -- there is room for all that it sends
-  pub input_few : (i : Input) → d ≡ assembly_after a n w i → V ≡ input_verdict a w i → E ≡ input_event i V B
-      → length early ≤ 1 → length (early ++ verdict_packets V B) + length (event_packets k n E) ≤ 130
-  input_few i ed eV eE few =
-      let all = simp length-append at (subst (λ (t : Turn). length t.packets ≤ 130) (sym (input_turn i ed eV eE)) (served_few v early i few)) in
-      simp length-append (omega arith)
+  module _ (e : Event) (eE : Some e ≡ input_event i V d.finished) (old : List (List ℕ)) (eo : old ≡ early ++ verdict_packets V d.finished) where
+    -- by an event
+    pub served_by : (k' : CoreState) (b' : ℕ) (m' : Meters) (out : List (List ℕ)) → k' ≡ event_core k n (Some e)
+        → b' ≡ cond (event_keeps_alive k n (Some e)) n b → m' ≡ counted m (request_in (Some e)) → out ≡ old ++ event_packets k n (Some e)
+        → IsServed v early i (record { machine = whole n d k' b'; meters = m' }) out
+    served_by k' b' m' out ek eb em es =
+        let turn = turned (Some e) eE in
+        record {
+          state = (λ j. whole n d (ek j) (eb j)) ∙ ap (λ (t : Turn). t.state) turn;
+          meters = em ∙ ap (λ (s : SessionState). counted s.meters (request_in (Some e))) is ∙ ap (λ (t : Turn). counted v.meters (request_in t.event)) turn;
+          packets = es ∙ ap (λ (ps : List (List ℕ)). ps ++ event_packets k n (Some e)) eo ∙ append_assoc early _ _ ∙ ap (λ (t : Turn). t.packets) turn;
+        }
 
 pub step_turn : (v mid : State) (t : ℕ) (x : Timed) (early : List (List ℕ)) → t ≡ max v.now x.at
     → mid ≡ (time_passed v t).state
@@ -67,9 +80,9 @@ pub record IsTaken (old new : Held) (said : Answer) (now : ℕ) (e : Event) : Ty
 pub at_most : (a b : ℕ) → a ≡ b → a ≤ b
 at_most a b e = omega arith
 
-counted : (n k : ℕ) (e : Event) → k ≡ steps_after n e → IfSome (request_in (Some e)) (λ m. k ≡ min (steps_of m) LARGEST)
-counted n k (Request cid bytes) h = h
-counted n k other h = tt
+steps_taken : (n k : ℕ) (e : Event) → k ≡ steps_after n e → IfSome (request_in (Some e)) (λ m. k ≡ min (steps_of m) LARGEST)
+steps_taken n k (Request cid bytes) h = h
+steps_taken n k other h = tt
 
 pub taken : (v w : Held) (a : Answer) (now : ℕ) (e : Event) → v.latest ≤ now → IsTurn v w a now e → IsTaken v w a now e
 taken v w a now e le h =
@@ -78,7 +91,7 @@ taken v w a now e le h =
       core = h.core ∙ ap (λ t. core_after v.core t e) same;
       answer = h.answer ∙ ap (λ t. core_answer v.core t e) same;
       latest = at_most _ _ (h.latest ∙ same);
-      steps = counted v.last_steps w.last_steps e h.steps;
+      steps = steps_taken v.last_steps w.last_steps e h.steps;
     }
 
 -- What the answer of an event's turn sends is what the event sends.

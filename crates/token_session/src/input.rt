@@ -1,10 +1,8 @@
-ghost use Rattle.std.specs.Prelude.{◌≡◌, Some, IfSome, min};
+ghost use Rattle.std.specs.Prelude.{◌≡◌, Some, min};
 ghost use Rattle.ctap_message.specs.Requests.{steps_of, LARGEST};
-ghost use Rattle.authn_core.specs.Views.{event_of};
-ghost use Rattle.token_session.specs.Effects.{request_in};
 ghost use Rattle.token_session.specs.Meters.{counted};
 
-use authn_core::{Event, NewKey, Presence, Signature};
+use authn_core::{NewKey, Presence, Signature};
 use hid_packet::Packet;
 
 /// What comes in.
@@ -54,17 +52,15 @@ pub struct Meters {
 }
 
 impl Meters {
-    /// Counts an event, if it is a request, with the steps that reading it took.
+    /// Counts a request, with the steps that reading it took.
     #[tactic(auto, unfolding(crate::specs::Meters::counted))]
-    pub(crate) fn count(&mut self, event: &Event<'_>, steps: u64)
-        requires { IfSome (request_in (Some (event_of event.now))) (λ m. steps ≡ min (steps_of m) LARGEST) }
-        ensures { self.new ≡ counted self.old (request_in (Some (event_of event.now))) }
+    pub(crate) fn count(&mut self, message: &[u8], steps: u64)
+        requires { steps ≡ min (steps_of message.now) LARGEST }
+        ensures { self.new ≡ counted self.old (Some message.now) }
     {
-        if let Event::Request { message, .. } = event {
-            let read = (message.len() as u64).saturating_sub(1);
-            self.requests = self.requests.saturating_add(1);
-            self.bytes = self.bytes.saturating_add(read);
-            self.steps = self.steps.saturating_add(steps);
-        }
+        let read = (message.len() as u64).saturating_sub(1);
+        self.requests = self.requests.saturating_add(1);
+        self.bytes = self.bytes.saturating_add(read);
+        self.steps = self.steps.saturating_add(steps);
     }
 }

@@ -16,13 +16,12 @@ ghost use Rattle.token_session.specs.Noise.{is_noise_at, is_noise_after};
 ghost use Rattle.hid_packet.specs.Limits.{OUTBOX_CAPACITY};
 
 use crate::input::{Input, Meters};
-use crate::service::{KEEPALIVE_PERIOD, admit, event_in, is_noise, put_verdict, send};
-use authn_core::{Config, Core, Need};
+use crate::service::{KEEPALIVE_PERIOD, Keeper, greet, is_noise};
+use authn_core::{Config, Core, Event, Need};
 use cred_table::{SnapshotFault, Store, Table};
-use ctap_message::laws::steps_are_bounded;
-use hid_assemble::{Assembler, ErrorCode};
+use hid_assemble::{Assembler, ErrorCode, Verdict};
 use hid_packet::Outbox;
-use hid_packet::command::{ERROR, KEEPALIVE};
+use hid_packet::command::{CBOR, ERROR, KEEPALIVE, PING};
 use std::marker::Model;
 
 /// A session: what a FIDO2 key holds between power up and power down. `C` is how many credentials it has capacity for.
@@ -32,10 +31,7 @@ pub struct Session<const C: usize> {
     /// The greatest moment of its start and its inputs.
     latest: u64,
     assembler: Assembler,
-    core: Core<Store<C>, C>,
-    /// The moment of the last KEEPALIVE.
-    keepalive_at: u64,
-    meters: Meters,
+    keeper: Keeper<C>,
 }
 
 // Clauses see the state of the composed turn, and the meters.
@@ -50,13 +46,13 @@ impl<const C: usize> Model for Session<C> {
         now = s.latest;
         given = s.assembler.given;
         current = s.assembler.current;
-        core = s.core.core;
-        keepalive_at = s.keepalive_at;
+        core = s.keeper.core.core;
+        keepalive_at = s.keeper.keepalive_at;
       };
-      meters = s.meters;
+      meters = s.keeper.meters;
     } };
 
-    ghost invariant = { λ s. (s.core.latest ≤ s.latest) × AreBounded s.meters };
+    ghost invariant = { λ s. (s.keeper.core.latest ≤ s.latest) × AreBounded s.keeper.meters };
 }
 
 /// Returns the meters at a start with so many credentials.
@@ -98,9 +94,11 @@ impl<const C: usize> Session<C> {
         Session {
             latest: start,
             assembler: Assembler::new(),
-            core: Core::new(config, rows, start),
-            keepalive_at: 0,
-            meters: first_meters(credentials),
+            keeper: Keeper {
+                core: Core::new(config, rows, start),
+                keepalive_at: 0,
+                meters: first_meters(credentials),
+            },
         }
     }
 
@@ -116,9 +114,11 @@ impl<const C: usize> Session<C> {
         Session {
             latest: start,
             assembler: Assembler::new(),
-            core: empty_core(aaguid, start),
-            keepalive_at: 0,
-            meters: first_meters(0),
+            keeper: Keeper {
+                core: empty_core(aaguid, start),
+                keepalive_at: 0,
+                meters: first_meters(0),
+            },
         }
     }
 
@@ -130,11 +130,11 @@ impl<const C: usize> Session<C> {
             × (self.new ≡ session_of (record { aaguid = config.aaguid; moment = start; room = C; rows = rows }) []))
             (λ fault. Refuses C snapshot.now fault × (self.new ≡ self.old)) }
     {
-        self.core.load(config, snapshot, start)?;
+        self.keeper.core.load(config, snapshot, start)?;
         self.latest = start;
         self.assembler = Assembler::new();
-        self.keepalive_at = 0;
-        self.meters = first_meters(self.core.credentials() as u16);
+        self.keeper.keepalive_at = 0;
+        self.keeper.meters = first_meters(self.keeper.core.credentials() as u16);
         Ok(())
     }
 
@@ -156,9 +156,17 @@ impl<const C: usize> Session<C> {
         let now = self.latest.max(at);
         self.pass_time(now, outbox);
         self.serve(input, outbox);
-        self.meters.held = self.meters.held.max(self.assembler.held());
-        self.meters.rows = self.meters.rows.max(self.core.credentials() as u16);
-        self.meters.pending = self.meters.pending.max(self.core.pending() as u16);
+        self.keeper.meters.held = self.keeper.meters.held.max(self.assembler.held());
+        self.keeper.meters.rows = self
+            .keeper
+            .meters
+            .rows
+            .max(self.keeper.core.credentials() as u16);
+        self.keeper.meters.pending = self
+            .keeper
+            .meters
+            .pending
+            .max(self.keeper.core.pending() as u16);
     }
 
     /// Whether this input at `at` would be noise: when time has passed to `at`, it would change nothing more. Noise is
@@ -173,7 +181,7 @@ impl<const C: usize> Session<C> {
             ≡ is_noise_after start (judged_after start h (record { at = at; input = input.now })) (judged start h) }
     {
         let now = self.latest.max(at);
-        is_noise(&self.assembler, &self.core, now, input)
+        is_noise(&self.assembler, &self.keeper.core, now, input)
     }
 
     /// How many data bytes are held of the open message, at most 7550.
@@ -191,7 +199,7 @@ impl<const C: usize> Session<C> {
         ensures value { needed result ≡ needs self.now.machine.core.state.work }
         ensures sized { IsNeed (needed result) }
     {
-        self.core.need()
+        self.keeper.core.need()
     }
 
     /// The number of credentials, at most `C`.
@@ -199,7 +207,7 @@ impl<const C: usize> Session<C> {
         ensures value { result ≡ length self.now.machine.core.state.rows }
         ensures limit { result ≤ C }
     {
-        self.core.credentials()
+        self.keeper.core.credentials()
     }
 
     /// The number of pending assertions, at most `C`.
@@ -207,14 +215,14 @@ impl<const C: usize> Session<C> {
         ensures value { result ≡ pending_count self.now.machine.core.state.pending }
         ensures limit { result ≤ C }
     {
-        self.core.pending()
+        self.keeper.core.pending()
     }
 
     /// The credentials.
     pub fn table(&self) -> &Store<C>
         ensures { ⟦<Store<C> as Table<C>>⟧.rows result.now ≡ self.now.machine.core.state.rows }
     {
-        self.core.table()
+        self.keeper.core.table()
     }
 
     /// What the session has held and served. Reading its requests took at most four steps for each byte after a command
@@ -223,7 +231,7 @@ impl<const C: usize> Session<C> {
         ensures value { result ≡ self.now.meters }
         ensures bounded { AreBounded result }
     {
-        self.meters
+        self.keeper.meters
     }
 
     /// Lets time pass to `at`: a message may be dropped, or a KEEPALIVE sent.
@@ -239,16 +247,17 @@ impl<const C: usize> Session<C> {
         if let Some(cid) = self.assembler.pass(at) {
             return outbox.put_message(cid, ERROR, &[ErrorCode::MessageTimeout.number()]);
         }
-        let Some(work) = self.core.work() else {
+        let Some(work) = self.keeper.core.work() else {
             return;
         };
-        if at.saturating_sub(self.keepalive_at) >= KEEPALIVE_PERIOD {
-            self.keepalive_at = at;
+        if at.saturating_sub(self.keeper.keepalive_at) >= KEEPALIVE_PERIOD {
+            self.keeper.keepalive_at = at;
             outbox.put_message(work.cid, KEEPALIVE, &[work.status.number()]);
         }
     }
 
     /// Serves an input after the packets of time.
+    #[tactic(auto, using(hid_packet::proofs::Carrying::few_written))]
     fn serve(&mut self, input: Input, outbox: &mut Outbox)
         requires { length outbox.old ≤ 1 }
         ensures state { self.new.machine ≡ (served self.old.machine outbox.old input).state }
@@ -256,18 +265,40 @@ impl<const C: usize> Session<C> {
             ≡ counted self.old.meters (request_in (served self.old.machine outbox.old input).event) }
         ensures packets { outbox.new ≡ (served self.old.machine outbox.old input).packets }
     {
-        steps_are_bounded();
-        let work = self.core.work();
-        let verdict = admit(&mut self.assembler, self.latest, &input, work);
-        let message = self.assembler.message();
-        put_verdict(outbox, verdict, message);
-        let Some(event) = event_in(&input, verdict, message) else {
-            return;
-        };
-        let turn = self.core.take(self.latest, &event);
-        self.meters.count(&event, self.core.last_steps());
-        if send(outbox, &event, work, &turn) {
-            self.keepalive_at = self.latest;
+        let now = self.latest;
+        match input {
+            Input::Tick => {}
+            Input::Presence(reply) => self.keeper.take(now, &Event::Presence(reply), outbox),
+            Input::Key(key) => self.keeper.take(now, &Event::Key(&key), outbox),
+            Input::Signature(signature) => self
+                .keeper
+                .take(now, &Event::Signature(&signature), outbox),
+            Input::Packet(packet) => {
+                let working = self.keeper.core.work().map(|work| work.cid);
+                match self.assembler.accept(now, &packet, working) {
+                    Verdict::Ignored | Verdict::Kept => {}
+                    Verdict::Refuse { cid, code } => outbox.put_message(
+                        cid,
+                        ERROR,
+                        &[code.number()],
+                    ),
+                    Verdict::Greet { on, channel, nonce } => greet(outbox, on, channel, &nonce),
+                    Verdict::GreetAndDrop { on, channel, nonce } => {
+                        greet(outbox, on, channel, &nonce);
+                        self.keeper.take(now, &Event::Drop, outbox);
+                    }
+                    Verdict::CancelWork => self.keeper.take(now, &Event::Cancel, outbox),
+                    Verdict::Finished { cid, cmd } => {
+                        let message = self.assembler.message();
+                        if cmd == PING {
+                            outbox.put_message(cid, PING, message);
+                        } else if cmd == CBOR {
+                            self.keeper
+                                .take(now, &Event::Request { cid, message }, outbox);
+                        }
+                    }
+                }
+            }
         }
     }
 }

@@ -1,56 +1,111 @@
-use Rattle.std.proofs.Common.{append-nil, refl, sym, ap, ◌∙◌}
-use Rattle.token_session.specs.Effects.{channel_of}
-use Rattle.token_session.specs.Meters.{SessionState, counted}
-use Rattle.token_session.proofs.Metering.{counted_bounded}
-use Rattle.token_session.proofs.Serving.{is_served, input_few, taken, taken_keeps, taken_packets}
+use Rattle.std.proofs.Common.{◌≡◌, ◌≤◌, ◌+◌, [], length, Some, None, refl, sym, ◌∙◌, append-nil, length-append, rules, arith}
+use Rattle.std.proofs.lemmas.Bool.Decides.{nat_tests}
+use Rattle.authn_core.specs.State.{Request, PresenceIs, KeyIs, SignatureIs, Cancel, Drop}
+use Rattle.authn_core.specs.Turn.{working}
+use Rattle.hid_assemble.specs.declared.verdict.Verdict.TheVariants.{Finished, Refuse, Greet, GreetAndDrop, CancelWork}
+use Rattle.token_session.specs.Meters.{counted}
+use Rattle.token_session.proofs.Few.{event_few, verdict_few}
+use Rattle.token_session.proofs.Serving.{served_quietly, served_by}
 use Rattle.token_session.proofs.session.Session.serve.Goals as goal
 
-pub put_verdict-requires : goal.put_verdict-requires
-put_verdict-requires g c = record { room = c.requires; short = rw c.message-message.ensures.bytes c.message-message.ensures.limit }
+pub take-requires : goal.take-requires
+take-requires g c =
+    let few = event_few c.self.inside.keeper.core.core c.self.inside.latest (Some (PresenceIs c.in-Presence.reply)) in
+    (search rules, (c.self.invariant.0, (c.self.invariant.1, omega (arith, c.requires, few))))
 
-pub count-requires : goal.count-requires
-count-requires g c =
-    let took = taken _ _ _ _ _ c.self.invariant.0 c.take-turn.ensures in
-    rw c.last_steps.ensures took.steps
+pub take-requires-in-Key : goal.take-requires-in-Key
+take-requires-in-Key g c =
+    let few = event_few c.self.inside.keeper.core.core c.self.inside.latest (Some (KeyIs c.in-Key.key)) in
+    (search rules, (c.self.invariant.0, (c.self.invariant.1, omega (arith, c.requires, few))))
 
-pub send-requires : goal.send-requires
-send-requires g c =
-    let took = taken _ _ _ _ _ c.self.invariant.0 c.take-turn.ensures in
-    let few = input_few _ _ _ _ _ _ _ _ _ _ _ (ap (λ (v : SessionState). v.machine) c.self.view_is) (ap channel_of (sym c.work-work.ensures)) c.message-message.ensures.bytes
-    c.args.input c.admit-verdict.ensures.state c.admit-verdict.ensures.verdict c.in-Some.ensures c.requires in
-    rw (taken_packets _ _ _ _ _ c.work-work.ensures took.answer, c.put_verdict.ensures) few
+pub take-requires-in-Signature : goal.take-requires-in-Signature
+take-requires-in-Signature g c =
+    let few = event_few c.self.inside.keeper.core.core c.self.inside.latest (Some (SignatureIs c.in-Signature.signature)) in
+    (search rules, (c.self.invariant.0, (c.self.invariant.1, omega (arith, c.requires, few))))
 
-pub returns-in_default : goal.returns-in_default
+pub take-requires-in-GreetAndDrop : goal.take-requires-in-GreetAndDrop
+take-requires-in-GreetAndDrop g c =
+    let few = verdict_few c.self.inside.keeper.core.core c.self.inside.latest (GreetAndDrop c.in-GreetAndDrop.on c.in-GreetAndDrop.channel c.in-GreetAndDrop.nonce) [] in
+    let both = simp length-append at few in
+    (search rules, (c.self.invariant.0, (c.self.invariant.1, rw c.greet-in-GreetAndDrop.ensures (simp length-append (omega (arith, c.requires, both))))))
+
+pub take-requires-in-CancelWork : goal.take-requires-in-CancelWork
+take-requires-in-CancelWork g c =
+    let few = event_few c.self.inside.keeper.core.core c.self.inside.latest (Some Cancel) in
+    (search rules, (c.self.invariant.0, (c.self.invariant.1, omega (arith, c.requires, few))))
+
+pub take-requires-then-cmd-eq-CBOR : goal.take-requires-then-cmd-eq-CBOR
+take-requires-then-cmd-eq-CBOR g c =
+    let few = event_few c.self.inside.keeper.core.core c.self.inside.latest (Some (Request c.in-Finished.cid c.message-message.result.now)) in
+    (search rules, (c.self.invariant.0, (c.self.invariant.1, omega (arith, c.requires, few))))
+
+pub returns-in-Tick-clause-meters : goal.returns-in-Tick-clause-meters
 unfolding counted
-returns-in_default g c =
-    let s = is_served _ _ _ _ _ _ _ _ _ _ _ (ap (λ (v : SessionState). v.machine) c.self.view_is) (ap channel_of (sym c.work-work.ensures)) c.message-message.ensures.bytes
-    c.args.input c.admit-verdict.ensures.state c.admit-verdict.ensures.verdict c.in_default.ensures _ _ _ _ refl refl c.put_verdict.ensures (sym (append-nil _)) in
-    record { state = s.state; meters = ap (λ (v : SessionState). v.meters) c.self.view_is ∙ ap (counted c.args.self.now.meters) s.request; packets = s.packets }
+returns-in-Tick-clause-meters g c = rw c.in-Tick.is refl
 
-pub returns-then-send : goal.returns-then-send
-returns-then-send g c =
-    let took = taken _ _ _ _ _ c.self.invariant.0 c.take-turn.ensures in
-    let keeps = sym (taken_keeps _ _ _ _ _ c.work-work.ensures took.answer) ∙ sym c.send.ensures.keepalive ∙ c.if-send.true in
-    let s = is_served _ _ _ _ _ _ _ _ _ _ _ (ap (λ (v : SessionState). v.machine) c.self.view_is) (ap channel_of (sym c.work-work.ensures)) c.message-message.ensures.bytes
-    c.args.input c.admit-verdict.ensures.state c.admit-verdict.ensures.verdict c.in-Some.ensures _ _ _ _ took.core (rw keeps refl) c.put_verdict.ensures
-    (rw (c.send.ensures.packets, taken_packets _ _ _ _ _ c.work-work.ensures took.answer) refl) in
-    record { state = s.state; meters = c.count.ensures ∙ (λ i. counted (c.self.view_is i).meters (s.request i)); packets = s.packets }
+pub returns-in-Ignored : goal.returns-in-Ignored
+returns-in-Ignored g c =
+    let working_is : c.map-working.result ≡ working c.self.inside.keeper.core.core = grind (arith, c.work.ensures, c.map-working.ensures.cases) in
+    let s = served_quietly c.self.inside.latest c.self.inside.keeper.keepalive_at c.self.inside.assembler c.accept.new.self c.self.inside.keeper.core.core c.self.inside.keeper.meters c.args.self.now c.args.outbox.now c.map-working.result
+    c.self.view_is working_is c.args.input (rw c.in-Packet.is c.accept.ensures.state)
+    (c.accept.result) (rw c.in-Packet.is c.accept.ensures.verdict) (rw c.in-Packet.is (grind (arith, c.in-Ignored.is))) _ (grind (arith, c.in-Ignored.is, append-nil)) in
+    record { state = s.state; meters = s.meters; packets = s.packets }
 
-pub returns-else-send : goal.returns-else-send
-returns-else-send g c =
-    let took = taken _ _ _ _ _ c.self.invariant.0 c.take-turn.ensures in
-    let keeps = sym (taken_keeps _ _ _ _ _ c.work-work.ensures took.answer) ∙ sym c.send.ensures.keepalive ∙ c.if-send.false in
-    let s = is_served _ _ _ _ _ _ _ _ _ _ _ (ap (λ (v : SessionState). v.machine) c.self.view_is) (ap channel_of (sym c.work-work.ensures)) c.message-message.ensures.bytes
-    c.args.input c.admit-verdict.ensures.state c.admit-verdict.ensures.verdict c.in-Some.ensures _ _ _ _ took.core (rw keeps refl) c.put_verdict.ensures
-    (rw (c.send.ensures.packets, taken_packets _ _ _ _ _ c.work-work.ensures took.answer) refl) in
-    record { state = s.state; meters = c.count.ensures ∙ (λ i. counted (c.self.view_is i).meters (s.request i)); packets = s.packets }
+pub returns-in-Refuse : goal.returns-in-Refuse
+returns-in-Refuse g c =
+    let working_is : c.map-working.result ≡ working c.self.inside.keeper.core.core = grind (arith, c.work.ensures, c.map-working.ensures.cases) in
+    let s = served_quietly c.self.inside.latest c.self.inside.keeper.keepalive_at c.self.inside.assembler c.accept.new.self c.self.inside.keeper.core.core c.self.inside.keeper.meters c.args.self.now c.args.outbox.now c.map-working.result
+    c.self.view_is working_is c.args.input (rw c.in-Packet.is c.accept.ensures.state)
+    (Refuse c.in-Refuse.cid c.in-Refuse.code) (rw c.in-Packet.is (sym c.in-Refuse.is ∙ c.accept.ensures.verdict)) (rw c.in-Packet.is refl) _ (rw (c.put_message.ensures, c.number.ensures) refl) in
+    record { state = s.state; meters = s.meters; packets = s.packets }
 
-pub invariant_of-self-then-send : goal.invariant_of-self-then-send
-invariant_of-self-then-send g c =
-    let took = taken _ _ _ _ _ c.self.invariant.0 c.take-turn.ensures in
-    (took.latest, rw c.count.ensures (counted_bounded c.steps_are_bounded.ensures _ _ c.self.invariant.1))
+pub returns-in-Greet : goal.returns-in-Greet
+returns-in-Greet g c =
+    let working_is : c.map-working.result ≡ working c.self.inside.keeper.core.core = grind (arith, c.work.ensures, c.map-working.ensures.cases) in
+    let s = served_quietly c.self.inside.latest c.self.inside.keeper.keepalive_at c.self.inside.assembler c.accept.new.self c.self.inside.keeper.core.core c.self.inside.keeper.meters c.args.self.now c.args.outbox.now c.map-working.result
+    c.self.view_is working_is c.args.input (rw c.in-Packet.is c.accept.ensures.state)
+    (Greet c.in-Greet.on c.in-Greet.channel c.in-Greet.nonce) (rw c.in-Packet.is (sym c.in-Greet.is ∙ c.accept.ensures.verdict)) (rw c.in-Packet.is refl) _ (c.greet.ensures) in
+    record { state = s.state; meters = s.meters; packets = s.packets }
 
-pub invariant_of-self-else-send : goal.invariant_of-self-else-send
-invariant_of-self-else-send g c =
-    let took = taken _ _ _ _ _ c.self.invariant.0 c.take-turn.ensures in
-    (took.latest, rw c.count.ensures (counted_bounded c.steps_are_bounded.ensures _ _ c.self.invariant.1))
+pub returns-in-GreetAndDrop : goal.returns-in-GreetAndDrop
+returns-in-GreetAndDrop g c =
+    let working_is : c.map-working.result ≡ working c.self.inside.keeper.core.core = grind (arith, c.work.ensures, c.map-working.ensures.cases) in
+    let s = served_by c.self.inside.latest c.self.inside.keeper.keepalive_at c.self.inside.assembler c.accept.new.self c.self.inside.keeper.core.core c.self.inside.keeper.meters c.args.self.now c.args.outbox.now c.map-working.result
+    c.self.view_is working_is c.args.input (rw c.in-Packet.is c.accept.ensures.state)
+    (GreetAndDrop c.in-GreetAndDrop.on c.in-GreetAndDrop.channel c.in-GreetAndDrop.nonce) (rw c.in-Packet.is (sym c.in-GreetAndDrop.is ∙ c.accept.ensures.verdict)) (Drop) (rw c.in-Packet.is refl) _ (c.greet-in-GreetAndDrop.ensures)
+    _ _ _ _ c.take-in-GreetAndDrop.ensures.core c.take-in-GreetAndDrop.ensures.keepalive c.take-in-GreetAndDrop.ensures.meters c.take-in-GreetAndDrop.ensures.packets in
+    record { state = s.state; meters = s.meters; packets = s.packets }
+
+pub returns-in-CancelWork : goal.returns-in-CancelWork
+returns-in-CancelWork g c =
+    let working_is : c.map-working.result ≡ working c.self.inside.keeper.core.core = grind (arith, c.work.ensures, c.map-working.ensures.cases) in
+    let s = served_by c.self.inside.latest c.self.inside.keeper.keepalive_at c.self.inside.assembler c.accept.new.self c.self.inside.keeper.core.core c.self.inside.keeper.meters c.args.self.now c.args.outbox.now c.map-working.result
+    c.self.view_is working_is c.args.input (rw c.in-Packet.is c.accept.ensures.state)
+    (CancelWork) (rw c.in-Packet.is (sym c.in-CancelWork.is ∙ c.accept.ensures.verdict)) (Cancel) (rw c.in-Packet.is refl) _ (sym (append-nil c.args.outbox.now))
+    _ _ _ _ c.take-in-CancelWork.ensures.core c.take-in-CancelWork.ensures.keepalive c.take-in-CancelWork.ensures.meters c.take-in-CancelWork.ensures.packets in
+    record { state = s.state; meters = s.meters; packets = s.packets }
+
+pub returns-then-cmd-eq-PING : goal.returns-then-cmd-eq-PING
+returns-then-cmd-eq-PING g c =
+    let working_is : c.map-working.result ≡ working c.self.inside.keeper.core.core = grind (arith, c.work.ensures, c.map-working.ensures.cases) in
+    let s = served_quietly c.self.inside.latest c.self.inside.keeper.keepalive_at c.self.inside.assembler c.accept.new.self c.self.inside.keeper.core.core c.self.inside.keeper.meters c.args.self.now c.args.outbox.now c.map-working.result
+    c.self.view_is working_is c.args.input (rw c.in-Packet.is c.accept.ensures.state)
+    (Finished c.in-Finished.cid c.in-Finished.cmd) (rw c.in-Packet.is (sym c.in-Finished.is ∙ c.accept.ensures.verdict)) (rw c.in-Packet.is (grind (arith, nat_tests, c.if-cmd-eq-PING.true))) _ (rw c.put_message-then-cmd-eq-PING.ensures (grind (arith, nat_tests, c.if-cmd-eq-PING.true, c.message-message.ensures.bytes))) in
+    record { state = s.state; meters = s.meters; packets = s.packets }
+
+pub returns-then-cmd-eq-CBOR : goal.returns-then-cmd-eq-CBOR
+returns-then-cmd-eq-CBOR g c =
+    let working_is : c.map-working.result ≡ working c.self.inside.keeper.core.core = grind (arith, c.work.ensures, c.map-working.ensures.cases) in
+    let s = served_by c.self.inside.latest c.self.inside.keeper.keepalive_at c.self.inside.assembler c.accept.new.self c.self.inside.keeper.core.core c.self.inside.keeper.meters c.args.self.now c.args.outbox.now c.map-working.result
+    c.self.view_is working_is c.args.input (rw c.in-Packet.is c.accept.ensures.state)
+    (Finished c.in-Finished.cid c.in-Finished.cmd) (rw c.in-Packet.is (sym c.in-Finished.is ∙ c.accept.ensures.verdict)) (Request c.in-Finished.cid c.message-message.result.now) (rw (c.in-Packet.is, c.message-message.ensures.bytes) (grind (arith, nat_tests, c.if-cmd-eq-CBOR.true))) _ (grind (arith, nat_tests, append-nil, c.if-cmd-eq-PING.false))
+    _ _ _ _ c.take-then-cmd-eq-CBOR.ensures.core c.take-then-cmd-eq-CBOR.ensures.keepalive c.take-then-cmd-eq-CBOR.ensures.meters c.take-then-cmd-eq-CBOR.ensures.packets in
+    record { state = s.state; meters = s.meters; packets = s.packets }
+
+pub returns-else-cmd-eq-CBOR : goal.returns-else-cmd-eq-CBOR
+returns-else-cmd-eq-CBOR g c =
+    let working_is : c.map-working.result ≡ working c.self.inside.keeper.core.core = grind (arith, c.work.ensures, c.map-working.ensures.cases) in
+    let s = served_quietly c.self.inside.latest c.self.inside.keeper.keepalive_at c.self.inside.assembler c.accept.new.self c.self.inside.keeper.core.core c.self.inside.keeper.meters c.args.self.now c.args.outbox.now c.map-working.result
+    c.self.view_is working_is c.args.input (rw c.in-Packet.is c.accept.ensures.state)
+    (Finished c.in-Finished.cid c.in-Finished.cmd) (rw c.in-Packet.is (sym c.in-Finished.is ∙ c.accept.ensures.verdict)) (rw c.in-Packet.is (grind (arith, nat_tests, c.if-cmd-eq-CBOR.false))) _ (grind (arith, nat_tests, append-nil, c.if-cmd-eq-PING.false)) in
+    record { state = s.state; meters = s.meters; packets = s.packets }

@@ -1,0 +1,33 @@
+use Rattle.std.proofs.Common.{◌≡◌, Some, None, refl, append-nil, arith}
+use Rattle.authn_core.specs.Views.{event_of}
+use Rattle.token_session.specs.Replies.{answer_packets}
+use Rattle.token_session.specs.Machine.{answer_keeps_alive}
+use Rattle.token_session.specs.Meters.{AreBounded, counted}
+use Rattle.token_session.specs.Effects.{request_in}
+use Rattle.token_session.proofs.Metering.{counted_bounded}
+use Rattle.token_session.proofs.service.Keeper.take.Goals as goal
+
+pub returns-in-Request-clause-bounded : goal.returns-in-Request-clause-bounded
+returns-in-Request-clause-bounded g c =
+    let bounded : AreBounded c.count.new.self = rw c.count.ensures (counted_bounded c.steps_are_bounded.ensures _ _ c.requires.bounded) in
+    rw c.send.ensures.others bounded
+
+pub returns-in-Some-clause-meters : goal.returns-in-Some-clause-meters
+unfolding counted
+returns-in-Some-clause-meters g c =
+    let none : request_in (Some (event_of c.args.event.now)) ≡ None = grind (arith, c.in-Presence.is) in
+    rw (none, c.send-in-Some.ensures.others) refl
+
+pub returns-in_default-clause-keepalive : goal.returns-in_default-clause-keepalive
+unfolding answer_keeps_alive
+returns-in_default-clause-keepalive g c = grind (arith, c.in-Presence.is, c.work-before.ensures)
+
+pub returns-in_default-clause-meters : goal.returns-in_default-clause-meters
+unfolding counted
+returns-in_default-clause-meters g c =
+    let none : request_in (Some (event_of c.args.event.now)) ≡ None = grind (arith, c.in-Presence.is) in
+    rw none refl
+
+pub returns-in_default-clause-packets : goal.returns-in_default-clause-packets
+unfolding answer_packets
+returns-in_default-clause-packets g c = grind (arith, c.in-Presence.is, c.work-before.ensures, append-nil)
