@@ -33,6 +33,10 @@ unfoldable pub steps_of : List ℕ → ℕ
 steps_of [] = 0
 steps_of (byte ∷ parameters) = if byte == 0x01 || byte == 0x02 then reading_steps parameters else 0
 
+-- the longest message that the transport hands on (CTAP 2.1, section 11.2.4); maxMsgSize
+abbrev pub LONGEST_MESSAGE : ℕ
+LONGEST_MESSAGE = 7609
+
 -- a count of steps stops at 2^64-1
 abbrev pub LARGEST : ℕ
 LARGEST = 18446744073709551615

@@ -4,7 +4,7 @@ ghost use Rattle.std.specs.Prelude.{◌≡◌, ◌≤◌, length, min, Ok};
 ghost use Rattle.ctap_cbor.specs.Telling.{canonical_tree};
 ghost use Rattle.ctap_message.specs.MakeCredential.{make_request};
 ghost use Rattle.ctap_message.specs.GetAssertion.{assertion_request};
-ghost use Rattle.ctap_message.specs.Requests.{read_of, steps_of, alone as alone_of, reading_steps, LARGEST};
+ghost use Rattle.ctap_message.specs.Requests.{read_of, steps_of, alone as alone_of, reading_steps, LARGEST, LONGEST_MESSAGE};
 ghost use Rattle.ctap_message.specs.Shown.{shown, asked, IsFresh, HasLengths};
 
 use crate::assert::read_assert;
@@ -77,7 +77,7 @@ pub fn read_request<'a>(message: &'a [u8]) -> (Result<Request<'a>, Status>, u64)
     ensures request { shown result.0 ≡ read_of message.now }
     ensures steps { result.1 ≡ min (steps_of message.now) LARGEST }
     // The count of steps doesn't stop at a message that the transport hands on.
-    ensures exact { length message.now ≤ 7609 → result.1 ≡ steps_of message.now }
+    ensures exact { length message.now ≤ LONGEST_MESSAGE → result.1 ≡ steps_of message.now }
     // Each walk over a list has all of it before it.
     ensures fresh { IsFresh result.0 }
     ensures lens { HasLengths result.0 }

@@ -3,9 +3,9 @@
 ghost use Rattle.std.specs.Prelude.{◌≡◌, ℕ, ◌+◌, ◌*◌, ◌≤◌, ◌<◌, ◌++◌, [], length, take, drop, Option, None, Some, option_map, if◌then◌else◌};
 ghost use Rattle.hid_packet.specs.Packet.{fields, initialization, continuation};
 ghost use Rattle.hid_assemble.specs.Assembly.{IsLawful, is_overdue, still_open, held_bytes, accepted, drop_on};
-ghost use Rattle.hid_assemble.specs.Table.{is_noise, is_on, ruling_of};
+ghost use Rattle.hid_assemble.specs.Table.{LAST_CHANNEL, is_noise, is_on, ruling_of};
 ghost use Rattle.hid_assemble.specs.Verdicts.{verdict};
-ghost use Rattle.hid_packet.specs.Limits.{CONTINUATION_DATA, INITIALIZATION_DATA, LONGEST_MESSAGE};
+ghost use Rattle.hid_packet.specs.Limits.{CONTINUATION_DATA, INITIALIZATION_DATA, LONGEST_HELD, LONGEST_MESSAGE};
 
 use crate::code::ErrorCode;
 use crate::table::{Continuation, Row, continuation_row, initialization_row};
@@ -99,7 +99,7 @@ impl Assembler {
 
     /// The same with channels 1 to `given` given out.
     pub fn with_given(given: u32) -> Self
-        requires { given ≤ 4294967294 }
+        requires { given ≤ LAST_CHANNEL }
         ensures { result ≡ record { given = given; current = None; finished = [] } }
     {
         Assembler {
@@ -303,7 +303,7 @@ impl Assembler {
     pub fn held(&self) -> u16
         ensures lawful { IsLawful self.now }
         ensures bytes { result ≡ held_bytes self.now.current }
-        ensures limit { held_bytes self.now.current ≤ 7550 }
+        ensures limit { held_bytes self.now.current ≤ LONGEST_HELD }
     {
         match self.contents {
             Contents::Open(message) => {
@@ -326,7 +326,7 @@ impl Assembler {
     /// How many channels were given out.
     pub fn given(&self) -> u32
         ensures count { result ≡ self.now.given }
-        ensures limit { self.now.given ≤ 4294967294 }
+        ensures limit { self.now.given ≤ LAST_CHANNEL }
     {
         self.given
     }

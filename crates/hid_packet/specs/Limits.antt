@@ -18,6 +18,14 @@ LONGEST_MESSAGE = 7609
 abbrev pub OUTBOX_CAPACITY : ℕ
 OUTBOX_CAPACITY = 130
 
+-- the bytes of so many packets, 64 each
+abbrev pub RING_SIZE : ℕ
+RING_SIZE = 64 * OUTBOX_CAPACITY
+
+-- the most data bytes that are held of an unfinished message: those of 128 packets
+abbrev pub LONGEST_HELD : ℕ
+LONGEST_HELD = 7550
+
 -- the milliseconds after which an unfinished message is dropped (CTAP 2.1, section 11.2.5.2)
 abbrev pub MESSAGE_TIMEOUT : ℕ
 MESSAGE_TIMEOUT = 500

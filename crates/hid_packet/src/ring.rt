@@ -1,6 +1,6 @@
 //! A queue of bytes in a ring.
 ghost use Rattle.std.specs.Prelude.{◌≡◌, ◌+◌, ◌-◌, ◌*◌, ◌%◌, ◌<◌, ◌≤◌, ◌++◌, [], length, min, take, drop};
-ghost use Rattle.hid_packet.specs.declared.ring.TheConstants.{RING_SIZE};
+ghost use Rattle.hid_packet.specs.Limits.{RING_SIZE};
 
 use crate::fragments::put_at;
 use crate::limit::OUTBOX_CAPACITY;
@@ -9,7 +9,7 @@ use std::marker::Model;
 /// The most bytes that wait: 64 for each packet of a full outbox.
 const RING_SIZE: usize = 64 * OUTBOX_CAPACITY;
 
-/// Bytes that wait, first in, first out, at most 8320.
+/// Bytes that wait, first in, first out, at most `RING_SIZE` of them.
 #[derive(Drop)]
 pub(crate) struct Ring {
     bytes: [u8; RING_SIZE],
@@ -21,12 +21,13 @@ pub(crate) struct Ring {
 impl Model for Ring {
     ghost use Rattle.std.specs.Prelude.{◌≡◌, ℕ, ◌<◌, ◌≤◌, List, length};
     ghost use Rattle.hid_packet.specs.Queue.{window};
+    ghost use Rattle.hid_packet.specs.Limits.{RING_SIZE};
 
     ghost Value = { List ℕ };
 
     ghost view = { λ r. window r.first r.len r.bytes };
 
-    ghost invariant = { λ r. (r.first < 8320) × (r.len ≤ 8320) × (length r.bytes ≡ 8320) };
+    ghost invariant = { λ r. (r.first < RING_SIZE) × (r.len ≤ RING_SIZE) × (length r.bytes ≡ RING_SIZE) };
 }
 
 /// The place in the ring, counted from its front again after its end.
@@ -55,7 +56,7 @@ impl Ring {
 
     /// Puts bytes after those that wait, from the first place on where the ring ends.
     pub(crate) fn put(&mut self, bytes: &[u8])
-        requires { length self.old + length bytes.now ≤ 8320 }
+        requires { length self.old + length bytes.now ≤ RING_SIZE }
         ensures { self.new ≡ self.old ++ bytes.now }
     {
         let end = wrapped(self.first + self.len);
