@@ -8,10 +8,9 @@
 //! // authenticatorSelection on channel 1 waits for the user's presence, and is then answered.
 //! core.request(10, 1, b"\x0b");
 //! let waits = core.need().is_presence();
-//! assert!(rt; waits);
 //! let turn = core.presence(20, Presence::Granted);
 //! let answered = matches!(turn, Turn::Answer(answer) if answer.as_slice() == [0].as_slice());
-//! assert!(rt; answered);
+//! assert!(rt; waits && answered);
 //! ```
 #![tactic(auto)]
 

@@ -13,7 +13,7 @@ fn the_page_checks_and_reads(rt: HostRuntime) -> Result<(), Fail> {
     assert!(rt; cursor.item(1)? == Item::Map(2));
     let first = cursor.key(None)?;
     cursor.skip(2)?;
-    cursor.key(Some(first.bytes))?; // has to stand above the first
+    cursor.key(Some(first.bytes))?; // has to be above the first
     cursor.skip(2)?;
     cursor.end()?;
     Ok(())

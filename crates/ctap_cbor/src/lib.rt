@@ -12,12 +12,12 @@
 //! An example, which the gate runs (`crates/cbor_tests/src/page.rt`):
 //!
 //! ```text
-//! // {1: "usb", 2: [true]}
-//! let message = b"\xa2\x01\x63usb\x02\x81\xf5".as_slice();
-//! assert!(rt; check(message).result.is_ok());
+//! /// `{1: "usb", 2: [true]}`
+//! const MESSAGE: &[u8] = b"\xa2\x01\x63usb\x02\x81\xf5";
 //!
-//! let mut cursor = Cursor::new(message);
-//! assert_eq!(rt; cursor.item(1)?, Item::Map(2));
+//! assert!(rt; check(MESSAGE).result.is_ok());
+//! let mut cursor = Cursor::new(MESSAGE);
+//! assert!(rt; cursor.item(1)? == Item::Map(2));
 //! let first = cursor.key(None)?;
 //! cursor.skip(2)?;
 //! cursor.key(Some(first.bytes))?; // has to be above the first
@@ -28,12 +28,12 @@
 //! let mut sink = Sink::new(&mut buffer);
 //! sink.array(1);
 //! sink.flag(true);
-//! assert_eq!(rt; buffer, [0x81, 0xf5]);
+//! assert!(rt; buffer == [0x81, 0xf5]);
 //!
-//! let value = decode_value(rt.alloc(), message)?;
+//! let value = decode_value(rt.alloc(), MESSAGE)?;
 //! let mut copy = Vec::new(rt.alloc());
 //! encode_value(&value, &mut copy)?;
-//! assert!(rt; copy.as_slice() == message);
+//! assert!(rt; copy.as_slice() == MESSAGE);
 //! ```
 //!
 //! Only `decode_value` and `encode_value` allocate: the first as items come, the second as its vector grows. Nesting

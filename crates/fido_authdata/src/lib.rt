@@ -8,9 +8,9 @@
 //! ```text
 //! let data = AuthData::assertion(&[0xa3; 32], true, 1);
 //! let bytes = data.bytes();
-//! assert_eq!(rt; bytes.len(), 37);
+//! assert!(rt; bytes.len() == 37);
 //! let signed = to_sign(&data, &[0x22; 32]);
-//! assert_eq!(rt; signed.len(), 69);
+//! assert!(rt; signed.len() == 69);
 //! ```
 #![tactic(auto)]
 

@@ -13,8 +13,8 @@
 //! for packet in outbox {
 //!     verdict = assembler.accept(0, &packet, None);
 //! }
-//! assert_eq!(rt; verdict, Verdict::Finished { cid: 1, cmd: PING });
-//! assert_eq!(rt; assembler.message(), [7; 100].as_slice());
+//! assert!(rt; verdict == Verdict::Finished { cid: 1, cmd: PING });
+//! assert!(rt; assembler.message() == [7; 100].as_slice());
 //! ```
 #![tactic(auto)]
 

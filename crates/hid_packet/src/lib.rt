@@ -5,12 +5,17 @@
 //!
 //! ```text
 //! let mut outbox = Outbox::new();
-//! written_packets_are_the_fewest(); // so there is space
+//! written_packets_are_the_fewest(); // so there is capacity
 //! outbox.put_message(1, command::PING, b"hello");
 //! for packet in outbox {
 //!     match packet.view() {
-//!         View::Start { cid, cmd, len, part } => {
-//!             assert_eq!(rt; (cid, cmd, len), (1, command::PING, 5));
+//!         View::Start {
+//!             cid,
+//!             cmd,
+//!             len,
+//!             part,
+//!         } => {
+//!             assert!(rt; (cid, cmd, len) == (1, command::PING, 5));
 //!             assert!(rt; part.starts_with(b"hello"));
 //!         }
 //!         View::More { .. } => panic!(rt; "it fits one packet"),

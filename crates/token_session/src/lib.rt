@@ -10,12 +10,12 @@
 //!     key.step(0, Input::Packet(packet), &mut outbox);
 //!     for answer in outbox {
 //!         match answer.view() {
-//!             View::Start { cmd, len, .. } => assert_eq!(rt; (cmd, len), (command::INIT, 17)),
+//!             View::Start { cmd, len, .. } => assert!(rt; (cmd, len) == (command::INIT, 17)),
 //!             View::More { .. } => panic!(rt; "the answer fits one packet"),
 //!         }
 //!     }
 //! }
-//! assert_eq!(rt; key.credentials(), 0);
+//! assert!(rt; key.credentials() == 0);
 //! ```
 #![tactic(auto)]
 

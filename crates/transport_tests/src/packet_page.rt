@@ -6,7 +6,7 @@ use hid_packet::{Outbox, View, command};
 #[test]
 fn the_page(rt: HostRuntime) {
     let mut outbox = Outbox::new();
-    written_packets_are_the_fewest(); // so there is room
+    written_packets_are_the_fewest(); // so there is capacity
     outbox.put_message(1, command::PING, b"hello");
     for packet in outbox {
         match packet.view() {
