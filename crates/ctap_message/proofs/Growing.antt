@@ -26,7 +26,7 @@ use Rattle.ctap_message.specs.Fields.{Descriptor, descriptor_in, DescriptorList,
 use Rattle.ctap_message.specs.Judged.{MakeParameters, AssertionParameters}
 use Rattle.ctap_message.specs.Walks.{Reads, typed, HasPairs}
 use Rattle.ctap_message.specs.Collected.{rp_next, user_next, options_next, parameter_next, descriptor_next, IsPlainName, shown_rp, shown_user, shown_options, shown_parameter, shown_descriptor}
-use Rattle.ctap_message.specs.CollectedRequests.{make_in, make_next, shown_make, IsPlainMake, TakesMake, no_parameters, assertion_in, assert_next, shown_assert, IsPlainAssert, TakesAssert}
+use Rattle.ctap_message.specs.CollectedRequests.{make_in, make_next, shown_make, IsPlainMake, IsOtherMake, TakesMake, no_parameters, assertion_in, assert_next, shown_assert, IsPlainAssert, TakesAssert}
 use Rattle.ctap_message.specs.DescriptorWalk.{DescriptorWalk, list_of, left_of, IsWhole}
 use Rattle.ctap_message.proofs.Pushes.{ap2, ap3, ap4, field_push, entries_push, some_push, head_bytes, head_text, head_int, head_uint, head_flag, head_map, is_head_bytes, is_head_text, is_head_int, is_head_uint, is_head_flag}
 use Rattle.ctap_message.proofs.Collecting.{Grows, HeadDecides, adds_head, adds_tree}
@@ -234,6 +234,20 @@ make_heads k h v = (
       (λ a b. (make_all (if is_key (Number 0x01) k then a else z.0.client_data_hash) z.0.rp_id z.0.user z.0.has_parameters z.0.parameters z.0.exclude_list z.0.options (if is_key (Number 0x08) k then a else z.0.pin_uv_auth_param) (if is_key (Number 0x0a) k then b else z.0.enterprise_attestation), z.1))
       (head_bytes v) (head_uint v)),
 )
+
+pub make_adds : (room : ℕ) (key part : Part) (taken : Bool) (x y : Make) (a c : Reading) → IsPlainMake (head_of key)
+    → PassesAs room part a c → taken ≡ suits make_types (head_of key) (head_of part)
+    → shown_make y ≡ make_next (head_of key) (head_of part) (shown_make x)
+    → Adds (λ m ok ps. HasPairs make_types make_in (shown_make m) ok ps) room key taken x y a c
+make_adds room key part taken x y a c plain = adds_head shown_make make_types make_in make_next room key part taken x y a c make_grows (make_heads (head_of key) plain)
+
+pub make_other : (room : ℕ) (key part : Part) (x : Make) (a c : Reading) → IsOtherMake (head_of key) → PassesAs room part a c
+    → Adds (λ m ok ps. HasPairs make_types make_in (shown_make m) ok ps) room key true x x a c
+make_other room key part x a c h passes =
+    let o = h.others in
+    make_adds room key part true x x a c o passes
+    (rw (h.hash, o.rp, o.user, o.parameters, o.exclude_list, h.extensions, o.options, h.pin_uv_auth_param, h.pin_uv_auth_protocol, h.enterprise_attestation) refl)
+    (rw (h.hash, o.rp, o.user, o.parameters, o.exclude_list, o.options, h.pin_uv_auth_param, h.enterprise_attestation) refl)
 
 abbrev make_none : DescriptorList → Trees → MakeParameters × Trees
 make_none list entries = (make_all None None (make_user None None) false no_parameters list (make_options None None None) None None, entries)

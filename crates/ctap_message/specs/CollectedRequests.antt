@@ -65,6 +65,15 @@ pub record IsPlainMake (k : Tree) : Type 0 where
   pub exclude_list : is_key (Number 0x05) k ≡ false
   pub options : is_key (Number 0x07) k ≡ false
 
+-- the key of no parameter
+pub record IsOtherMake (k : Tree) : Type 0 where
+  pub others : IsPlainMake k
+  pub hash : is_key (Number 0x01) k ≡ false
+  pub extensions : is_key (Number 0x06) k ≡ false
+  pub pin_uv_auth_param : is_key (Number 0x08) k ≡ false
+  pub pin_uv_auth_protocol : is_key (Number 0x09) k ≡ false
+  pub enterprise_attestation : is_key (Number 0x0a) k ≡ false
+
 -- the value of the parameter with this number was passed, and taken or not
 abbrev pub TakesMake : ℕ → ℕ → Bool → Make → Make → Reading → Reading → Type 0
 TakesMake n room taken before after old new = (v : Tree) × Passes room v old new

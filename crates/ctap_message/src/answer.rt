@@ -4,7 +4,7 @@
 
 ghost use Rattle.std.specs.Prelude.{◌≡◌, ◌+◌, ◌<◌, ◌≤◌, ◌++◌, ◌∷◌, [], length};
 ghost use Rattle.std.specs.Option.{ForSome, option_copied};
-ghost use Rattle.ctap_cbor.specs.Head.{head, head_len};
+ghost use Rattle.ctap_cbor.specs.Head.{head};
 ghost use Rattle.ctap_cbor.specs.Grammar.{text, pair_texts};
 ghost use Rattle.ctap_cbor.specs.Tree.{count_pairs, no_pairs};
 ghost use Rattle.ctap_message.specs.Answers as spec;
@@ -133,8 +133,10 @@ fn put_number(answer: &mut Answer, number: Option<u16>)
     ensures { answer.new.items ≡ answer.old.items ++ pair_texts (spec.with_number number) }
 {
     if let Some(number) = number {
+        let mut head = [0; 9];
+        let len = head_into(0, u64::from(number), &mut head);
         answer.push(0x05);
-        put_head(answer, 0, u64::from(number));
+        answer.try_extend_from_slice(&head[..len]).unwrap();
     }
 }
 
@@ -145,18 +147,8 @@ fn put_bytes(answer: &mut Answer, bytes: &[u8])
     ensures appends { answer.new.items ≡ answer.old.items ++ text (spec.byte_string bytes.now) }
     ensures few { length answer.new.items ≤ length answer.old.items + 2 + length bytes.now }
 {
-    put_head(answer, 2, bytes.len() as u64);
-    answer.try_extend_from_slice(bytes).unwrap();
-}
-
-/// Writes the head of a major type with an argument.
-fn put_head(answer: &mut Answer, major: u8, argument: u64)
-    requires low { major < 8 }
-    requires capacity { length answer.old.items + head_len argument ≤ 262 }
-    ensures appends { answer.new.items ≡ answer.old.items ++ head major argument }
-    ensures len { length answer.new.items ≡ length answer.old.items + head_len argument }
-{
     let mut head = [0; 9];
-    let len = head_into(major, argument, &mut head);
+    let len = head_into(2, bytes.len() as u64, &mut head);
     answer.try_extend_from_slice(&head[..len]).unwrap();
+    answer.try_extend_from_slice(bytes).unwrap();
 }

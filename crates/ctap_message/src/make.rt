@@ -1,12 +1,11 @@
 //! The parameters of authenticatorMakeCredential (CTAP 2.1, section 6.1).
 
-ghost use Rattle.std.specs.Prelude.{◌≡◌, ◌⊎◌, MatchResult};
-ghost use Rattle.ctap_cbor.specs.Views.{part_of, head_of};
+ghost use Rattle.std.specs.Prelude.{◌⊎◌, MatchResult};
 ghost use Rattle.ctap_cbor.specs.Reading.{Reading, PassesOne, Halts, Ends, GoesOn};
-ghost use Rattle.ctap_message.specs.Members.{suits, map_of};
+ghost use Rattle.ctap_message.specs.Members.{map_of};
 ghost use Rattle.ctap_message.specs.Walks.{Reads, typed, HasPairs};
 ghost use Rattle.ctap_message.specs.MakeCredential.{make_types};
-ghost use Rattle.ctap_message.specs.CollectedRequests.{make_in, shown_make, make_next, IsPlainMake};
+ghost use Rattle.ctap_message.specs.CollectedRequests.{make_in, shown_make};
 
 use crate::descriptor::{DescriptorList, read_list};
 use crate::descriptors::Descriptors;
@@ -30,40 +29,15 @@ pub(crate) struct Make<'a> {
     pub enterprise_attestation: Option<u64>,
 }
 
-impl<'a> Make<'a> {
-    /// Takes a parameter with nothing inside, or extensions, which are ignored. Returns whether it has its type.
-    fn put(&mut self, key: Item<'a>, value: Item<'a>) -> bool
-        requires plain { IsPlainMake (head_of (part_of key)) }
-        ensures plain { IsPlainMake (head_of (part_of key.entry)) }
-        ensures typed { result ≡ suits make_types (head_of (part_of key.entry)) (head_of (part_of value.entry)) }
-        ensures value { shown_make self.new ≡ make_next (head_of (part_of key.entry)) (head_of (part_of value.entry))
-            (shown_make self.old) }
-    {
-        match key {
-            Item::Int(0x01) => {
-                self.hash = value.as_bytes();
-                self.hash.is_some()
-            }
-            Item::Int(0x06) => is_a_map(value),
-            Item::Int(0x08) => {
-                self.pin_uv_auth_param = value.as_bytes();
-                self.pin_uv_auth_param.is_some()
-            }
-            Item::Int(0x09) => value.as_uint().is_some(),
-            Item::Int(0x0a) => {
-                self.enterprise_attestation = value.as_uint();
-                self.enterprise_attestation.is_some()
-            }
-            _ => true,
-        }
-    }
-}
-
 impl<'a> Members<'a> for Make<'a> {
     ghost Holds = { λ x ok ps. HasPairs make_types make_in (shown_make x) ok ps };
 
     fn member(&mut self, cursor: &mut Cursor<'a>, key: Item<'a>, level: u8) -> Result<bool, Fault> {
         match key {
+            Item::Int(0x01) => {
+                self.hash = cursor.whole(level)?.as_bytes();
+                Ok(self.hash.is_some())
+            }
             Item::Int(0x02) => {
                 self.rp = Rp { id: None };
                 Ok(read_map(&mut self.rp, cursor, level)?.unwrap_or(false))
@@ -94,9 +68,19 @@ impl<'a> Members<'a> for Make<'a> {
                 self.options = options;
                 Ok(typed)
             }
+            Item::Int(0x06) => Ok(is_a_map(cursor.whole(level)?)),
+            Item::Int(0x08) => {
+                self.pin_uv_auth_param = cursor.whole(level)?.as_bytes();
+                Ok(self.pin_uv_auth_param.is_some())
+            }
+            Item::Int(0x09) => Ok(cursor.whole(level)?.as_uint().is_some()),
+            Item::Int(0x0a) => {
+                self.enterprise_attestation = cursor.whole(level)?.as_uint();
+                Ok(self.enterprise_attestation.is_some())
+            }
             _ => {
-                let value = cursor.whole(level)?;
-                Ok(self.put(key, value))
+                cursor.whole(level)?;
+                Ok(true)
             }
         }
     }

@@ -54,7 +54,7 @@ pub(crate) fn put_continuation(out: &mut [u8], cid: u32, number: u8, part: &[u8]
 }
 
 /// The initialization packet with these data bytes, and zeros after them.
-pub(crate) fn initialization(cid: u32, cmd: u8, len: u16, part: &[u8]) -> Packet
+fn initialization(cid: u32, cmd: u8, len: u16, part: &[u8]) -> Packet
     requires command { cmd < 128 }
     requires fits { length part.now ≤ INITIALIZATION_DATA }
     ensures { result.0 ≡ initialization_packet cid cmd len part.now }

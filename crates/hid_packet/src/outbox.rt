@@ -7,7 +7,7 @@ ghost use Rattle.hid_packet.specs.Queue.{waiting, IsHeld};
 ghost use Rattle.hid_packet.specs.Limits.{LONGEST_MESSAGE, OUTBOX_CAPACITY};
 
 use crate::entry::{Entry, Message};
-use crate::fragments::{Due, initialization, packets_for};
+use crate::fragments::{Due, packets_for, put_initialization};
 use crate::limit::{INITIALIZATION_DATA, OUTBOX_CAPACITY};
 use crate::packet::Packet;
 use crate::ring::Ring;
@@ -130,8 +130,9 @@ impl Outbox {
         let left = bytes.len() as u16;
         if bytes.len() <= INITIALIZATION_DATA {
             // Its packet is made now, since to keep few bytes and make it later takes longer.
-            self.put_packet(initialization(cid, cmd, left, bytes));
-            return;
+            let mut packet = [0; 64];
+            put_initialization(&mut packet, cid, cmd, left, bytes);
+            return self.put_packet(Packet(packet));
         }
         let due = Due::Initialization(cmd);
         self.entries.push(Entry::Part(Message { cid, due, left }));

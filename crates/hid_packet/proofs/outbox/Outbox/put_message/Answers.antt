@@ -1,5 +1,6 @@
-use Rattle.std.proofs.Common.{◌+◌, ◌≤◌, ◌++◌, ◌∷◌, [], List, ℕ, length, ap, ap₂, sym, ◌∙◌, refl, rules, arith}
-use Rattle.hid_packet.specs.Message.{written}
+use Rattle.std.proofs.Common.{◌≡◌, ◌+◌, ◌≤◌, ◌++◌, ◌∷◌, [], List, ℕ, length, ap, ap₂, sym, ◌∙◌, refl, rules, arith, length-append}
+use Rattle.hid_packet.specs.Message.{written, initialization_packet}
+use Rattle.hid_packet.proofs.Writing.{filled}
 use Rattle.hid_packet.specs.Queue.{waiting}
 use Rattle.hid_packet.specs.declared.entry.Entry.TheVariants.{Part}
 use Rattle.hid_packet.specs.declared.fragments.Due.TheVariants.{Initialization}
@@ -10,9 +11,12 @@ pub put_packet-requires : goal.put_packet-requires
 put_packet-requires c = omega (arith, c.requires.room, first_written c.args.cid c.args.cmd c.args.bytes.now)
 
 pub returns-then-bytes-le-INITIALIZATION_DATA : goal.returns-then-bytes-le-INITIALIZATION_DATA
+unfolding initialization_packet
 returns-then-bytes-le-INITIALIZATION_DATA c =
+    let made : c.put_initialization.new.out ≡ initialization_packet c.args.cid c.args.cmd (length c.args.bytes.now) c.args.bytes.now =
+    c.put_initialization.ensures ∙ filled _ (7 + length c.args.bytes.now) (simp length-append (omega arith)) in
     c.put_packet.ensures
-    ∙ ap (λ packet. c.args.self.now ++ packet ∷ []) c.initialization.ensures
+    ∙ ap (λ packet. c.args.self.now ++ packet ∷ []) made
     ∙ ap (λ (packets : List (List ℕ)). c.args.self.now ++ packets) (sym (short_written c.args.cid c.args.cmd c.args.bytes.now c.if-bytes-le-INITIALIZATION_DATA.true))
 
 pub push-requires : goal.push-requires
