@@ -26,7 +26,7 @@ use Rattle.ctap_message.specs.Fields.{Descriptor, descriptor_in, DescriptorList,
 use Rattle.ctap_message.specs.Judged.{MakeParameters, AssertionParameters}
 use Rattle.ctap_message.specs.Walks.{Reads, typed, HasPairs}
 use Rattle.ctap_message.specs.Collected.{rp_next, user_next, options_next, parameter_next, descriptor_next, IsPlainName, shown_rp, shown_user, shown_options, shown_parameter, shown_descriptor}
-use Rattle.ctap_message.specs.CollectedRequests.{make_in, make_next, shown_make, IsPlainMake, IsOtherMake, TakesMake, no_parameters, assertion_in, assert_next, shown_assert, IsPlainAssert, TakesAssert}
+use Rattle.ctap_message.specs.CollectedRequests.{make_in, make_next, shown_make, IsPlainMake, IsOtherMake, TakesMake, no_parameters, assertion_in, assert_next, shown_assert, IsPlainAssert, IsOtherAssert, TakesAssert}
 use Rattle.ctap_message.specs.DescriptorWalk.{DescriptorWalk, list_of, left_of, IsWhole}
 use Rattle.ctap_message.proofs.Pushes.{ap2, ap3, ap4, field_push, entries_push, some_push, head_bytes, head_text, head_int, head_uint, head_flag, head_map, is_head_bytes, is_head_text, is_head_int, is_head_uint, is_head_flag}
 use Rattle.ctap_message.proofs.Collecting.{Grows, HeadDecides, adds_head, adds_tree}
@@ -295,6 +295,20 @@ assert_heads k h v = (
       (λ a b. (assert_all (if is_key (Number 0x01) k then a else z.0.rp_id) (if is_key (Number 0x02) k then b else z.0.client_data_hash) z.0.allow_list z.0.options (if is_key (Number 0x06) k then b else z.0.pin_uv_auth_param), z.1))
       (head_text v) (head_bytes v)),
 )
+
+pub assert_adds : (room : ℕ) (key part : Part) (taken : Bool) (x y : Assert) (a c : Reading) → IsPlainAssert (head_of key)
+    → PassesAs room part a c → taken ≡ suits assertion_types (head_of key) (head_of part)
+    → shown_assert y ≡ assert_next (head_of key) (head_of part) (shown_assert x)
+    → Adds (λ m ok ps. HasPairs assertion_types assertion_in (shown_assert m) ok ps) room key taken x y a c
+assert_adds room key part taken x y a c plain = adds_head shown_assert assertion_types assertion_in assert_next room key part taken x y a c assert_grows (assert_heads (head_of key) plain)
+
+pub assert_other : (room : ℕ) (key part : Part) (x : Assert) (a c : Reading) → IsOtherAssert (head_of key) → PassesAs room part a c
+    → Adds (λ m ok ps. HasPairs assertion_types assertion_in (shown_assert m) ok ps) room key true x x a c
+assert_other room key part x a c h passes =
+    let o = h.others in
+    assert_adds room key part true x x a c o passes
+    (rw (h.rp_id, h.hash, o.allow_list, h.extensions, o.options, h.pin_uv_auth_param, h.pin_uv_auth_protocol) refl)
+    (rw (h.rp_id, h.hash, o.allow_list, o.options, h.pin_uv_auth_param) refl)
 
 abbrev assert_with : Trees → Trees → AssertionParameters × Trees
 assert_with x y = (assert_all None None (record { is_whole = true; entries = y }) (make_options None None None) None, x)

@@ -113,6 +113,15 @@ pub record IsPlainAssert (k : Tree) : Type 0 where
   pub allow_list : is_key (Number 0x03) k ≡ false
   pub options : is_key (Number 0x05) k ≡ false
 
+-- the key of no parameter
+pub record IsOtherAssert (k : Tree) : Type 0 where
+  pub others : IsPlainAssert k
+  pub rp_id : is_key (Number 0x01) k ≡ false
+  pub hash : is_key (Number 0x02) k ≡ false
+  pub extensions : is_key (Number 0x04) k ≡ false
+  pub pin_uv_auth_param : is_key (Number 0x06) k ≡ false
+  pub pin_uv_auth_protocol : is_key (Number 0x07) k ≡ false
+
 abbrev pub TakesAssert : ℕ → ℕ → Bool → Assert → Assert → Reading → Reading → Type 0
 TakesAssert n room taken before after old new = (v : Tree) × Passes room v old new
     × (taken ≡ suits assertion_types (numbered n) v)

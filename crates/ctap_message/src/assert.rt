@@ -1,12 +1,11 @@
 //! The parameters of authenticatorGetAssertion (CTAP 2.1, section 6.2).
 
-ghost use Rattle.std.specs.Prelude.{◌≡◌, ◌⊎◌, MatchResult};
-ghost use Rattle.ctap_cbor.specs.Views.{part_of, head_of};
+ghost use Rattle.std.specs.Prelude.{◌⊎◌, MatchResult};
 ghost use Rattle.ctap_cbor.specs.Reading.{Reading, PassesOne, Halts, Ends, GoesOn};
-ghost use Rattle.ctap_message.specs.Members.{suits, map_of};
+ghost use Rattle.ctap_message.specs.Members.{map_of};
 ghost use Rattle.ctap_message.specs.Walks.{Reads, typed, HasPairs};
 ghost use Rattle.ctap_message.specs.GetAssertion.{assertion_types};
-ghost use Rattle.ctap_message.specs.CollectedRequests.{assertion_in, shown_assert, assert_next, IsPlainAssert};
+ghost use Rattle.ctap_message.specs.CollectedRequests.{assertion_in, shown_assert};
 
 use crate::descriptor::{DescriptorList, read_list};
 use crate::descriptors::Descriptors;
@@ -24,54 +23,38 @@ pub(crate) struct Assert<'a> {
     pub pin_uv_auth_param: Option<&'a [u8]>,
 }
 
-impl<'a> Assert<'a> {
-    /// Takes a parameter with nothing inside, or extensions, which are ignored. Returns whether it has its type.
-    fn put(&mut self, key: Item<'a>, value: Item<'a>) -> bool
-        requires plain { IsPlainAssert (head_of (part_of key)) }
-        ensures plain { IsPlainAssert (head_of (part_of key.entry)) }
-        ensures typed { result ≡ suits assertion_types (head_of (part_of key.entry)) (head_of (part_of value.entry)) }
-        ensures value { shown_assert self.new ≡ assert_next (head_of (part_of key.entry))
-            (head_of (part_of value.entry))
-            (shown_assert self.old) }
-    {
-        match key {
-            Item::Int(0x01) => {
-                self.rp_id = value.as_text();
-                self.rp_id.is_some()
-            }
-            Item::Int(0x02) => {
-                self.hash = value.as_bytes();
-                self.hash.is_some()
-            }
-            Item::Int(0x04) => is_a_map(value),
-            Item::Int(0x06) => {
-                self.pin_uv_auth_param = value.as_bytes();
-                self.pin_uv_auth_param.is_some()
-            }
-            Item::Int(0x07) => value.as_uint().is_some(),
-            _ => true,
-        }
-    }
-}
-
 impl<'a> Members<'a> for Assert<'a> {
     ghost Holds = { λ x ok ps. HasPairs assertion_types assertion_in (shown_assert x) ok ps };
 
     fn member(&mut self, cursor: &mut Cursor<'a>, key: Item<'a>, level: u8) -> Result<bool, Fault> {
         match key {
+            Item::Int(0x01) => {
+                self.rp_id = cursor.whole(level)?.as_text();
+                Ok(self.rp_id.is_some())
+            }
+            Item::Int(0x02) => {
+                self.hash = cursor.whole(level)?.as_bytes();
+                Ok(self.hash.is_some())
+            }
             Item::Int(0x03) => {
                 let (typed, allow) = read_list(cursor, level)?;
                 self.allow = allow;
                 Ok(typed)
             }
+            Item::Int(0x04) => Ok(is_a_map(cursor.whole(level)?)),
             Item::Int(0x05) => {
                 let (typed, options) = read_options(cursor, level)?;
                 self.options = options;
                 Ok(typed)
             }
+            Item::Int(0x06) => {
+                self.pin_uv_auth_param = cursor.whole(level)?.as_bytes();
+                Ok(self.pin_uv_auth_param.is_some())
+            }
+            Item::Int(0x07) => Ok(cursor.whole(level)?.as_uint().is_some()),
             _ => {
-                let value = cursor.whole(level)?;
-                Ok(self.put(key, value))
+                cursor.whole(level)?;
+                Ok(true)
             }
         }
     }
