@@ -1,13 +1,19 @@
 -- Chains that links make, as lists of slots.
-use Rattle.std.proofs.Common.{◌≡◌, ◌≢◌, ℕ, zero, suc, ◌<◌, ◌≤◌, List, [], ◌∷◌, ◌++◌, length, Bool, true, false, ◌||◌, not, Option, Some, None, refl, sym, ◌∙◌, ap, subst, arith, get_or, set, nat_lt, nat_eq, eqb, length-append}
+use Rattle.std.proofs.Common.{◌≡◌, ◌≢◌, ℕ, zero, suc, ◌<◌, ◌≤◌, List, [], ◌∷◌, ◌++◌, length, Bool, true, false, ◌||◌, not, Option, Some, None, refl, sym, ◌∙◌, ap, subst, arith, get_or, set, nat_lt, nat_eq, eqb, length-append, map, ◌+◌, reverse, ◌&&◌}
 use Rattle.std.specs.List.{IsDistinct, AllByRecursion}
 use Rattle.std.proofs.lemmas.Bool.Decides.{nat_tests}
-use Rattle.std.proofs.lemmas.List.{length-set, get_or-set_same, get_or-set_other}
+use Rattle.std.proofs.lemmas.List.{length-set, get_or-set_same, get_or-set_other, get_or-map, get_or_default, length-map, map-set, set-get_or, reverse-append, reverse-reverse}
 use Rattle.std.proofs.lemmas.List.Folds.{list_any-append}
 use Rattle.std.proofs.lemmas.Map.Steps.{length-le_from_distinct_below}
 use Rattle.std.proofs.lemmas.Bool.{and_parts, and_from, or_parts, or_from, not-true}
-use Rattle.cred_table.specs.Slots.{walk, ends, chain, is_chain, has, but, distinct, begun}
+use Rattle.cred_table.specs.Slots.{walk, ends, chain, is_chain, has, but, distinct, begun, links, link_of, with_link, led_slots, slot_at, blank, within, bucket, numbered}
 use Rattle.cred_table.proofs.Basics.{all_stay}
+use Rattle.std.proofs.Math.Bool.{or-true}
+use Rattle.cred_table.specs.declared.slot.Slot.{Slot}
+use Rattle.cred_table.specs.declared.slot.Along.{Along}
+use Rattle.cred_table.specs.declared.slot.Along.TheVariants.{Next, Newer, Older}
+use Rattle.cred_table.specs.Linked.{row_at, Linked, age, free_slots, id_slots, head}
+use Rattle.cred_table.specs.declared.chains.Chains.{Chains}
 
 -- ---- numbers
 
@@ -244,3 +250,180 @@ Leads-without to at fs k rs (Some p) h w =
 -- The slots without one of them.
 pub but_is : (to : List (Option ℕ)) (at : Option ℕ) (fs : List ℕ) (k : ℕ) (rs : List ℕ) → Leads to at (fs ++ k ∷ rs) None → but k (fs ++ k ∷ rs) ≡ fs ++ rs
 but_is to at fs k rs h = let d = distinct-split fs k rs (Leads-distinct to at (fs ++ k ∷ rs) h) in but-split fs k rs d.0 d.1
+
+-- The links and the rows of changed slots.
+
+pub length-links : (along : Along) (slots : List Slot) → length (links along slots) ≡ length slots
+length-links along slots = length-map slots (link_of along)
+
+-- the link of a slot
+pub link_at : (along : Along) (slots : List Slot) (k : ℕ) → k < length slots → get_or (links along slots) k None ≡ link_of along (slot_at slots k)
+link_at along slots k l = get_or-map (link_of along) slots k blank None l
+
+-- a slot that is read
+pub slot_read : (slots : List Slot) (k place : ℕ) (slot : Slot) → k < length slots → place ≡ k → get_or slots place slot ≡ slot_at slots k
+slot_read slots k place slot l p = rw p (get_or_default slots k slot blank l)
+
+pub links-set : (along : Along) (slots : List Slot) (k : ℕ) (slot : Slot) → links along (set slots k slot) ≡ set (links along slots) k (link_of along slot)
+links-set along slots k slot = map-set (link_of along) slots k slot
+
+linked_same : (along : Along) (next : Option ℕ) (slot : Slot) → link_of along (with_link along next slot) ≡ next
+linked_same Next next slot = refl
+linked_same Newer next slot = refl
+linked_same Older next slot = refl
+
+-- the links of the kind that changes
+pub links-led : (along : Along) (before next : Option ℕ) (slots : List Slot) → links along (led_slots along before next slots) ≡ led before next (links along slots)
+links-led along None next slots = refl
+links-led along (Some p) next slots =
+    links-set along slots p (with_link along next (slot_at slots p)) ∙ ap (set (links along slots) p) (linked_same along next (slot_at slots p))
+
+-- the links of another kind
+pub links-led_other : (along other : Along) (before next : Option ℕ) (slots : List Slot) → ((slot : Slot) → link_of other (with_link along next slot) ≡ link_of other slot) → within before slots ≡ true →
+    links other (led_slots along before next slots) ≡ links other slots
+links-led_other along other None next slots h w = refl
+links-led_other along other (Some p) next slots h w =
+    let there : p < length slots = lt_test p (length slots) w in
+    links-set other slots p (with_link along next (slot_at slots p))
+    ∙ (ap (set (links other slots) p) (h (slot_at slots p) ∙ sym (link_at other slots p there)) ∙ set-get_or (links other slots) p None)
+
+pub length-led : (along : Along) (before next : Option ℕ) (slots : List Slot) → length (led_slots along before next slots) ≡ length slots
+length-led along None next slots = refl
+length-led along (Some p) next slots = length-set slots p (with_link along next (slot_at slots p))
+
+pub row-set_same : (slots : List Slot) (k : ℕ) (slot : Slot) → k < length slots → row_at (set slots k slot) k ≡ slot.row
+row-set_same slots k slot l = ap (λ (s : Slot). s.row) (get_or-set_same slots k slot blank l)
+
+pub row-set_other : (slots : List Slot) (k j : ℕ) (slot : Slot) → j ≢ k → row_at (set slots k slot) j ≡ row_at slots j
+row-set_other slots k j slot n = ap (λ (s : Slot). s.row) (get_or-set_other slots k j slot blank n)
+
+row-with_link : (along : Along) (next : Option ℕ) (slot : Slot) → (with_link along next slot).row ≡ slot.row
+row-with_link Next next slot = refl
+row-with_link Newer next slot = refl
+row-with_link Older next slot = refl
+
+-- a changed link leaves the rows
+pub row-led : (along : Along) (before next : Option ℕ) (slots : List Slot) (j : ℕ) → within before slots ≡ true → row_at (led_slots along before next slots) j ≡ row_at slots j
+row-led along None next slots j w = refl
+row-led along (Some p) next slots j w = go (nat_eq j p) refl
+  where
+    changed : Slot
+    changed = with_link along next (slot_at slots p)
+
+    go : (b : Bool) → nat_eq j p ≡ b → row_at (set slots p changed) j ≡ row_at slots j
+    go true e =
+        let same = eq_test j p e in
+        rw same (row-set_same slots p changed (lt_test p (length slots) w) ∙ row-with_link along next (slot_at slots p))
+    go false e = row-set_other slots p j changed (ne_test j p e)
+
+-- what is made of each slot, where it is made of each alike
+pub map_same : {X : Type 0} (f g : ℕ → X) (ks : List ℕ) → ((k : ℕ) → has k ks ≡ true → f k ≡ g k) → map f ks ≡ map g ks
+map_same f g [] h = refl
+map_same {X = X} f g (k ∷ ks) h =
+    let first : f k ≡ g k = h k (rw (eq_is k k refl) refl) in
+    let rest = map_same f g ks (λ j i. h j (more j i)) in
+    cc
+  where
+    more : (j : ℕ) → has j ks ≡ true → has j (k ∷ ks) ≡ true
+    more j i = rw i (or-true (nat_eq j k))
+
+-- The chains of a table, with the slots that they lead through named.
+
+pub record Holds {C : ℕ} (away : List ℕ) (chains : Chains C) (held spare : List ℕ) (ids : ℕ → List ℕ) : Type 0 where
+  pub aged : Leads (links Newer chains.slots) chains.oldest held None
+  pub back : Leads (links Older chains.slots) chains.newest (reverse held) None
+  pub freed : Leads (links Next chains.slots) chains.free spare None
+  pub found : (b : ℕ) → Leads (links Next chains.slots) (head b chains) (ids b) None
+  pub by_id : (b k : ℕ) → has k (ids b) ≡ (has k held && nat_eq (bucket (row_at chains.slots k).id) b)
+  pub in_free : (k : ℕ) → has k spare ≡ (not (has k (away ++ held)) && nat_lt k (length chains.slots))
+  pub apart : distinct (away ++ held) ≡ true
+  pub inside : (k : ℕ) → has k (away ++ held) ≡ true → k < length chains.slots
+  pub all : length (away ++ held) + length spare ≡ length chains.slots
+
+pub opened : {C : ℕ} (away : List ℕ) (chains : Chains C) → Linked away chains → Holds away chains (age chains) (free_slots chains) (λ b. id_slots b chains)
+opened away chains l = record {
+  aged = walked (length (links Newer chains.slots)) (links Newer chains.slots) chains.oldest l.aged;
+  back = subst (λ (ks : List ℕ). Leads (links Older chains.slots) chains.newest ks None) l.turned (walked (length (links Older chains.slots)) (links Older chains.slots) chains.newest l.back);
+  freed = walked (length (links Next chains.slots)) (links Next chains.slots) chains.free l.freed;
+  found = λ b. walked (length (links Next chains.slots)) (links Next chains.slots) (head b chains) (l.found b);
+  by_id = l.by_id;
+  in_free = l.in_free;
+  apart = l.apart;
+  inside = l.inside;
+  all = l.all;
+}
+
+pub closed : {C : ℕ} (away : List ℕ) (chains : Chains C) (held spare : List ℕ) (ids : ℕ → List ℕ) → Holds away chains held spare ids → Linked away chains
+closed away chains held spare ids h =
+    let aged = chain_is (links Newer chains.slots) chains.oldest held h.aged in
+    let back = chain_is (links Older chains.slots) chains.newest (reverse held) h.back in
+    let freed = chain_is (links Next chains.slots) chains.free spare h.freed in
+    record {
+      aged = aged.1;
+      back = back.1;
+      turned = back.0 ∙ ap reverse (sym aged.0);
+      freed = freed.1;
+      found = λ b. (chain_is (links Next chains.slots) (head b chains) (ids b) (h.found b)).1;
+      by_id = λ b k. ap (has k) (chain_is (links Next chains.slots) (head b chains) (ids b) (h.found b)).0 ∙ (h.by_id b k ∙ ap (λ (ks : List ℕ). has k ks && nat_eq (bucket (row_at chains.slots k).id) b) (sym aged.0));
+      in_free = λ k. ap (has k) freed.0 ∙ (h.in_free k ∙ ap (λ (ks : List ℕ). not (has k (away ++ ks)) && nat_lt k (length chains.slots)) (sym aged.0));
+      apart = ap (λ (ks : List ℕ). distinct (away ++ ks)) aged.0 ∙ h.apart;
+      inside = λ k i. h.inside k (ap (λ (ks : List ℕ). has k (away ++ ks)) (sym aged.0) ∙ i);
+      all = ap (λ (ks : List ℕ). length (away ++ ks) + length (free_slots chains)) aged.0 ∙ (ap (λ (ks : List ℕ). length (away ++ held) + length ks) freed.0 ∙ h.all);
+    }
+
+pub age_is : {C : ℕ} (away : List ℕ) (chains : Chains C) (held spare : List ℕ) (ids : ℕ → List ℕ) → Holds away chains held spare ids → age chains ≡ held
+age_is away chains held spare ids h = (chain_is (links Newer chains.slots) chains.oldest held h.aged).0
+
+-- the newest slot is the last one
+pub ends_newest : (to : List (Option ℕ)) (newest : Option ℕ) (ks : List ℕ) → Leads to newest (reverse ks) None → EndsWith ks newest
+ends_newest to newest ks h = go (reverse ks) newest refl h
+  where
+    go : (rs : List ℕ) (at : Option ℕ) → reverse ks ≡ rs → Leads to at rs None → EndsWith ks at
+    go [] at e h = subst (EndsWith ks) (sym h) (sym (reverse-reverse ks) ∙ ap reverse e)
+    go (p ∷ rs) at e h = subst (EndsWith ks) (sym h.0) (reverse rs, sym (reverse-reverse ks) ∙ (ap reverse e ∙ reverse-append (p ∷ []) rs))
+
+or_swap : (a b : Bool) → (a || (b || false)) ≡ (b || a)
+or_swap true true = refl
+or_swap true false = refl
+or_swap false true = refl
+or_swap false false = refl
+
+pub has-push : (k : ℕ) (ks : List ℕ) (j : ℕ) → has j (ks ++ k ∷ []) ≡ has j (k ∷ ks)
+has-push k ks j = list_any-append (nat_eq j) ks (k ∷ []) ∙ or_swap (has j ks) (nat_eq j k)
+
+pub has-reverse : (k : ℕ) (ks : List ℕ) → has k (reverse ks) ≡ has k ks
+has-reverse k [] = refl
+has-reverse k (j ∷ ks) = ap (has k) (reverse-append (j ∷ []) ks) ∙ (has-push j (reverse ks) k ∙ ap (λ (b : Bool). nat_eq k j || b) (has-reverse k ks))
+
+-- One step of a walk.
+
+-- a link that leads to a slot goes on from there
+pub chain_step : (to : List (Option ℕ)) (k : ℕ) → is_chain to (Some k) ≡ true →
+    (k < length to) × (is_chain to (get_or to k None) ≡ true) × (chain to (Some k) ≡ k ∷ chain to (get_or to k None))
+chain_step to k h =
+    let s = walked (length to) to (Some k) h in
+    go (chain to (Some k)) refl s
+  where
+    go : (ks : List ℕ) → chain to (Some k) ≡ ks → Leads to (Some k) ks None → (k < length to) × (is_chain to (get_or to k None) ≡ true) × (chain to (Some k) ≡ k ∷ chain to (get_or to k None))
+    go [] e g = cc
+    go (j ∷ ks) e g =
+        let same : k ≡ j = cc in
+        let here : k < length to = rw same g.1 in
+        let P : ℕ → Type 0 = λ i. Leads to (get_or to i None) ks None in
+        let rest = chain_is to (get_or to k None) ks (subst P (sym same) g.2) in
+        (here, rest.1, e ∙ (ap (λ (i : ℕ). i ∷ ks) (sym same) ∙ ap (λ (l : List ℕ). k ∷ l) (sym rest.0)))
+
+-- what a walk gives
+pub walk_step : (slots : List Slot) (along : Along) (at : Option ℕ) (k place : ℕ) (slot : Slot) (next : Option ℕ) → is_chain (links along slots) at ≡ true → at ≡ Some k → place ≡ k → slot ≡ get_or slots place slot →
+    next ≡ link_of along slot → (is_chain (links along slots) next ≡ true) × (numbered slots (chain (links along slots) at) ≡ (k, slot) ∷ numbered slots (chain (links along slots) next))
+walk_step slots along at k place slot next h a p t n =
+    let to = links along slots in
+    let s : slot ≡ get_or slots k slot = rw (sym p) t in
+    let step = chain_step to k (rw a at h) in
+    let long = length-map slots (link_of along) in
+    let within : k < length slots = omega arith in
+    let link : get_or to k None ≡ next = get_or-map (link_of along) slots k slot None within ∙ (ap (link_of along) (sym s) ∙ sym n) in
+    let P : Option ℕ → Type 0 = λ o. (is_chain to o ≡ true) in
+    let there : slot_at slots k ≡ slot = get_or_default slots k blank slot within ∙ sym s in
+    let here : chain to at ≡ k ∷ chain to next = ap (chain to) a ∙ (step.2 ∙ ap (λ (o : Option ℕ). k ∷ chain to o) link) in
+    (subst P link step.1, ap (numbered slots) here ∙ ap (λ (x : Slot). (k, x) ∷ numbered slots (chain to next)) there)

@@ -1,16 +1,16 @@
 -- Rows that are found along a chain.
-use Rattle.std.proofs.Common.{◌≡◌, ℕ, List, [], ◌∷◌, map, Bool, true, false, cond, ◌||◌, not, Option, Some, None, option_map, Bor, refl, sym, ◌∙◌, ap, nat_eq}
-use Rattle.std.specs.List.{find, list_any}
+use Rattle.std.proofs.Common.{◌≡◌, ℕ, List, [], ◌∷◌, map, Bool, true, false, cond, ◌||◌, not, Option, Some, None, option_map, Bor, refl, sym, ◌∙◌, ap, nat_eq, is_some, ◌<◌, zero, suc, length, arith, get_or, slice_get, ◌+◌}
+use Rattle.std.specs.List.{find, list_any, filter}
 use Rattle.std.proofs.Math.Bool.{or-true}
 use Rattle.std.proofs.lemmas.Bool.{and_parts, not-true}
 use Rattle.cred_table.specs.declared.row.Row.{Row}
 use Rattle.cred_table.specs.declared.slot.Slot.{Slot}
 use Rattle.cred_table.specs.declared.chains.Chains.{Chains}
-use Rattle.cred_table.specs.Rows.{has_id, same_id, no_two}
-use Rattle.cred_table.specs.Slots.{slot_at, numbered, has, bucket}
-use Rattle.cred_table.specs.Linked.{Linked, age, id_slots, row_at, rows_in}
+use Rattle.cred_table.specs.Rows.{has_id, same_id, no_two, without, raised, raised_row, counter_in, counter_of}
+use Rattle.cred_table.specs.Slots.{slot_at, numbered, has, bucket, but}
+use Rattle.cred_table.specs.Linked.{Linked, age, id_slots, row_at, rows_in, raised_at}
 use Rattle.cred_table.proofs.Basics.{bytes_from}
-use Rattle.cred_table.proofs.Chain.{eq_is, eq_test}
+use Rattle.cred_table.proofs.Chain.{eq_is, eq_test, map_same}
 use Rattle.cred_table.proofs.Places.{no_other}
 
 -- An item of a walk as clauses see it.
@@ -116,3 +116,126 @@ found_alike chains test id l d imp = go (find test (map row near)) refl
             let refused = find_none row test near s.0 e in_near in
             let taken = s.3 in
             cc
+
+-- The slot of a row that is found.
+
+numbered_some : (slots : List Slot) (ks : List ℕ) (test : Row → Bool) (q : ℕ × Slot) → find (λ (item : ℕ × Slot). test item.1.row) (numbered slots ks) ≡ Some q → (has q.0 ks ≡ true) × (test (row_at slots q.0) ≡ true)
+numbered_some slots [] test q h = cc
+numbered_some slots (k ∷ ks) test q h = go (λ e. numbered_some slots ks test q e) (test (row_at slots k)) refl h
+  where
+    go : (find (λ (item : ℕ × Slot). test item.1.row) (numbered slots ks) ≡ Some q → (has q.0 ks ≡ true) × (test (row_at slots q.0) ≡ true)) → (b : Bool) → test (row_at slots k) ≡ b →
+        cond b (Some (k, slot_at slots k)) (find (λ (item : ℕ × Slot). test item.1.row) (numbered slots ks)) ≡ Some q → (has q.0 (k ∷ ks) ≡ true) × (test (row_at slots q.0) ≡ true)
+    go ih true e i = let s : k ≡ q.0 = cc in (rw (eq_is q.0 k (sym s)) refl, ap (λ (n : ℕ). test (row_at slots n)) (sym s) ∙ e)
+    go ih false e i = let f = ih i in (rw f.0 (or-true (nat_eq q.0 k)), f.1)
+
+pub slot_found : {C : ℕ} (chains : Chains C) (id : List ℕ) (o : Option (ℕ × Bor Slot)) (item : ℕ × Bor Slot) → Linked [] chains → o ≡ Some item →
+    option_map seen o ≡ find (λ (found : ℕ × Slot). has_id id found.1.row) (numbered chains.slots (id_slots (bucket id) chains)) →
+    (has item.0 (age chains) ≡ true) × (has_id id (row_at chains.slots item.0) ≡ true)
+slot_found chains id o item l s e =
+    let f = numbered_some chains.slots (id_slots (bucket id) chains) (has_id id) (seen item) (sym e ∙ ap (option_map seen) s) in
+    ((and_parts (has item.0 (age chains)) (nat_eq (bucket (row_at chains.slots item.0).id) (bucket id)) (sym (l.by_id (bucket id) item.0) ∙ f.0)).0, f.1)
+
+-- a row that is there is found in the chain of its id
+pub slot_there : {C : ℕ} (chains : Chains C) (id : List ℕ) (o : Option (ℕ × Bor Slot)) → Linked [] chains → is_some (find (has_id id) (rows_in chains)) ≡ true →
+    option_map seen o ≡ find (λ (found : ℕ × Slot). has_id id found.1.row) (numbered chains.slots (id_slots (bucket id) chains)) → is_some o ≡ true
+slot_there chains id o l t e = go o (found_row chains.slots (id_slots (bucket id) chains) (has_id id) o e)
+  where
+    row : ℕ → Row
+    row = row_at chains.slots
+
+    near : List ℕ
+    near = id_slots (bucket id) chains
+
+    none : find (has_id id) (map row near) ≡ None → (p : Option Row) → find (has_id id) (rows_in chains) ≡ p → is_some p ≡ false
+    none n None f = refl
+    none n (Some r) f =
+        let s = find_some row (has_id id) (age chains) r f in
+        let same : (row s.0).id ≡ id = bytes_from (row s.0).id id s.3 in
+        let in_near : has s.0 near ≡ true = l.by_id (bucket id) s.0 ∙ rw (s.1, eq_is (bucket (row s.0).id) (bucket id) (ap bucket same)) refl in
+        let refused = find_none row (has_id id) near s.0 n in_near in
+        let taken = s.3 in
+        cc
+
+    go : (p : Option (ℕ × Bor Slot)) → option_map (λ (item : ℕ × Bor Slot). item.1.now.row) p ≡ find (has_id id) (map row near) → is_some p ≡ true
+    go (Some item) f = refl
+    go None f = let n = none (sym f) (find (has_id id) (rows_in chains)) refl in cc
+
+-- The row at a place of a chain.
+
+numbered_at : (slots : List Slot) (ks : List ℕ) (place : ℕ) → place < length (map (row_at slots) ks) →
+    (q : ℕ × Slot) × (slice_get (numbered slots ks) place ≡ Some q) × ((d : Row) → q.1.row ≡ get_or (map (row_at slots) ks) place d)
+numbered_at slots [] place l = absurd (omega arith)
+numbered_at slots (k ∷ ks) zero l = ((k, slot_at slots k), refl, λ d. refl)
+numbered_at slots (k ∷ ks) (suc place) l = numbered_at slots ks place (omega arith)
+
+pub nth_row : (slots : List Slot) (ks : List ℕ) (o : Option (ℕ × Bor Slot)) (place : ℕ) → place < length (map (row_at slots) ks) → option_map seen o ≡ slice_get (numbered slots ks) place →
+    (is_some o ≡ true) × ((item : ℕ × Bor Slot) → o ≡ Some item → (d : Row) → item.1.now.row ≡ get_or (map (row_at slots) ks) place d)
+nth_row slots ks o place l e =
+    let q = numbered_at slots ks place l in
+    (go o (e ∙ q.1), λ item s d. let same : seen item ≡ q.0 = cc in ap (λ (p : ℕ × Slot). p.1.row) same ∙ q.2 d)
+  where
+    go : {q : ℕ × Slot} → (p : Option (ℕ × Bor Slot)) → option_map seen p ≡ Some q → is_some p ≡ true
+    go None f = cc
+    go (Some item) f = refl
+
+-- Rows with distinct ids, each in a slot.
+
+-- one slot has the row with an id
+one_slot : (row : ℕ → Row) (id : List ℕ) (ks : List ℕ) (j k : ℕ) → no_two same_id (map row ks) ≡ true → has j ks ≡ true → has k ks ≡ true → has_id id (row j) ≡ true → has_id id (row k) ≡ true → j ≡ k
+one_slot row id [] j k d hj hk rj rk = cc
+one_slot row id (i ∷ ks) j k d hj hk rj rk =
+    let e = and_parts (not (list_any (same_id (row i)) (map row ks))) (no_two same_id (map row ks)) d in
+    go (not-true (list_any (same_id (row i)) (map row ks)) e.0) (λ f g. one_slot row id ks j k e.1 f g rj rk) (nat_eq j i) refl hj (nat_eq k i) refl hk
+  where
+    go : list_any (same_id (row i)) (map row ks) ≡ false → (has j ks ≡ true → has k ks ≡ true → j ≡ k) → (b : Bool) → nat_eq j i ≡ b → (b || has j ks) ≡ true → (c : Bool) → nat_eq k i ≡ c → (c || has k ks) ≡ true → j ≡ k
+    go n ih true e f true g h = eq_test j i e ∙ sym (eq_test k i g)
+    go n ih false e f false g h = ih f h
+    go n ih true e f false g h =
+        let same = eq_test j i e in
+        let none = no_other id (row i) (map row ks) (ap (λ (m : ℕ). has_id id (row m)) (sym same) ∙ rj) n in
+        let some = any_has row (has_id id) ks k h rk in
+        cc
+    go n ih false e f true g h =
+        let same = eq_test k i g in
+        let none = no_other id (row i) (map row ks) (ap (λ (m : ℕ). has_id id (row m)) (sym same) ∙ rk) n in
+        let some = any_has row (has_id id) ks j f rj in
+        cc
+
+-- the row with the id is the row of that slot
+has_slot : (row : ℕ → Row) (id : List ℕ) (ks : List ℕ) (k : ℕ) → no_two same_id (map row ks) ≡ true → has k ks ≡ true → has_id id (row k) ≡ true → (j : ℕ) → has j ks ≡ true → has_id id (row j) ≡ nat_eq k j
+has_slot row id ks k d hk rk j hj = go (has_id id (row j)) (nat_eq k j) refl refl
+  where
+    go : (a b : Bool) → has_id id (row j) ≡ a → nat_eq k j ≡ b → a ≡ b
+    go true true e f = refl
+    go false false e f = refl
+    go true false e f = let g = eq_is k j (sym (one_slot row id ks j k d hj hk e rk)) in cc
+    go false true e f = let g : has_id id (row j) ≡ true = ap (λ (m : ℕ). has_id id (row m)) (sym (eq_test k j f)) ∙ rk in cc
+
+filter_rows : (row : ℕ → Row) (p : Row → Bool) (q : ℕ → Bool) (ks : List ℕ) → ((j : ℕ) → has j ks ≡ true → p (row j) ≡ q j) → map row (filter (λ j. not (q j)) ks) ≡ filter (λ r. not (p r)) (map row ks)
+filter_rows row p q [] h = refl
+filter_rows row p q (k ∷ ks) h =
+    rw (h k (rw (eq_is k k refl) refl)) (go (q k) (filter_rows row p q ks (λ j i. h j (rw i (or-true (nat_eq j k))))))
+  where
+    go : (b : Bool) → map row (filter (λ j. not (q j)) ks) ≡ filter (λ r. not (p r)) (map row ks) →
+        map row (cond (not b) (k ∷ filter (λ j. not (q j)) ks) (filter (λ j. not (q j)) ks)) ≡ cond (not b) (row k ∷ filter (λ r. not (p r)) (map row ks)) (filter (λ r. not (p r)) (map row ks))
+    go true ih = ih
+    go false ih = ap (λ (rows : List Row). row k ∷ rows) ih
+
+-- taking out the slot takes out the row with its id
+pub but_without : (row : ℕ → Row) (id : List ℕ) (ks : List ℕ) (k : ℕ) → no_two same_id (map row ks) ≡ true → has k ks ≡ true → has_id id (row k) ≡ true → map row (but k ks) ≡ without id (map row ks)
+but_without row id ks k d hk rk = filter_rows row (has_id id) (nat_eq k) ks (has_slot row id ks k d hk rk)
+
+-- raising the counter in the slot raises that of the row with its id
+pub raised_is : (slots : List Slot) (id : List ℕ) (ks : List ℕ) (k : ℕ) → no_two same_id (map (row_at slots) ks) ≡ true → has k ks ≡ true → has_id id (row_at slots k) ≡ true →
+    map (raised_at k slots) ks ≡ raised id (map (row_at slots) ks)
+raised_is slots id ks k d hk rk =
+    map_same (raised_at k slots) (λ j. raised_row id (row_at slots j)) ks (λ j i. ap (λ (b : Bool). cond b (record (row_at slots j) { counter = (row_at slots j).counter + 1 }) (row_at slots j)) (sym (has_slot (row_at slots) id ks k d hk rk j i)))
+    ∙ twice ks
+  where
+    twice : (ls : List ℕ) → map (λ j. raised_row id (row_at slots j)) ls ≡ raised id (map (row_at slots) ls)
+    twice [] = refl
+    twice (l ∷ ls) = ap (λ (rows : List Row). raised_row id (row_at slots l) ∷ rows) (twice ls)
+
+-- and its counter is that row's
+pub counter_slot : (row : ℕ → Row) (id : List ℕ) (ks : List ℕ) (k : ℕ) → no_two same_id (map row ks) ≡ true → has k ks ≡ true → has_id id (row k) ≡ true → counter_of id (map row ks) ≡ (row k).counter
+counter_slot row id ks k d hk rk = ap counter_in (find_only row (has_id id) id ks k (λ r h. h) d hk rk)

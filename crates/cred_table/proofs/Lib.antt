@@ -1,38 +1,19 @@
 pub mod Basics
 pub mod Chain
-pub mod Walks
-pub mod Links
-pub mod Holding
-pub mod Before
-pub mod Without
 pub mod Unlinked
 pub mod Found
-pub mod New
-pub mod Numbered
-pub mod RaisedSlot
-pub mod Nth
-pub mod Slotted
-pub mod NewestFirst
-pub mod Taken
 pub mod Filled
 mod Examples
-pub mod NoTwo
 pub mod Stored
 pub mod Raised
 pub mod Places
-pub mod Replaced
 pub mod Listing
-pub mod Members
 pub mod Typed
 pub mod Entries
 pub mod RowTrees
-pub mod TakingRows
 pub mod Contents
-pub mod Clashing
-pub mod Composing
 pub mod SavedRows
-pub mod SavedInto
 pub mod Copied
 pub mod OneSnapshot
-mod SavedExamples
 pub mod CutNames
+mod SavedExamples

@@ -13,7 +13,7 @@ use Rattle.cred_table.specs.Laws.{SameRows, SnapshotsAreOne, RefusedIsNone, OneR
 use Rattle.cred_table.proofs.RowTrees.{pairs_in, first_of_pairs, beyond_first, bytes_in, flag_in}
 use Rattle.ctap_cbor.specs.Laws.{NoneBeginsAnother}
 use Rattle.cred_table.proofs.Contents.{trees_same, count_then}
-use Rattle.cred_table.proofs.Clashing.{free_before}
+use Rattle.cred_table.proofs.Copied.{free_before}
 
 abbrev number_in : Tree → ℕ
 number_in (Plain (Int (pos n))) = n

@@ -3,7 +3,7 @@ use Rattle.std.proofs.Common.{◌≡◌, ℕ, ◌+◌, List, Bool, true, false, 
 use Rattle.std.proofs.lemmas.List.{length-map}
 use Rattle.cred_table.specs.declared.row.Row.{Row}
 use Rattle.cred_table.specs.Rows.{has_id, replaces, same_id, raised, raised_row, Lawful}
-use Rattle.cred_table.proofs.NoTwo.{no_two-map}
+use Rattle.cred_table.proofs.Stored.{no_two-map}
 
 same_id_raised : (id : List ℕ) (a b : Row) → same_id (raised_row id a) (raised_row id b) ≡ same_id a b
 same_id_raised id a b = go (has_id id a) (has_id id b)

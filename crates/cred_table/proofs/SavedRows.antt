@@ -1,18 +1,40 @@
--- Rows that are written one after another, and their snapshot.
-use Rattle.std.proofs.Common.{◌≡◌, ℕ, ◌+◌, ◌<◌, ◌≤◌, ◌^◌, Bool, true, false, List, [], ◌∷◌, ◌++◌, length, refl, arith, sym, ap, subst, ◌∙◌, append_assoc, length-append, cond, Result, Ok, Err}
-use Rattle.std.specs.Prelude.{nat_lt, OnErr}
+-- Rows that are read one after another.
+use Rattle.std.proofs.Common.{◌≡◌, ℕ, ◌+◌, Bool, List, [], ◌∷◌, ◌++◌, arith, sym, ap, ◌∙◌, append_assoc, length-append, ◌<◌, ◌≤◌, ◌^◌, true, false, length, refl, subst, cond, Result, Ok, Err, ◌*◌, take, drop, take-append-drop, length-take-le, Some}
 use Rattle.std.proofs.lemmas.List.{append-nil}
 use Rattle.std.specs.List.{AllByRecursion}
+use Rattle.ctap_cbor.specs.Reading.{Reading, rest_of}
+use Rattle.cred_table.specs.declared.row.Row.{Row}
+use Rattle.cred_table.specs.Snapshots.{IsRow, rows_then, snapshot, version, IsSnapshot, Saves, saved_len}
+use Rattle.cred_table.specs.Parsing.{row_text, rows_text, TakesRow, TakesRows, heads_text}
+use Rattle.std.specs.Prelude.{nat_lt, OnErr}
 use Rattle.ctap_cbor.specs.Tree.{no_trees, depth_all, count}
 use Rattle.ctap_cbor.specs.Head.{head, head_len}
 use Rattle.ctap_cbor.specs.Grammar.{text, AreLawful}
-use Rattle.cred_table.specs.declared.row.Row.{Row}
 use Rattle.cred_table.specs.Rows.{Lawful}
-use Rattle.cred_table.specs.Snapshots.{IsRow, rows_then, snapshot, version, IsSnapshot, Saves, saved_len}
-use Rattle.cred_table.specs.Parsing.{row_text, rows_text, heads_text}
 use Rattle.cred_table.proofs.RowTrees.{row_lawful, row_flat}
-use Rattle.cred_table.proofs.TakingRows.{rows_text_more, all_more}
 use Rattle.cred_table.proofs.Contents.{heads_of, count_then}
+use Rattle.ctap_cbor.specs.declared.sink.Sink.{Sink}
+use Rattle.ctap_cbor.specs.Composing.{done, then}
+use Rattle.ctap_cbor.specs.Writing.{Appends}
+use Rattle.cred_table.specs.Saving.{AppendsUpTo, SavesInto, longest}
+
+-- one more row after the others
+pub rows_text_more : (named : Bool) (rows : List Row) (row : Row) → rows_text named (rows ++ row ∷ []) ≡ rows_text named rows ++ row_text named row
+rows_text_more named [] row = append-nil (row_text named row)
+rows_text_more named (r ∷ rows) row = ap (λ x. row_text named r ++ x) (rows_text_more named rows row) ∙ sym (append_assoc (row_text named r) (rows_text named rows) (row_text named row))
+
+pub all_more : (P : Row → Type 0) (rows : List Row) (row : Row) → AllByRecursion P rows → P row → AllByRecursion P (rows ++ row ∷ [])
+all_more P [] row all is = (is, tt)
+all_more P (r ∷ rows) row all is = (all.0, all_more P rows row all.1 is)
+
+pub rows_more : (named : Bool) (n : ℕ) (a b c : Reading) (rows more : List Row) → TakesRows named n a b rows → TakesRow named b c rows more → TakesRows named (n + 1) a c more
+rows_more named n a b c rows more h k = rw k.more_is (record {
+  typed = all_more (IsRow named) rows k.row h.typed k.typed;
+  number = omega (arith, length-append rows (k.row ∷ []), h.number);
+  spelled = h.spelled ∙ ap (λ x. rows_text named rows ++ x) k.spelled ∙ sym (append_assoc (rows_text named rows) (row_text named k.row) (rest_of c)) ∙ ap (λ x. x ++ rest_of c) (sym (rows_text_more named rows k.row));
+})
+
+-- Rows that are written one after another, and their snapshot.
 
 -- a head has at most nine bytes
 pub head_short : (n : ℕ) → head_len n ≤ 9
@@ -120,3 +142,64 @@ all_written room rows left old new small lawful end w =
 pub on_err : {T E P : Type 0} (r : Result T E) → P → OnErr r P
 on_err (Ok x) p = tt
 on_err (Err e) p = p
+
+-- What a sink appends in several calls, where only the greatest length of the pieces is known.
+
+pub exactly : {a b : Sink} {x : List ℕ} {n : ℕ} → Appends a b x n → AppendsUpTo a b x n
+exactly {n = n} p = (n, omega arith, p)
+
+pub up_to : {a b c : Sink} {x y : List ℕ} {m n : ℕ} → AppendsUpTo a b x m → AppendsUpTo b c y n → AppendsUpTo a c (x ++ y) (m + n)
+up_to p q = (p.0 + q.0, let e = p.1 in let f = q.1 in omega arith, then p.2 q.2)
+
+pub ended : {a : Sink} → AppendsUpTo a a [] 0
+ended = exactly done
+
+pub at_most : {a b : Sink} {x : List ℕ} {m n : ℕ} → m ≤ n → AppendsUpTo a b x m → AppendsUpTo a b x n
+at_most le p = (p.0, let e = p.1 in omega arith, p.2)
+
+pub respelled : {a b : Sink} {x y : List ℕ} {n : ℕ} → x ≡ y → AppendsUpTo a b x n → AppendsUpTo a b y n
+respelled {a} {b} {n = n} e p = subst (λ z. AppendsUpTo a b z n) e p
+
+-- A snapshot that is written into a sink.
+
+-- Some of the rows were put, and these are left.
+pub record Put (rows left : List Row) (old new : Sink) : Type 0 where
+  pub done : List Row
+  pub all : done ++ left ≡ rows
+  pub typed : AllByRecursion (IsRow true) done
+  pub appends : AppendsUpTo old new (heads_text (true, length rows) ++ rows_text true done) (13 + 283 * length done)
+
+pub one_put : (rows left rest : List Row) (row : Row) (old between new : Sink) → left ≡ row ∷ rest → IsRow true row → Put rows left old between → AppendsUpTo between new (row_text true row) 283 → Put rows rest old new
+one_put rows left rest row old between new first is w p =
+    let front : List ℕ = heads_text (true, length rows) in
+    let more = length-append w.done (row ∷ []) in
+    record {
+      done = w.done ++ row ∷ [];
+      all = append_assoc w.done (row ∷ []) rest ∙ ap (λ l. w.done ++ l) (sym first) ∙ w.all;
+      typed = all_more (IsRow true) w.done row w.typed is;
+      appends = at_most (omega (arith, more)) (respelled (append_assoc front (rows_text true w.done) (row_text true row) ∙ ap (λ x. front ++ x) (sym (rows_text_more true w.done row))) (up_to w.appends p));
+    }
+
+-- all are put once none is left
+whole : (rows left : List Row) (old new : Sink) → left ≡ [] → (w : Put rows left old new) → w.done ≡ rows
+whole rows left old new end w = sym (append-nil w.done) ∙ ap (λ l. w.done ++ l) (sym end) ∙ w.all
+
+pub all_put : (room : ℕ) (rows left : List Row) (old new : Sink) → Lawful room rows → left ≡ [] → Put rows left old new → AppendsUpTo old new (text (snapshot true rows)) (longest room)
+all_put room rows left old new lawful end w =
+    let all = whole rows left old new end w in
+    let number = ap length all in
+    let few = lawful.few in
+    at_most (omega (arith, number, few)) (respelled (ap (λ x. heads_text (true, length rows) ++ rows_text true x) all ∙ sym (whole_is rows)) w.appends)
+
+pub all_typed : (rows left : List Row) (old new : Sink) → left ≡ [] → Put rows left old new → AllByRecursion (IsRow true) rows
+all_typed rows left old new end w = subst (AllByRecursion (IsRow true)) (whole rows left old new end w) w.typed
+
+-- the buffer then
+pub saved_into : (room : ℕ) (rows : List Row) (old new : List ℕ) (len : ℕ) → room ≤ 256 → Lawful room rows → AllByRecursion (IsRow true) rows → longest room ≤ length old → take len new ≡ text (snapshot true rows) → drop len new ≡ drop len old → len ≤ length new → SavesInto room rows old new (Some len)
+saved_into room rows old new len small lawful typed space front rest within = (
+  space,
+  text (snapshot true rows),
+  snapshot_is true room rows small typed lawful,
+  sym (ap length front) ∙ length-take-le len new within,
+  sym (take-append-drop len new) ∙ ap (λ x. x ++ drop len new) front ∙ ap (λ x. text (snapshot true rows) ++ x) rest,
+)

@@ -1,20 +1,150 @@
--- A slot is taken out of the age chain and the chain of its id.
-use Rattle.std.proofs.Common.{◌≡◌, ℕ, ◌+◌, ◌<◌, List, [], ◌∷◌, ◌++◌, length, map, reverse, Bool, true, false, cond, ◌&&◌, ◌||◌, not, Option, Some, None, refl, sym, ◌∙◌, ap, subst, arith, nat_eq, get_or, set}
-use Rattle.std.proofs.lemmas.List.{length-append, length-map, get_or-set_same, get_or-set_other, reverse-append}
-use Rattle.std.proofs.Math.Bool.{and-true, and-false}
-use Rattle.std.proofs.lemmas.Bool.{and_parts, and_from}
-use Rattle.cred_table.specs.declared.row.Row.{Row}
+-- The slot before one in a chain.
+use Rattle.std.proofs.Common.{◌≡◌, ℕ, ◌<◌, List, [], ◌∷◌, ◌++◌, length, Bool, true, false, cond, ◌||◌, Option, Some, None, option_map, refl, sym, ◌∙◌, ap, subst, arith, nat_eq, get_or, reverse, ◌&&◌, not, ◌+◌, map, set}
+use Rattle.std.specs.List.{find}
+use Rattle.std.proofs.Math.Bool.{or-true, and-false, and-true}
+use Rattle.std.proofs.lemmas.Bool.{or_parts, and_parts, and_from}
 use Rattle.cred_table.specs.declared.slot.Slot.{Slot}
-use Rattle.cred_table.specs.declared.slot.Along.{Along}
 use Rattle.cred_table.specs.declared.slot.Along.TheVariants.{Next, Newer, Older}
 use Rattle.cred_table.specs.declared.chains.Chains.{Chains}
-use Rattle.cred_table.specs.Slots.{links, has, but, distinct, slot_at, led_slots, begun, before, within, bucket}
-use Rattle.cred_table.specs.Linked.{Linked, age, free_slots, id_slots, head, row_at, rows_in}
-use Rattle.cred_table.proofs.Chain.{Leads, Leads-split, Leads-without, Leads-distinct, EndsWith, led, eq_is, eq_test, ne_test, lt_is, has-split, distinct-split, but_is}
-use Rattle.cred_table.proofs.Links.{links-led, links-led_other, length-led, link_at, row-led, map_same}
-use Rattle.cred_table.proofs.Before.{before_ends, before_has}
-use Rattle.cred_table.proofs.Holding.{Holds, opened, closed, age_is, ends_newest, has-reverse}
-use Rattle.cred_table.proofs.Without.{and_swap, eq_turned, has-but, has-front, has-rear, within_ends, within_long, starts, Leads-led}
+use Rattle.cred_table.specs.Slots.{links, has, slot_at, numbered, leads_to, before, but, within, distinct, led_slots, begun, bucket}
+use Rattle.cred_table.specs.Linked.{Linked, id_slots, head, age, free_slots, row_at, rows_in}
+use Rattle.cred_table.proofs.Chain.{Leads, walked, EndsWith, eq_is, link_at, length-links, Leads-set, led, eq_test, ne_test, lt_is, has-push, Leads-split, Leads-without, Leads-distinct, has-split, distinct-split, but_is, links-led, links-led_other, length-led, row-led, map_same, Holds, opened, closed, age_is, ends_newest, has-reverse}
+use Rattle.std.proofs.lemmas.List.{reverse-append, length-append, length-map, get_or-set_same, get_or-set_other}
+use Rattle.std.proofs.lemmas.List.Folds.{list_any-append}
+use Rattle.cred_table.specs.declared.row.Row.{Row}
+use Rattle.cred_table.specs.declared.slot.Along.{Along}
+
+-- the slot that leads to one is the one before
+pub leader_is : (slots : List Slot) (at : Option ℕ) (ks : List ℕ) (k : ℕ) → Leads (links Next slots) at ks None → option_map (λ (found : ℕ × Slot). found.0) (find (leads_to k) (numbered slots ks)) ≡ before k ks
+leader_is slots at [] k h = refl
+leader_is slots at (i ∷ []) k h =
+    let long = length-links Next slots in
+    let there : i < length slots = let l = h.1 in omega arith in
+    let none : (slot_at slots i).next ≡ None = sym (link_at Next slots i there) ∙ h.2 in
+    rw none refl
+leader_is slots at (i ∷ j ∷ ks) k h =
+    let long = length-links Next slots in
+    let there : i < length slots = let l = h.1 in omega arith in
+    let next : (slot_at slots i).next ≡ Some j = sym (link_at Next slots i there) ∙ h.2.0 in
+    rw next (go (nat_eq j k) (leader_is slots (get_or (links Next slots) i None) (j ∷ ks) k h.2))
+  where
+    go : (b : Bool) → option_map (λ (found : ℕ × Slot). found.0) (find (leads_to k) (numbered slots (j ∷ ks))) ≡ before k (j ∷ ks) →
+        option_map (λ (found : ℕ × Slot). found.0) (cond b (Some (i, slot_at slots i)) (find (leads_to k) (numbered slots (j ∷ ks)))) ≡ cond b (Some i) (before k (j ∷ ks))
+    go true ih = refl
+    go false ih = ih
+
+turned : (k j : ℕ) → nat_eq k j ≡ false → nat_eq j k ≡ false
+turned k j h = go (nat_eq j k) refl
+  where
+    go : (b : Bool) → nat_eq j k ≡ b → b ≡ false
+    go true e = let f = eq_is k j (sym (eq_back e)) in let g : true ≡ false = sym f ∙ h in cc
+      where
+        eq_back : nat_eq j k ≡ true → j ≡ k
+        eq_back e = grind arith
+    go false e = refl
+
+none_before : (k j : ℕ) (ks : List ℕ) → has k ks ≡ false → before k (j ∷ ks) ≡ None
+none_before k j [] h = refl
+none_before k j (i ∷ ks) h =
+    let e = or_parts (nat_eq k i) (has k ks) h in
+    rw (turned k i e.0) (none_before k i ks e.1)
+
+-- and what stands before ends with it
+pub before_ends : (fs : List ℕ) (k : ℕ) (rs : List ℕ) → has k fs ≡ false → has k rs ≡ false → EndsWith fs (before k (fs ++ k ∷ rs))
+before_ends [] k rs h i = let P : Option ℕ → Type 0 = λ o. EndsWith [] o in subst P (sym (none_before k k rs i)) refl
+before_ends (j ∷ []) k rs h i = rw (eq_is k k refl) ([], refl)
+before_ends (j ∷ l ∷ fs) k rs h i =
+    let e = or_parts (nat_eq k j) (nat_eq k l || has k fs) h in
+    let f = or_parts (nat_eq k l) (has k fs) e.1 in
+    rw (turned k l f.0) (more (before k ((l ∷ fs) ++ k ∷ rs)) (before_ends (l ∷ fs) k rs e.1 i))
+  where
+    more : (o : Option ℕ) → EndsWith (l ∷ fs) o → EndsWith (j ∷ l ∷ fs) o
+    more None g = cc
+    more (Some p) g = (j ∷ g.0, ap (λ (ls : List ℕ). j ∷ ls) g.1)
+
+pub before_is : {C : ℕ} (chains : Chains C) (b k : ℕ) → Linked [] chains → option_map (λ (found : ℕ × Slot). found.0) (find (leads_to k) (numbered chains.slots (id_slots b chains))) ≡ before k (id_slots b chains)
+before_is chains b k l = leader_is chains.slots (head b chains) (id_slots b chains) k (walked (length (links Next chains.slots)) (links Next chains.slots) (head b chains) (l.found b))
+
+-- the one before stands in the chain too
+pub before_has : (k : ℕ) (ks : List ℕ) (p : ℕ) → before k ks ≡ Some p → has p ks ≡ true
+before_has k [] p h = cc
+before_has k (i ∷ []) p h = cc
+before_has k (i ∷ j ∷ ks) p h = go (λ e. before_has k (j ∷ ks) p e) (nat_eq j k) h
+  where
+    go : (before k (j ∷ ks) ≡ Some p → has p (j ∷ ks) ≡ true) → (b : Bool) → cond b (Some i) (before k (j ∷ ks)) ≡ Some p → has p (i ∷ j ∷ ks) ≡ true
+    go ih true e = let s : i ≡ p = cc in rw s (rw (eq_is p p refl) refl)
+    go ih false e = rw (ih e) (or-true (nat_eq p i))
+
+-- Slots, links and tests, once a slot is taken out of a chain.
+
+-- ---- tests
+
+pub and_swap : (a b c : Bool) → ((a && b) && c) ≡ ((a && c) && b)
+and_swap true true c = go c
+  where
+    go : (c : Bool) → c ≡ (c && true)
+    go true = refl
+    go false = refl
+and_swap true false c = go c
+  where
+    go : (c : Bool) → false ≡ (c && false)
+    go true = refl
+    go false = refl
+and_swap false b c = refl
+
+pub eq_turned : (j k : ℕ) → nat_eq j k ≡ nat_eq k j
+eq_turned j k = go (nat_eq j k) (nat_eq k j) refl refl
+  where
+    go : (a b : Bool) → nat_eq j k ≡ a → nat_eq k j ≡ b → a ≡ b
+    go true true e f = refl
+    go false false e f = refl
+    go true false e f = absurd (ne_test k j f (sym (eq_test j k e)))
+    go false true e f = absurd (ne_test j k e (sym (eq_test k j f)))
+
+-- ---- lists
+
+pub has-but : (k : ℕ) (ks : List ℕ) (j : ℕ) → has j (but k ks) ≡ (has j ks && not (nat_eq k j))
+has-but k [] j = refl
+has-but k (i ∷ ks) j = go (nat_eq k i) refl (has-but k ks j)
+  where
+    go : (b : Bool) → nat_eq k i ≡ b → has j (but k ks) ≡ (has j ks && not (nat_eq k j)) → has j (cond (not b) (i ∷ but k ks) (but k ks)) ≡ ((nat_eq j i || has j ks) && not (nat_eq k j))
+    go true e ih = ih ∙ same (nat_eq j i) refl
+      where
+        same : (c : Bool) → nat_eq j i ≡ c → (has j ks && not (nat_eq k j)) ≡ ((c || has j ks) && not (nat_eq k j))
+        same true f = let g : nat_eq k j ≡ true = eq_is k j (eq_test k i e ∙ sym (eq_test j i f)) in rw g (and-false (has j ks))
+        same false f = refl
+    go false e ih = same (nat_eq j i) refl
+      where
+        same : (c : Bool) → nat_eq j i ≡ c → (c || has j (but k ks)) ≡ ((c || has j ks) && not (nat_eq k j))
+        same true f = let g : nat_eq k j ≡ false = ap (nat_eq k) (eq_test j i f) ∙ e in rw g refl
+        same false f = ih
+
+pub has-front : (fs : List ℕ) (k : ℕ) (rs : List ℕ) (j : ℕ) → has j fs ≡ true → has j (fs ++ k ∷ rs) ≡ true
+has-front fs k rs j h = list_any-append (nat_eq j) fs (k ∷ rs) ∙ rw h refl
+
+pub has-rear : (fs : List ℕ) (k : ℕ) (rs : List ℕ) (j : ℕ) → has j rs ≡ true → has j (fs ++ k ∷ rs) ≡ true
+has-rear fs k rs j h = list_any-append (nat_eq j) fs (k ∷ rs) ∙ rw (h, or-true (nat_eq j k)) (or-true (has j fs))
+
+-- the last slot of some is there
+pub within_ends : (ls : List ℕ) (o : Option ℕ) (slots : List Slot) → EndsWith ls o → ((j : ℕ) → has j ls ≡ true → j < length slots) → within o slots ≡ true
+within_ends ls None slots e i = refl
+within_ends ls (Some p) slots e i = lt_is p (length slots) (i p (ap (has p) e.1 ∙ (has-push p e.0 p ∙ rw (eq_is p p refl) refl)))
+
+pub within_long : (o : Option ℕ) (a b : List Slot) → length a ≡ length b → within o b ≡ true → within o a ≡ true
+within_long None a b e h = refl
+within_long (Some p) a b e h = rw e h
+
+-- where links begin is where the slots turned round end
+pub starts : (to : List (Option ℕ)) (at : Option ℕ) (ks : List ℕ) → Leads to at ks None → EndsWith (reverse ks) at
+starts to at [] h = subst (EndsWith []) (sym h) refl
+starts to at (k ∷ ks) h = subst (EndsWith (reverse (k ∷ ks))) (sym h.0) (reverse ks, reverse-append (k ∷ []) ks)
+
+-- a link changes in no slot of a chain
+pub Leads-led : (to : List (Option ℕ)) (at : Option ℕ) (ks : List ℕ) (o next : Option ℕ) → ((p : ℕ) → o ≡ Some p → has p ks ≡ false) → Leads to at ks None → Leads (led o next to) at ks None
+Leads-led to at ks None next n h = h
+Leads-led to at ks (Some p) next n h = Leads-set to at None ks p next (n p refl) h
+
+-- A slot is taken out of the age chain and the chain of its id.
 
 -- The table after it.
 abbrev pub unlinked : {C : ℕ} → Chains C → ℕ → Slot → Option ℕ → Chains C

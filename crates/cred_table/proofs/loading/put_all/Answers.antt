@@ -4,7 +4,7 @@ use Rattle.std.specs.List.{find}
 use Rattle.cred_table.specs.declared.row.Row.{Row}
 use Rattle.cred_table.specs.Rows.{has_id, is_user}
 use Rattle.cred_table.proofs.RowTrees.{no_clash}
-use Rattle.cred_table.proofs.Clashing.{free_before}
+use Rattle.cred_table.proofs.Copied.{free_before}
 use Rattle.cred_table.proofs.loading.put_all.Goals as goal
 
 pub put-requires-clause-fresh : goal.put-requires-clause-fresh

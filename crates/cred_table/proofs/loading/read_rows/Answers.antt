@@ -1,4 +1,4 @@
-use Rattle.cred_table.proofs.TakingRows.{rows_more}
+use Rattle.cred_table.proofs.SavedRows.{rows_more}
 use Rattle.cred_table.proofs.loading.read_rows.Goals as goal
 
 pub loop-place-preserved : goal.loop-place-preserved

@@ -1,5 +1,5 @@
 use Rattle.std.proofs.Common.{◌-◌}
-use Rattle.cred_table.proofs.Members.{key_missed, key_then}
+use Rattle.cred_table.proofs.Typed.{key_missed, key_then}
 use Rattle.cred_table.proofs.parsing.read_member.Goals as goal
 
 pub returns-in_err-read_key : goal.returns-in_err-read_key

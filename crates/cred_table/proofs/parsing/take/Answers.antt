@@ -1,6 +1,6 @@
 use Rattle.std.proofs.Common.{◌-◌}
 use Rattle.ctap_cbor.specs.Views.{part_of}
-use Rattle.cred_table.proofs.Members.{item_taken, item_missed}
+use Rattle.cred_table.proofs.Typed.{item_taken, item_missed}
 use Rattle.cred_table.proofs.parsing.take.Goals as goal
 
 pub returns-in-Ok : goal.returns-in-Ok

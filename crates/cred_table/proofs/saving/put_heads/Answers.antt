@@ -1,7 +1,6 @@
 use Rattle.std.proofs.Common.{arith}
 use Rattle.ctap_cbor.specs.Composing.{then}
-use Rattle.cred_table.proofs.Composing.{exactly, at_most}
-use Rattle.cred_table.proofs.SavedRows.{head_short}
+use Rattle.cred_table.proofs.SavedRows.{exactly, at_most, head_short}
 use Rattle.cred_table.proofs.saving.put_heads.Goals as goal
 
 pub returns-clause-appends : goal.returns-clause-appends

@@ -1,7 +1,7 @@
 use Rattle.std.proofs.Common.{ap, arith}
 use Rattle.ctap_cbor.specs.Tree.{Bytes, Text}
 use Rattle.ctap_cbor.specs.Grammar.{scalar_text}
-use Rattle.cred_table.proofs.Composing.{exactly, up_to, ended, at_most, respelled}
+use Rattle.cred_table.proofs.SavedRows.{exactly, up_to, ended, at_most, respelled}
 use Rattle.cred_table.proofs.saving.put_row.Goals as goal
 
 pub returns-clause-appends : goal.returns-clause-appends

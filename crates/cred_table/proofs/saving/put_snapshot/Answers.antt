@@ -1,5 +1,5 @@
 use Rattle.std.proofs.Common.{◌∙◌}
-use Rattle.cred_table.proofs.SavedInto.{one_put, all_put, all_typed}
+use Rattle.cred_table.proofs.SavedRows.{one_put, all_put, all_typed}
 use Rattle.cred_table.proofs.saving.put_snapshot.Goals as goal
 
 pub loop-row-preserved : goal.loop-row-preserved

@@ -1,4 +1,4 @@
-use Rattle.cred_table.proofs.SavedInto.{Put}
+use Rattle.cred_table.proofs.SavedRows.{Put}
 use Rattle.ctap_cbor.specs.Writing.{SameBuffer}
 use Rattle.cred_table.proofs.saving.put_snapshot.Given as goal
 

@@ -1,5 +1,5 @@
 use Rattle.std.proofs.Common.{arith}
-use Rattle.cred_table.proofs.SavedInto.{saved_into}
+use Rattle.cred_table.proofs.SavedRows.{saved_into}
 use Rattle.cred_table.proofs.saving.save_into.Goals as goal
 
 pub returns : goal.returns

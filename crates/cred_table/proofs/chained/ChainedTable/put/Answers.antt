@@ -3,7 +3,7 @@ use Rattle.cred_table.specs.declared.row.Row.{Row}
 use Rattle.cred_table.specs.Rows.{Lawful}
 use Rattle.cred_table.specs.Linked.{rows_in}
 use Rattle.cred_table.proofs.Stored.{none_replaced, stored_last}
-use Rattle.cred_table.proofs.Replaced.{Lawful-put}
+use Rattle.cred_table.proofs.Places.{Lawful-put}
 use Rattle.cred_table.proofs.chained.ChainedTable.put.Goals as goal
 
 pub invariant_of-self : goal.invariant_of-self

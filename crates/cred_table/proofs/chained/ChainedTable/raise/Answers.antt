@@ -4,7 +4,7 @@ use Rattle.cred_table.specs.declared.row.Row.{Row}
 use Rattle.cred_table.specs.Rows.{raised_row, Lawful}
 use Rattle.cred_table.specs.Linked.{age, row_at, rows_in}
 use Rattle.cred_table.proofs.Raised.{Lawful-raised}
-use Rattle.cred_table.proofs.Slotted.{raised_is, counter_slot}
+use Rattle.cred_table.proofs.Found.{raised_is, counter_slot}
 use Rattle.cred_table.proofs.chained.ChainedTable.raise.Goals as goal
 
 pub raise-requires : goal.raise-requires

@@ -2,8 +2,8 @@ use Rattle.std.proofs.Common.{◌≡◌, ◌∙◌, List, ◌++◌, ◌∷◌, [
 use Rattle.cred_table.specs.declared.row.Row.{Row}
 use Rattle.cred_table.specs.Rows.{is_user, without, Lawful}
 use Rattle.cred_table.specs.Linked.{age, row_at, rows_in}
-use Rattle.cred_table.proofs.Replaced.{id_found, replaced_is, Lawful-replace}
-use Rattle.cred_table.proofs.Slotted.{but_without}
+use Rattle.cred_table.proofs.Places.{id_found, replaced_is, Lawful-replace}
+use Rattle.cred_table.proofs.Found.{but_without}
 use Rattle.cred_table.proofs.chained.ChainedTable.replace.Goals as goal
 
 pub number-number-requires : goal.number-number-requires

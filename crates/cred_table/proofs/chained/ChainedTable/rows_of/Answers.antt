@@ -1,6 +1,6 @@
 use Rattle.std.proofs.Common.{rules, sym, ◌∙◌}
 use Rattle.cred_table.specs.Linked.{rows_in}
-use Rattle.cred_table.proofs.NewestFirst.{listed_begun, listed_room}
+use Rattle.cred_table.proofs.Listing.{listed_begun, listed_room}
 use Rattle.cred_table.proofs.chained.ChainedTable.rows_of.Goals as goal
 
 pub loop-slot-init : goal.loop-slot-init

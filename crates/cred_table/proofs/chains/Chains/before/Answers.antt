@@ -3,8 +3,8 @@ use Rattle.std.specs.List.{find}
 use Rattle.cred_table.specs.declared.slot.Slot.{Slot}
 use Rattle.cred_table.specs.Slots.{leads_to, numbered, bucket}
 use Rattle.cred_table.specs.Linked.{id_slots, row_at}
-use Rattle.cred_table.proofs.Before.{before_is}
-use Rattle.cred_table.proofs.Links.{slot_read}
+use Rattle.cred_table.proofs.Unlinked.{before_is}
+use Rattle.cred_table.proofs.Chain.{slot_read}
 use Rattle.cred_table.proofs.chains.Chains.before.Goals as goal
 
 pub returns : goal.returns

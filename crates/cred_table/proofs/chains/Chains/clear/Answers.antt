@@ -1,5 +1,5 @@
 use Rattle.std.proofs.Common.{◌≤◌, length, arith}
-use Rattle.cred_table.proofs.New.{new}
+use Rattle.cred_table.proofs.Filled.{new}
 use Rattle.cred_table.proofs.chains.Chains.clear.Goals as goal
 
 pub returns-clause-linked : goal.returns-clause-linked

@@ -4,8 +4,7 @@ use Rattle.std.proofs.lemmas.Iterator.Consumers.{YieldsList-from_first}
 use Rattle.std.proofs.lemmas.Iterator.Search.{find_from_yields_List}
 use Rattle.cred_table.specs.declared.slot.Slot.{Slot}
 use Rattle.cred_table.specs.Rows.{has_id}
-use Rattle.cred_table.proofs.Found.{seen}
-use Rattle.cred_table.proofs.Numbered.{slot_found, slot_there}
+use Rattle.cred_table.proofs.Found.{seen, slot_found, slot_there}
 use Rattle.cred_table.proofs.chains.Chains.number.Goals as goal
 
 pub unwrap-requires : goal.unwrap-requires

@@ -1,4 +1,4 @@
-use Rattle.cred_table.proofs.RaisedSlot.{raise}
+use Rattle.cred_table.proofs.Filled.{raise}
 use Rattle.cred_table.proofs.chains.Chains.raise.Goals as goal
 
 pub raise-requires : goal.raise-requires

@@ -2,8 +2,7 @@ use Rattle.std.proofs.Common.{ℕ, List, refl, ◌∙◌, ap, slice_get}
 use Rattle.std.proofs.lemmas.Iterator.Consumers.{YieldsList-from_first, nth_from_yields_List}
 use Rattle.cred_table.specs.declared.slot.Slot.{Slot}
 use Rattle.cred_table.specs.Linked.{age}
-use Rattle.cred_table.proofs.Found.{seen}
-use Rattle.cred_table.proofs.Nth.{nth_row}
+use Rattle.cred_table.proofs.Found.{seen, nth_row}
 use Rattle.cred_table.proofs.chains.Chains.row.Goals as goal
 
 pub unwrap-item-requires : goal.unwrap-item-requires

@@ -1,4 +1,4 @@
-use Rattle.cred_table.proofs.Taken.{take_free}
+use Rattle.cred_table.proofs.Filled.{take_free}
 use Rattle.cred_table.proofs.chains.Chains.take_free.Goals as goal
 
 pub returns-clause-linked : goal.returns-clause-linked

@@ -5,7 +5,7 @@ use Rattle.cred_table.specs.declared.slot.Along.TheVariants.{Next, Newer}
 use Rattle.cred_table.specs.declared.chains.Chains.{Chains}
 use Rattle.cred_table.specs.Slots.{bucket, within}
 use Rattle.cred_table.specs.Linked.{Linked, rows_in}
-use Rattle.cred_table.proofs.Links.{slot_read}
+use Rattle.cred_table.proofs.Chain.{slot_read}
 use Rattle.cred_table.proofs.Unlinked.{unlink, unlink_code, within_led, one_less}
 use Rattle.cred_table.proofs.chains.Chains.unlink.Goals as goal
 

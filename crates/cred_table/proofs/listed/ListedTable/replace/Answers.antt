@@ -1,8 +1,7 @@
 use Rattle.std.proofs.Common.{rules, sym, ◌∙◌, subst, List}
 use Rattle.cred_table.specs.declared.row.Row.{Row}
 use Rattle.cred_table.specs.Rows.{is_user, Lawful}
-use Rattle.cred_table.proofs.Places.{replaced_rows}
-use Rattle.cred_table.proofs.Replaced.{id_found, replaced_is, Lawful-replace}
+use Rattle.cred_table.proofs.Places.{replaced_rows, id_found, replaced_is, Lawful-replace}
 use Rattle.cred_table.proofs.listed.ListedTable.replace.Goals as goal
 
 pub place-place-requires : goal.place-place-requires

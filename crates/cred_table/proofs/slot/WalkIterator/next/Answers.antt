@@ -1,5 +1,5 @@
 use Rattle.std.proofs.Common.{ap, rules, length, sym, ◌∙◌}
-use Rattle.cred_table.proofs.Walks.{walk_step}
+use Rattle.cred_table.proofs.Chain.{walk_step}
 use Rattle.cred_table.proofs.slot.WalkIterator.next.Goals as goal
 
 pub invariant_of-self : goal.invariant_of-self
