@@ -6,7 +6,7 @@ use Rattle.std.proofs.lemmas.Str.Parse.{numerals_by_value, tells_digits}
 use Rattle.std.specs.Char.{digit_value}
 use Rattle.std.specs.Str.Parse.{AllDigits, digits_value, digits_value_after}
 use Rattle.session_log.specs.Said.{moment}
-use Rattle.session_log.proofs.Moments.{moment_of, no_moment}
+use Rattle.session_log.proofs.Spelled.{moment_of, no_moment}
 
 -- of the digits `all`, those before `rest` write n
 pub record SoFar (all rest : List ℕ) (n : ℕ) : Type 0 where

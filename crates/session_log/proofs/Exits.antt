@@ -1,20 +1,19 @@
 -- Each way in which the playing of lines ends.
-use Rattle.std.proofs.Common.{◌≡◌, ℕ, suc, zero, ◌+◌, ◌≤◌, ◌<◌, ◌^◌, cond, is_none, List, [], ◌∷◌, ◌++◌, length, Option, Some, None, Result, Ok, Err, refl, sym, ap, ◌∙◌, subst, take, drop, arith, append_assoc, append-nil, take-append-drop, length-take-le}
+use Rattle.std.proofs.Common.{◌≡◌, ℕ, suc, zero, ◌+◌, ◌≤◌, ◌<◌, ◌^◌, cond, is_none, List, [], ◌∷◌, ◌++◌, length, Option, Some, None, Result, Ok, Err, refl, sym, ap, ◌∙◌, subst, take, drop, arith, append_assoc, take-append-drop, length-take-le}
 use Rattle.std.specs.Io.KnownBytes.{Consumes, Appends, Keeps}
 use Rattle.std.proofs.KnownBytes.{Appends-trans, Appends-kept, Consumes-trans}
-use Rattle.token_session.specs.declared.input.Meters.{Meters}
 use Rattle.session_log.specs.declared.fault.LogFault.{LogFault}
 use Rattle.session_log.specs.declared.fault.LogFault.TheVariants.{BadLine, TooLong, Differs, Read, Write, TooManyLines, Memory}
-use Rattle.session_log.specs.Ending.{Ending, Done, Refused, Unread, Unwritten, ended_by, ending_of}
+use Rattle.session_log.specs.Ending.{Ending, ended_by, ending_of}
 use Rattle.session_log.specs.Said.{said}
 use Rattle.session_log.specs.World.{World}
 use Rattle.session_log.specs.Lines.{lines}
 use Rattle.session_log.specs.Log.{text_of, text_by, last_text, after, after_by, fault_by, fault_at}
 use Rattle.session_log.specs.declared.line.Line.{Line}
-use Rattle.session_log.specs.Sent.{SendsPackets}
+use Rattle.session_log.specs.Sent.{AllSend, SendsPackets}
 use Rattle.session_log.specs.Streams.{Moves, IsTaken, IsBroken, PutsLine}
 use Rattle.session_log.specs.Window.{HasLine, IsUnfinished, Stops}
-use Rattle.session_log.specs.Replay.{IsRefused, IsUnread, IsUnwritten, IsPlayed, IsDone, Means, Plays, Makes, Logs, PlaysLine, Closes}
+use Rattle.session_log.specs.Replay.{IsRefused, IsUnread, IsUnwritten, IsPlayed, IsDone, Means, Plays, PlaysLine}
 use Rattle.session_log.proofs.Cutting.{last_line, line_in_front, some_line}
 use Rattle.session_log.proofs.Gathering.{in_count}
 use Rattle.session_log.proofs.Through.{Through, first_is_last, through_line, refused, unread, unwritten, unwritten_end, played_last, whole_log, said_fault, too_long, too_many}
@@ -32,12 +31,6 @@ passed_on world s t bytes text P Q TooManyLines h = h
 passed_on world s t bytes text P Q (Memory n) h = h
 passed_on world s t bytes text P Q (Read n) h = h
 passed_on world s t bytes text P Q Write h = h
-
--- a fault ends a log as it ended its lines
-pub fails_with : {S : Type 0} (world : World S) (left left' taken taken' : Option (List ℕ)) (s t : S) (r : Result Meters LogFault) (e : LogFault) (P : List ℕ → List ℕ → Type 0) → r ≡ Err e
-    → Moves left left' taken taken' (λ bytes text. Means world s t bytes text (P bytes text) (ended_by e)) → Moves left left' taken taken' (λ bytes text. Logs world s t bytes text r)
-fails_with world left left' taken taken' s t r e P is m =
-    (m.0, m.1, m.2, m.3, subst (Logs world s t m.0 m.1) (sym is) (passed_on world s t m.0 m.1 (P m.0 m.1) (IsDone world s t m.0 m.1) e m.4, tt))
 
 -- no line could be read
 pub stops_reading : {S : Type 0} (world : World S) (left left' taken taken' : Option (List ℕ)) (s0 s : S) (read text w : List ℕ) (n : ℕ) (e : LogFault) → Consumes left left' (read ++ w) → Appends taken taken' text → Through world s0 read text s n → Stops n w e
@@ -168,18 +161,21 @@ some_left (suc n) h = omega arith
 
 -- the text after the last line was written, or broke off, or something was wrong there
 pub closes : {S F : Type 0} (world : World S) (taken : F → Option (List ℕ)) (failed : F → ℕ) (left left' start : Option (List ℕ)) (target : F × F) (s0 s : S) (bytes text : List ℕ)
-    → Consumes left left' bytes → Appends start (taken target.0) text → IsPlayed world s0 s bytes text → world.lacks s ≡ None → IsTaken taken failed target (world.ending s) → Moves left left' start (taken target.1) (λ b t. IsDone world s0 s b t)
+    → Consumes left left' bytes → Appends start (taken target.0) text → IsPlayed world s0 s bytes text → world.lacks s ≡ None → IsTaken taken failed target (world.ending s) → Moves left left' start (taken target.1) (λ b t. IsDone world s0 s b t × AllSend world s0 (lines b))
 closes {S} world taken failed left left' start target s0 s bytes text p q whole none wrote =
     let last : last_text world s ≡ world.ending s = ap (λ (o : Option LogFault). cond (is_none o) (world.ending s) []) none in (
       bytes,
       text ++ world.ending s,
       p,
       Appends-trans start (taken target.0) (taken target.1) text (world.ending s) q wrote.0,
-      record {
-        faultless = first_is_last world s0 s bytes text None whole none;
-        written = sym (whole_log world s0 s bytes text whole ∙ ap (λ (l : List ℕ). text ++ l) last);
-        stands = whole.stands;
-      },
+      (
+        record {
+          faultless = first_is_last world s0 s bytes text None whole none;
+          written = sym (whole_log world s0 s bytes text whole ∙ ap (λ (l : List ℕ). text ++ l) last);
+          stands = whole.stands;
+        },
+        whole.sends,
+      ),
     )
 
 pub closes_not : {S F : Type 0} (world : World S) (taken : F → Option (List ℕ)) (failed : F → ℕ) (left left' start : Option (List ℕ)) (target : F × F) (s0 s : S) (bytes text : List ℕ)
@@ -188,36 +184,3 @@ closes_not world taken failed left left' start target s0 s bytes text p q whole 
     let off = broken.0 in
     let last : last_text world s ≡ world.ending s = ap (λ (o : Option LogFault). cond (is_none o) (world.ending s) []) none in
     (bytes, text ++ off.0, p, Appends-trans start (taken target.0) (taken target.1) text off.0 q off.4, unwritten_end world s0 s bytes text off.0 off.1 whole (last ∙ off.2) off.3)
-
--- nothing is written after the last line
-pub closes_silently : {S : Type 0} (world : World S) (left left' taken taken' : Option (List ℕ)) (s0 s : S) → world.lacks s ≡ None → world.ending s ≡ [] → (ending : Ending)
-    → Moves left left' taken taken' (λ bytes text. Plays world s0 s bytes text ending) → Moves left left' taken taken' (λ bytes text. Makes world s0 s bytes text ending)
-closes_silently world left left' taken taken' s0 s none silent Done m =
-    let last : last_text world s ≡ [] = ap (λ (o : Option LogFault). cond (is_none o) (world.ending s) []) none ∙ silent in (
-      m.0,
-      m.1,
-      m.2,
-      m.3,
-      record {
-        faultless = first_is_last world s0 s m.0 m.1 None m.4 none;
-        written = sym (whole_log world s0 s m.0 m.1 m.4 ∙ ap (λ (l : List ℕ). m.1 ++ l) last ∙ append-nil m.1);
-        stands = m.4.stands;
-      },
-    )
-closes_silently world left left' taken taken' s0 s none silent (Refused f) m = m
-closes_silently world left left' taken taken' s0 s none silent (Unread n) m = m
-closes_silently world left left' taken taken' s0 s none silent Unwritten m = m
-
--- what the end of the lines means, all lines mean
-pub closes_with : {S F : Type 0} (world : World S) (taken : F → Option (List ℕ)) (failed : F → ℕ) (left left' start : Option (List ℕ)) (target : F × F) (s0 s : S) (ending : Ending)
-    → Moves left left' start (taken target.0) (λ bytes text. IsPlayed world s0 s bytes text) → Closes world taken failed s target ending → Moves left left' start (taken target.1) (λ bytes text. Makes world s0 s bytes text ending)
-closes_with world taken failed left left' start target s0 s Done m h = closes world taken failed left left' start target s0 s m.0 m.1 m.2 m.3 m.4 h.0 h.1
-closes_with world taken failed left left' start target s0 s (Refused f) m h = (
-  m.0,
-  m.1,
-  m.2,
-  Appends-kept start (taken target.0) (taken target.1) m.1 m.3 h.1,
-  record { faulty = first_is_last world s0 s m.0 m.1 (Some f) m.4 h.0; written = m.4.written; stands = m.4.stands },
-)
-closes_with world taken failed left left' start target s0 s (Unread n) m h = absurd h
-closes_with world taken failed left left' start target s0 s Unwritten m h = closes_not world taken failed left left' start target s0 s m.0 m.1 m.2 m.3 m.4 h.0 h.1

@@ -1,10 +1,9 @@
 -- Of each way in which the playing of lines ends: what holds at Ok alone, and the failures that it counts.
-use Rattle.std.proofs.Common.{◌≡◌, ℕ, ◌+◌, Bool, false, OnOk, IfErr, cond, List, Option, Result, Ok, Err, refl, sym, ap, ◌∙◌, subst}
+use Rattle.std.proofs.Common.{◌≡◌, ℕ, ◌+◌, Bool, false, OnOk, cond, List, Option, Result, Ok, Err, refl, sym, ap, ◌∙◌, subst}
 use Rattle.session_log.specs.declared.fault.LogFault.{LogFault}
 use Rattle.session_log.specs.declared.fault.LogFault.TheVariants.{BadLine, TooLong, Differs, Read, Write, TooManyLines, Memory}
 use Rattle.session_log.specs.Ending.{Ending, Done, Refused, Unread, Unwritten, ended_by, read_fails, write_fails}
-use Rattle.session_log.specs.Replay.{IsOfLine, PlaysLine}
-use Rattle.session_log.specs.Streams.{PutsLine}
+use Rattle.session_log.specs.Replay.{PlaysLine}
 use Rattle.session_log.specs.Window.{Stops}
 use Rattle.session_log.specs.World.{World}
 
@@ -52,8 +51,3 @@ plays_counts world taken failed n s t line target Done h = h.3.1
 plays_counts world taken failed n s t line target (Refused f) h = h.3
 plays_counts world taken failed n s t line target (Unread m) h = absurd h
 plays_counts world taken failed n s t line target Unwritten h = h.2.1
-
--- a write that breaks off is a fault that any line may have
-pub puts_own : {F A : Type 0} (taken : F → Option (List ℕ)) (failed : F → ℕ) (target : F × F) (text : List ℕ) (n : ℕ) (r : Result A LogFault) → PutsLine taken failed target text r → IfErr r (IsOfLine n)
-puts_own taken failed target text n (Ok x) h = tt
-puts_own taken failed target text n (Err e) h = subst (IsOfLine n) (sym h.0) tt

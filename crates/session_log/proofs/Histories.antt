@@ -1,5 +1,5 @@
 -- A session after a history sends and counts what the history names.
-use Rattle.std.proofs.Common.{◌≡◌, ℕ, Bool, cond, List, [], ◌∷◌, ◌++◌, flat_map, Option, Result, refl, sym, ap, ◌∙◌, subst}
+use Rattle.std.proofs.Common.{◌≡◌, ℕ, Bool, cond, List, [], ◌∷◌, ◌++◌, flat_map, Option, Result, refl, sym, ap, ◌∙◌}
 use Rattle.authn_core.specs.Turn.{Start}
 use Rattle.token_session.specs.declared.input.Timed.{Timed}
 use Rattle.token_session.specs.declared.input.Meters.{Meters}
@@ -11,6 +11,8 @@ use Rattle.token_session.proofs.Follows.{step_sends}
 use Rattle.session_log.specs.declared.fault.LogFault.{LogFault}
 use Rattle.session_log.specs.declared.line.Line.{Line}
 use Rattle.session_log.specs.declared.line.Line.TheVariants.{Input, Sent, Comment, Count}
+use Rattle.session_log.specs.Command.{PlaysLog, PlaysThrough}
+use Rattle.session_log.specs.declared.command.Command.TheVariants.{Check, Quiet}
 use Rattle.session_log.specs.Check.{Compared, begun, difference, missing, differs_from, stops_compared, moves_compared, check_machine, check_history}
 use Rattle.session_log.specs.Ending.{Ending, ending_of}
 use Rattle.session_log.specs.Replay.{Logs, Makes, Plays, ReadsTo, Writes}
@@ -20,6 +22,7 @@ use Rattle.session_log.specs.Session.{sessions, histories, machine, history, qui
 use Rattle.session_log.specs.Streams.{Moves}
 use Rattle.session_log.specs.Text.{ended, sent_text, tick_text, meters_line}
 use Rattle.session_log.specs.World.{World, moves_input, writes_again}
+use Rattle.session_log.proofs.Whole.{there}
 use Rattle.session_log.proofs.Worlds.{Follows, makes_alike, logs_alike, plays_alike, reads_alike}
 
 counted : (s : SessionState) (start : Start) (h : List Timed) → StandsAfter s start h → s.meters ≡ (history start).counts h
@@ -38,7 +41,7 @@ wrote start s h line (Sent packet) r = refl
 wrote start s h line Comment r = refl
 wrote start s h line Count r = refl
 
-follows : (start : Start) → Follows machine (history start) (λ s h. StandsAfter s start h)
+pub follows : (start : Start) → Follows machine (history start) (λ s h. StandsAfter s start h)
 follows start = record {
   stops = λ s h l r. refl;
   moves = λ s h l r. moved start s h l r;
@@ -47,14 +50,6 @@ follows start = record {
   ending = λ s h r. ap meters_line (counted s start h r);
   counts = λ s h r. counted s start h r;
 }
-
--- what an answer means of a session, it means of each history that the session stands after
-pub replays_history : (left left' taken taken' : Option (List ℕ)) (s t : SessionState) (r : Result Meters LogFault) (all : Type 0) → Moves left left' taken taken' (λ bytes text. Logs machine s t bytes text r) → ReadsTo machine s left left' all (ending_of r)
-    → (start : Start) (h : List Timed) → StandsAfter s start h
-    → (later : List Timed) × StandsAfter t start later × Moves left left' taken taken' (λ bytes text. Logs (history start) h later bytes text r) × ReadsTo (history start) h left left' all (ending_of r)
-replays_history left left' taken taken' s t r all m reach start h stands =
-    let found = logs_alike machine (history start) (λ s h. StandsAfter s start h) (follows start) s t h stands m.0 m.1 r m.4 in
-    (found.0, found.1, (m.0, m.1, m.2, m.3, found.2), reads_alike machine (history start) (λ s h. StandsAfter s start h) (follows start) s h stands left left' all (ending_of r) reach)
 
 -- Made quiet.
 
@@ -89,7 +84,7 @@ told start s h line (Sent packet) r = refl
 told start s h line Comment r = refl
 told start s h line Count r = refl
 
-live_follows : (start : Start) → Follows live_machine (live_history start) (λ s h. StandsAfter s start h)
+pub live_follows : (start : Start) → Follows live_machine (live_history start) (λ s h. StandsAfter s start h)
 live_follows start = record {
   stops = λ s h l r. refl;
   moves = λ s h l r. moved start s h l r;
@@ -99,13 +94,6 @@ live_follows start = record {
   counts = λ s h r. counted s start h r;
 }
 
-pub lives_history : (left left' taken taken' : Option (List ℕ)) (s t : SessionState) (r : Result Meters LogFault) (all : Type 0) → Moves left left' taken taken' (λ bytes text. Logs live_machine s t bytes text r) → ReadsTo live_machine s left left' all (ending_of r)
-    → (start : Start) (h : List Timed) → StandsAfter s start h
-    → (later : List Timed) × StandsAfter t start later × Moves left left' taken taken' (λ bytes text. Logs (live_history start) h later bytes text r) × ReadsTo (live_history start) h left left' all (ending_of r)
-lives_history left left' taken taken' s t r all m reach start h stands =
-    let found = logs_alike live_machine (live_history start) (λ s h. StandsAfter s start h) (live_follows start) s t h stands m.0 m.1 r m.4 in
-    (found.0, found.1, (m.0, m.1, m.2, m.3, found.2), reads_alike live_machine (live_history start) (λ s h. StandsAfter s start h) (live_follows start) s h stands left left' all (ending_of r) reach)
-
 pub lines_history : (left left' taken taken' : Option (List ℕ)) (s t : SessionState) (ending : Ending) (all : Type 0) → Moves left left' taken taken' (λ bytes text. Plays live_machine s t bytes text ending) → ReadsTo live_machine s left left' all ending
     → (start : Start) (h : List Timed) → StandsAfter s start h
     → (later : List Timed) × StandsAfter t start later × Moves left left' taken taken' (λ bytes text. Writes (live_history start) h later bytes text ending) × ReadsTo (live_history start) h left left' all ending
@@ -113,19 +101,30 @@ lines_history left left' taken taken' s t ending all m reach start h stands =
     let found = plays_alike live_machine (live_history start) (λ s h. StandsAfter s start h) (live_follows start) s t h stands m.0 m.1 ending m.4 in
     (found.0, found.1, (m.0, m.1, m.2, m.3, found.2), reads_alike live_machine (live_history start) (λ s h. StandsAfter s start h) (live_follows start) s h stands left left' all ending reach)
 
--- what an ending means in one world, it means in the other
-makes_there : {A B : Type 0} (v : World A) (w : World B) (R : A → B → Type 0) → Follows v w R → (left left' taken taken' : Option (List ℕ)) (s t : A) (b : B) → R s b → (ending : Ending) (all : Type 0)
-    → Moves left left' taken taken' (λ bytes text. Makes v s t bytes text ending) → ReadsTo v s left left' all ending
-    → (c : B) × R t c × Moves left left' taken taken' (λ bytes text. Makes w b c bytes text ending) × ReadsTo w b left left' all ending
-makes_there v w R f left left' taken taken' s t b r ending all m reach =
-    let found = makes_alike v w R f s t b r m.0 m.1 ending m.4 in
-    (found.0, found.1, (m.0, m.1, m.2, m.3, found.2), reads_alike v w R f s b r left left' all ending reach)
+-- What a log means of a session, it means of each history that the session stands after.
+module _ {I O : Type 0} (left : I → Option (List ℕ)) (unread : I → ℕ) (ended : I → Bool) (taken : O → Option (List ℕ)) (unwritten : O → ℕ)
+    (input : I × I) (output : O × O) where
+  pub logs_history : (v : World SessionState) (w : Start → World (List Timed)) → ((start : Start) → Follows v (w start) (λ s h. StandsAfter s start h))
+      → (s t : SessionState) (r : Result Meters LogFault)
+      → PlaysThrough v s (λ bytes text. Logs v s t bytes text r) left unread ended taken unwritten r input output
+      → (start : Start) (h : List Timed) → StandsAfter s start h
+      → (later : List Timed) × StandsAfter t start later
+      × PlaysThrough (w start) h (λ bytes text. Logs (w start) h later bytes text r) left unread ended taken unwritten r input output
+  logs_history v w f s t r through start h stands =
+      there v (w start) (λ s h. StandsAfter s start h) (f start) s h stands (λ bytes text. Logs v s t bytes text r) (StandsAfter t start)
+      (λ later bytes text. Logs (w start) h later bytes text r) (λ bytes text m. logs_alike v (w start) (λ s h. StandsAfter s start h) (f start) s t h stands bytes text r m)
+      left unread ended taken unwritten r input output through
 
-pub quiets_history : (left left' taken taken' : Option (List ℕ)) (s t : SessionState) (ending : Ending) (all : Type 0) → Moves left left' taken taken' (λ bytes text. Makes quiet_machine s t bytes text ending) → ReadsTo quiet_machine s left left' all ending
-    → (start : Start) (h : List Timed) → StandsAfter s start h
-    → (later : List Timed) × StandsAfter t start later × Moves left left' taken taken' (λ bytes text. Makes (quiet_history start) h later bytes text ending) × ReadsTo (quiet_history start) h left left' all ending
-quiets_history left left' taken taken' s t ending all m reach start h stands =
-    makes_there quiet_machine (quiet_history start) (λ s h. StandsAfter s start h) (quiet_follows start) left left' taken taken' s t h stands ending all m reach
+  pub quiets_history : {A : Type 0} (s t : SessionState) (r : Result A LogFault)
+      → PlaysThrough quiet_machine s (λ bytes text. Makes quiet_machine s t bytes text (ending_of r)) left unread ended taken unwritten r input output
+      → (start : Start) (h : List Timed) → StandsAfter s start h
+      → PlaysLog Quiet start h left unread ended taken unwritten r t input output
+  quiets_history s t r through start h stands =
+      let q = there quiet_machine (quiet_history start) (λ s h. StandsAfter s start h) (quiet_follows start) s h stands
+      (λ bytes text. Makes quiet_machine s t bytes text (ending_of r)) (StandsAfter t start) (λ later bytes text. Makes (quiet_history start) h later bytes text (ending_of r))
+      (λ bytes text m. makes_alike quiet_machine (quiet_history start) (λ s h. StandsAfter s start h) (quiet_follows start) s t h stands bytes text (ending_of r) m)
+      left unread ended taken unwritten r input output through in
+      (q.0, q.1, q.2.0, q.2.1, q.2.2)
 
 -- Compared.
 
@@ -163,14 +162,19 @@ check_follows start = record {
   counts = λ c d r. counted c.session start d.session r.0;
 }
 
-pub checks_history : (left left' taken taken' : Option (List ℕ)) (s t : SessionState) (ending : Ending) (all : Type 0)
-    → ((later : Compared SessionState) × (later.session ≡ t) × Moves left left' taken taken' (λ bytes text. Makes check_machine (begun s) later bytes text ending)) → ReadsTo check_machine (begun s) left left' all ending
+pub checks_history : {A I O : Type 0} (left : I → Option (List ℕ)) (unread : I → ℕ) (ended : I → Bool) (taken : O → Option (List ℕ)) (unwritten : O → ℕ)
+    (input : I × I) (output : O × O) (s : SessionState) (t : Compared SessionState) (r : Result A LogFault)
+    → PlaysThrough check_machine (begun s) (λ bytes text. Makes check_machine (begun s) t bytes text (ending_of r)) left unread ended taken unwritten r input output
     → (start : Start) (h : List Timed) → StandsAfter s start h
-    → (later : Compared (List Timed)) × StandsAfter t start later.session × Moves left left' taken taken' (λ bytes text. Makes (check_history start) (begun h) later bytes text ending)
-    × ReadsTo (check_history start) (begun h) left left' all ending
-checks_history left left' taken taken' s t ending all m reach start h stands =
-    let found = makes_there check_machine (check_history start) (IsBeside start) (check_follows start) left left' taken taken' (begun s) m.0 (begun h) (stands, refl) ending all m.2 reach in
-    (found.0, subst (λ (z : SessionState). StandsAfter z start found.0.session) m.1 found.1.0, found.2, found.3)
+    → PlaysLog Check start h left unread ended taken unwritten r t.session input output
+checks_history left unread ended taken unwritten input output s t r through start h stands =
+    let q = there check_machine (check_history start) (IsBeside start) (check_follows start) (begun s) (begun h) (stands, refl)
+    (λ bytes text. Makes check_machine (begun s) t bytes text (ending_of r)) (λ later. StandsAfter t.session start later.session)
+    (λ later bytes text. Makes (check_history start) (begun h) later bytes text (ending_of r))
+    (λ bytes text m. let found = makes_alike check_machine (check_history start) (IsBeside start) (check_follows start) (begun s) t (begun h) (stands, refl) bytes text (ending_of r) m in
+    (found.0, found.1.0, found.2))
+    left unread ended taken unwritten r input output through in
+    (q.0, q.1, q.2.0, q.2.1, q.2.2)
 
 -- a session at its start stands after the empty history
 pub begins : (s : SessionState) (start : Start) → s ≡ session_of start [] → StandsAfter s start []

@@ -21,8 +21,7 @@ use Rattle.session_log.specs.Said.{said}
 use Rattle.session_log.specs.Session.{histories, quiet_history}
 use Rattle.session_log.specs.Text.{ended, tick_text}
 use Rattle.session_log.specs.World.{Course, World, quieting}
-use Rattle.session_log.proofs.Sound.{IsSound, sound_first, sound_line}
-use Rattle.session_log.proofs.Feeds.{feedless, AreLines, feedless-append, AreLines-append, lines_joined, lines_are_lines, decimal_feedless}
+use Rattle.session_log.proofs.Feeds.{IsSound, sound_first, sound_line, feedless, AreLines, feedless-append, AreLines-append, lines_joined, lines_are_lines, decimal_feedless}
 use Rattle.session_log.proofs.Spelled.{read_is_spelled, spelled_is_read}
 use Rattle.session_log.proofs.Through.{played_sound, said_fault}
 

@@ -1,10 +1,16 @@
--- What a line says is what the grammar lets it spell.
-use Rattle.std.proofs.Common.{◌≡◌, ℕ, ◌*◌, ◌/◌, ◌<◌, ◌≤◌, ◌^◌, ◌==◌, ◌&&◌, nat_le, Bool, true, false, cond, List, [], ◌∷◌, ◌++◌, length, codes, decimal, Option, Some, None, Result, Ok, Err, inl, inr, refl, sym, ap, ◌∙◌, subst, arith, length-append}
-use Rattle.std.proofs.lemmas.Bool.{eqb-true, le-leb, leb-true}
-use Rattle.std.specs.Cmp.Lexicographic.{same_text}
-use Rattle.std.specs.List.{AllPass}
+-- A number has one spelling in digits.
+use Rattle.std.proofs.Common.{◌≡◌, ℕ, ◌<◌, ◌^◌, ◌==◌, ◌&&◌, nat_lt, Bool, true, false, cond, List, Option, Some, None, decimal, refl, sym, ap, ◌∙◌, subst, suc, ◌+◌, not, [], ◌∷◌, ◌++◌, length, get_or, take, drop, position, arith, add-one, length-append, take-append-drop, ◌*◌, ◌/◌, ◌≤◌, nat_le, codes, Result, Ok, Err, inl, inr}
+use Rattle.std.proofs.lemmas.Bool.{lt-ltb, ltb-true, eqb-true, le-leb, leb-true}
+use Rattle.std.proofs.lemmas.Fmt.{decimal_is_IsNumeral}
+use Rattle.std.specs.Cmp.Lexicographic.{pointwise, same_text, other_text}
+use Rattle.std.specs.Str.Parse.{digits_value, AllDigits}
+use Rattle.session_log.specs.Said.{moment, first_field, ◌>>=◌, bytes_of, is_word, packet_said, presence_said, key_of, key_said, signature_of, signature_said, input_by, input_line, tick_line, sent_line, said_by, said}
+use Rattle.std.proofs.lemmas.List.Quantifiers.{position-Some}
+use Rattle.std.proofs.Math.Seq.{take-append_seam, drop-append-add, drop-cons}
+use Rattle.std.specs.Char.{digit_value}
+use Rattle.std.specs.List.{AllPass, position_or_len}
+use Rattle.hex.specs.Hex.{is_hex_digit, decode_sized}
 use Rattle.std.specs.Result.{result_ok}
-use Rattle.hex.specs.Hex.{decode_sized, is_hex_digit}
 use Rattle.hex.proofs.HexLemmas.{IsOk-decode_sized, decode_sized-ok, decode_sized-twice, decode_of-ok}
 use Rattle.authn_core.specs.declared.replies.NewKey.{NewKey}
 use Rattle.authn_core.specs.declared.replies.Presence.{Presence as AnyPresence}
@@ -14,10 +20,114 @@ use Rattle.token_session.specs.declared.input.Input.TheVariants.{Packet, Tick, P
 use Rattle.session_log.specs.declared.line.Line.{Line}
 use Rattle.session_log.specs.declared.line.Line.TheVariants.{Input, Sent, Comment, Count}
 use Rattle.session_log.specs.Grammar.{IsHexOf, SpellsField, SpellsInput, Spells, front_of}
-use Rattle.session_log.specs.Said.{◌>>=◌, first_field, moment, bytes_of, is_word, packet_said, presence_said, key_of, key_said, signature_of, signature_said, input_by, input_line, tick_line, sent_line, said_by, said}
 use Rattle.session_log.specs.Words.{presence_word, refusal_word}
-use Rattle.session_log.proofs.Fields.{fields_of, fields_are, parted, hex_no_space}
-use Rattle.session_log.proofs.Moments.{moment_of, moment_is}
+
+pub same : (xs ys : List ℕ) → xs ≡ ys → pointwise ◌==◌ xs ys ≡ true
+same xs ys e = go (pointwise ◌==◌ xs ys) refl
+  where
+    go : (b : Bool) → b ≡ pointwise ◌==◌ xs ys → pointwise ◌==◌ xs ys ≡ true
+    go true h = sym h
+    go false h = absurd (other_text xs ys h e)
+
+-- digits that write n are read as n
+pub moment_of : (digits : List ℕ) (n : ℕ) → n < 2 ^ 64 → digits ≡ decimal n → moment digits ≡ Some n
+unfolding moment
+moment_of digits n fits e =
+    let value : digits_value 10 digits ≡ n = ap (digits_value 10) e ∙ (decimal_is_IsNumeral n fits).1 in
+    rw value (rw (lt-ltb n (2 ^ 64) fits, same (decimal n) digits (sym e)) refl)
+
+in_range : (n m : ℕ) (a b : Bool) → cond (a && b) (Some n) None ≡ Some m → (n ≡ m) × (a ≡ true) × (b ≡ true)
+in_range n m true true e = (cc, refl, refl)
+in_range n m true false e = cc
+in_range n m false b e = cc
+
+-- what is read is what the digits write
+pub moment_is : (digits : List ℕ) (n : ℕ) → moment digits ≡ Some n → (n < 2 ^ 64) × (digits ≡ decimal n)
+unfolding moment
+moment_is digits n e =
+    let parts = in_range (digits_value 10 digits) n (nat_lt (digits_value 10 digits) (2 ^ 64)) (pointwise ◌==◌ (decimal (digits_value 10 digits)) digits) e in
+    let fits : digits_value 10 digits < 2 ^ 64 = ltb-true (digits_value 10 digits) (2 ^ 64) parts.1 in
+    (subst (λ (m : ℕ). m < 2 ^ 64) parts.0 fits, sym (same_text (decimal (digits_value 10 digits)) digits (sym parts.2)) ∙ ap decimal parts.0)
+
+-- what isn't the text of a number isn't read
+pub no_moment : (digits : List ℕ) → ((n : ℕ) → n < 2 ^ 64 → digits ≡ decimal n → ⊥) → moment digits ≡ None
+no_moment digits h = go (moment digits) refl
+  where
+    go : (r : Option ℕ) → moment digits ≡ r → moment digits ≡ None
+    go None e = e
+    go (Some n) e = let is = moment_is digits n e in absurd (h n is.0 is.1)
+
+-- The fields of a line: a number has no space, so the first space parts it from what follows.
+
+abbrev is_space : ℕ → Bool
+is_space b = b == 32
+
+-- fields without a space
+abbrev pub NoSpace : List ℕ → Type 0
+NoSpace [] = Unit {0}
+NoSpace (c ∷ cs) = (is_space c ≡ false) × NoSpace cs
+
+digit_no_space : (c : ℕ) → digit_value c < 10 → is_space c ≡ false
+digit_no_space c h = go (is_space c) refl
+  where
+    go : (b : Bool) → is_space c ≡ b → is_space c ≡ false
+    go false e = e
+    go true e = let at : digit_value 32 < 10 = subst (λ (x : ℕ). digit_value x < 10) (eqb-true c 32 e) h in absurd (omega arith)
+
+pub digits_no_space : (digits : List ℕ) → AllDigits 10 digits → NoSpace digits
+digits_no_space [] h = tt
+digits_no_space (c ∷ cs) h = (digit_no_space c h.0, digits_no_space cs h.1)
+
+hex_digit_no_space : (c : ℕ) → is_hex_digit c ≡ true → is_space c ≡ false
+hex_digit_no_space c h = go (is_space c) refl
+  where
+    go : (b : Bool) → is_space c ≡ b → is_space c ≡ false
+    go false e = e
+    go true e = let at : is_hex_digit 32 ≡ true = subst (λ (x : ℕ). is_hex_digit x ≡ true) (eqb-true c 32 e) h in cc
+
+pub hex_no_space : (digits : List ℕ) → AllPass is_hex_digit digits → NoSpace digits
+hex_no_space [] h = tt
+hex_no_space (c ∷ cs) h = (hex_digit_no_space c (h 0 0 (omega arith)), hex_no_space cs (λ k d l. h (suc k) d (omega arith)))
+
+space_after : (front rest : List ℕ) → NoSpace front → position_or_len is_space (front ++ 32 ∷ rest) ≡ length front
+space_after [] rest h = refl
+space_after (c ∷ cs) rest h =
+    ap (λ (b : Bool). cond (not b) (1 + position_or_len is_space (cs ++ 32 ∷ rest)) 0) h.0 ∙ ap (λ (n : ℕ). 1 + n) (space_after cs rest h.1) ∙ one_more
+  where
+    one_more : 1 + length cs ≡ suc (length cs)
+    one_more = omega arith
+
+-- a field without a space and what follows the space after it
+pub parted : (front rest : List ℕ) → NoSpace front → first_field (front ++ 32 ∷ rest) ≡ Some (front, rest)
+parted front rest h =
+    let all = front ++ 32 ∷ rest in
+    let at : position_or_len is_space all ≡ length front = space_after front rest h in
+    let inside : length front < length all = omega (arith, length-append front (32 ∷ rest)) in
+    let found : position is_space all ≡ Some (length front) =
+    ap (λ (k : ℕ). cond (nat_lt k (length all)) (Some k) None) at ∙ ap (λ (b : Bool). cond b (Some (length front)) None) (lt-ltb (length front) (length all) inside) in
+    ap (λ (o : Option ℕ). elim o as (λ _. Option (List ℕ × List ℕ)) [ None ↦ None | Some k ↦ Some (take k all, drop (k + 1) all) ]) found
+    ∙ λ i. Some (take-append_seam front (32 ∷ rest) i, drop-append-add front (32 ∷ rest) 1 i)
+
+-- a number has none
+pub fields_of : (n : ℕ) (rest : List ℕ) → n < 2 ^ 64 → first_field (decimal n ++ 32 ∷ rest) ≡ Some (decimal n, rest)
+fields_of n rest fits = parted (decimal n) rest (digits_no_space (decimal n) (decimal_is_IsNumeral n fits).0.1)
+
+-- the parts, with the space between them
+pub fields_are : (fields : List ℕ) (parts : List ℕ × List ℕ) → first_field fields ≡ Some parts → fields ≡ parts.0 ++ 32 ∷ parts.1
+fields_are fields parts e = go (position is_space fields) refl e
+  where
+    go : (o : Option ℕ) → position is_space fields ≡ o → elim o as (λ _. Option (List ℕ × List ℕ)) [ None ↦ None | Some k ↦ Some (take k fields, drop (k + 1) fields) ] ≡ Some parts → fields ≡ parts.0 ++ 32 ∷ parts.1
+    go None is e = cc
+    go (Some k) is e =
+        let at = position-Some is_space fields k 0 is in
+        let space : get_or fields k 0 ≡ 32 = eqb-true (get_or fields k 0) 32 at.1 in
+        let whole : fields ≡ take k fields ++ 32 ∷ drop (k + 1) fields =
+        sym (take-append-drop k fields) ∙ ap (λ (l : List ℕ). take k fields ++ l) (drop-cons fields k 0 at.0 ∙ λ i. space i ∷ drop (sym (add-one k) i) fields) in
+        let first : take k fields ≡ parts.0 = cc in
+        let second : drop (k + 1) fields ≡ parts.1 = cc in
+        whole ∙ λ i. first i ++ 32 ∷ second i
+
+-- What a line says is what the grammar lets it spell.
 
 -- Digits.
 

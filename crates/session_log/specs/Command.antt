@@ -39,19 +39,29 @@ unmetered (Err fault) = Err fault
 
 -- A failure of the source or the target was counted exactly where the fault is one, and without a fault the log was all
 -- that the source held. A pair is a source or a target before and after the call.
-abbrev pub IsCounted : {I O : Type 0} → (left : I → Option (List ℕ)) → (unread : I → ℕ) → (ended : I → Bool)
-    → (unwritten : O → ℕ) → Result (Unit {0}) LogFault → (I × I) → (O × O) → Type 0
+abbrev pub IsCounted : {A I O : Type 0} → (left : I → Option (List ℕ)) → (unread : I → ℕ) → (ended : I → Bool)
+    → (unwritten : O → ℕ) → Result A LogFault → (I × I) → (O × O) → Type 0
 IsCounted left unread ended unwritten answer input output =
     Counts unread input (read_fails (ending_of answer))
     × Counts unwritten output (write_fails (ending_of answer))
     × OnOk answer (IsAllRead left ended input.1)
 
+-- A log was played in this world from the state s on: this is said of the bytes that were read and the text that was
+-- written, and a fault is one of the log: no more of it need be read to find it.
+abbrev pub PlaysThrough : {S A I O : Type 0} → World S → S → (List ℕ → List ℕ → Type 0)
+    → (left : I → Option (List ℕ)) → (unread : I → ℕ) → (ended : I → Bool) → (taken : O → Option (List ℕ))
+    → (unwritten : O → ℕ) → Result A LogFault → (I × I) → (O × O) → Type 0
+PlaysThrough world s Says left unread ended taken unwritten answer input output =
+    Moves (left input.0) (left input.1) (taken output.0) (taken output.1) Says
+    × ReadsTo world s (left input.0) (left input.1) (IsAllRead left ended input.1) (ending_of answer)
+    × IsCounted left unread ended unwritten answer input output
+
 -- A log was played in this world from the state x on, which has this history of the session; the session is now at s.
--- The text is what the world says of the log, and a fault is one of the log: no more of it need be read to find it.
-abbrev pub PlaysIn : {S I O : Type 0} → World S → (S → List Timed) → S → Start
+-- The text is what the world says of the log.
+abbrev pub PlaysIn : {S A I O : Type 0} → World S → (S → List Timed) → S → Start
     → (left : I → Option (List ℕ)) → (unread : I → ℕ) → (ended : I → Bool) → (taken : O → Option (List ℕ))
     → (unwritten : O → ℕ)
-    → Result (Unit {0}) LogFault → SessionState → (I × I) → (O × O) → Type 0
+    → Result A LogFault → SessionState → (I × I) → (O × O) → Type 0
 PlaysIn {S} world history_in x start left unread ended taken unwritten answer s input output =
     (later : S) × StandsAfter s start (history_in later)
     × Moves (left input.0) (left input.1) (taken output.0) (taken output.1)
@@ -61,10 +71,10 @@ PlaysIn {S} world history_in x start left unread ended taken unwritten answer s 
 
 -- A command played a log on a session that was after this history of this start: it replayed the log, alone or with
 -- what is needed, compared it with what is sent, or made it quiet.
-abbrev pub PlaysLog : {I O : Type 0} → Command → Start → List Timed
+abbrev pub PlaysLog : {A I O : Type 0} → Command → Start → List Timed
     → (left : I → Option (List ℕ)) → (unread : I → ℕ) → (ended : I → Bool) → (taken : O → Option (List ℕ))
     → (unwritten : O → ℕ)
-    → Result (Unit {0}) LogFault → SessionState → (I × I) → (O × O) → Type 0
+    → Result A LogFault → SessionState → (I × I) → (O × O) → Type 0
 PlaysLog Replay start h left unread ended taken unwritten answer s input output =
     PlaysIn (history start) (λ later. later) h start left unread ended taken unwritten answer s input output
 PlaysLog Live start h left unread ended taken unwritten answer s input output =

@@ -1,5 +1,5 @@
 -- What each answer of a call that plays a log means.
-use Rattle.std.specs.Prelude.{◌≡◌, ℕ, ◌+◌, ◌<◌, ◌≤◌, ◌^◌, List, [], ◌∷◌, ◌++◌, length, take, Option, Some, None, Result, IfOk, ◌⊎◌}
+use Rattle.std.specs.Prelude.{◌≡◌, ℕ, ◌+◌, ◌<◌, ◌≤◌, ◌^◌, List, [], ◌∷◌, ◌++◌, length, take, Option, Some, None, Result, IfOk, OnOk, ◌⊎◌}
 use Rattle.std.specs.Io.KnownBytes.{Consumes, Keeps}
 use Rattle.token_session.specs.declared.input.Meters.{Meters}
 use Rattle.session_log.specs.declared.fault.LogFault.{LogFault}
@@ -89,6 +89,10 @@ Writes world s t bytes text ending = Means world s t bytes text (AreWritten worl
 abbrev pub Makes : {S : Type 0} → World S → S → S → List ℕ → List ℕ → Ending → Type 0
 Makes world s t bytes text ending = Means world s t bytes text (IsDone world s t bytes text) ending
 
+-- the same, and at the log's end what is known of the packets that were sent
+abbrev pub MakesSoundly : {S A : Type 0} → World S → S → S → List ℕ → List ℕ → Result A LogFault → Type 0
+MakesSoundly world s t bytes text r = Makes world s t bytes text (ending_of r) × OnOk r (AllSend world s (lines bytes))
+
 -- of a whole log, where what was counted is answered at its end
 abbrev pub Logs : {S : Type 0} → World S → S → S → List ℕ → List ℕ → Result Meters LogFault → Type 0
 Logs world s t bytes text r = Makes world s t bytes text (ending_of r) × IfOk r (λ m. m ≡ world.counts t)
@@ -165,3 +169,9 @@ abbrev pub ReadsTo : {S : Type 0} → World S → S → Option (List ℕ) → Op
 ReadsTo world s left left' all (Refused fault) = (bytes : List ℕ) × Consumes left left' bytes
     × Reaches world s bytes all fault
 ReadsTo world s left left' all _ = Unit {0}
+
+-- the faults that are found at the end of the lines, or that the writing of the text there has
+abbrev pub IsOfEnd : LogFault → Type 0
+IsOfEnd (Differs line packet) = Unit {0}
+IsOfEnd Write = Unit {0}
+IsOfEnd _ = ⊥

@@ -1,16 +1,17 @@
 //! A log compared with what a session sends.
 ghost use Rattle.std.specs.Prelude.{◌≡◌, ◌<◌, ◌≤◌, ◌+◌, ◌-◌, ◌^◌, ℕ, List, [], ◌∷◌, ◌++◌, None, Some, OnOk};
-ghost use Rattle.session_log.specs.Check.{Compared, begun, check_history, check_machine, compared, due_packets};
-ghost use Rattle.session_log.specs.Ending.{ending_of, read_fails, write_fails};
-ghost use Rattle.session_log.specs.Replay.{Closes, Makes, ReadsTo};
-ghost use Rattle.session_log.specs.Streams.{Counts, IsAllRead, Moves};
+ghost use Rattle.session_log.specs.Check.{Compared, begun, check_machine, compared, due_packets};
+ghost use Rattle.session_log.specs.Command.{PlaysLog, PlaysThrough};
+ghost use Rattle.session_log.specs.declared.command.Command.TheVariants as commands;
+ghost use Rattle.session_log.specs.Ending.{ending_of};
+ghost use Rattle.session_log.specs.Replay.{Makes};
 ghost use Rattle.token_session.specs.declared.input.Timed.{Timed as OneInput};
 ghost use Rattle.authn_core.specs.Turn.{Start};
 ghost use Rattle.token_session.specs.Meters.{SessionState, StandsAfter};
 
 use crate::fault::LogFault;
-use crate::line::{LineKind, kind_of, read_packet, read_timed};
-use crate::playing::{Player, play_all};
+use crate::line::Line;
+use crate::playing::{Player, play_log};
 use crate::source::Source;
 use crate::target::Target;
 use crate::text::{Text, put_same};
@@ -102,21 +103,6 @@ impl Checking {
         self.found = 0;
         self.inputs += 1;
     }
-
-    /// Writes how much was the same, where nothing is missing.
-    fn finish<T: Target>(&self, writer: &mut T) -> Result<(), LogFault>
-        requires write { T.failed writer.old < 2 ^ 64 - 1 }
-        requires found { self.now.found < 2 ^ 64 - 1 }
-        ensures { (s : SessionState) → Closes check_machine T.taken T.failed
-            (compared s self.now.lines self.now.input self.now.found
-            (due_packets self.now.awaited self.now.outbox) self.now.inputs self.now.packets)
-            (writer.old, writer.new) (ending_of result) }
-    {
-        match self.awaited {
-            Some(_) => Err(self.difference()),
-            None => put_same(writer, &mut Text::new(), self.inputs, self.packets),
-        }
-    }
 }
 
 impl<const C: usize> Player<C> for Checking {
@@ -131,32 +117,26 @@ impl<const C: usize> Player<C> for Checking {
 
     fn play<T: Target>(
         &mut self,
-        line: &[u8],
+        meaning: Line,
+        _line: &[u8],
         _text: &[u8],
         number: u64,
         _writer: &mut T,
         session: &mut Session<C>,
     ) -> Result<(), LogFault> {
-        match kind_of(line) {
-            None => Err(LogFault::BadLine(number)),
-            Some(LineKind::Comment | LineKind::Count) => {
+        match meaning {
+            Line::Comment | Line::Count => {
                 self.lines = number;
                 Ok(())
             }
-            Some(LineKind::Sent(field)) => {
-                let Some(packet) = read_packet(field) else {
-                    return Err(LogFault::BadLine(number));
-                };
+            Line::Sent(packet) => {
                 if self.awaited != Some(packet) {
                     return Err(self.difference());
                 }
                 self.take_next(number);
                 Ok(())
             }
-            Some(LineKind::Input(letter, fields)) => {
-                let Some(timed) = read_timed(letter, fields) else {
-                    return Err(LogFault::BadLine(number));
-                };
+            Line::Input(timed) => {
                 if self.awaited.is_some() {
                     return Err(self.difference());
                 }
@@ -164,6 +144,13 @@ impl<const C: usize> Player<C> for Checking {
                 self.begin_input(number);
                 Ok(())
             }
+        }
+    }
+
+    fn finish<T: Target>(&mut self, writer: &mut T, _session: &Session<C>) -> Result<(), LogFault> {
+        match self.awaited {
+            Some(_) => Err(self.difference()),
+            None => put_same(writer, &mut Text::new(), self.inputs, self.packets),
         }
     }
 }
@@ -187,27 +174,16 @@ pub fn check<S: Source, T: Target, const C: usize>(
     requires write { T.failed writer.old < 2 ^ 64 - 1 }
     // At Ok no line is faulty, no packet differs, is missing or is too many, and what was compared was written. A
     // line fault or a difference is the first one. A read that failed names its line, and nothing before it
-    // differs.
+    // differs. At a line fault and a difference at most 256 bytes were read after lines without one.
     ensures checked { (later : Compared SessionState) × (later.session ≡ session.new)
-        × Moves (S.left reader.old) (S.left reader.new) (T.taken writer.old) (T.taken writer.new)
-        (λ bytes text. Makes check_machine (begun session.old) later bytes text (ending_of result)) }
-    // At Ok it was all that the reader held.
-    ensures end { OnOk result (IsAllRead S.left S.ended reader.new) }
-    // At a line fault and a difference at most 256 bytes were read after lines without one.
-    ensures reach { ReadsTo check_machine (begun session.old) (S.left reader.old) (S.left reader.new)
-        (IsAllRead S.left S.ended reader.new) (ending_of result) }
+        × PlaysThrough check_machine (begun session.old)
+        (λ bytes text. Makes check_machine (begun session.old) later bytes text (ending_of result)) S.left S.failed
+        S.ended T.taken T.failed result (reader.old, reader.new) (writer.old, writer.new) }
     // After any history, all this holds of what the history names in place of what the session holds.
     ensures history { (start : Start) (h : List OneInput) → StandsAfter session.old start h
-        → (later : Compared (List OneInput)) × StandsAfter session.new start later.session
-        × Moves (S.left reader.old) (S.left reader.new) (T.taken writer.old) (T.taken writer.new)
-        (λ bytes text. Makes (check_history start) (begun h) later bytes text (ending_of result))
-        × ReadsTo (check_history start) (begun h) (S.left reader.old) (S.left reader.new)
-        (IsAllRead S.left S.ended reader.new) (ending_of result) }
-    // A failure was counted exactly at Read, and exactly at Write.
-    ensures reads { Counts S.failed (reader.old, reader.new) (read_fails (ending_of result)) }
-    ensures writes { Counts T.failed (writer.old, writer.new) (write_fails (ending_of result)) }
+        → PlaysLog commands.Check start h S.left S.failed S.ended T.taken T.failed result session.new (reader.old, reader.new)
+        (writer.old, writer.new) }
 {
     let mut player = Checking::new();
-    play_all(&mut player, reader, writer, session)?;
-    player.finish(writer)
+    play_log(&mut player, reader, writer, session)
 }

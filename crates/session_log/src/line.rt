@@ -1,7 +1,6 @@
 //! What a line says.
-ghost use Rattle.std.specs.Prelude.{◌≡◌, ◌<◌, ◌≤◌, ◌-◌, ◌/◌, ◌^◌, ◌↔◌, ◌==◌, length, position, slice_index, Option, None, Some, IfSome, IsTrue, MatchBool, MatchOption, SomeIff};
+ghost use Rattle.std.specs.Prelude.{◌≡◌, ◌<◌, ◌≤◌, ◌-◌, ◌/◌, ◌^◌, ◌↔◌, ◌==◌, length, position, slice_index, Option, None, Some, IfSome, IsTrue, MatchOption, SomeIff};
 ghost use Rattle.std.specs.Str.Parse.{AllDigits, digits_value};
-ghost use Rattle.hid_packet.specs.declared.packet.Packet.{Packet as AnyPacket};
 ghost use Rattle.session_log.specs.Letters.{space};
 ghost use Rattle.session_log.specs.Said.{first_field, input_by, input_line, key_of, key_said, moment, presence_said, said, says, sent_line, signature_of, signature_said, tick_line, timed_line};
 
@@ -26,7 +25,7 @@ pub enum Line {
 
 /// A line by its front. The fields of an input, and of a packet that was sent, are still to be read.
 #[derive(Clone, Copy)]
-pub enum LineKind<'a> {
+enum LineKind<'a> {
     /// An input for the session: the letter in front, and the fields after it.
     Input(u8, &'a [u8]),
     /// A packet that an earlier run sent: its field.
@@ -171,22 +170,10 @@ fn read_input(letter: u8, field: &[u8]) -> Option<Input>
 }
 
 /// The packet that the field of a `<` line says.
-pub fn read_packet(field: &[u8]) -> Option<Packet>
+fn read_packet(field: &[u8]) -> Option<Packet>
     ensures { MatchOption result (sent_line field.now ≡ None) (λ packet. sent_line field.now ≡ Some (Line.Sent packet)) }
 {
     Some(Packet(read_bytes(field)?))
-}
-
-// The next one and `read_other` aren't inlined, so that a tick and a comment don't pay for the space of other lines.
-
-/// Whether the field of a `<` line says a packet.
-#[inline(never)]
-pub fn is_packet(field: &[u8]) -> bool
-    ensures { MatchBool result
-        ((packet : AnyPacket) × (sent_line field.now ≡ Some (Line.Sent packet)))
-        (sent_line field.now ≡ None) }
-{
-    read_packet(field).is_some()
 }
 
 /// The moment that the field of a `t` line says.
@@ -201,6 +188,7 @@ fn read_tick(field: &[u8]) -> Option<Timed>
 }
 
 /// The input and its moment that the fields of a line with another letter say.
+// It isn't inlined, so that a tick and a comment don't pay for the space of other lines.
 #[inline(never)]
 fn read_other(letter: u8, fields: &[u8]) -> Option<Timed>
     ensures { MatchOption result (input_line letter fields.now ≡ None)
@@ -213,7 +201,7 @@ fn read_other(letter: u8, fields: &[u8]) -> Option<Timed>
 }
 
 /// The input and its moment that the fields of a line with this letter say.
-pub fn read_timed(letter: u8, fields: &[u8]) -> Option<Timed>
+fn read_timed(letter: u8, fields: &[u8]) -> Option<Timed>
     ensures { MatchOption result (timed_line letter fields.now ≡ None)
         (λ timed. timed_line letter fields.now ≡ Some (Line.Input timed)) }
 {
@@ -224,7 +212,7 @@ pub fn read_timed(letter: u8, fields: &[u8]) -> Option<Timed>
 }
 
 /// What kind of line it is, if it begins as a log line does. The line comes without its line feed.
-pub fn kind_of(line: &[u8]) -> Option<LineKind<'_>>
+fn kind_of(line: &[u8]) -> Option<LineKind<'_>>
     ensures { MatchOption result (said line.now ≡ None) (λ kind. said line.now ≡ says kind) }
 {
     match line {

@@ -1,5 +1,6 @@
 //! A log replayed on a session, with what the session needs.
 ghost use Rattle.std.specs.Prelude.{◌≡◌, ◌<◌, ◌-◌, ◌^◌, List, [], OnOk};
+ghost use Rattle.session_log.specs.Command.{PlaysThrough};
 ghost use Rattle.session_log.specs.Ending.{ending_of, read_fails, write_fails};
 ghost use Rattle.session_log.specs.Needs.{is_need_line as is_one};
 ghost use Rattle.session_log.specs.Replay.{Logs, Plays, ReadsTo, Writes};
@@ -10,8 +11,8 @@ ghost use Rattle.token_session.specs.Meters.{SessionState, StandsAfter};
 ghost use Rattle.session_log.specs.Streams.{Counts, IsAllRead, Moves};
 
 use crate::fault::LogFault;
-use crate::line::{LineKind, is_packet, kind_of, read_timed};
-use crate::playing::{Player, play_all};
+use crate::line::Line;
+use crate::playing::{Player, play_lines, play_log};
 use crate::source::Source;
 use crate::target::Target;
 use crate::text::{Text, put_meters, put_served, put_text};
@@ -55,27 +56,23 @@ impl<const C: usize> Player<C> for Living {
 
     fn play<T: Target>(
         &mut self,
+        meaning: Line,
         line: &[u8],
         text: &[u8],
-        number: u64,
+        _number: u64,
         writer: &mut T,
         session: &mut Session<C>,
     ) -> Result<(), LogFault> {
-        match kind_of(line) {
-            Some(LineKind::Count) => Ok(()),
-            Some(LineKind::Sent(field)) if is_packet(field) => Ok(()),
-            None | Some(LineKind::Sent(_)) => Err(LogFault::BadLine(number)),
-            Some(LineKind::Comment) => {
+        match meaning {
+            Line::Sent(_) | Line::Count => Ok(()),
+            Line::Comment => {
                 if is_need_line(line) {
                     Ok(())
                 } else {
                     put_text(writer, text)
                 }
             }
-            Some(LineKind::Input(letter, fields)) => {
-                let Some(timed) = read_timed(letter, fields) else {
-                    return Err(LogFault::BadLine(number));
-                };
+            Line::Input(timed) => {
                 session.step(timed.at, timed.input, &mut self.outbox);
                 // What is needed is asked of the session as the input leaves it.
                 put_served(
@@ -87,6 +84,10 @@ impl<const C: usize> Player<C> for Living {
                 )
             }
         }
+    }
+
+    fn finish<T: Target>(&mut self, writer: &mut T, session: &Session<C>) -> Result<(), LogFault> {
+        put_meters(writer, &mut self.text, session.meters())
     }
 }
 
@@ -118,7 +119,7 @@ pub fn live_lines<S: Source, T: Target, const C: usize>(
     ensures writes { Counts T.failed (writer.old, writer.new) (write_fails (ending_of result)) }
 {
     let mut player = Living::new();
-    play_all(&mut player, reader, writer, session)
+    play_lines(&mut player, reader, writer, session)
 }
 
 /// Replays a log on a session as [`crate::replay`] does, and says after the packets of each input line what the
@@ -137,31 +138,20 @@ pub fn live<S: Source, T: Target, const C: usize>(
     requires write { T.failed writer.old < 2 ^ 64 - 1 }
     // At Ok no line is faulty, and the whole log was written with what was needed. What a fault means is what it means
     // of a replay, but of the text with what was needed.
-    ensures lived { Moves (S.left reader.old) (S.left reader.new) (T.taken writer.old) (T.taken writer.new)
-        (λ bytes text. Logs live_machine session.old session.new bytes text result) }
-    // At Ok it was all that the reader held.
-    ensures end { OnOk result (IsAllRead S.left S.ended reader.new) }
+    ensures lived { PlaysThrough live_machine session.old
+        (λ bytes text. Logs live_machine session.old session.new bytes text result) S.left S.failed S.ended T.taken
+        T.failed result (reader.old, reader.new) (writer.old, writer.new) }
     // Played again on an equal session, what was written makes the same bytes.
     ensures again { OnOk result (RepeatsIn live_machine (T.taken writer.old) (T.taken writer.new) session.old) }
     // Replayed on an equal session, it makes the same bytes too.
     ensures replays { OnOk result (Repeats (T.taken writer.old) (T.taken writer.new) session.old) }
-    // At a line fault at most 256 bytes were read after the lines before the faulty one.
-    ensures reach { ReadsTo live_machine session.old (S.left reader.old) (S.left reader.new)
-        (IsAllRead S.left S.ended reader.new) (ending_of result) }
     // After any history, all this holds of what the history names in place of what the session holds.
     ensures history { (start : Start) (h : List OneInput) → StandsAfter session.old start h
         → (later : List OneInput) × StandsAfter session.new start later
-        × Moves (S.left reader.old) (S.left reader.new) (T.taken writer.old) (T.taken writer.new)
-        (λ bytes text. Logs (live_history start) h later bytes text result)
-        × ReadsTo (live_history start) h (S.left reader.old) (S.left reader.new)
-        (IsAllRead S.left S.ended reader.new) (ending_of result) }
-    // A failure was counted exactly at Read, and exactly at Write.
-    ensures reads { Counts S.failed (reader.old, reader.new) (read_fails (ending_of result)) }
-    ensures writes { Counts T.failed (writer.old, writer.new) (write_fails (ending_of result)) }
+        × PlaysThrough (live_history start) h (λ bytes text. Logs (live_history start) h later bytes text result)
+        S.left S.failed S.ended T.taken T.failed result (reader.old, reader.new) (writer.old, writer.new) }
 {
     let mut player = Living::new();
-    play_all(&mut player, reader, writer, session)?;
-    let meters = session.meters();
-    put_meters(writer, &mut player.text, meters)?;
-    Ok(meters)
+    play_log(&mut player, reader, writer, session)?;
+    Ok(session.meters())
 }

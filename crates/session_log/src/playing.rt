@@ -1,10 +1,12 @@
 //! The lines of a log, played one by one.
-ghost use Rattle.std.specs.Prelude.{◌≡◌, ◌<◌, ◌≤◌, ◌-◌, ◌^◌, ℕ, OnOk};
-ghost use Rattle.session_log.specs.Ending.{ending_of, read_fails, write_fails};
-ghost use Rattle.session_log.specs.Replay.{Plays, ReadsTo};
-ghost use Rattle.session_log.specs.Streams.{Counts, IsAllRead, Moves};
+ghost use Rattle.std.specs.Prelude.{◌≡◌, ◌<◌, ◌≤◌, ◌+◌, ◌-◌, ◌^◌, ℕ, length, IfErr, OnOk};
+ghost use Rattle.session_log.specs.Command.{PlaysThrough};
+ghost use Rattle.session_log.specs.Ending.{ending_of};
+ghost use Rattle.session_log.specs.Replay.{IsOfLine, MakesSoundly, Plays, PlaysLine};
+ghost use Rattle.session_log.specs.Text.{ended};
 
 use crate::fault::LogFault;
+use crate::line::{Line, read_line};
 use crate::lines::next_line;
 use crate::source::Source;
 use crate::target::Target;
@@ -13,9 +15,10 @@ use token_session::Session;
 
 /// What a command does with each line of a log.
 pub trait Player<const C: usize> {
-    ghost use Rattle.std.specs.Prelude.{◌≡◌, ◌<◌, ◌+◌, ◌-◌, ◌^◌, ℕ, length, OnOk, IfErr};
+    ghost use Rattle.std.specs.Prelude.{◌≡◌, ◌<◌, ◌≤◌, ◌+◌, ◌-◌, ◌^◌, ℕ, length, Some, OnOk, IfErr};
     ghost use Rattle.session_log.specs.Ending.{ending_of};
-    ghost use Rattle.session_log.specs.Replay.{IsOfLine, PlaysLine};
+    ghost use Rattle.session_log.specs.Replay.{Closes, IsOfEnd, IsOfLine, PlaysLine};
+    ghost use Rattle.session_log.specs.Said.{said};
     ghost use Rattle.session_log.specs.Text.{ended};
     ghost use Rattle.session_log.specs.World.{World};
     ghost use Rattle.token_session.specs.Meters.{SessionState};
@@ -32,10 +35,11 @@ pub trait Player<const C: usize> {
     /// Whether it is ready for line n.
     ghost IsReady: { Self → ℕ → Type 0 };
 
-    /// Plays a line, which is line `number` of its log; `text` is the line with its line feed. A line that is
-    /// faulty leaves the session as it is.
+    /// Plays a line that says this, which is line `number` of its log; `text` is the line with its line feed. A line that
+    /// is faulty leaves the session as it is.
     fn play<T: Target>(
         &mut self,
+        meaning: Line,
         line: &[u8],
         text: &[u8],
         number: u64,
@@ -43,6 +47,7 @@ pub trait Player<const C: usize> {
         session: &mut Session<C>,
     ) -> Result<(), LogFault>
         requires write { T.failed writer.old < 2 ^ 64 - 1 }
+        requires means { said line.now ≡ Some meaning }
         requires short { length line.now < 256 }
         requires ended { text.now ≡ ended line.now }
         requires few { number < 2 ^ 32 }
@@ -51,11 +56,45 @@ pub trait Player<const C: usize> {
             (state self.new session.new) line.now (writer.old, writer.new) (ending_of result) }
         ensures own { IfErr result (IsOfLine number) }
         ensures next { OnOk result (IsReady self.new (number + 1)) };
+
+    /// Writes what comes after the last line, where nothing is wrong there.
+    fn finish<T: Target>(&mut self, writer: &mut T, session: &Session<C>) -> Result<(), LogFault>
+        requires write { T.failed writer.old < 2 ^ 64 - 1 }
+        requires ready { (n : ℕ) × (n ≤ 2 ^ 32) × IsReady self.old n }
+        ensures closed { Closes world T.taken T.failed (state self.old session.now) (writer.old, writer.new)
+            (ending_of result) }
+        ensures own { IfErr result IsOfEnd }
+        ensures same { (s : SessionState) → state self.new s ≡ state self.old s };
+}
+
+/// Plays line `number` of a log, where it is a log line. A line that is faulty leaves the session as it is.
+fn play_line<P: Player<C>, T: Target, const C: usize>(
+    player: &mut P,
+    line: &[u8],
+    text: &[u8],
+    number: u64,
+    writer: &mut T,
+    session: &mut Session<C>,
+) -> Result<(), LogFault>
+    requires write { T.failed writer.old < 2 ^ 64 - 1 }
+    requires short { length line.now < 256 }
+    requires ended { text.now ≡ ended line.now }
+    requires few { number < 2 ^ 32 }
+    requires ready { P.IsReady player.old number }
+    ensures played { PlaysLine P.world T.taken T.failed number (P.state player.old session.old)
+        (P.state player.new session.new) line.now (writer.old, writer.new) (ending_of result) }
+    ensures own { IfErr result (IsOfLine number) }
+    ensures next { OnOk result (P.IsReady player.new (number + 1)) }
+{
+    match read_line(line) {
+        Some(meaning) => player.play(meaning, line, text, number, writer, session),
+        None => Err(LogFault::BadLine(number)),
+    }
 }
 
 /// Plays all lines that a reader holds. They are read as they are needed: before a line is played, no more
 /// than that line and what the window has space for.
-pub fn play_all<P: Player<C>, S: Source, T: Target, const C: usize>(
+pub fn play_lines<P: Player<C>, S: Source, T: Target, const C: usize>(
     player: &mut P,
     reader: &mut S,
     writer: &mut T,
@@ -64,21 +103,17 @@ pub fn play_all<P: Player<C>, S: Source, T: Target, const C: usize>(
     requires read { S.failed reader.old < 2 ^ 64 - 1 }
     requires write { T.failed writer.old < 2 ^ 64 - 1 }
     requires ready { P.IsReady player.old 1 }
-    ensures played { Moves (S.left reader.old) (S.left reader.new) (T.taken writer.old) (T.taken writer.new)
+    ensures played { PlaysThrough P.world (P.state player.old session.old)
         (λ bytes text. Plays P.world (P.state player.old session.old) (P.state player.new session.new) bytes text
-        (ending_of result)) }
-    ensures end { OnOk result (IsAllRead S.left S.ended reader.new) }
+        (ending_of result)) S.left S.failed S.ended T.taken T.failed result (reader.old, reader.new)
+        (writer.old, writer.new) }
     ensures ready { OnOk result ((n : ℕ) × (n ≤ 2 ^ 32) × P.IsReady player.new n) }
-    ensures reach { ReadsTo P.world (P.state player.old session.old) (S.left reader.old) (S.left reader.new)
-        (IsAllRead S.left S.ended reader.new) (ending_of result) }
-    ensures reads { Counts S.failed (reader.old, reader.new) (read_fails (ending_of result)) }
-    ensures writes { Counts T.failed (writer.old, writer.new) (write_fails (ending_of result)) }
 {
     let mut window = Window::new();
     let mut number = 1;
     'lines: while let Some(end) = next_line(&mut window, reader, number)? {
         let text = window.as_slice().split_at(end + 1).0;
-        player.play(text.split_at(end).0, text, number, writer, session)?;
+        play_line(player, text.split_at(end).0, text, number, writer, session)?;
         window.drop_front(end + 1);
         number += 1;
     }
@@ -88,5 +123,23 @@ pub fn play_all<P: Player<C>, S: Source, T: Target, const C: usize>(
     let end = window.len();
     window.end_line();
     let text = window.as_slice();
-    player.play(text.split_at(end).0, text, number, writer, session)
+    play_line(player, text.split_at(end).0, text, number, writer, session)
+}
+
+/// Plays all lines that a reader holds, and writes what comes after them.
+pub fn play_log<P: Player<C>, S: Source, T: Target, const C: usize>(
+    player: &mut P,
+    reader: &mut S,
+    writer: &mut T,
+    session: &mut Session<C>,
+) -> Result<(), LogFault>
+    requires read { S.failed reader.old < 2 ^ 64 - 1 }
+    requires write { T.failed writer.old < 2 ^ 64 - 1 }
+    requires ready { P.IsReady player.old 1 }
+    ensures { PlaysThrough P.world (P.state player.old session.old)
+        (λ bytes text. MakesSoundly P.world (P.state player.old session.old) (P.state player.new session.new) bytes text
+        result) S.left S.failed S.ended T.taken T.failed result (reader.old, reader.new) (writer.old, writer.new) }
+{
+    play_lines(player, reader, writer, session)?;
+    player.finish(writer, session)
 }

@@ -1,16 +1,17 @@
 //! A log made quiet.
-ghost use Rattle.std.specs.Prelude.{◌≡◌, ◌<◌, ◌-◌, ◌^◌, List, [], OnOk};
-ghost use Rattle.session_log.specs.Ending.{ending_of, read_fails, write_fails};
-ghost use Rattle.session_log.specs.Replay.{Makes, ReadsTo};
+ghost use Rattle.std.specs.Prelude.{◌≡◌, ◌<◌, ◌-◌, ◌^◌, List, []};
+ghost use Rattle.session_log.specs.Command.{PlaysLog, PlaysThrough};
+ghost use Rattle.session_log.specs.declared.command.Command.TheVariants as commands;
+ghost use Rattle.session_log.specs.Ending.{ending_of};
+ghost use Rattle.session_log.specs.Replay.{Makes};
 ghost use Rattle.session_log.specs.Session.{quiet_history, quiet_machine};
 ghost use Rattle.token_session.specs.declared.input.Timed.{Timed as OneInput};
 ghost use Rattle.authn_core.specs.Turn.{Start};
 ghost use Rattle.token_session.specs.Meters.{SessionState, StandsAfter};
-ghost use Rattle.session_log.specs.Streams.{Counts, IsAllRead, Moves};
 
 use crate::fault::LogFault;
-use crate::line::{LineKind, is_packet, kind_of, read_timed};
-use crate::playing::{Player, play_all};
+use crate::line::Line;
+use crate::playing::{Player, play_log};
 use crate::source::Source;
 use crate::target::Target;
 use crate::text::{Text, put_text, put_tick};
@@ -53,21 +54,17 @@ impl<const C: usize> Player<C> for Quieting {
 
     fn play<T: Target>(
         &mut self,
-        line: &[u8],
+        meaning: Line,
+        _line: &[u8],
         text: &[u8],
-        number: u64,
+        _number: u64,
         writer: &mut T,
         session: &mut Session<C>,
     ) -> Result<(), LogFault> {
-        match kind_of(line) {
-            Some(LineKind::Count) => Ok(()),
-            Some(LineKind::Sent(field)) if is_packet(field) => Ok(()),
-            None | Some(LineKind::Sent(_)) => Err(LogFault::BadLine(number)),
-            Some(LineKind::Comment) => put_text(writer, text),
-            Some(LineKind::Input(letter, fields)) => {
-                let Some(timed) = read_timed(letter, fields) else {
-                    return Err(LogFault::BadLine(number));
-                };
+        match meaning {
+            Line::Sent(_) | Line::Count => Ok(()),
+            Line::Comment => put_text(writer, text),
+            Line::Input(timed) => {
                 // Whether it is noise is asked of the session as the input finds it.
                 let noise = session.noise(timed.at, &timed.input);
                 session.step(timed.at, timed.input, &mut self.outbox);
@@ -79,6 +76,14 @@ impl<const C: usize> Player<C> for Quieting {
                 }
             }
         }
+    }
+
+    fn finish<T: Target>(
+        &mut self,
+        _writer: &mut T,
+        _session: &Session<C>,
+    ) -> Result<(), LogFault> {
+        Ok(())
     }
 }
 
@@ -97,24 +102,14 @@ pub fn quiet<S: Source, T: Target, const C: usize>(
     requires write { T.failed writer.old < 2 ^ 64 - 1 }
     // At Ok no line is faulty, and all that was made quiet was written. What a fault means is what it means of a
     // replay, but of the text that is made quiet.
-    ensures made { Moves (S.left reader.old) (S.left reader.new) (T.taken writer.old) (T.taken writer.new)
-        (λ bytes text. Makes quiet_machine session.old session.new bytes text (ending_of result)) }
-    // At Ok it was all that the reader held.
-    ensures end { OnOk result (IsAllRead S.left S.ended reader.new) }
-    // At a line fault at most 256 bytes were read after the lines before the faulty one.
-    ensures reach { ReadsTo quiet_machine session.old (S.left reader.old) (S.left reader.new)
-        (IsAllRead S.left S.ended reader.new) (ending_of result) }
+    ensures made { PlaysThrough quiet_machine session.old
+        (λ bytes text. Makes quiet_machine session.old session.new bytes text (ending_of result)) S.left S.failed S.ended
+        T.taken T.failed result (reader.old, reader.new) (writer.old, writer.new) }
     // After any history, all this holds of what is noise after it.
     ensures history { (start : Start) (h : List OneInput) → StandsAfter session.old start h
-        → (later : List OneInput) × StandsAfter session.new start later
-        × Moves (S.left reader.old) (S.left reader.new) (T.taken writer.old) (T.taken writer.new)
-        (λ bytes text. Makes (quiet_history start) h later bytes text (ending_of result))
-        × ReadsTo (quiet_history start) h (S.left reader.old) (S.left reader.new)
-        (IsAllRead S.left S.ended reader.new) (ending_of result) }
-    // A failure was counted exactly at Read, and exactly at Write.
-    ensures reads { Counts S.failed (reader.old, reader.new) (read_fails (ending_of result)) }
-    ensures writes { Counts T.failed (writer.old, writer.new) (write_fails (ending_of result)) }
+        → PlaysLog commands.Quiet start h S.left S.failed S.ended T.taken T.failed result session.new (reader.old, reader.new)
+        (writer.old, writer.new) }
 {
     let mut player = Quieting::new();
-    play_all(&mut player, reader, writer, session)
+    play_log(&mut player, reader, writer, session)
 }

@@ -1,16 +1,15 @@
 //! A log replayed on a session.
 ghost use Rattle.std.specs.Prelude.{◌≡◌, ◌<◌, ◌-◌, ◌^◌, List, [], OnOk};
-ghost use Rattle.session_log.specs.Ending.{ending_of, read_fails, write_fails};
-ghost use Rattle.session_log.specs.Replay.{Logs, ReadsTo};
+ghost use Rattle.session_log.specs.Command.{PlaysThrough};
+ghost use Rattle.session_log.specs.Replay.{Logs};
 ghost use Rattle.session_log.specs.Session.{history, machine, Repeats};
 ghost use Rattle.token_session.specs.declared.input.Timed.{Timed as OneInput};
 ghost use Rattle.authn_core.specs.Turn.{Start};
 ghost use Rattle.token_session.specs.Meters.{SessionState, StandsAfter};
-ghost use Rattle.session_log.specs.Streams.{Counts, IsAllRead, Moves};
 
 use crate::fault::LogFault;
-use crate::line::{LineKind, is_packet, kind_of, read_timed};
-use crate::playing::{Player, play_all};
+use crate::line::Line;
+use crate::playing::{Player, play_log};
 use crate::source::Source;
 use crate::target::Target;
 use crate::text::{Text, put_input, put_meters, put_text};
@@ -46,25 +45,25 @@ impl<const C: usize> Player<C> for Replaying {
 
     fn play<T: Target>(
         &mut self,
-        line: &[u8],
+        meaning: Line,
+        _line: &[u8],
         text: &[u8],
-        number: u64,
+        _number: u64,
         writer: &mut T,
         session: &mut Session<C>,
     ) -> Result<(), LogFault> {
-        match kind_of(line) {
-            Some(LineKind::Count) => Ok(()),
-            Some(LineKind::Sent(field)) if is_packet(field) => Ok(()),
-            None | Some(LineKind::Sent(_)) => Err(LogFault::BadLine(number)),
-            Some(LineKind::Comment) => put_text(writer, text),
-            Some(LineKind::Input(letter, fields)) => {
-                let Some(timed) = read_timed(letter, fields) else {
-                    return Err(LogFault::BadLine(number));
-                };
+        match meaning {
+            Line::Sent(_) | Line::Count => Ok(()),
+            Line::Comment => put_text(writer, text),
+            Line::Input(timed) => {
                 session.step(timed.at, timed.input, &mut self.outbox);
                 put_input(writer, &mut self.text, text, &mut self.outbox)
             }
         }
+    }
+
+    fn finish<T: Target>(&mut self, writer: &mut T, session: &Session<C>) -> Result<(), LogFault> {
+        put_meters(writer, &mut self.text, session.meters())
     }
 }
 
@@ -86,30 +85,21 @@ pub fn replay<S: Source, T: Target, const C: usize>(
     requires write { T.failed writer.old < 2 ^ 64 - 1 }
     // At Ok no line is faulty, and the whole log was written. A line fault is that of the first faulty line, and
     // the lines before it were written. A read that failed names its line, and the lines before it were written.
-    // After a write that failed a beginning of the log was written.
-    ensures replayed { Moves (S.left reader.old) (S.left reader.new) (T.taken writer.old) (T.taken writer.new)
-        (λ bytes text. Logs machine session.old session.new bytes text result) }
-    // At Ok it was all that the reader held.
-    ensures end { OnOk result (IsAllRead S.left S.ended reader.new) }
+    // After a write that failed a beginning of the log was written. At a line fault at most 256 bytes were read after
+    // the lines before the faulty one; at Ok all that the reader held. A failure was counted exactly at Read, and
+    // exactly at Write.
+    ensures replayed { PlaysThrough machine session.old
+        (λ bytes text. Logs machine session.old session.new bytes text result) S.left S.failed S.ended T.taken T.failed
+        result (reader.old, reader.new) (writer.old, writer.new) }
     // Replayed again on an equal session, what was written makes the same bytes.
     ensures again { OnOk result (Repeats (T.taken writer.old) (T.taken writer.new) session.old) }
-    // At a line fault at most 256 bytes were read after the lines before the faulty one.
-    ensures reach { ReadsTo machine session.old (S.left reader.old) (S.left reader.new)
-        (IsAllRead S.left S.ended reader.new) (ending_of result) }
     // After any history, all this holds of what the history names in place of what the session holds.
     ensures history { (start : Start) (h : List OneInput) → StandsAfter session.old start h
         → (later : List OneInput) × StandsAfter session.new start later
-        × Moves (S.left reader.old) (S.left reader.new) (T.taken writer.old) (T.taken writer.new)
-        (λ bytes text. Logs (history start) h later bytes text result)
-        × ReadsTo (history start) h (S.left reader.old) (S.left reader.new)
-        (IsAllRead S.left S.ended reader.new) (ending_of result) }
-    // A failure was counted exactly at Read, and exactly at Write.
-    ensures reads { Counts S.failed (reader.old, reader.new) (read_fails (ending_of result)) }
-    ensures writes { Counts T.failed (writer.old, writer.new) (write_fails (ending_of result)) }
+        × PlaysThrough (history start) h (λ bytes text. Logs (history start) h later bytes text result)
+        S.left S.failed S.ended T.taken T.failed result (reader.old, reader.new) (writer.old, writer.new) }
 {
     let mut player = Replaying::new();
-    play_all(&mut player, reader, writer, session)?;
-    let meters = session.meters();
-    put_meters(writer, &mut player.text, meters)?;
-    Ok(meters)
+    play_log(&mut player, reader, writer, session)?;
+    Ok(session.meters())
 }

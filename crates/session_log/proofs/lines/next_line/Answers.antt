@@ -13,15 +13,6 @@ reading-init g c = record {
   done = ([], sym (append-nil c.args.window.now), Consumes-nil (g.S.Source.left c.args.reader.now));
 }
 
-pub is_too_many-requires : goal.is_too_many-requires
-is_too_many-requires g c = tt
-
-pub first_feed-requires : goal.first_feed-requires
-first_feed-requires g c = tt
-
-pub is_full-requires : goal.is_full-requires
-is_full-requires g c = tt
-
 pub fill-requires-clause-read : goal.fill-requires-clause-read
 fill-requires-clause-read g c = subst (λ (k : ℕ). k < 2 ^ 64 - 1) (sym c.reading.invariant.same) c.requires
 

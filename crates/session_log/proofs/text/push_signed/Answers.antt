@@ -1,7 +1,7 @@
 use Rattle.std.proofs.Common.{rules, ◌≡◌, ◌<◌, suc, ◌+◌, ◌-◌, ◌/◌, ◌++◌, ◌∷◌, length, take, drop, min, flat_map, map, List, ℕ, sym, ap, ◌∙◌, append_assoc, arith, length-drop, length-take}
 use Rattle.session_log.specs.Needs.{pieces_of, signed_line}
 use Rattle.session_log.specs.Text.{ended}
-use Rattle.session_log.proofs.Pieces.{pieces_more, one_less}
+use Rattle.session_log.proofs.Tells.{pieces_more, one_less}
 use Rattle.session_log.proofs.text.push_signed.Goals as goal
 
 pub loop-rest-preserved : goal.loop-rest-preserved

@@ -1,7 +1,7 @@
 use Rattle.std.proofs.Common.{◌≡◌, ◌-◌, ◌^◌, ◌≤◌, List, ℕ, ◌++◌}
 use Rattle.std.specs.Io.KnownBytes.{Consumes, Appends}
 use Rattle.session_log.proofs.Through.{Through}
-use Rattle.session_log.proofs.playing.play_all.Given as goal
+use Rattle.session_log.proofs.playing.play_lines.Given as goal
 
 -- whole lines were read, played and written, and what was read after them stands in the window
 abbrev pub invariant-lines : goal.invariant-lines
