@@ -1,9 +1,9 @@
 -- What work can count on between turns.
-use Rattle.std.specs.Prelude.{ℕ, ◌≡◌, ◌<◌, ◌-◌, ◌^◌, List, ◌++◌, length, true, false, Option, Some, None, is_some}
+use Rattle.std.specs.Prelude.{ℕ, ◌≡◌, ◌<◌, ◌-◌, ◌^◌, List, ◌++◌, length, Bool, true, false, Option, Some, None, is_some}
 use Rattle.std.specs.List.{AllByRecursion, find}
 use Rattle.cred_table.specs.declared.row.Row.{Row}
 use Rattle.cred_table.specs.Rows.{has_id, counter_of}
-use Rattle.cred_table.specs.Waiting.{Waiting}
+use Rattle.cred_table.specs.Waiting.{Waiting, pending_of}
 use Rattle.fido_authdata.specs.AuthData.{assertion_bytes, created_bytes}
 use Rattle.authn_core.specs.State.{Task, WantsKey, SignsMake, AsksAssert, SignsAssert, Job, State}
 use Rattle.authn_core.specs.MakeCredential.{fits}
@@ -40,6 +40,12 @@ AllThere rows ids = AllByRecursion (λ id. is_some (find (has_id id) rows) ≡ t
 abbrev pub PendingReady : List Row → Option Waiting → Type 0
 PendingReady rows None = Unit {0}
 PendingReady rows (Some w) = AllThere rows w.ids
+
+-- These ids are pending, so many and no others, all that a request named.
+pub record IsPendingAlone (p : Option Waiting) (cid : ℕ) (hash : List ℕ) (presence : Bool) (now : ℕ) (ids : List (List ℕ)) (count : ℕ) : Type 0 where
+  pub are : p ≡ pending_of cid hash presence now ids
+  pub counted : length ids ≡ count
+  pub few : count < 2 ^ 16
 
 -- a state that turns lead to: every pending id has a row, and the work can go on
 pub record Ready (room : ℕ) (s : State) : Type 0 where

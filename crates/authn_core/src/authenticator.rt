@@ -101,6 +101,8 @@ pub struct Core<T: Table<C>, const C: usize> {
     pub(crate) table: T,
     pub(crate) pending: Pending<C>,
     pub(crate) work: Option<Job>,
+    /// The ids of the rows that may sign the last getAssertion. They stay here, since a new list would be cleared whole.
+    pub(crate) applicable: ArrayVec<[u8; 32], C>,
 }
 
 // Clauses see the authenticator's state, and the steps of the last request.
@@ -138,6 +140,7 @@ impl<T: Table<C>, const C: usize> Core<T, C> {
             table,
             pending: Pending::new(),
             work: None,
+            applicable: ArrayVec::new(),
         }
     }
 

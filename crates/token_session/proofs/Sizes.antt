@@ -28,15 +28,16 @@ both e m f q h k = omega (arith, h, k)
 times : (k n : ℕ) → n ≤ 256 → 0 + n * k ≤ 0 + 256 * k
 times k n few = from 0 (n * k) (256 * k) (mul-le-mul_right k few)
 
--- a session of so few credentials, by the size of a row and of a pending assertion
+-- a session of so few credentials, by the size of a row and of an id
 pub session_small : (n : ℕ) → n ≤ 256
-    → up 8 (7664 + up 8 (up 8 (up 8 (0 + up 8 (up 8 (up 8 (40 + up 8 (up 8 (0 + up 8 (up 2 (up 2 (up 2 (up 2 (0 + n * 296) + 128) + 4) + 4) + 4)) + 8))
-    + up 8 (48 + up 8 (up 1 (up 8 (0 + up 1 (0 + n * 32)) + 8) + 0))) + 544)) + 8) + 32)) < 2 ^ 63
+    → up 8 (7664 + up 8 (up 8 (up 8 (0 + up 8 (up 8 (up 8 (up 8 (40 + up 8 (up 8 (0 + up 8 (up 2 (up 2 (up 2 (up 2 (0 + n * 296) + 128) + 4) + 4) + 4)) + 8))
+    + up 8 (48 + up 8 (up 1 (up 8 (0 + up 1 (0 + n * 32)) + 8) + 0))) + 544) + up 8 (up 1 (up 8 (0 + up 1 (0 + n * 32)) + 8) + 0))) + 8) + 32)) < 2 ^ 63
 session_small n few =
     let row = up_2 _ _ (more 128 _ _ (up_2 _ _ (times 296 n few))) in
     let rows = up_8 _ _ (more 4 _ _ (up_2 _ _ (more 4 _ _ (up_2 _ _ (more 4 _ _ row))))) in
     let table = up_8 _ _ (more 8 _ _ (up_8 _ _ (from 0 _ _ rows))) in
-    let waiting = up_8 _ _ (more 0 _ _ (up_1 _ _ (more 8 _ _ (up_8 _ _ (from 0 _ _ (up_1 _ _ (times 32 n few))))))) in
-    let core = up_8 _ _ (more 544 _ _ (up_8 _ _ (both _ _ _ _ (up_8 _ _ (from 40 _ _ table)) (up_8 _ _ (from 48 _ _ waiting))))) in
+    let ids = up_8 _ _ (more 0 _ _ (up_1 _ _ (more 8 _ _ (up_8 _ _ (from 0 _ _ (up_1 _ _ (times 32 n few))))))) in
+    let worked = up_8 _ _ (more 544 _ _ (up_8 _ _ (both _ _ _ _ (up_8 _ _ (from 40 _ _ table)) (up_8 _ _ (from 48 _ _ ids))))) in
+    let core = up_8 _ _ (both _ _ _ _ worked ids) in
     let keeper = up_8 _ _ (more 32 _ _ (up_8 _ _ (more 8 _ _ (up_8 _ _ (from 0 _ _ core))))) in
     lt_of_le_of_lt (up_8 _ _ (from 7664 _ _ keeper)) (omega arith)

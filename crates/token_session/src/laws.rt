@@ -31,7 +31,7 @@ ghost use Rattle.token_session.specs.Answered.{IsTold, happened, waits_in};
 ghost use Rattle.token_session.specs.Headline.{IsAnswered};
 ghost use Rattle.token_session.specs.Meters.{SessionState, meters_of, session_of, stepped};
 ghost use Rattle.token_session.specs.Noise.{Quiet, is_noise_at, is_noise_after, quiet_from, quiet_sent, tick_at};
-ghost use Rattle.hid_packet.specs.Limits.{OUTBOX_CAPACITY};
+ghost use Rattle.hid_packet.specs.Limits.{LONGEST_HELD, OUTBOX_CAPACITY};
 
 use authn_core::laws::{
     answers_follow_history as answering_law, rows_follow_history, texts_to_sign_differ,
@@ -67,7 +67,7 @@ pub fn keepalives_count_from_the_last()
 pub fn one_message_is_open()
     ensures one { (start : Start) (t : ℕ) (h : List OneInput) → end start (judged start h) ≤ t
         → all_open [] (judged start h) t ≡ option_to_list (open_at (judged start h) t) }
-    ensures held { (start : Start) (h : List OneInput) → held start (judged start h) ≤ 7550 }
+    ensures held { (start : Start) (h : List OneInput) → held start (judged start h) ≤ LONGEST_HELD }
 {}
 
 /// A packet that carries a whole PING or CBOR message on a channel that was given out finishes it, where no message is
@@ -109,7 +109,7 @@ pub fn requests_are_answered()
 /// The meters of every history are bounded: at most 7550 bytes were held of an unfinished message, and reading took at
 /// most four steps for each byte after a command byte, and two for each request.
 pub fn meters_are_bounded()
-    ensures held { (start : Start) (h : List OneInput) → (meters_of start (judged start h)).held ≤ 7550 }
+    ensures held { (start : Start) (h : List OneInput) → (meters_of start (judged start h)).held ≤ LONGEST_HELD }
     ensures steps { (start : Start) (h : List OneInput) → (meters_of start (judged start h)).steps
         ≤ 4 * (meters_of start (judged start h)).bytes + 2 * (meters_of start (judged start h)).requests }
 {

@@ -13,7 +13,7 @@ ghost use Rattle.token_session.specs.Effects.{request_in};
 ghost use Rattle.token_session.specs.Meters.{AreBounded, SessionState, StandsAfter, counted, stepped, sent_by, session_of};
 ghost use Rattle.token_session.specs.Machine.{time_passed, served};
 ghost use Rattle.token_session.specs.Noise.{is_noise_at, is_noise_after};
-ghost use Rattle.hid_packet.specs.Limits.{OUTBOX_CAPACITY};
+ghost use Rattle.hid_packet.specs.Limits.{LONGEST_HELD, OUTBOX_CAPACITY};
 
 use crate::input::{Input, Meters};
 use crate::service::{KEEPALIVE_PERIOD, Keeper, greet, is_noise};
@@ -104,7 +104,7 @@ impl<const C: usize> Session<C> {
 
     /// A session without credentials that begins at the moment `start`, in milliseconds, for an authenticator with this
     /// AAGUID. No channel is given out. It has capacity for 1 to 256 credentials.
-    // It is made where it stays: 29 kB that are moved are copied.
+    // It is made where it stays: 31 kB that are moved are copied.
     #[inline(never)]
     pub fn bare(aaguid: [u8; 16], start: u64) -> Self
         requires some { 1 ≤ C }
@@ -187,7 +187,7 @@ impl<const C: usize> Session<C> {
     /// How many data bytes are held of the open message, at most 7550.
     pub fn held(&self) -> u16
         ensures bytes { result ≡ held_bytes self.now.machine.current }
-        ensures limit { result ≤ 7550 }
+        ensures limit { result ≤ LONGEST_HELD }
         ensures named { (start : Start) (h : List OneInput) → StandsAfter self.now start h
             → result ≡ held start (judged start h) }
     {

@@ -1,6 +1,6 @@
 //! authenticatorGetAssertion and authenticatorGetNextAssertion (CTAP 2.1, sections 6.2 and 6.3).
 
-ghost use Rattle.std.specs.Prelude.{◌≡◌, ◌<◌, ◌≤◌, ◌-◌, ◌^◌, [], true, length, is_some};
+ghost use Rattle.std.specs.Prelude.{◌≡◌, ◌<◌, ◌≤◌, ◌-◌, ◌^◌, ℕ, List, [], true, length, is_some};
 ghost use Rattle.std.specs.List.{find};
 ghost use Rattle.std.specs.Option.{ForSome, option_copied};
 ghost use Rattle.cred_table.specs.Rows.{has_id, ids, counter_of};
@@ -11,7 +11,7 @@ ghost use Rattle.sha2.specs.Sha256.{sha256};
 ghost use Rattle.authn_core.specs.State.{SignsAssert, signs};
 ghost use Rattle.authn_core.specs.GetAssertion as get;
 ghost use Rattle.authn_core.specs.Views.{Takes, asserting_of};
-ghost use Rattle.authn_core.specs.Ready.{AllThere, SignsItsAnswer};
+ghost use Rattle.authn_core.specs.Ready.{IsPendingAlone, SignsItsAnswer};
 
 use crate::authenticator::{Core, Turn};
 use crate::refusals;
@@ -86,12 +86,15 @@ impl<T: Table<C>, const C: usize> Core<T, C> {
         let mut client = [0; 32];
         client.copy_from_slice(asked.hash);
         let given = asked.allow.is_given();
-        let mut found: ArrayVec<[u8; 32], C> = ArrayVec::new();
-        put_applicable(&self.table, &rp, asked.allow, &mut found);
-        self.begin_by(cid, &client, &rp, presence, given, found.as_slice())
+        self.applicable.clear();
+        put_applicable(&self.table, &rp, asked.allow, &mut self.applicable);
+        let ids = self.applicable.as_slice();
+        self.pending.fill(cid, &client, presence, self.latest, ids);
+        let count = ids.len();
+        self.begin_by(cid, &client, &rp, presence, given, count)
     }
 
-    /// Lets the row with the first of the ids sign; the others are pending. With `presence` the user is asked first.
+    /// Lets the row with the first of so many pending ids sign. With `presence` the user is asked first.
     fn begin_by(
         &mut self,
         cid: u32,
@@ -99,21 +102,21 @@ impl<T: Table<C>, const C: usize> Core<T, C> {
         rp: &[u8; 32],
         presence: bool,
         given: bool,
-        ids: &[[u8; 32]],
+        count: usize,
     ) -> Turn
-        requires few { length ids.now ≤ C }
-        requires there { AllThere self.old.core.state.rows ids.now }
-        ensures { Takes self.old self.new result (get.begins self.old.core.state.rows self.old.latest cid hash.now
-            rp.now presence given ids.now) }
+        requires { (ids : List (List ℕ)) × IsPendingAlone self.old.core.state.pending cid hash.now presence
+            self.old.latest ids count }
+        ensures { (ids : List (List ℕ)) → IsPendingAlone self.old.core.state.pending cid hash.now presence
+            self.old.latest ids count → Takes self.old self.new result (get.begins self.old.core.state.rows
+            self.old.latest cid hash.now rp.now presence given ids) }
     {
-        self.pending.fill(cid, hash, presence, self.latest, ids);
         let Some(first) = self.pending.next() else {
             return self.refuse(refusals::NO_CREDENTIALS);
         };
         if counter_of(&self.table, &first) >= u32::MAX {
             return self.refuse_all(refusals::LIMIT_EXCEEDED);
         }
-        let number = (ids.len() > 1 && !given).then_some(ids.len() as u16);
+        let number = (count > 1 && !given).then_some(count as u16);
         let a = Asserting {
             hash: *hash,
             rp: *rp,

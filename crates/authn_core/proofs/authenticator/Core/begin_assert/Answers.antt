@@ -1,11 +1,23 @@
-use Rattle.std.proofs.Common.{arith}
+use Rattle.std.proofs.Common.{◌≡◌, ◌∙◌, sym, ap, length, refl, rules, arith}
+use Rattle.cred_table.specs.Rows.{ids}
 use Rattle.ctap_message.specs.Members.{has_entries}
 use Rattle.ctap_message.specs.Descriptors.{ids_of}
 use Rattle.ctap_message.specs.DescriptorWalk.{left_of}
+use Rattle.authn_core.specs.GetAssertion.{applicable}
+use Rattle.authn_core.specs.Ready.{AllThere}
 use Rattle.authn_core.proofs.Readiness.{applicable_there}
 use Rattle.authn_core.proofs.authenticator.Core.begin_assert.Goals as goal
 
-pub begin_by-requires : goal.begin_by-requires
-begin_by-requires g c =
+pub invariant_of-self : goal.invariant_of-self
+invariant_of-self g c =
     let allow = left_of c.args.asked.allow in
-    grind (arith, applicable_there (g.T.Table.rows c.self.inside.table) c.digest-rp.result (has_entries allow) (ids_of allow))
+    let there : AllThere (g.T.Table.rows c.self.inside.table) c.as_slice-ids.result.now =
+    rw (c.as_slice-ids.ensures.value, c.put_applicable.ensures) (applicable_there (g.T.Table.rows c.self.inside.table) c.digest-rp.result (has_entries allow) (ids_of allow)) in
+    grind (arith, there)
+
+pub returns : goal.returns
+returns g c =
+    let allow = left_of c.args.asked.allow in
+    let found : c.as_slice-ids.result.now ≡ ids (applicable (g.T.Table.rows c.self.inside.table) c.digest-rp.result (has_entries allow) (ids_of allow)) = c.as_slice-ids.ensures.value ∙ c.put_applicable.ensures in
+    let begun = c.begin_by.ensures c.as_slice-ids.result.now (record { are = c.fill.ensures; counted = refl; few = grind arith }) in
+    let named = rw found at begun in search rules
