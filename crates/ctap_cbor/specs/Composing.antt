@@ -1,5 +1,5 @@
 -- What several calls of a sink append, by what each appends.
-use Rattle.std.proofs.Common.{◌≡◌, ℕ, ◌+◌, List, [], ◌++◌, drop, arith, refl, sym, ap, ◌∙◌, append_assoc, append-nil}
+use Rattle.std.proofs.Common.{ℕ, ◌+◌, List, [], ◌++◌, drop, arith, refl, sym, ap, ◌∙◌, append_assoc, append-nil}
 use Rattle.std.proofs.lemmas.List.{drop-drop}
 use Rattle.ctap_cbor.specs.declared.sink.Sink.{Sink}
 use Rattle.ctap_cbor.specs.Writing.{contents, Appends}

@@ -1,4 +1,4 @@
-use Rattle.std.proofs.Common.{◌∙◌, append_assoc}
+use Rattle.std.proofs.Common.{append_assoc}
 use Rattle.ctap_cbor.specs.Head.{head}
 use Rattle.ctap_message.specs.Answers.{with_number}
 use Rattle.std.specs.Option.{option_copied}
