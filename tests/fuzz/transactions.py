@@ -21,13 +21,16 @@ import sys
 from typing import Optional
 
 sys.dont_write_bytecode = True
+TOP = os.path.realpath(os.path.join(os.path.dirname(os.path.abspath(__file__)), "..", ".."))
+sys.path.insert(0, os.path.join(TOP, "python", "src"))
 
 import executors
-from hostile import Maker
+from hidlog import cbor
+from hostile import MAKE, RESET, Maker, encode
 
-TOP = os.path.realpath(os.path.join(os.path.dirname(os.path.abspath(__file__)), "..", ".."))
 PING, INIT, CBOR, CANCEL, KEEPALIVE, ERROR = 0x01, 0x06, 0x10, 0x11, 0x3B, 0x3F
 BROADCAST, LONGEST = 0xFFFFFFFF, 7609
+EXCLUDED = 0x19
 FIRST_MEMBERS = {0x01: "fmt", 0x02: "credential", 0x04: "versions", 0x08: "credential"}
 
 
@@ -58,10 +61,27 @@ class Transaction:
         return self.data[0] if self.command == CBOR and self.length else None
 
 
+@dataclasses.dataclass
+class Made:
+    """A credential that the key holds, and the line at which the answer ends that made it."""
+
+    relying_party: str
+    user: bytes
+    is_discoverable: bool
+    name: bytes
+    line: int
+
+    def replaces(self, other: "Made") -> bool:
+        """Whether it takes the place of another one: that of the same account, where both are discoverable."""
+        same = (self.relying_party, self.user) == (other.relying_party, other.user)
+        return same and self.is_discoverable and other.is_discoverable
+
+
 class Machine:
     """The transport, stepped by the lines of a log that the key wrote itself."""
 
-    def __init__(self, lines: list[bytes]) -> None:
+    def __init__(self, lines: list[bytes], numbers: Optional[list[int]] = None, until: Optional[int] = None) -> None:
+        """Steps the inputs of lines, which have these numbers, or those from 1 on; up to that of a number."""
         self.owners: dict[int, Optional[int]] = {}
         self.transactions: dict[int, Transaction] = {}
         self.given = 0
@@ -72,14 +92,20 @@ class Machine:
         self.sent: collections.deque[tuple[int, bytes]] = collections.deque()
         self.strays: collections.Counter[str] = collections.Counter()
         self.answers: dict[int, Optional[Transaction]] = {}
+        self.message: tuple[int, bytes] = (0, b"")
+        self.told: dict[int, int] = {}
+        self.held: list[Made] = []
+        self.excluded: dict[int, tuple[int, int]] = {}
         inputs = []
-        for number, line in enumerate(lines, 1):
+        for number, line in zip(numbers or range(1, len(lines) + 1), lines):
             if line[:2] == b"< ":
                 inputs[-1][2].append((number, bytes.fromhex(line[2:].decode())))
             elif line[:1] in (b">", b"t", b"p", b"k", b"s"):
                 inputs.append((number, line.split(b" "), []))
         for number, words, sent in inputs:
             self.step(number, words, collections.deque(sent))
+            if number == until:
+                break
 
     def step(self, number: int, words: list[bytes], sent: collections.deque[tuple[int, bytes]]) -> None:
         self.now = max(self.now, int(words[1]))
@@ -108,12 +134,17 @@ class Machine:
         self.owners[number] = owner.line if owner else None
         length = int.from_bytes(packet[5:7], "big")
         self.answers[number] = owner
-        missing = length - 57
-        while missing > 0:
+        # The line at which its last answer on a channel begins.
+        self.told.pop(channel, None)
+        if command not in (KEEPALIVE, ERROR):
+            self.told[channel] = number
+        message = packet[7:]
+        while len(message) < length:
             number, more = self.sent.popleft()
             self.owners[number] = owner.line if owner else None
             self.answers[number] = owner
-            missing -= 59
+            message += more[5:]
+        self.message = number, message[:length]
         return packet
 
     def refuse(self, owner: Transaction, code: int) -> None:
@@ -123,6 +154,34 @@ class Machine:
     def answer(self, owner: Transaction) -> None:
         packet = self.expect(owner, owner.channel, owner.command)
         owner.end = ("status", packet[7]) if owner.command == CBOR else ("answer",)
+        if owner.request == MAKE:
+            self.make(owner, *self.message)
+        elif owner.request == RESET and packet[7] == 0:
+            self.held = []
+
+    # ---- credentials
+
+    def make(self, owner: Transaction, line: int, message: bytes) -> None:
+        """Keeps the credential that an answer made, or notes which one a refusal excludes."""
+        if message[0] not in (0, EXCLUDED):
+            return
+        asked = cbor.decode(owner.data[1:])
+        site = asked[2]["id"]
+        if message[0] == EXCLUDED:
+            names = [it["id"] for it in asked[5]]
+            held = [it for it in self.held if it.relying_party == site and it.name in names]
+            if held:
+                self.excluded[line] = names.index(held[-1].name), held[-1].line
+            return
+        data = cbor.decode(message[1:])[2]
+        made = Made(
+            relying_party=site,
+            user=asked[3]["id"],
+            is_discoverable=asked.get(7, {}).get("rk", False),
+            name=data[55 : 55 + int.from_bytes(data[53:55], "big")],
+            line=line,
+        )
+        self.held = [it for it in self.held if not made.replaces(it)] + [made]
 
     def go_on(self) -> None:
         """Takes what the key sends for work: a new status, or its answer."""
@@ -258,6 +317,22 @@ class Hosts(Maker):
         super().__init__(seed)
         self.hosts = self.one_of(1, 2, 3, 4)
 
+    def flow(self) -> list[tuple]:
+        return self.registrations(self.channel()) if self.often(0.2) else super().flow()
+
+    def registrations(self, channel: int) -> list[tuple]:
+        """Registrations at one site, each with a list of what was made before it, and of what wasn't."""
+        site = self.one_of(*self.sites)
+        events: list[tuple] = []
+        for _ in range(self.one_of(2, 3, 4)):
+            user = bytes([self.chance.randrange(3)])
+            asked = {1: self.some_bytes(32), 2: {"id": site}, 3: {"id": user}, 7: {"rk": self.often(0.5)}}
+            asked[4] = [{"alg": -7, "type": "public-key"}]
+            asked[5] = [{"type": "public-key", "id": self.credential(site)} for _ in range(self.one_of(1, 2, 3))]
+            replies = self.presence(), self.key(site), self.signature()
+            events += self.request(channel, bytes([MAKE]) + encode(asked), *replies)
+        return events
+
     def log(self) -> bytes:
         return b"".join(line + b"\n" for line in self.lines())
 
@@ -296,7 +371,7 @@ def said(objects: list[dict], machine: Machine) -> None:
 
 
 def explained(text: str, machine: Machine) -> None:
-    """Looks at the names of members, and at what is said of RP ids."""
+    """Looks at the names of members, at what is said of RP ids, and at which credentials are excluded."""
     if "  not that of " in text:
         raise Finding("an RP id's hash is said to be another one's")
     for found in re.finditer(r"^(\d+)   answer 00 \{.*\n\1     1 (\S+?):", text, re.MULTILINE):
@@ -304,6 +379,11 @@ def explained(text: str, machine: Machine) -> None:
         wanted = FIRST_MEMBERS.get(owner.request) if owner and owner.request is not None else None
         if found[2] != wanted:
             raise Finding(f"line {found[1]}: the first member is {wanted}, not {found[2]}")
+    pattern = r"^(\d+)   excludeList\[(\d+)\] is the credential of line (\d+)$"
+    named = {int(it[1]): (int(it[2]), int(it[3])) for it in re.finditer(pattern, text, re.MULTILINE)}
+    for line in sorted(named.keys() | machine.excluded.keys()):
+        if named.get(line) != machine.excluded.get(line):
+            raise Finding(f"line {line} excludes {machine.excluded.get(line)}, not {named.get(line)}")
 
 
 def summed(text: str, machine: Machine) -> None:
