@@ -24,9 +24,7 @@ use crate::several::check_each;
 use clap::Error;
 use clap::error::ErrorKind;
 use session_log::{CAPACITY, Command, LogFault, Target, put_all};
-use session_show::{
-    Objects, Summary, SummaryForm, Wording, explain, put_json_fault, show, show_json, summarize,
-};
+use session_show::{LogForm, LogWriter, Wording, explain, put_json_fault, show, write_log};
 use std::alloc::Global;
 use token_session::Session;
 
@@ -164,10 +162,11 @@ where
     )
 }
 
-/// Writes a summary of the log, also of one with a fault, up to there. As JSON, the last object is that of the fault.
+/// Writes the log in a form, also one with a fault, up to there. As JSON, the last object is that of the fault; what is
+/// open at the log's end is before it.
 #[inline(never)]
-fn show_summary<L: Logs, O: Target>(
-    form: SummaryForm,
+fn show_form<L: Logs, O: Target>(
+    form: LogForm,
     input: &mut L,
     output: &mut O,
 ) -> Result<(), LogFault>
@@ -175,10 +174,10 @@ fn show_summary<L: Logs, O: Target>(
     requires writes { O.failed output.old < 2 ^ 64 - 1 }
     ensures { OnOk result (IsWhole L.left L.ended L.failed O.failed (input.old, input.new) (output.old, output.new)) }
 {
-    let mut summary = Summary::new(form);
-    match summarize(input, output, &mut summary) {
+    let mut log_writer = LogWriter::new(form);
+    match write_log(input, output, &mut log_writer) {
         Ok(()) => {
-            match summary.put(output) {
+            match log_writer.put(output) {
                 Ok(()) => Ok(()),
                 Err(_) => Err(LogFault::Write),
             }
@@ -188,41 +187,12 @@ fn show_summary<L: Logs, O: Target>(
             if is_lost {
                 return Err(fault);
             }
-            if summary.put(output).is_err() || output.failures() == u64::MAX {
+            if log_writer.put(output).is_err() || output.failures() == u64::MAX {
                 return Err(LogFault::Write);
             }
-            if form == SummaryForm::Json {
+            if form != LogForm::Table {
                 let _ = put_json_fault(output, &fault);
             }
-            Err(fault)
-        }
-    }
-}
-
-/// Writes the log as objects of JSON. What is open at its end is before the last one, which is its fault, if it has one.
-#[inline(never)]
-fn show_objects<L: Logs, O: Target>(input: &mut L, output: &mut O) -> Result<(), LogFault>
-    requires reads { L.failed input.old < 2 ^ 64 - 1 }
-    requires writes { O.failed output.old < 2 ^ 64 - 1 }
-    ensures { OnOk result (IsWhole L.left L.ended L.failed O.failed (input.old, input.new) (output.old, output.new)) }
-{
-    let mut objects = Objects::new();
-    match show_json(input, output, &mut objects) {
-        Ok(()) => {
-            match objects.put(output) {
-                Ok(()) => Ok(()),
-                Err(_) => Err(LogFault::Write),
-            }
-        }
-        Err(fault) => {
-            let is_lost = fault == LogFault::Write || output.failures() == u64::MAX;
-            if is_lost {
-                return Err(fault);
-            }
-            if objects.put(output).is_err() || output.failures() == u64::MAX {
-                return Err(LogFault::Write);
-            }
-            let _ = put_json_fault(output, &fault);
             Err(fault)
         }
     }
@@ -303,15 +273,15 @@ where
             shown_to(faults, answer)
         }
         Form::Summary => {
-            let answer = show_summary(SummaryForm::Table, input, output);
+            let answer = show_form(LogForm::Table, input, output);
             shown_to(faults, answer)
         }
         Form::JsonSummary => {
-            let answer = show_summary(SummaryForm::Json, input, output);
+            let answer = show_form(LogForm::Summary, input, output);
             shown_to(faults, answer)
         }
         Form::Json => {
-            let answer = show_objects(input, output);
+            let answer = show_form(LogForm::Objects, input, output);
             shown_to(faults, answer)
         }
     }

@@ -6,34 +6,23 @@
 ghost use Rattle.std.specs.Prelude.{◌<◌, ◌-◌, ◌^◌};
 
 use session_log::{LogFault, Source, Target, check, live, quiet, replay};
-use session_show::{Objects, Summary, SummaryForm, show, show_json, summarize};
+use session_show::{LogForm, LogWriter, show, write_log};
 use std::alloc::{AllocError, Global};
 use token_session::Session;
 
-/// Writes a log's summary, also of a log with a fault.
-fn summarized<S: Source, T: Target>(reader: &mut S, writer: &mut T) -> Result<(), LogFault>
+/// Writes a log in a form, also one with a fault.
+fn written<S: Source, T: Target>(
+    form: LogForm,
+    reader: &mut S,
+    writer: &mut T,
+) -> Result<(), LogFault>
     requires read { S.failed reader.old < 2 ^ 64 - 1 }
     requires write { T.failed writer.old < 2 ^ 64 - 1 }
 {
-    let mut summary = Summary::new(SummaryForm::Table);
-    match summarize(reader, writer, &mut summary) {
+    let mut log_writer = LogWriter::new(form);
+    match write_log(reader, writer, &mut log_writer) {
         Err(LogFault::Write) => Err(LogFault::Write),
-        result => match summary.put(writer) {
-            Ok(()) => result,
-            Err(_) => Err(LogFault::Write),
-        },
-    }
-}
-
-/// Writes a log as JSON, also one with a fault.
-fn in_objects<S: Source, T: Target>(reader: &mut S, writer: &mut T) -> Result<(), LogFault>
-    requires read { S.failed reader.old < 2 ^ 64 - 1 }
-    requires write { T.failed writer.old < 2 ^ 64 - 1 }
-{
-    let mut objects = Objects::new();
-    match show_json(reader, writer, &mut objects) {
-        Err(LogFault::Write) => Err(LogFault::Write),
-        result => match objects.put(writer) {
+        result => match log_writer.put(writer) {
             Ok(()) => result,
             Err(_) => Err(LogFault::Write),
         },
@@ -55,8 +44,8 @@ pub fn play<S: Source, T: Target>(
         "live" => live(reader, writer, &mut session).map(|_| ()),
         "check" => check(reader, writer, &mut session),
         "quiet" => quiet(reader, writer, &mut session),
-        "summary" => summarized(reader, writer),
-        "json" => in_objects(reader, writer),
+        "summary" => written(LogForm::Table, reader, writer),
+        "json" => written(LogForm::Objects, reader, writer),
         _ => show(reader, writer),
     }
 }

@@ -2,7 +2,7 @@
 //! is known of the device but its packets.
 
 use crate::credentials::Excluded;
-use crate::exchange::{End, Ended, Ends, Exchange, Transaction, carried, is_whole};
+use crate::exchange::{End, Ends, Exchange, Extent, Transaction};
 use crate::rp_id::RpId;
 use arrayvec::ArrayVec;
 use hid_packet::LONGEST_MESSAGE;
@@ -42,43 +42,27 @@ impl Greeting {
 pub struct Told {
     /// The line that it began at.
     pub line: u64,
-    pub length: u16,
-    pub continuations: u8,
+    pub extent: Extent,
     /// The status of a CBOR answer.
     pub status: Option<u8>,
     /// What it answers, where that is known.
     pub exchange: Option<Exchange>,
 }
 
-impl Told {
-    /// Returns whether its last packet came.
-    pub fn is_whole(&self) -> bool {
-        is_whole(self.length, self.continuations)
-    }
-
-    /// Returns how its transaction ends where no further packet of it comes.
-    fn cut(&self) -> End {
-        End::Cut {
-            came: carried(self.length, self.continuations),
-            length: self.length,
-        }
-    }
-}
-
-/// What a continuation packet of a host is.
+/// A continuation packet of a host beside a message that isn't whole.
 #[derive(Clone, Copy)]
-pub enum Continuation {
-    /// Of no message that is open.
-    Stray,
-    /// Beside a message, which it doesn't go on with: it has another number than the next one. It came so many
-    /// milliseconds after the packet before.
-    Misnumbered(Transaction, u64),
-    /// The next one of a message.
-    Next(Transaction, u64),
+pub struct Continuation {
+    pub of: Transaction,
+    /// How many milliseconds after the packet before it came.
+    pub gap: u64,
+    /// Whether it is the next one of the message. One with another number isn't.
+    pub is_next: bool,
+    /// Whether the message is whole with it.
+    pub is_whole: bool,
 }
 
 /// A channel, and what is open on it.
-#[derive(Drop)]
+#[derive(Drop, Default)]
 pub struct Channel {
     pub number: u32,
     /// The line at which it was used last, 0 where it isn't in use.
@@ -101,54 +85,20 @@ pub struct Channel {
 }
 
 impl Channel {
-    /// Returns one that isn't in use.
-    pub fn unused() -> Self {
-        Channel {
-            number: 0,
-            used: 0,
-            held: None,
-            asked: None,
-            greetings: ArrayVec::new(),
-            is_greeted: false,
-            is_stray: false,
-            since: 0,
-            told: None,
-            asserted: RpId::none(),
-        }
-    }
-
-    /// Becomes a channel on which nothing happened yet.
-    pub fn reset(&mut self, number: u32) {
-        self.number = number;
-        self.held = None;
-        self.asked = None;
-        self.greetings.clear();
-        self.is_greeted = false;
-        self.is_stray = false;
-        self.since = 0;
-        self.told = None;
-        self.asserted = RpId::none();
-    }
-
     /// Becomes the same as another one.
     pub fn copy_from(&mut self, other: &Channel) {
-        self.reset(other.number);
-        self.used = other.used;
-        self.held = other.held;
-        self.asked = other.asked;
+        *self = Channel {
+            greetings: ArrayVec::new(),
+            ..*other
+        };
         let _ = self
             .greetings
             .try_extend_from_slice(other.greetings.as_slice());
-        self.is_greeted = other.is_greeted;
-        self.is_stray = other.is_stray;
-        self.since = other.since;
-        self.told = other.told;
-        self.asserted = other.asserted;
     }
 
     /// Returns whether nothing on it is open.
     pub fn is_idle(&self) -> bool {
-        let is_answering = matches!(&self.told, Some(told) if !told.is_whole());
+        let is_answering = matches!(&self.told, Some(told) if !told.extent.is_whole());
         self.held.is_none() && self.asked.is_none() && self.greetings.is_empty() && !is_answering
     }
 
@@ -161,24 +111,41 @@ impl Channel {
                 message: INIT,
                 command: None,
             },
-            length: greeting.length,
+            extent: Extent::begun(greeting.length),
             at: greeting.at,
             ..Exchange::default()
         }
     }
 
-    /// Ends all that is open, since the channel isn't followed any longer.
-    pub fn forget(&mut self, ends: &mut Ends) {
-        self.cut(ends);
+    /// Returns what is open, each as it ends where nothing more comes.
+    pub fn open(&self) -> Ends {
+        let mut open = Ends::default();
+        if let Some(told) = &self.told
+            && !told.extent.is_whole()
+            && let Some(exchange) = told.exchange
+        {
+            open.add(exchange, End::Cut(told.extent));
+        }
         for greeting in self.greetings.as_slice() {
-            ends.add(self.greeting(greeting), End::Forgotten);
+            open.add(self.greeting(greeting), End::Open);
         }
-        self.greetings.clear();
-        if let Some(held) = self.held.take() {
-            ends.add(held, End::Forgotten);
+        if let Some(held) = self.held {
+            open.add(held, End::Open);
         }
-        if let Some(asked) = self.asked.take() {
-            ends.add(asked, End::Forgotten);
+        if let Some(asked) = self.asked {
+            open.add(asked, End::Open);
+        }
+        open
+    }
+
+    /// Ends all that is open, since the channel isn't followed any longer.
+    pub fn forget(&self, ends: &mut Ends) {
+        for open in self.open().0.as_slice() {
+            let end = match open.end {
+                End::Open => End::Forgotten,
+                end => end,
+            };
+            ends.add(open.exchange, end);
         }
     }
 
@@ -225,50 +192,45 @@ impl Channel {
             (_, None) => false,
         };
         if is_second {
-            cancel_in(&mut self.asked, line)
+            self.asked.as_mut()?.cancel(line)
         } else {
-            cancel_in(&mut self.held, line)
+            self.held.as_mut()?.cancel(line)
         }
     }
 
-    /// Takes a continuation packet.
-    pub fn go_on(&mut self, number: u8, now: u64) -> Continuation {
+    /// Takes a continuation packet. None where it is of no message that is open.
+    pub fn go_on(&mut self, number: u8, now: u64) -> Option<Continuation> {
         let is_of_asked = matches!(&self.asked, Some(asked)
-            if asked.continuations == number && !asked.is_whole());
-        let found = if is_of_asked {
+            if asked.extent.continuations == number && !asked.extent.is_whole());
+        let place = if is_of_asked {
             self.since = 0;
-            go_on_in(&mut self.asked, number, now)
+            &mut self.asked
         } else {
-            go_on_in(&mut self.held, number, now)
+            &mut self.held
         };
-        self.is_stray = matches!(found, Continuation::Stray);
-        found
+        let continuation = match place {
+            Some(exchange) => exchange.go_on(number, now),
+            None => None,
+        };
+        self.is_stray = continuation.is_none();
+        continuation
     }
 
-    /// Returns whether the message that began at a line is open and whole.
-    pub fn has_whole(&self, line: u64) -> bool {
-        is_whole_at(&self.held, line) || is_whole_at(&self.asked, line)
+    /// Returns the message that began at a line, where it is open.
+    fn message_from(&mut self, line: u64) -> Option<&mut Exchange> {
+        match (&mut self.held, &mut self.asked) {
+            (Some(held), _) if held.transaction.line == line => Some(held),
+            (_, Some(asked)) if asked.transaction.line == line => Some(asked),
+            _ => None,
+        }
     }
 
-    /// Returns what is open of the transactions that began after a line: the first one.
-    pub fn open_after(&self, line: u64) -> Option<Ended> {
-        let mut first = None;
-        for greeting in self.greetings.as_slice() {
-            first = earlier(first, self.greeting(greeting), End::Open, line);
+    /// Keeps what the request that began at a line names: an RP id, and the credential that it excludes.
+    pub fn name(&mut self, line: u64, rp_id: &RpId, excluded: Option<Excluded>) {
+        if let Some(exchange) = self.message_from(line) {
+            exchange.rp_id = *rp_id;
+            exchange.excluded = excluded;
         }
-        if let Some(held) = self.held {
-            first = earlier(first, held, End::Open, line);
-        }
-        if let Some(asked) = self.asked {
-            first = earlier(first, asked, End::Open, line);
-        }
-        if let Some(told) = &self.told
-            && !told.is_whole()
-            && let Some(exchange) = told.exchange
-        {
-            first = earlier(first, exchange, told.cut(), line);
-        }
-        first
     }
 
     /// Takes a reply of the user at a moment, and returns the request that waited for it.
@@ -280,12 +242,6 @@ impl Channel {
             held.took = Some(at.saturating_sub(held.at));
         }
         Some(held.transaction)
-    }
-
-    /// Keeps what the request that began at a line names: an RP id, and the credential that it excludes.
-    pub fn name(&mut self, line: u64, rp_id: &RpId, excluded: Option<Excluded>) {
-        name_in(&mut self.held, line, rp_id, excluded);
-        name_in(&mut self.asked, line, rp_id, excluded);
     }
 
     // ---- which message goes on
@@ -332,63 +288,41 @@ impl Channel {
     /// message began at.
     pub fn cut(&mut self, ends: &mut Ends) -> Option<u64> {
         let told = self.told.take()?;
-        if !told.is_whole()
+        if !told.extent.is_whole()
             && let Some(exchange) = told.exchange
         {
-            ends.add(exchange, told.cut());
+            ends.add(exchange, End::Cut(told.extent));
         }
         Some(told.line)
     }
 }
 
-/// Notes a CANCEL at a transaction, if it is served.
-fn cancel_in(place: &mut Option<Exchange>, line: u64) -> Option<Transaction> {
-    match place {
-        Some(exchange) if exchange.is_served() => {
-            exchange.cancelled = Some(line);
-            Some(exchange.transaction)
+impl Exchange {
+    /// Notes a CANCEL on this line, if it is served.
+    fn cancel(&mut self, line: u64) -> Option<Transaction> {
+        if !self.is_served() {
+            return None;
         }
-        _ => None,
+        self.cancelled = Some(line);
+        Some(self.transaction)
     }
-}
 
-/// Goes on with a message by the packet with this number.
-fn go_on_in(place: &mut Option<Exchange>, number: u8, now: u64) -> Continuation {
-    match place {
-        Some(exchange) if !exchange.is_whole() => {
-            let gap = now.saturating_sub(exchange.at);
-            if exchange.continuations != number || exchange.length > LONGEST_MESSAGE {
-                return Continuation::Misnumbered(exchange.transaction, gap);
-            }
-            exchange.continuations = exchange.continuations.saturating_add(1);
-            exchange.at = now;
-            Continuation::Next(exchange.transaction, gap)
+    /// Goes on with its message by the packet with this number, unless it is whole.
+    fn go_on(&mut self, number: u8, now: u64) -> Option<Continuation> {
+        if self.extent.is_whole() {
+            return None;
         }
-        _ => Continuation::Stray,
-    }
-}
-
-/// Keeps what a request names, if it began at this line.
-fn name_in(place: &mut Option<Exchange>, line: u64, rp_id: &RpId, excluded: Option<Excluded>) {
-    if let Some(exchange) = place
-        && exchange.transaction.line == line
-    {
-        exchange.rp_id = *rp_id;
-        exchange.excluded = excluded;
-    }
-}
-
-/// Returns whether a message is whole that began at this line.
-fn is_whole_at(place: &Option<Exchange>, line: u64) -> bool {
-    matches!(place, Some(exchange) if exchange.transaction.line == line && exchange.is_whole())
-}
-
-/// Returns the earlier of two transactions, of those that began after a line.
-pub fn earlier(first: Option<Ended>, exchange: Exchange, end: End, line: u64) -> Option<Ended> {
-    let began = exchange.transaction.line;
-    match first {
-        Some(first) if began <= line || first.exchange.transaction.line <= began => Some(first),
-        None if began <= line => None,
-        _ => Some(Ended { exchange, end }),
+        let gap = now.saturating_sub(self.at);
+        let is_next = self.extent.continuations == number && self.extent.length <= LONGEST_MESSAGE;
+        if is_next {
+            self.extent.continuations = number.saturating_add(1);
+            self.at = now;
+        }
+        Some(Continuation {
+            of: self.transaction,
+            gap,
+            is_next,
+            is_whole: self.extent.is_whole(),
+        })
     }
 }

@@ -1,11 +1,11 @@
 //! The channels of a log that are followed: a few at once.
 ghost use Rattle.std.specs.Prelude.{◌<◌, IfSome};
 
-use crate::channel::{Channel, Told, earlier};
+use crate::channel::Channel;
 use crate::exchange::{Ended, Ends, Exchange};
 
 /// How many channels are followed at once.
-const CHANNELS: usize = 6;
+pub const CHANNELS: usize = 6;
 
 /// The most transactions that are open at once: on each channel four INITs, two other messages, and an answer.
 pub const OPEN: usize = 7 * CHANNELS;
@@ -21,20 +21,13 @@ impl Channels {
     pub fn new() -> Self {
         Channels {
             list: [
-                Channel::unused(),
-                Channel::unused(),
-                Channel::unused(),
-                Channel::unused(),
-                Channel::unused(),
-                Channel::unused(),
+                Channel::default(),
+                Channel::default(),
+                Channel::default(),
+                Channel::default(),
+                Channel::default(),
+                Channel::default(),
             ],
-        }
-    }
-
-    /// Becomes the same as others.
-    pub fn copy_from(&mut self, other: &Channels) {
-        for place in 0..CHANNELS {
-            self.list[place].copy_from(&other.list[place]);
         }
     }
 
@@ -49,8 +42,11 @@ impl Channels {
         }
         let place = self.oldest();
         self.list[place].forget(ends);
-        self.list[place].reset(number);
-        self.list[place].used = line;
+        self.list[place] = Channel {
+            number,
+            used: line,
+            ..Channel::default()
+        };
         place
     }
 
@@ -83,16 +79,10 @@ impl Channels {
         oldest
     }
 
-    /// Returns the message that holds a channel.
-    pub fn held_on(&self, number: u32) -> Option<&Exchange> {
+    /// Returns a channel that is in use.
+    pub fn on(&self, number: u32) -> Option<&Channel> {
         let place = self.find(number)?;
-        self.list[place].held.as_ref()
-    }
-
-    /// Returns the device's last message on a channel.
-    pub fn told_on(&self, number: u32) -> Option<&Told> {
-        let place = self.find(number)?;
-        self.list[place].told.as_ref()
+        Some(&self.list[place])
     }
 
     /// Returns where the one request is that waits for its answer, if exactly one does.
@@ -116,11 +106,9 @@ impl Channels {
 
     /// Returns the first transaction that is open of those that began after a line.
     pub fn open_after(&self, line: u64) -> Option<Ended> {
-        let mut first = None;
+        let mut first: Option<Ended> = None;
         for channel in self.list.as_slice() {
-            if let Some(found) = channel.open_after(line) {
-                first = earlier(first, found.exchange, found.end, line);
-            }
+            first = channel.open().first_after(line, first);
         }
         first
     }
@@ -132,6 +120,6 @@ impl Channels {
                 return channel.held.as_ref();
             }
         }
-        self.held_on(number)
+        self.on(number)?.held.as_ref()
     }
 }

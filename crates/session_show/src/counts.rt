@@ -1,77 +1,71 @@
 //! What a session comes to in numbers.
 
-use crate::entry::EXCLUDED;
+use crate::entry::{EXCLUDED, Entry};
 use crate::exchange::{End, Ended};
-use crate::json::{write_name, write_number, write_some_word};
+use crate::json::{Value, write_members};
+use crate::json_line::write_code;
 use crate::pen::Pen;
-use crate::walk::{Part, Walk};
-use crate::words::{error_name, status_name};
+use crate::walk::Part;
+use crate::words::{ERRORS, Names, STATUSES, name_in};
 
-/// What the numbers of a tally are.
+/// What is counted by its number.
 #[derive(Clone, Copy)]
-enum Kind {
-    Status,
-    Error,
+struct Kind {
+    title: &'static str,
+    /// The name of a number without one.
+    unnamed: &'static str,
+    names: Names,
+    /// The names of members: that of all, that of the list, that of a number and that of its name.
+    members: (&'static str, &'static str),
+    number: (&'static str, &'static str),
 }
 
-impl Kind {
-    /// Returns a number's name.
-    fn name_of(self, number: u8) -> &'static str {
-        match self {
-            Kind::Status => status_name(number).unwrap_or("status"),
-            Kind::Error => error_name(number).unwrap_or("ERROR"),
-        }
-    }
+const REQUESTS: &Kind = &Kind {
+    title: "requests refused:",
+    unnamed: "status",
+    names: STATUSES,
+    members: ("requestsRefused", ",\"statuses\":"),
+    number: ("status", "statusName"),
+};
 
-    /// Writes a number as members of an object.
-    fn write_json(self, pen: &mut Pen, number: u8) {
-        match self {
-            Kind::Status => {
-                write_number(pen, "status", u64::from(number));
-                write_some_word(pen, "statusName", status_name(number));
-            }
-            Kind::Error => {
-                write_number(pen, "code", u64::from(number));
-                write_some_word(pen, "codeName", error_name(number));
-            }
-        }
-    }
-}
+const MESSAGES: &Kind = &Kind {
+    title: "messages refused by ERROR:",
+    unnamed: "ERROR",
+    names: ERRORS,
+    members: ("messagesRefused", ",\"errors\":"),
+    number: ("code", "codeName"),
+};
 
 /// How often each number came.
 #[derive(Clone, Copy)]
 struct Tally {
     times: [u64; 256],
+    /// How many came.
+    sum: u64,
 }
 
-impl Tally {
-    fn new() -> Self {
-        Tally { times: [0; 256] }
-    }
+/// That of no numbers.
+const NONE: Tally = Tally {
+    times: [0; 256],
+    sum: 0,
+};
 
+impl Tally {
     /// Counts a number.
     fn add(&mut self, number: u8) {
         let place = usize::from(number);
         self.times[place] = self.times[place].saturating_add(1);
-    }
-
-    /// Returns how many came.
-    fn sum(&self) -> u64 {
-        let mut sum = 0_u64;
-        for number in 0..=255_u8 {
-            sum = sum.saturating_add(self.times[usize::from(number)]);
-        }
-        sum
+        self.sum = self.sum.saturating_add(1);
     }
 
     /// Writes how many came, and a line for each number that did.
-    fn write(&self, pen: &mut Pen, title: &str, kind: Kind) {
-        write_count(pen, title, self.sum());
+    fn write(&self, pen: &mut Pen, kind: &Kind) {
+        write_count(pen, kind.title, self.sum);
         for number in 0..=255_u8 {
             let times = self.times[usize::from(number)];
             if times > 0 {
                 pen.text("  ");
-                pen.text(kind.name_of(number));
+                pen.text(name_in(kind.names, i128::from(number)).unwrap_or(kind.unnamed));
                 pen.text(" ");
                 pen.hex(&[number]);
                 write_count(pen, ":", times);
@@ -79,20 +73,21 @@ impl Tally {
         }
     }
 
-    /// Writes a member that is an array with an object for each number that came.
-    fn write_json(&self, pen: &mut Pen, name: &str, kind: Kind) {
-        write_name(pen, name);
+    /// Writes a member with how many came, and an array with an object for each number that did.
+    fn write_json(&self, pen: &mut Pen, kind: &Kind) {
+        write_members(pen, &[(kind.members.0, Value::Number(Some(self.sum)))]);
+        pen.text(kind.members.1);
         let mut front = "[{\"times\":";
         for number in 0..=255_u8 {
             let times = self.times[usize::from(number)];
             if times > 0 {
                 pen.text(front);
                 pen.decimal(times);
-                kind.write_json(pen, number);
+                write_code(pen, kind.number, number, kind.names);
                 front = "},{\"times\":";
             }
         }
-        pen.text(if self.sum() > 0 { "}]" } else { "[]" });
+        pen.text(if self.sum > 0 { "}]" } else { "[]" });
     }
 }
 
@@ -129,62 +124,55 @@ impl Counts {
             made: 0,
             used: 0,
             excluded: 0,
-            refused: Tally::new(),
-            errors: Tally::new(),
+            refused: NONE,
+            errors: NONE,
             continuations: 0,
             cancels: 0,
             replies: 0,
         }
     }
 
-    /// Counts what the last line of a walk is, and ends.
-    pub fn add_line(&mut self, walk: &Walk) {
-        if matches!(walk.decided(), Some(decided) if decided.of.is_none()) {
-            self.add_part(Part::Stray);
+    /// Counts what a line is, and ends.
+    pub fn add_line(&mut self, entry: &Entry<'_>) {
+        if let Some(late) = &entry.late
+            && late.of.is_none()
+        {
+            self.continuations = self.continuations.saturating_add(1);
         }
-        self.add_part(walk.part);
-        for ended in walk.ended() {
+        match entry.part {
+            Part::Own => {}
+            Part::Stray => self.continuations = self.continuations.saturating_add(1),
+            Part::Cancel => self.cancels = self.cancels.saturating_add(1),
+            Part::Error(code) => self.errors.add(code),
+            Part::Reply => self.replies = self.replies.saturating_add(1),
+        }
+        for ended in entry.ended {
             self.add(ended);
         }
     }
 
     /// Counts a transaction that ended.
     fn add(&mut self, ended: &Ended) {
-        match ended.end {
-            End::Status(0) => self.add_answer(ended.exchange.transaction.command),
-            End::Status(status) => {
+        match (ended.end, ended.exchange.transaction.command) {
+            (End::Status(0), Some(0x01)) => self.made = self.made.saturating_add(1),
+            (End::Status(0), Some(0x02 | 0x08)) => self.used = self.used.saturating_add(1),
+            (End::Status(0), _) => {}
+            (End::Status(status), _) => {
                 if status == EXCLUDED {
                     self.excluded = self.excluded.saturating_add(1);
                 }
                 self.refused.add(status);
             }
-            End::Refused(code) => self.errors.add(code),
-            End::Answered
-            | End::Cut { .. }
-            | End::Dropped(_)
-            | End::Replaced(_)
-            | End::Forgotten
-            | End::Open => {}
-        }
-    }
-
-    /// Counts a request that was answered with CTAP2_OK.
-    fn add_answer(&mut self, command: Option<u8>) {
-        match command {
-            Some(0x01) => self.made = self.made.saturating_add(1),
-            Some(0x02 | 0x08) => self.used = self.used.saturating_add(1),
-            _ => {}
-        }
-    }
-
-    /// Counts what belongs to no transaction.
-    fn add_part(&mut self, part: Part) {
-        match part {
-            Part::Own => {}
-            Part::Stray => self.continuations = self.continuations.saturating_add(1),
-            Part::Cancel => self.cancels = self.cancels.saturating_add(1),
-            Part::Error(code) => self.errors.add(code),
-            Part::Reply => self.replies = self.replies.saturating_add(1),
+            (End::Refused(code), _) => self.errors.add(code),
+            (
+                End::Answered
+                | End::Cut(_)
+                | End::Dropped(_)
+                | End::Replaced(_)
+                | End::Forgotten
+                | End::Open,
+                _,
+            ) => {}
         }
     }
 
@@ -193,9 +181,8 @@ impl Counts {
         write_count(pen, "credentials made:", self.made);
         write_count(pen, "credentials used:", self.used);
         write_count(pen, "credentials excluded:", self.excluded);
-        self.refused.write(pen, "requests refused:", Kind::Status);
-        self.errors
-            .write(pen, "messages refused by ERROR:", Kind::Error);
+        self.refused.write(pen, REQUESTS);
+        self.errors.write(pen, MESSAGES);
         write_count(
             pen,
             "continuation packets of no open message:",
@@ -204,19 +191,31 @@ impl Counts {
         write_count(pen, "CANCELs for which nothing waited:", self.cancels);
         write_count(pen, "replies for which nothing waited:", self.replies);
     }
+
     /// Writes an object of JSON with all counts.
     pub fn write_json(&self, pen: &mut Pen) {
         pen.text("{\"kind\":\"summary\"");
-        write_number(pen, "credentialsMade", self.made);
-        write_number(pen, "credentialsUsed", self.used);
-        write_number(pen, "credentialsExcluded", self.excluded);
-        write_number(pen, "requestsRefused", self.refused.sum());
-        self.refused.write_json(pen, "statuses", Kind::Status);
-        write_number(pen, "messagesRefused", self.errors.sum());
-        self.errors.write_json(pen, "errors", Kind::Error);
-        write_number(pen, "strayContinuations", self.continuations);
-        write_number(pen, "strayCancels", self.cancels);
-        write_number(pen, "strayReplies", self.replies);
+        write_members(
+            pen,
+            &[
+                ("credentialsMade", Value::Number(Some(self.made))),
+                ("credentialsUsed", Value::Number(Some(self.used))),
+                ("credentialsExcluded", Value::Number(Some(self.excluded))),
+            ],
+        );
+        self.refused.write_json(pen, REQUESTS);
+        self.errors.write_json(pen, MESSAGES);
+        write_members(
+            pen,
+            &[
+                (
+                    "strayContinuations",
+                    Value::Number(Some(self.continuations)),
+                ),
+                ("strayCancels", Value::Number(Some(self.cancels))),
+                ("strayReplies", Value::Number(Some(self.replies))),
+            ],
+        );
         pen.text("}\n");
     }
 }

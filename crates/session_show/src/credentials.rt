@@ -1,18 +1,16 @@
 //! The credentials that the answers of a log make: which of them a request's excludeList names.
 ghost use Rattle.std.specs.Prelude.{◌<◌};
 
-use crate::members::next_value;
+use crate::authenticator_data::CREDENTIAL;
+use crate::pairs::{next_value, value_at};
 use crate::pen::Pen;
 use crate::putting::Written;
-use crate::rp_id::{RpId, value_at};
+use crate::rp_id::RpId;
 use ctap_cbor::{Cursor, Item};
 use sha2::{Digest, Sha256};
 
 /// How many credentials are followed, those that were made last: as many as this key has capacity for.
 const CREDENTIALS: usize = 64;
-
-/// The flag of authenticator data that says that a credential follows.
-const CREDENTIAL: u8 = 0x40;
 
 /// A credential that an answer made.
 #[derive(Clone, Copy)]

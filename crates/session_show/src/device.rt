@@ -1,7 +1,7 @@
 //! What a device sends on a channel: which transaction it is for, and what it ends.
 
 use crate::channel::{Channel, Told};
-use crate::exchange::{End, Ends, Exchange, Transaction};
+use crate::exchange::{End, Ends, Exchange, Extent, Transaction};
 use crate::walk::Doubtful;
 use hid_packet::BROADCAST;
 use hid_packet::command::{CBOR, INIT};
@@ -33,7 +33,8 @@ pub const NO_TIME_OUT: u64 = 100;
 pub struct Answer<'a> {
     pub line: u64,
     pub command: u8,
-    pub length: u16,
+    /// How much of it came with this packet.
+    pub extent: Extent,
     pub part: &'a [u8],
 }
 
@@ -79,7 +80,7 @@ impl Channel {
             self.settle(ends);
         }
         let is_late = self.leave_out(doubtful);
-        let is_open = matches!(&self.held, Some(held) if !held.is_whole());
+        let is_open = matches!(&self.held, Some(held) if !held.extent.is_whole());
         if is_open && let Some(held) = self.free(ends) {
             ends.add(held, End::Refused(code));
             return (Some(held.transaction), is_late);
@@ -90,8 +91,8 @@ impl Channel {
     /// Returns whether a time-out is that of the message that was asked, so that it has the channel.
     fn is_asked_open(&self) -> bool {
         match (&self.held, &self.asked) {
-            (Some(held), Some(asked)) => !asked.is_whole()
-                && (held.is_whole() || asked.after < NO_TIME_OUT),
+            (Some(held), Some(asked)) => !asked.extent.is_whole()
+                && (held.extent.is_whole() || asked.after < NO_TIME_OUT),
             _ => false,
         }
     }
@@ -105,7 +106,8 @@ impl Channel {
             return false;
         }
         if doubtful.is_next {
-            held.continuations = held.continuations.saturating_sub(1);
+            let came = held.extent.continuations;
+            held.extent.continuations = came.saturating_sub(1);
         }
         true
     }
@@ -118,7 +120,7 @@ impl Channel {
             (INVALID_SEQUENCE, End::Replaced(refused.line))
         };
         let is_ended = matches!(&self.held, Some(held)
-            if !held.is_whole() && held.transaction.line < refused.line);
+            if !held.extent.is_whole() && held.transaction.line < refused.line);
         if is_ended
             && code == cause
             && let Some(held) = self.free(ends)
@@ -194,8 +196,7 @@ impl Channel {
         }
         self.told = Some(Told {
             line: answer.line,
-            length: answer.length,
-            continuations: 0,
+            extent: answer.extent,
             status: status_in(answer),
             exchange,
         });
@@ -247,10 +248,10 @@ impl Channel {
     /// Takes a continuation packet of the device's last message, if it is the next one.
     pub fn answer_on(&mut self, number: u8, ends: &mut Ends) -> Option<Answered> {
         let told = self.told.as_mut()?;
-        if told.is_whole() || told.continuations != number {
+        if told.extent.is_whole() || told.extent.continuations != number {
             return None;
         }
-        told.continuations = told.continuations.saturating_add(1);
+        told.extent.continuations = number.saturating_add(1);
         let of = match &told.exchange {
             Some(exchange) => Some(exchange.transaction),
             None => None,
@@ -258,7 +259,7 @@ impl Channel {
         let answered = Answered {
             line: told.line,
             of,
-            is_whole: told.is_whole(),
+            is_whole: told.extent.is_whole(),
         };
         self.end_told(ends);
         Some(answered)
@@ -267,7 +268,7 @@ impl Channel {
     /// Ends the transaction of the device's last message, if that is whole now.
     fn end_told(&mut self, ends: &mut Ends) {
         if let Some(told) = &self.told
-            && told.is_whole()
+            && told.extent.is_whole()
             && let Some(exchange) = told.exchange
         {
             let end = match told.status {
@@ -282,13 +283,13 @@ impl Channel {
 /// Returns whether an answer can be that of a message: of a whole one with its command.
 fn is_answered(place: &Option<Exchange>, answer: &Answer<'_>) -> bool {
     matches!(place, Some(exchange)
-        if exchange.is_whole() && exchange.transaction.message == answer.command)
+        if exchange.extent.is_whole() && exchange.transaction.message == answer.command)
 }
 
 /// Returns the status of a CBOR answer.
 fn status_in(answer: &Answer<'_>) -> Option<u8> {
     match answer.part {
-        [status, ..] if answer.command == CBOR && answer.length > 0 => Some(*status),
+        [status, ..] if answer.command == CBOR && answer.extent.length > 0 => Some(*status),
         _ => None,
     }
 }

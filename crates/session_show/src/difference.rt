@@ -106,7 +106,7 @@ impl Played {
             has_sent: false,
             awaited: None,
             reply: None,
-            signed: Signed::new(),
+            signed: Signed::default(),
         }
     }
 
@@ -153,6 +153,7 @@ impl Played {
         session: &mut Session<C>,
     ) -> Result<(), Stop> {
         if self.has_differed {
+            self.has_differed = false;
             self.outbox = Outbox::new();
         }
         if let Some(sent) = self.outbox.pop() {
@@ -161,10 +162,9 @@ impl Played {
         session.step(timed.at, timed.input, &mut self.outbox);
         self.awaited = Awaited::of(&session.need());
         self.reply = Awaited::in_input(&timed.input);
-        self.signed.begin();
+        self.signed.len = 0;
         self.input = number;
         self.compared = 0;
-        self.has_differed = false;
         Ok(())
     }
 
@@ -188,13 +188,6 @@ impl Played {
             sent,
             awaited: self.awaited,
             reply: self.reply,
-        }
-    }
-
-    /// Follows the packet of the log that differed.
-    fn follow_last(&mut self) {
-        if let Some((number, packet)) = self.last.take() {
-            self.walk.take(number, &Line::Sent(packet));
         }
     }
 }
@@ -235,7 +228,9 @@ impl Comparison {
         reader: &mut S,
         session: &mut Session<C>,
     ) -> Result<Option<Difference>, LogFault> {
-        self.played.follow_last();
+        if let Some((number, packet)) = self.played.last.take() {
+            self.played.walk.take(number, &Line::Sent(packet));
+        }
         for _ in 0..LINES {
             let number = self.lines.saturating_add(1);
             let Some(end) = self.next_end(reader)? else {
@@ -285,12 +280,11 @@ impl Comparison {
         if self.aside.of.is_some() {
             return self.aside.of;
         }
-        let channel = channel_of(&packet);
-        let channels = &self.played.walk.channels;
-        if let Some(held) = channels.held_on(channel) {
+        let channel = self.played.walk.channels.on(channel_of(&packet))?;
+        if let Some(held) = &channel.held {
             return Some(held.transaction);
         }
-        let answered = channels.told_on(channel)?.exchange.as_ref()?;
+        let answered = channel.told.as_ref()?.exchange.as_ref()?;
         Some(answered.transaction)
     }
 
@@ -355,16 +349,16 @@ impl Comparison {
         };
         self.aside.copy_from(&self.played.walk);
         put_packet(&mut self.pen, &packet, writer)?;
-        let line = difference.line;
-        let mut is_open = put_message(&mut self.aside, &mut self.pen, line, &packet, writer)?;
-        for _ in 0..PACKETS {
-            if !is_open {
-                break;
-            }
-            let Some(next) = self.played.outbox.pop() else {
+        let mut next = Some(packet);
+        for _ in 0..=PACKETS {
+            let Some(packet) = next else {
                 break;
             };
-            is_open = put_message(&mut self.aside, &mut self.pen, line, &next, writer)?;
+            let (walk, pen) = (&mut self.aside, &mut self.pen);
+            if !put_message(walk, pen, difference.line, &packet, writer)? {
+                break;
+            }
+            next = self.played.outbox.pop();
         }
         Ok(())
     }
@@ -381,18 +375,16 @@ impl Comparison {
         };
         self.played.last = None;
         put_packet(&mut self.pen, &packet, writer)?;
-        let line = difference.line;
-        let walk = &mut self.played.walk;
-        let mut is_open = put_message(walk, &mut self.pen, line, &packet, writer)?;
-        for _ in 0..PACKETS {
-            if !is_open {
-                break;
-            }
-            let Some(next) = self.next_logged(reader) else {
+        let mut next = Some(packet);
+        for _ in 0..=PACKETS {
+            let Some(packet) = next else {
                 break;
             };
-            let walk = &mut self.played.walk;
-            is_open = put_message(walk, &mut self.pen, line, &next, writer)?;
+            let (walk, pen) = (&mut self.played.walk, &mut self.pen);
+            if !put_message(walk, pen, difference.line, &packet, writer)? {
+                break;
+            }
+            next = self.next_logged(reader);
         }
         Ok(())
     }
@@ -433,10 +425,13 @@ fn put_message<T: Target>(
     if writer.failures() == u64::MAX {
         return Err(Failed);
     }
-    walk.take(line, &Line::Sent(*packet));
-    if let Some(message) = walk.message() {
+    let said = Line::Sent(*packet);
+    walk.take(line, &said);
+    if let Some(message) = walk.entry(line, b"", said).own.message {
         put_written(writer, pen, &MessageLines(line, message))?;
     }
-    let told = walk.channels.told_on(channel_of(packet));
-    Ok(matches!(told, Some(told) if !told.is_whole()))
+    Ok(match walk.channels.on(channel_of(packet)) {
+        Some(channel) => matches!(&channel.told, Some(told) if !told.extent.is_whole()),
+        None => false,
+    })
 }

@@ -1,16 +1,15 @@
 //! The text for a line of a log.
 
-use crate::diagnostic::write_checked;
 use crate::escape::write_line;
-use crate::exchange::{End, Ended, Exchange};
+use crate::exchange::{End, Ended, Exchange, Extent, Transaction};
+use crate::item::write_checked;
 use crate::member_names::Map;
 use crate::members::write_members;
 use crate::packet_line::write_packet;
 use crate::pen::Pen;
 use crate::putting::Written;
-use crate::rp_id::RpId;
-use crate::walk::Walk;
-use crate::words::{command_name, fault_name, presence_word, status_name, write_name};
+use crate::walk::{Part, Walk};
+use crate::words::{COMMANDS, STATUSES, fault_name, name_in, presence_word, write_name};
 use ctap_cbor::{Fault, check};
 use hid_packet::Packet;
 use session_log::Line;
@@ -19,28 +18,59 @@ use token_session::{Input, Timed};
 /// CTAP2_ERR_CREDENTIAL_EXCLUDED.
 pub const EXCLUDED: u8 = 0x19;
 
-/// A CBOR message that isn't empty.
+/// What a CBOR message is.
 #[derive(Clone, Copy)]
-pub enum Message<'a> {
+pub enum Kind {
     /// What a host asked.
-    Request(&'a [u8]),
-    /// What the key answered, in this transaction where it is known.
-    Answer(Option<&'a Exchange>, &'a [u8]),
-    /// One whose bytes aren't kept, since too many are under way.
-    Lost,
+    Request,
+    /// What the key answered.
+    Answer,
 }
 
-/// A line of a log, the message whose last packet it has, and what it shows of lines before it.
+/// A CBOR message that isn't empty.
 #[derive(Clone, Copy)]
-pub struct Entry<'a> {
+pub struct Message<'a> {
+    pub kind: Kind,
+    /// None where its bytes aren't kept, since too many are under way.
+    pub bytes: Option<&'a [u8]>,
+    /// The transaction that it answers, where that is known.
+    pub exchange: Option<&'a Exchange>,
+}
+
+impl<'a> Message<'a> {
+    /// Returns the map that its item is, by its first byte.
+    pub fn map(&self, first: u8) -> Option<Map> {
+        match self.kind {
+            Kind::Request => Some(Map::Request(first)),
+            Kind::Answer => Some(Map::Answer(self.exchange?.transaction.command?)),
+        }
+    }
+}
+
+/// A line of a log, and what it is.
+#[derive(Clone, Copy)]
+pub struct Own<'a> {
     /// The line's number.
     pub number: u64,
     pub line: &'a [u8],
     /// What the line says.
     pub said: Line,
+    /// The transaction that it belongs to.
+    pub of: Option<Transaction>,
+    /// The message whose last packet it has.
     pub message: Option<Message<'a>>,
-    /// The number of an earlier line and the message that ended there, as is known only now.
-    pub late: Option<(u64, Message<'a>)>,
+}
+
+/// A line of a log, and what it shows of a line before it.
+#[derive(Clone, Copy)]
+pub struct Entry<'a> {
+    /// An earlier line of which only now is known what it is.
+    pub late: Option<Own<'a>>,
+    pub own: Own<'a>,
+    /// Whether only a later line shows what it is.
+    pub is_doubtful: bool,
+    /// What it is to the transactions.
+    pub part: Part,
     /// The transactions that it ends.
     pub ended: &'a [Ended],
 }
@@ -54,14 +84,7 @@ pub trait Follows {
 impl Follows for Walk {
     fn next_entry<'a>(&'a mut self, number: u64, line: &'a [u8], said: Line) -> Entry<'a> {
         self.take(number, &said);
-        Entry {
-            number,
-            line,
-            said,
-            message: self.message(),
-            late: self.late(),
-            ended: self.ended(),
-        }
+        self.entry(number, line, said)
     }
 }
 
@@ -83,205 +106,165 @@ impl Written for PacketLine<'_> {
 pub struct MessageLines<'a>(pub u64, pub Message<'a>);
 
 impl Written for MessageLines<'_> {
-    /// Writes lines that end with a line feed.
+    /// Writes the lines of a message: its command or status and the item after it; explained, also the name of the first,
+    /// what the item's fault means, and a line for each member.
     fn write(&self, pen: &mut Pen) {
-        write_message(pen, self.0, self.1);
+        let MessageLines(number, message) = *self;
+        pen.decimal(number);
+        let Some(bytes) = message.bytes else {
+            pen.text("   message not shown: too many are under way\n");
+            return;
+        };
+        let (kind, names) = match message.kind {
+            Kind::Request => ("   request ", COMMANDS),
+            Kind::Answer => ("   answer ", STATUSES),
+        };
+        let (first, item) = bytes.split_first().unwrap_or((&0, b""));
+        let checked = if item.is_empty() {
+            Ok(())
+        } else {
+            check(item).result
+        };
+        pen.text(kind);
+        pen.hex(&[*first]);
+        write_item(pen, item, &checked);
+        write_name(pen, name_in(names, i128::from(*first)));
+        if let Err(fault) = checked {
+            write_name(pen, Some(fault_name(fault.kind)));
+        }
+        pen.text("\n");
+        if pen.explains && checked.is_ok() {
+            write_more(pen, number, &message, *first, item);
+        }
+    }
+}
+
+/// Writes the item after a message's first byte.
+fn write_item(pen: &mut Pen, item: &[u8], checked: &Result<(), Fault>) {
+    if item.is_empty() {
+        return;
+    }
+    pen.text(" ");
+    // An item may be long, so it isn't written again for the parts after it.
+    match pen.known {
+        Some(len) if len <= pen.before => pen.before -= len,
+        _ => {
+            let before = pen.before;
+            write_checked(pen, item, checked);
+            if pen.before > 0 {
+                pen.known = Some(before.saturating_sub(pen.before));
+            }
+        }
+    }
+}
+
+/// Writes a line for each member of a message, and which credential a refusal excludes.
+fn write_more(pen: &mut Pen, number: u64, message: &Message<'_>, first: u8, item: &[u8]) {
+    let Some(map) = message.map(first) else {
+        return;
+    };
+    let Some(exchange) = message.exchange else {
+        write_members(pen, number, map, item, b"");
+        return;
+    };
+    write_members(pen, number, map, item, exchange.rp_id.bytes());
+    if let (EXCLUDED, Some(excluded)) = (first, &exchange.excluded) {
+        pen.decimal(number);
+        pen.text("   ");
+        excluded.write(pen);
     }
 }
 
 impl Written for Entry<'_> {
     /// Writes what comes after the number and a space: lines that end with a line feed.
     fn write(&self, pen: &mut Pen) {
-        match &self.said {
+        match &self.own.said {
             Line::Input(timed) => write_input(pen, timed),
             Line::Sent(packet) => {
                 pen.text("< ");
                 write_packet(pen, packet);
             }
-            Line::Comment => write_line(pen, self.line),
+            Line::Comment => write_line(pen, self.own.line),
             Line::Count => {}
         }
         pen.text("\n");
-        if let Some((number, message)) = self.late {
-            write_message(pen, number, message);
+        if let Some(late) = &self.late
+            && let Some(message) = late.message
+        {
+            MessageLines(late.number, message).write(pen);
         }
-        if let Some(message) = self.message {
-            write_message(pen, self.number, message);
+        if let Some(message) = self.own.message {
+            MessageLines(self.own.number, message).write(pen);
         }
         for ended in self.ended {
-            write_end_of(pen, self.number, ended);
+            write_ended(pen, self.own.number, ended);
         }
+    }
+}
+
+/// Writes an input: its letter, its moment and what it is.
+fn write_input(pen: &mut Pen, timed: &Timed) {
+    let (letter, what) = match &timed.input {
+        Input::Packet(_) => ("> ", ""),
+        Input::Tick => ("t ", ""),
+        Input::Presence(presence) => ("p ", presence_word(*presence)),
+        Input::Key(Some(_)) => ("k ", "yes"),
+        Input::Key(None) => ("k ", "no"),
+        Input::Signature(Some(_)) => ("s ", "yes"),
+        Input::Signature(None) => ("s ", "no"),
+    };
+    pen.text(letter);
+    pen.decimal(timed.at);
+    if !matches!(&timed.input, Input::Tick) {
+        pen.text(" ");
+    }
+    pen.text(what);
+    if let Input::Packet(packet) = &timed.input {
+        write_packet(pen, packet);
     }
 }
 
 /// Writes a line for a transaction that ended, where that isn't by an answer or an ERROR to a whole message: those say it
 /// themselves.
-fn write_end_of(pen: &mut Pen, number: u64, ended: &Ended) {
+fn write_ended(pen: &mut Pen, number: u64, ended: &Ended) {
     let exchange = &ended.exchange;
-    let is_said = match ended.end {
-        End::Status(_) | End::Answered | End::Open => true,
-        End::Refused(_) => exchange.is_whole(),
-        End::Cut { .. } | End::Dropped(_) | End::Replaced(_) | End::Forgotten => false,
+    let is_whole = exchange.extent.is_whole();
+    let (how, line) = match ended.end {
+        End::Status(_) | End::Answered | End::Open => return,
+        End::Refused(_) if is_whole => return,
+        End::Refused(_) | End::Cut(_) => ("", None),
+        End::Dropped(line) => (" dropped by line ", Some(line)),
+        End::Replaced(line) => (" replaced by line ", Some(line)),
+        End::Forgotten => (
+            " not followed any longer, since too many channels are in use",
+            None,
+        ),
     };
-    if is_said {
-        return;
-    }
     pen.decimal(number);
     pen.text("   line ");
     pen.decimal(exchange.transaction.line);
     pen.text(":");
-    let is_whole = exchange.is_whole();
     if !is_whole {
-        write_part(pen, exchange.came(), exchange.length, " bytes came");
+        write_extent(pen, &exchange.extent, " bytes came");
     }
-    let joint = if is_whole { "" } else { "," };
-    match ended.end {
-        End::Cut { came, length } => write_part(pen, came, length, " bytes of its answer came"),
-        End::Dropped(line) => write_by(pen, joint, " dropped by line ", line),
-        End::Replaced(line) => write_by(pen, joint, " replaced by line ", line),
-        End::Forgotten => {
-            pen.text(joint);
-            pen.text(" not followed any longer, since too many channels are in use");
-        }
-        End::Status(_) | End::Answered | End::Refused(_) | End::Open => {}
+    if let End::Cut(extent) = &ended.end {
+        write_extent(pen, extent, " bytes of its answer came");
+    }
+    if !is_whole && !how.is_empty() {
+        pen.text(",");
+    }
+    pen.text(how);
+    if let Some(line) = line {
+        pen.decimal(line);
     }
     pen.text("\n");
 }
 
 /// Writes how much of a message came.
-fn write_part(pen: &mut Pen, came: usize, length: u16, what: &str) {
+pub fn write_extent(pen: &mut Pen, extent: &Extent, what: &str) {
     pen.text(" ");
-    pen.decimal(came as u64);
+    pen.decimal(extent.came() as u64);
     pen.text(" of ");
-    pen.decimal(u64::from(length));
+    pen.decimal(u64::from(extent.length));
     pen.text(what);
-}
-
-/// Writes which line ended a transaction.
-fn write_by(pen: &mut Pen, joint: &str, how: &str, line: u64) {
-    pen.text(joint);
-    pen.text(how);
-    pen.decimal(line);
-}
-
-fn yes_or_no(flag: bool) -> &'static str {
-    if flag { " yes" } else { " no" }
-}
-
-/// Writes an input: its letter, its moment and what it is.
-fn write_input(pen: &mut Pen, timed: &Timed) {
-    match &timed.input {
-        Input::Packet(packet) => {
-            write_moment(pen, "> ", timed.at);
-            pen.text(" ");
-            write_packet(pen, packet);
-        }
-        Input::Tick => write_moment(pen, "t ", timed.at),
-        Input::Presence(presence) => {
-            write_moment(pen, "p ", timed.at);
-            pen.text(" ");
-            pen.text(presence_word(*presence));
-        }
-        Input::Key(key) => {
-            write_moment(pen, "k ", timed.at);
-            pen.text(yes_or_no(key.is_some()));
-        }
-        Input::Signature(signature) => {
-            write_moment(pen, "s ", timed.at);
-            pen.text(yes_or_no(signature.is_some()));
-        }
-    }
-}
-
-/// Writes the front of an input.
-fn write_moment(pen: &mut Pen, letter: &str, at: u64) {
-    pen.text(letter);
-    pen.decimal(at);
-}
-
-/// Writes the lines of a whole message: its command or status and the item after it; explained, also the name of the
-/// first, and then a line for each member.
-fn write_message(pen: &mut Pen, number: u64, message: Message<'_>) {
-    match message {
-        Message::Request(bytes) => write_request(pen, number, bytes),
-        Message::Answer(exchange, bytes) => write_answer(pen, number, exchange, bytes),
-        Message::Lost => {
-            pen.decimal(number);
-            pen.text("   message not shown: too many are under way\n");
-        }
-    }
-}
-
-fn write_request(pen: &mut Pen, number: u64, message: &[u8]) {
-    let Some((command, item)) = message.split_first() else {
-        return;
-    };
-    let checked = checked(item);
-    write_front(pen, number, "   request ", *command, (item, &checked));
-    write_end(pen, command_name(*command), &checked);
-    if pen.explains() && checked.is_ok() {
-        write_members(pen, number, Map::Request(*command), item, &RpId::none());
-    }
-}
-
-fn write_answer(pen: &mut Pen, number: u64, exchange: Option<&Exchange>, message: &[u8]) {
-    let Some((status, item)) = message.split_first() else {
-        return;
-    };
-    let checked = checked(item);
-    write_front(pen, number, "   answer ", *status, (item, &checked));
-    write_end(pen, status_name(*status), &checked);
-    if let Some(exchange) = exchange
-        && let Some(command) = exchange.transaction.command
-        && pen.explains()
-        && checked.is_ok()
-    {
-        write_members(pen, number, Map::Answer(command), item, &exchange.rp_id);
-        if let (EXCLUDED, Some(excluded)) = (*status, &exchange.excluded) {
-            pen.decimal(number);
-            pen.text("   ");
-            excluded.write(pen);
-        }
-    }
-}
-
-/// Returns why the bytes after a message's first one are no item, where there are some.
-fn checked(item: &[u8]) -> Result<(), Fault> {
-    if item.is_empty() {
-        return Ok(());
-    }
-    check(item).result
-}
-
-/// Writes the front of a message's line: its command or status, and the item after it.
-fn write_front(
-    pen: &mut Pen,
-    number: u64,
-    kind: &str,
-    first: u8,
-    (item, checked): (&[u8], &Result<(), Fault>),
-) {
-    pen.decimal(number);
-    pen.text(kind);
-    pen.hex(&[first]);
-    if item.is_empty() {
-        return;
-    }
-    pen.text(" ");
-    // An item may be long, so it isn't written again for the parts after it.
-    if !pen.pass_known() {
-        let before = pen.before();
-        write_checked(pen, item, checked);
-        pen.know(before);
-    }
-}
-
-/// Writes the end of a message's line; explained, with the name of its command or status, and what the item's fault
-/// means.
-fn write_end(pen: &mut Pen, name: Option<&str>, checked: &Result<(), Fault>) {
-    write_name(pen, name);
-    if let Err(fault) = checked {
-        write_name(pen, Some(fault_name(fault.kind)));
-    }
-    pen.text("\n");
 }

@@ -20,23 +20,27 @@ pub fn is_hidden(c: char) -> bool {
     )
 }
 
-/// Returns whether a character is written by its number: in the fixed text those below U+0020 and U+007F alone.
-fn is_escaped(pen: &Pen, c: char) -> bool {
-    if pen.explains() {
+/// Writes a character: one that is hidden as `\u` and four digits, or in braces where it has more; in JSON as two of
+/// these. In the fixed text those below U+0020 and U+007F alone are hidden.
+pub fn write_char(pen: &mut Pen, c: char, is_json: bool) {
+    let is_escaped = if pen.explains {
         is_hidden(c)
     } else {
         matches!(c, '\0'..='\u{1f}' | '\u{7f}')
-    }
-}
-
-/// Writes a character: one that is hidden as `\u` and four digits, or in braces where it has more.
-pub fn write_char(pen: &mut Pen, c: char) {
-    if !is_escaped(pen, c) {
+    };
+    if !is_escaped {
         pen.text(c.encode_utf8(&mut [0; 4]));
         return;
     }
     match (c as u32).to_be_bytes() {
         [_, 0, high, low] => pen.escape(high, low),
+        _ if is_json => {
+            let mut units = [0_u16; 2];
+            for unit in c.encode_utf16(&mut units) {
+                let [high, low] = unit.to_be_bytes();
+                pen.escape(high, low);
+            }
+        }
         [_, plane, high, low] => {
             pen.text("\\u{");
             pen.hex(&[plane, high, low]);
@@ -50,23 +54,21 @@ pub fn write_line(pen: &mut Pen, line: &[u8]) {
     match std::str::from_utf8(line) {
         Ok(text) => {
             for c in text.chars() {
-                write_char(pen, c);
+                write_char(pen, c, false);
             }
         }
-        Err(_) => {
-            for byte in line {
-                write_byte(pen, *byte);
-            }
-        }
+        Err(_) => write_bytes(pen, line),
     }
 }
 
-/// Writes a byte of a line that isn't UTF-8.
-fn write_byte(pen: &mut Pen, byte: u8) {
-    if byte < 128 {
-        write_char(pen, char::from(byte));
-    } else {
-        pen.text("\\x");
-        pen.hex(&[byte]);
+/// Writes a line that isn't UTF-8.
+fn write_bytes(pen: &mut Pen, line: &[u8]) {
+    for byte in line {
+        if *byte < 128 {
+            write_char(pen, char::from(*byte), false);
+        } else {
+            pen.text("\\x");
+            pen.hex(&[*byte]);
+        }
     }
 }

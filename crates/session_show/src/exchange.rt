@@ -4,12 +4,11 @@ ghost use Rattle.std.specs.Prelude.{◌<◌, ◌-◌, ◌^◌};
 ghost use Rattle.session_show.specs.Written.{Writes};
 
 use crate::credentials::Excluded;
-use crate::packet_line::name_of;
 use crate::pen::Pen;
 use crate::putting::{Written, put_written};
 use crate::rp_id::RpId;
 use crate::wording::Wording;
-use crate::words::command_name;
+use crate::words::{COMMANDS, MESSAGES, name_in};
 use arrayvec::ArrayVec;
 use hid_packet::command::{CBOR, INIT, PING};
 use hid_packet::{CONTINUATION_DATA, INITIALIZATION_DATA, LONGEST_MESSAGE};
@@ -49,8 +48,8 @@ impl Transaction {
     /// Returns the command's name: that of the authenticator's command, or that of the message.
     pub fn name(&self) -> &'static str {
         let name = match self.command {
-            Some(command) => command_name(command),
-            None => name_of(self.message),
+            Some(command) => name_in(COMMANDS, i128::from(command)),
+            None => name_in(MESSAGES, i128::from(self.message)),
         };
         name.unwrap_or("a command without a name")
     }
@@ -77,25 +76,42 @@ pub fn put_transaction<T: Target>(writer: &mut T, transaction: &Transaction) -> 
     put_written(writer, &mut Pen::new(Wording::Explained), transaction)
 }
 
-/// Returns how many bytes of a message its initialization packet and so many continuation packets carry.
-pub fn carried(length: u16, continuations: u8) -> usize {
-    let most = INITIALIZATION_DATA + CONTINUATION_DATA * usize::from(continuations);
-    usize::from(length).min(most)
+/// How much of a message came.
+#[derive(Clone, Copy, Default)]
+pub struct Extent {
+    /// How many bytes the message has.
+    pub length: u16,
+    /// How many continuation packets of it came: the number of the next one.
+    pub continuations: u8,
 }
 
-/// Returns whether so many continuation packets complete a message. One of more than 7609 bytes is never whole.
-pub fn is_whole(length: u16, continuations: u8) -> bool {
-    length <= LONGEST_MESSAGE && carried(length, continuations) == usize::from(length)
+impl Extent {
+    /// Returns that of a message of so many bytes after its initialization packet.
+    pub fn begun(length: u16) -> Self {
+        Extent {
+            length,
+            continuations: 0,
+        }
+    }
+
+    /// Returns how many bytes its packets carried.
+    pub fn came(&self) -> usize {
+        let most = INITIALIZATION_DATA + CONTINUATION_DATA * usize::from(self.continuations);
+        usize::from(self.length).min(most)
+    }
+
+    /// Returns whether it is whole. A message of more than 7609 bytes never is.
+    pub fn is_whole(&self) -> bool {
+        self.length <= LONGEST_MESSAGE && self.came() == usize::from(self.length)
+    }
 }
 
 /// A transaction and what came for it so far.
 #[derive(Clone, Copy, Default)]
 pub struct Exchange {
     pub transaction: Transaction,
-    /// How many bytes its message has.
-    pub length: u16,
-    /// How many continuation packets of it came: the number of the next one.
-    pub continuations: u8,
+    /// How much of its message came.
+    pub extent: Extent,
     /// The moment of its last packet.
     pub at: u64,
     /// How long after the last packet of the message that held its channel it began, where one did.
@@ -113,36 +129,26 @@ pub struct Exchange {
 }
 
 impl Exchange {
-    /// Returns how many bytes of its message came.
-    pub fn came(&self) -> usize {
-        carried(self.length, self.continuations)
-    }
-
-    /// Returns whether its message is whole.
-    pub fn is_whole(&self) -> bool {
-        is_whole(self.length, self.continuations)
-    }
-
     /// Returns whether a key works on it, and may say so by a KEEPALIVE: its message is whole, and neither PING nor INIT.
     pub fn is_served(&self) -> bool {
-        self.is_whole() && !matches!(self.transaction.message, PING | INIT)
+        self.extent.is_whole() && !matches!(self.transaction.message, PING | INIT)
     }
 
     /// Returns whether it is a CBOR request that waits for its answer.
     pub fn waits(&self) -> bool {
-        self.is_whole() && self.transaction.message == CBOR
+        self.extent.is_whole() && self.transaction.message == CBOR
     }
 }
 
 /// How a transaction ended.
-#[derive(Clone, Copy)]
+#[derive(Clone, Copy, Default)]
 pub enum End {
     /// By an answer with this status.
     Status(u8),
     /// By an answer that has no status.
     Answered,
-    /// By an answer of which only so many bytes came.
-    Cut { came: usize, length: u16 },
+    /// By an answer of which only so much came.
+    Cut(Extent),
     /// By an ERROR with this code.
     Refused(u8),
     /// By the CANCEL or the INIT on this line.
@@ -152,51 +158,40 @@ pub enum End {
     /// It isn't followed any longer, since too many channels are in use.
     Forgotten,
     /// It hasn't: it is open at the log's end.
+    #[default]
     Open,
 }
 
 /// A transaction that ended.
-#[derive(Clone, Copy)]
+#[derive(Clone, Copy, Default)]
 pub struct Ended {
     pub exchange: Exchange,
     pub end: End,
 }
 
-impl Default for Ended {
-    fn default() -> Self {
-        Ended {
-            exchange: Exchange::default(),
-            end: End::Answered,
-        }
-    }
-}
-
-/// The transactions that end at a line.
-#[derive(Drop)]
-pub struct Ends {
-    ended: ArrayVec<Ended, ENDS>,
-}
+/// The transactions that end at a line, in the order in which they do.
+#[derive(Drop, Default)]
+pub struct Ends(pub ArrayVec<Ended, ENDS>);
 
 impl Ends {
-    /// Returns none.
-    pub fn new() -> Self {
-        Ends {
-            ended: ArrayVec::new(),
-        }
-    }
-
-    /// Forgets all.
-    pub fn clear(&mut self) {
-        self.ended.clear();
-    }
-
     /// Adds one.
     pub fn add(&mut self, exchange: Exchange, end: End) {
-        let _ = self.ended.try_push(Ended { exchange, end });
+        let _ = self.0.try_push(Ended { exchange, end });
     }
 
-    /// Returns them, in the order in which they ended.
-    pub fn as_slice(&self) -> &[Ended] {
-        self.ended.as_slice()
+    /// Returns the first one of those that began after a line, and of another one.
+    pub fn first_after(&self, line: u64, other: Option<Ended>) -> Option<Ended> {
+        let mut first = other;
+        for ended in self.0.as_slice() {
+            let began = ended.exchange.transaction.line;
+            let is_first = match &first {
+                Some(first) => began < first.exchange.transaction.line,
+                None => true,
+            };
+            if began > line && is_first {
+                first = Some(*ended);
+            }
+        }
+        first
     }
 }

@@ -1,92 +1,83 @@
-//! Pieces of JSON (RFC 8259).
+//! Members of objects of JSON (RFC 8259).
 
-use crate::escape::is_hidden;
+use crate::item::{Diagnostic, JSON, write_scalar, write_text, write_value};
 use crate::pen::Pen;
 use crate::putting::Written;
+use crate::words::Names;
+use ctap_cbor::{Cursor, Item};
 
-/// Writes the front of a member that isn't an object's first one.
-pub fn write_name(pen: &mut Pen, name: &str) {
-    pen.text(",\"");
-    pen.text(name);
-    pen.text("\":");
+/// What a member of an object is. One without a value isn't written.
+#[derive(Clone, Copy)]
+pub enum Value<'a> {
+    Number(Option<u64>),
+    /// A word of ours, without anything to escape.
+    Word(Option<&'static str>),
+    /// A text of other people.
+    Text(Option<&'a str>),
+    Flag(bool),
+    /// A channel, in hexadecimal digits.
+    Channel(u32),
+    /// Bytes, in hexadecimal digits.
+    Hex(&'a [u8]),
+    /// A data item in diagnostic notation.
+    Diagnostic(&'a [u8]),
+    /// A data item whose bytes were checked, and the names of its members.
+    Item(&'a [u8], Names),
 }
 
-/// Writes a member that is a number.
-pub fn write_number(pen: &mut Pen, name: &str, number: u64) {
-    write_name(pen, name);
-    pen.decimal(number);
-}
-
-/// Writes a member that is a word of ours, without anything to escape.
-pub fn write_word(pen: &mut Pen, name: &str, word: &str) {
-    write_name(pen, name);
-    pen.text("\"");
-    pen.text(word);
-    pen.text("\"");
-}
-
-/// Writes a member that is a word of ours, where there is one.
-pub fn write_some_word(pen: &mut Pen, name: &str, word: Option<&str>) {
-    if let Some(word) = word {
-        write_word(pen, name, word);
-    }
-}
-
-/// Writes a member that is true or false.
-pub fn write_flag(pen: &mut Pen, name: &str, flag: bool) {
-    write_name(pen, name);
-    pen.text(if flag { "true" } else { "false" });
-}
-
-/// Writes a member that is bytes, in hexadecimal digits.
-pub fn write_hex(pen: &mut Pen, name: &str, bytes: &[u8]) {
-    write_name(pen, name);
-    pen.text("\"");
-    pen.hex(bytes);
-    pen.text("\"");
-}
-
-/// Writes a member that is a text: what is written for it, with a backslash before `"` and `\`.
-pub fn write_quoted<W: Written>(pen: &mut Pen, name: &str, written: &W) {
-    write_name(pen, name);
-    pen.text("\"");
-    pen.quote(true);
-    written.write(pen);
-    pen.quote(false);
-    pen.text("\"");
-}
-
-/// Writes a member that is a text of other people.
-pub fn write_text(pen: &mut Pen, name: &str, text: &str) {
-    write_name(pen, name);
-    write_string(pen, text);
-}
-
-/// Writes a text of other people.
-pub fn write_string(pen: &mut Pen, text: &str) {
-    pen.text("\"");
-    for c in text.chars() {
-        // What comes after a whole part is dropped.
-        if pen.is_full() {
-            break;
-        }
-        write_char(pen, c);
-    }
-    pen.text("\"");
-}
-
-/// Writes a character. One that can't be seen is written as `\u` and four digits; above U+FFFF as two of these.
-fn write_char(pen: &mut Pen, c: char) {
-    match c {
-        '"' => pen.text("\\\""),
-        '\\' => pen.text("\\\\"),
-        _ if !is_hidden(c) => pen.text(c.encode_utf8(&mut [0; 4])),
-        _ => {
-            let mut units = [0_u16; 2];
-            for unit in c.encode_utf16(&mut units) {
-                let [high, low] = unit.to_be_bytes();
-                pen.escape(high, low);
+impl Value<'_> {
+    /// Writes the value.
+    fn write(&self, pen: &mut Pen) {
+        match *self {
+            Value::Number(number) => pen.decimal(number.unwrap_or(0)),
+            Value::Word(word) => {
+                pen.text("\"");
+                pen.text(word.unwrap_or(""));
+                pen.text("\"");
             }
+            Value::Text(text) => write_text(pen, text.unwrap_or(""), true),
+            Value::Flag(flag) => pen.text(if flag { "true" } else { "false" }),
+            Value::Channel(channel) => {
+                write_scalar(pen, Item::Bytes(&channel.to_be_bytes()), JSON);
+            }
+            Value::Hex(bytes) => write_scalar(pen, Item::Bytes(bytes), JSON),
+            Value::Diagnostic(item) => {
+                pen.text("\"");
+                pen.is_quoted = true;
+                Diagnostic(item).write(pen);
+                pen.is_quoted = false;
+                pen.text("\"");
+            }
+            Value::Item(item, names) => write_value(pen, &mut Cursor::new(item), 1, JSON, names),
         }
     }
+}
+
+/// Writes members of an object that has others before them.
+pub fn write_members(pen: &mut Pen, members: &[(&'static str, Value<'_>)]) {
+    for (name, value) in members {
+        if let Value::Number(None) | Value::Word(None) | Value::Text(None) = value {
+            continue;
+        }
+        pen.text(",\"");
+        pen.text(name);
+        pen.text("\":");
+        value.write(pen);
+    }
+}
+
+/// Begins the object of this kind for a line.
+pub fn begin_object(pen: &mut Pen, number: u64, kind: &str) {
+    pen.text("{\"line\":");
+    pen.decimal(number);
+    pen.text(",\"kind\":\"");
+    pen.text(kind);
+    pen.text("\"");
+}
+
+/// Writes the object of this kind for a line, with these members.
+pub fn write_object(pen: &mut Pen, number: u64, kind: &str, members: &[(&'static str, Value<'_>)]) {
+    begin_object(pen, number, kind);
+    write_members(pen, members);
+    pen.text("}\n");
 }

@@ -1,4 +1,6 @@
-//! The names that CTAP 2.1 has for the members of requests and answers.
+//! The names that CTAP 2.1 and COSE have for the members of maps, and for some of their values.
+
+use crate::words::{Names, name_in};
 
 /// A map whose members have names.
 #[derive(Clone, Copy)]
@@ -7,16 +9,15 @@ pub enum Map {
     Request(u8),
     /// What the key answers to this command.
     Answer(u8),
+    /// A COSE key (RFC 9053, section 7).
+    Key,
+    /// A COSE key of RSA (RFC 8230, section 4).
+    RsaKey,
 }
 
 impl Map {
-    /// Whether its members have names.
-    pub fn is_named(self) -> bool {
-        !self.names().is_empty()
-    }
-
-    /// Returns the names of its members, by their keys from 1 on.
-    fn names(self) -> &'static [&'static str] {
+    /// Returns the names of its members.
+    pub fn names(self) -> Names {
         match self {
             Map::Request(0x01) => MAKE_CREDENTIAL,
             Map::Request(0x02) => GET_ASSERTION,
@@ -26,105 +27,161 @@ impl Map {
             Map::Answer(0x04) => INFO,
             Map::Answer(0x06) => PIN,
             Map::Request(_) | Map::Answer(_) => &[],
+            Map::Key => KEY,
+            Map::RsaKey => RSA_KEY,
         }
     }
 
-    /// Returns the name of the member with this key.
-    pub fn name_of(self, key: i128) -> Option<&'static str> {
-        name_at(self.names(), key)
+    /// Returns the name of a value of the member with this key.
+    pub fn name_of(self, key: i128, value: i128) -> Option<&'static str> {
+        match (self, key) {
+            (Map::Key | Map::RsaKey, 1) => name_in(KEY_TYPES, value),
+            (Map::Key | Map::RsaKey, 3) => name_in(ALGORITHMS, value),
+            (Map::Key | Map::RsaKey, -1) => name_in(CURVES, value),
+            _ => None,
+        }
     }
 }
 
-/// Returns the name that a list has at a place, from 1.
-pub fn name_at(names: &'static [&'static str], place: i128) -> Option<&'static str> {
-    let place = usize::try_from(place).ok()?.checked_sub(1)?;
-    let name = *names.get(place)?;
-    if name.is_empty() { None } else { Some(name) }
-}
-
 /// Section 6.1, what is asked.
-const MAKE_CREDENTIAL: &[&str] = &[
-    "clientDataHash",
-    "rp",
-    "user",
-    "pubKeyCredParams",
-    "excludeList",
-    "extensions",
-    "options",
-    "pinUvAuthParam",
-    "pinUvAuthProtocol",
-    "enterpriseAttestation",
+const MAKE_CREDENTIAL: Names = &[
+    (1, "clientDataHash"),
+    (2, "rp"),
+    (3, "user"),
+    (4, "pubKeyCredParams"),
+    (5, "excludeList"),
+    (6, "extensions"),
+    (7, "options"),
+    (8, "pinUvAuthParam"),
+    (9, "pinUvAuthProtocol"),
+    (10, "enterpriseAttestation"),
 ];
 
 /// Section 6.1, what is answered.
-const CREATED: &[&str] = &["fmt", "authData", "attStmt", "epAtt", "largeBlobKey"];
+const CREATED: Names = &[
+    (1, "fmt"),
+    (2, "authData"),
+    (3, "attStmt"),
+    (4, "epAtt"),
+    (5, "largeBlobKey"),
+];
 
 /// Section 6.2, what is asked.
-const GET_ASSERTION: &[&str] = &[
-    "rpId",
-    "clientDataHash",
-    "allowList",
-    "extensions",
-    "options",
-    "pinUvAuthParam",
-    "pinUvAuthProtocol",
+const GET_ASSERTION: Names = &[
+    (1, "rpId"),
+    (2, "clientDataHash"),
+    (3, "allowList"),
+    (4, "extensions"),
+    (5, "options"),
+    (6, "pinUvAuthParam"),
+    (7, "pinUvAuthProtocol"),
 ];
 
 /// Section 6.2, what is answered, to authenticatorGetNextAssertion too.
-const ASSERTED: &[&str] = &[
-    "credential",
-    "authData",
-    "signature",
-    "user",
-    "numberOfCredentials",
-    "userSelected",
-    "largeBlobKey",
+const ASSERTED: Names = &[
+    (1, "credential"),
+    (2, "authData"),
+    (3, "signature"),
+    (4, "user"),
+    (5, "numberOfCredentials"),
+    (6, "userSelected"),
+    (7, "largeBlobKey"),
 ];
 
 /// Section 6.4.
-const INFO: &[&str] = &[
-    "versions",
-    "extensions",
-    "aaguid",
-    "options",
-    "maxMsgSize",
-    "pinUvAuthProtocols",
-    "maxCredentialCountInList",
-    "maxCredentialIdLength",
-    "transports",
-    "algorithms",
-    "maxSerializedLargeBlobArray",
-    "forcePINChange",
-    "minPINLength",
-    "firmwareVersion",
-    "maxCredBlobLength",
-    "maxRPIDsForSetMinPINLength",
-    "preferredPlatformUvAttempts",
-    "uvModality",
-    "certifications",
-    "remainingDiscoverableCredentials",
-    "vendorPrototypeConfigCommands",
+const INFO: Names = &[
+    (1, "versions"),
+    (2, "extensions"),
+    (3, "aaguid"),
+    (4, "options"),
+    (5, "maxMsgSize"),
+    (6, "pinUvAuthProtocols"),
+    (7, "maxCredentialCountInList"),
+    (8, "maxCredentialIdLength"),
+    (9, "transports"),
+    (10, "algorithms"),
+    (11, "maxSerializedLargeBlobArray"),
+    (12, "forcePINChange"),
+    (13, "minPINLength"),
+    (14, "firmwareVersion"),
+    (15, "maxCredBlobLength"),
+    (16, "maxRPIDsForSetMinPINLength"),
+    (17, "preferredPlatformUvAttempts"),
+    (18, "uvModality"),
+    (19, "certifications"),
+    (20, "remainingDiscoverableCredentials"),
+    (21, "vendorPrototypeConfigCommands"),
 ];
 
-/// Section 6.5, what is asked. Keys without a name have an empty one.
-const CLIENT_PIN: &[&str] = &[
-    "pinUvAuthProtocol",
-    "subCommand",
-    "keyAgreement",
-    "pinUvAuthParam",
-    "newPinEnc",
-    "pinHashEnc",
-    "",
-    "",
-    "permissions",
-    "rpId",
+/// Section 6.5, what is asked.
+const CLIENT_PIN: Names = &[
+    (1, "pinUvAuthProtocol"),
+    (2, "subCommand"),
+    (3, "keyAgreement"),
+    (4, "pinUvAuthParam"),
+    (5, "newPinEnc"),
+    (6, "pinHashEnc"),
+    (9, "permissions"),
+    (10, "rpId"),
 ];
 
 /// Section 6.5, what is answered.
-const PIN: &[&str] = &[
-    "keyAgreement",
-    "pinUvAuthToken",
-    "pinRetries",
-    "powerCycleState",
-    "uvRetries",
+const PIN: Names = &[
+    (1, "keyAgreement"),
+    (2, "pinUvAuthToken"),
+    (3, "pinRetries"),
+    (4, "powerCycleState"),
+    (5, "uvRetries"),
+];
+
+/// The members of a COSE key.
+const KEY: Names = &[
+    (1, "kty"),
+    (2, "kid"),
+    (3, "alg"),
+    (4, "key_ops"),
+    (-1, "crv"),
+    (-2, "x"),
+    (-3, "y"),
+];
+
+/// The members of one of RSA.
+const RSA_KEY: Names = &[
+    (1, "kty"),
+    (2, "kid"),
+    (3, "alg"),
+    (4, "key_ops"),
+    (-1, "n"),
+    (-2, "e"),
+];
+
+/// The names of a key's types.
+const KEY_TYPES: Names = &[(1, "OKP"), (2, "EC2"), (3, "RSA")];
+
+/// The names of curves.
+const CURVES: Names = &[
+    (1, "P-256"),
+    (2, "P-384"),
+    (3, "P-521"),
+    (4, "X25519"),
+    (5, "X448"),
+    (6, "Ed25519"),
+    (7, "Ed448"),
+    (8, "secp256k1"),
+];
+
+/// The names of algorithms.
+pub const ALGORITHMS: Names = &[
+    (-7, "ES256"),
+    (-8, "EdDSA"),
+    (-35, "ES384"),
+    (-36, "ES512"),
+    (-37, "PS256"),
+    (-38, "PS384"),
+    (-39, "PS512"),
+    (-47, "ES256K"),
+    (-257, "RS256"),
+    (-258, "RS384"),
+    (-259, "RS512"),
+    (-65535, "RS1"),
 ];

@@ -11,25 +11,32 @@ pub const PART: usize = 8192;
 /// How many bytes are written in hexadecimal digits at once.
 const AT_ONCE: usize = 32;
 
+/// Columns are filled up with these.
+const SPACES: &[u8] = b"                                ";
+
 /// Keeps a part of the text that is written: what lies before the part is passed over, and what comes after it is
 /// dropped. So a text of any length is written in parts of a fixed size, by writing it once for each part.
 #[derive(Drop)]
 pub struct Pen {
-    wording: Wording,
+    /// Whether it writes names, members and comments for people.
+    pub explains: bool,
+    /// How many bytes were to pass over when the part began.
+    first: usize,
     /// How many bytes are still to pass over.
-    before: usize,
+    pub before: usize,
     part: ArrayVec<u8, PART>,
-    /// Whether what is written is in a JSON text.
-    is_quoted: bool,
+    /// Whether what is written is in a JSON text, where a backslash is written before `"` and `\`.
+    pub is_quoted: bool,
     /// How long a piece is that is written at most once in the text, where that is known from an earlier part.
-    known: Option<usize>,
+    pub known: Option<usize>,
 }
 
 impl Pen {
     /// Returns a pen for a text's first part.
     pub fn new(wording: Wording) -> Self {
         Pen {
-            wording,
+            explains: matches!(wording, Wording::Explained),
+            first: 0,
             before: 0,
             part: ArrayVec::new(),
             is_quoted: false,
@@ -37,13 +44,9 @@ impl Pen {
         }
     }
 
-    /// Returns whether it writes names, members and comments for people.
-    pub fn explains(&self) -> bool {
-        matches!(self.wording, Wording::Explained)
-    }
-
     /// Begins the part that comes after so many bytes.
     pub fn begin(&mut self, before: usize) {
+        self.first = before;
         self.before = before;
         self.part.clear();
         self.is_quoted = false;
@@ -52,27 +55,10 @@ impl Pen {
         }
     }
 
-    /// Returns how many bytes are still to pass over.
-    pub fn before(&self) -> usize {
-        self.before
-    }
-
-    /// Passes over a piece whose length is known, and returns whether it did.
-    pub fn pass_known(&mut self) -> bool {
-        match self.known {
-            Some(len) if len <= self.before => {
-                self.before -= len;
-                true
-            }
-            _ => false,
-        }
-    }
-
-    /// Keeps the length of a piece that was passed over, when so many bytes were still to pass over before it.
-    pub fn know(&mut self, before: usize) {
-        if self.before > 0 {
-            self.known = Some(before.saturating_sub(self.before));
-        }
+    /// Returns how many bytes were written so far.
+    pub fn place(&self) -> usize {
+        let passed = self.first.saturating_sub(self.before);
+        passed.saturating_add(self.part.len())
     }
 
     /// The part of the text so far.
@@ -102,28 +88,32 @@ impl Pen {
             .try_extend_from_slice(rest.split_at(room.min(rest.len())).0);
     }
 
-    /// Begins a JSON text, or ends it: in one a backslash is written before `"` and `\`.
-    pub fn quote(&mut self, is_quoted: bool) {
-        self.is_quoted = is_quoted;
-    }
-
     /// Writes a text.
     pub fn text(&mut self, text: &str) {
-        if self.is_quoted {
-            self.quoted(text);
-        } else {
+        if !self.is_quoted {
             self.bytes(text.as_bytes());
+            return;
         }
-    }
-
-    /// Writes a text in a JSON text.
-    fn quoted(&mut self, text: &str) {
         for byte in text.as_bytes() {
             if matches!(byte, b'"' | b'\\') {
                 self.bytes(b"\\");
             }
             self.bytes(&[*byte]);
         }
+    }
+
+    /// Writes the spaces that are missing to a width, behind what was written from a place on.
+    pub fn fill(&mut self, place: usize, width: usize) {
+        let written = self.place().saturating_sub(place);
+        self.bytes(SPACES.get(..width.saturating_sub(written)).unwrap_or(b""));
+    }
+
+    /// Writes a number in decimal digits, after the spaces that are missing to a width.
+    pub fn column(&mut self, number: u64, width: usize) {
+        let mut buffer = Buffer::new();
+        let digits = buffer.format(number);
+        self.fill(self.place(), width.saturating_sub(digits.len()));
+        self.text(digits);
     }
 
     /// Writes a number in decimal digits.

@@ -11,7 +11,7 @@ pub const LONGEST: usize = LONGEST_MESSAGE as usize;
 pub const MESSAGES: usize = 2;
 
 /// The bytes of a message that came so far.
-#[derive(Drop)]
+#[derive(Drop, Default)]
 struct Kept {
     /// The line that the message began at, 0 where there is none.
     line: u64,
@@ -21,22 +21,6 @@ struct Kept {
 }
 
 impl Kept {
-    fn none() -> Self {
-        Kept {
-            line: 0,
-            length: 0,
-            bytes: ArrayVec::new(),
-        }
-    }
-
-    /// Becomes the same as another one.
-    fn copy_from(&mut self, other: &Kept) {
-        self.line = other.line;
-        self.length = other.length;
-        self.bytes.clear();
-        let _ = self.bytes.try_extend_from_slice(other.bytes.as_slice());
-    }
-
     /// Takes what a packet carries, as far as the message goes.
     fn add(&mut self, part: &[u8]) {
         let missing = self.length.saturating_sub(self.bytes.len());
@@ -55,14 +39,18 @@ impl Pool {
     /// Returns that of no messages.
     pub fn new() -> Self {
         Pool {
-            kept: [Kept::none(), Kept::none()],
+            kept: [Kept::default(), Kept::default()],
         }
     }
 
     /// Becomes the same as another one.
     pub fn copy_from(&mut self, other: &Pool) {
         for place in 0..MESSAGES {
-            self.kept[place].copy_from(&other.kept[place]);
+            let (kept, other) = (&mut self.kept[place], &other.kept[place]);
+            kept.line = other.line;
+            kept.length = other.length;
+            kept.bytes.clear();
+            let _ = kept.bytes.try_extend_from_slice(other.bytes.as_slice());
         }
     }
 

@@ -14,15 +14,10 @@ const PARTS: usize = 1 << 32;
 const NUMBERED: usize = PART + 21;
 
 /// A part after the number of its line.
-#[derive(Drop)]
+#[derive(Drop, Default)]
 pub struct Numbered(ArrayVec<u8, NUMBERED>);
 
 impl Numbered {
-    /// Returns that of no line.
-    pub fn new() -> Self {
-        Numbered(ArrayVec::new())
-    }
-
     /// Returns a number, a space and a part.
     fn of(&mut self, number: u64, part: &[u8]) -> &[u8]
         requires { length part.now ≤ 8192 }

@@ -1,7 +1,7 @@
 //! Why the key doesn't send what a log has, as far as the lines before it show that.
 
 use crate::difference::Difference;
-use crate::entry::EXCLUDED;
+use crate::entry::{EXCLUDED, write_extent};
 use crate::exchange::Exchange;
 use crate::packet_line::channel_of;
 use crate::pen::Pen;
@@ -75,14 +75,22 @@ impl Written for Reason<'_> {
 impl Reason<'_> {
     /// Writes what the key waits for before it answers on a channel.
     fn write_waiting(&self, pen: &mut Pen, channel: u32) {
-        if let Some(open) = self.walk.channels.held_on(channel)
-            && !open.is_whole()
+        if let Some(found) = self.walk.channels.on(channel)
+            && let Some(open) = &found.held
+            && !open.extent.is_whole()
         {
             write_missing(pen, open);
             return;
         }
         let Some(awaited) = self.difference.awaited else {
-            self.write_answered(pen, channel);
+            if let Some(found) = self.walk.channels.on(channel)
+                && let Some(told) = &found.told
+                && told.extent.is_whole()
+            {
+                pen.text("  nothing waits: its last answer on this channel is that of line ");
+                pen.decimal(told.line);
+                pen.text("\n");
+            }
             return;
         };
         pen.text("  it needs ");
@@ -119,7 +127,8 @@ impl Reason<'_> {
                 part: [EXCLUDED, ..],
                 ..
             } => {
-                if let Some(held) = self.walk.channels.held_on(cid)
+                if let Some(found) = self.walk.channels.on(cid)
+                    && let Some(held) = &found.held
                     && let Some(excluded) = held.excluded
                 {
                     pen.text("  ");
@@ -129,28 +138,14 @@ impl Reason<'_> {
             _ => {}
         }
     }
-
-    /// Writes where the key's last message on a channel is, where it answers one and nothing waits.
-    fn write_answered(&self, pen: &mut Pen, channel: u32) {
-        if let Some(told) = self.walk.channels.told_on(channel)
-            && told.is_whole()
-        {
-            pen.text("  nothing waits: its last answer on this channel is that of line ");
-            pen.decimal(told.line);
-            pen.text("\n");
-        }
-    }
 }
 
 /// Writes which packet of a message is missing.
 fn write_missing(pen: &mut Pen, open: &Exchange) {
     pen.text("  it still waits for packet +");
-    pen.decimal(u64::from(open.continuations));
+    pen.decimal(u64::from(open.extent.continuations));
     pen.text(" of the message from line ");
     pen.decimal(open.transaction.line);
-    pen.text(": ");
-    pen.decimal(open.came() as u64);
-    pen.text(" of ");
-    pen.decimal(u64::from(open.length));
-    pen.text(" bytes came\n");
+    pen.text(":");
+    write_extent(pen, &open.extent, " bytes came\n");
 }

@@ -28,7 +28,7 @@ impl<F: Follows> Showing<F> {
         Showing {
             followed,
             pen: Pen::new(wording),
-            numbered: Numbered::new(),
+            numbered: Numbered::default(),
         }
     }
 
@@ -122,7 +122,7 @@ pub fn show<S: Source, T: Target>(reader: &mut S, writer: &mut T) -> Result<(), 
     ensures writes { Counts T.failed (writer.old, writer.new) (write_fails (ending_of result)) }
 {
     tell_all(
-        &mut Fixed(Showing::new(Transcript::new(), Wording::Fixed)),
+        &mut Fixed(Showing::new(Transcript::default(), Wording::Fixed)),
         reader,
         writer,
     )

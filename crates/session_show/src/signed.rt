@@ -20,28 +20,15 @@ pub struct SignedOtherwise {
 }
 
 /// The comments after an input that say what is to be signed.
-#[derive(Clone, Copy)]
+#[derive(Clone, Copy, Default)]
 pub struct Signed {
     /// How many bytes they had so far.
-    len: usize,
+    pub len: usize,
     /// The first one of the log that has other bytes.
     pub otherwise: Option<SignedOtherwise>,
 }
 
 impl Signed {
-    /// Returns that of no lines.
-    pub fn new() -> Self {
-        Signed {
-            len: 0,
-            otherwise: None,
-        }
-    }
-
-    /// Begins with the comments after an input.
-    pub fn begin(&mut self) {
-        self.len = 0;
-    }
-
     /// Takes a comment, where a session needs this.
     pub fn take(&mut self, number: u64, line: &[u8], need: &Need<'_>) {
         let mut piece = [0; PIECE];

@@ -1,51 +1,47 @@
 //! The messages of the fixed text: one is collected in each direction, whatever channel it is on.
 
-use crate::entry::{Entry, Follows, Message};
+use crate::entry::{Entry, Follows, Kind, Message, Own};
 use crate::message::Collector;
+use crate::walk::Part;
 use session_log::Line;
-use token_session::{Input, Timed};
+use token_session::Input;
 
 /// The messages that the lines so far began.
-#[derive(Drop)]
+#[derive(Drop, Default)]
 pub struct Transcript {
     requests: Collector,
     answers: Collector,
 }
 
-impl Transcript {
-    /// Returns that of no lines.
-    pub fn new() -> Self {
-        Transcript {
-            requests: Collector::new(),
-            answers: Collector::new(),
-        }
-    }
-}
-
 impl Follows for Transcript {
     fn next_entry<'a>(&'a mut self, number: u64, line: &'a [u8], said: Line) -> Entry<'a> {
-        let message = match &said {
-            Line::Input(
-                Timed {
-                    input: Input::Packet(packet),
-                    ..
-                },
-            ) => match self.requests.add(packet) {
-                Some(bytes) => Some(Message::Request(bytes)),
-                None => None,
+        let (kind, bytes) = match &said {
+            Line::Input(timed) => match &timed.input {
+                Input::Packet(packet) => (Kind::Request, self.requests.add(packet)),
+                _ => (Kind::Request, None),
             },
-            Line::Sent(packet) => match self.answers.add(packet) {
-                Some(bytes) => Some(Message::Answer(None, bytes)),
-                None => None,
-            },
-            Line::Input(_) | Line::Comment | Line::Count => None,
+            Line::Sent(packet) => (Kind::Answer, self.answers.add(packet)),
+            Line::Comment | Line::Count => (Kind::Answer, None),
+        };
+        let message = match bytes {
+            Some(_) => Some(Message {
+                kind,
+                bytes,
+                exchange: None,
+            }),
+            None => None,
         };
         Entry {
-            number,
-            line,
-            said,
-            message,
             late: None,
+            own: Own {
+                number,
+                line,
+                said,
+                of: None,
+                message,
+            },
+            is_doubtful: false,
+            part: Part::Own,
             ended: &[],
         }
     }

@@ -1,12 +1,12 @@
 //! One walk over a log: which transaction each line belongs to, which message ends at it, and which transactions end.
 ghost use Rattle.std.specs.Prelude.{◌<◌};
 
-use crate::channel::{Continuation, Greeting};
-use crate::channels::Channels;
+use crate::channel::Greeting;
+use crate::channels::{CHANNELS, Channels};
 use crate::credentials::Credentials;
 use crate::device::{Answer, NO_TIME_OUT, TIMED_OUT};
-use crate::entry::Message;
-use crate::exchange::{Ended, Ends, Exchange, Transaction, is_whole};
+use crate::entry::{Entry, Kind, Message, Own};
+use crate::exchange::{Ends, Exchange, Extent, Transaction};
 use crate::packet_line::channel_of;
 use crate::pool::Pool;
 use crate::rp_id::RpId;
@@ -43,6 +43,8 @@ pub enum Part {
 #[derive(Clone, Copy)]
 pub struct Doubtful {
     pub line: u64,
+    /// What its line says.
+    input: Timed,
     pub of: Transaction,
     /// Whether it is the next one of the message.
     pub is_next: bool,
@@ -61,10 +63,11 @@ enum Shown {
 
 /// What became of a doubtful packet.
 #[derive(Clone, Copy)]
-pub struct Decided {
-    pub line: u64,
+struct Decided {
+    line: u64,
+    input: Timed,
     /// The transaction that it belongs to.
-    pub of: Option<Transaction>,
+    of: Option<Transaction>,
     shown: Option<Shown>,
 }
 
@@ -82,7 +85,7 @@ pub struct Walk {
     /// .. the one that it belongs to, ..
     pub of: Option<Transaction>,
     /// .. or what it is, where it belongs to none, ..
-    pub part: Part,
+    part: Part,
     /// .. the message that ends at it, ..
     shown: Option<Shown>,
     /// .. and what it shows of a doubtful one before it.
@@ -98,7 +101,7 @@ impl Walk {
             credentials: Credentials::new(),
             now: 0,
             doubtful: None,
-            ends: Ends::new(),
+            ends: Ends::default(),
             of: None,
             part: Part::Own,
             shown: None,
@@ -109,7 +112,9 @@ impl Walk {
     /// Becomes one that took the same lines as another one.
     pub fn copy_from(&mut self, other: &Walk) {
         self.clear();
-        self.channels.copy_from(&other.channels);
+        for place in 0..CHANNELS {
+            self.channels.list[place].copy_from(&other.channels.list[place]);
+        }
         self.pool.copy_from(&other.pool);
         self.credentials = other.credentials;
         self.now = other.now;
@@ -126,20 +131,27 @@ impl Walk {
         }
     }
 
+    /// Takes the log's end: what is doubtful belongs to its message.
+    pub fn finish(&mut self) {
+        self.clear();
+        if let Some(doubtful) = self.doubtful.take() {
+            self.decide(&doubtful, false);
+        }
+    }
+
     /// Forgets what was of the line before alone.
     fn clear(&mut self) {
-        for ended in self.ends.as_slice() {
+        for ended in self.ends.0.as_slice() {
             self.pool.release(ended.exchange.transaction.line);
         }
-        self.ends.clear();
-        if let Some(decided) = self.decided {
+        self.ends.0.clear();
+        if let Some(decided) = self.decided.take() {
             self.release(decided.shown);
         }
         self.release(self.shown);
         self.of = None;
         self.part = Part::Own;
         self.shown = None;
-        self.decided = None;
     }
 
     /// Keeps the bytes of a message no longer.
@@ -151,56 +163,48 @@ impl Walk {
 
     // ---- what the last line is
 
-    /// Returns the transactions that it ends.
-    pub fn ended(&self) -> &[Ended] {
-        self.ends.as_slice()
+    /// Returns the last line, which has this number and says this, as it is shown, with what it shows of lines before it.
+    pub fn entry<'a>(&'a self, number: u64, line: &'a [u8], said: Line) -> Entry<'a> {
+        Entry {
+            late: self.late(),
+            own: Own {
+                number,
+                line,
+                said,
+                of: self.of,
+                message: self.message(self.shown),
+            },
+            is_doubtful: matches!(&self.doubtful, Some(doubtful) if doubtful.line == number),
+            part: self.part,
+            ended: self.ends.0.as_slice(),
+        }
     }
 
-    /// Returns whether a line has a packet of which a later line shows what it belongs to.
-    pub fn is_doubtful(&self, line: u64) -> bool {
-        matches!(&self.doubtful, Some(doubtful) if doubtful.line == line)
-    }
-
-    /// Returns what it shows of such a packet before it.
-    pub fn decided(&self) -> Option<&Decided> {
-        self.decided.as_ref()
-    }
-
-    /// Returns the message of a doubtful packet.
-    pub fn late(&self) -> Option<(u64, Message<'_>)> {
+    /// Returns the packet that was doubtful before it, as it is shown.
+    pub fn late(&self) -> Option<Own<'_>> {
         let decided = self.decided.as_ref()?;
-        let message = self.message_of(decided.shown)?;
-        Some((decided.line, message))
+        Some(Own {
+            number: decided.line,
+            line: b"",
+            said: Line::Input(decided.input),
+            of: decided.of,
+            message: self.message(decided.shown),
+        })
     }
 
-    /// Returns the message that ends at it.
-    pub fn message(&self) -> Option<Message<'_>> {
-        self.message_of(self.shown)
-    }
-
-    fn message_of(&self, shown: Option<Shown>) -> Option<Message<'_>> {
-        match shown? {
-            Shown::Request(line) => Some(match self.pool.bytes(line) {
-                Some(bytes) => Message::Request(bytes),
-                None => Message::Lost,
-            }),
+    fn message(&self, shown: Option<Shown>) -> Option<Message<'_>> {
+        let (line, kind, exchange) = match shown? {
+            Shown::Request(line) => (line, Kind::Request, None),
             Shown::Answer(line, place) => {
                 let told = self.channels.list.get(place)?.told.as_ref()?;
-                let exchange = told.exchange.as_ref();
-                Some(match self.pool.bytes(line) {
-                    Some(bytes) => Message::Answer(exchange, bytes),
-                    None => Message::Lost,
-                })
+                (line, Kind::Answer, told.exchange.as_ref())
             }
-        }
-    }
-
-    /// Takes the log's end: what is doubtful belongs to its message.
-    pub fn finish(&mut self) {
-        self.clear();
-        if let Some(doubtful) = self.doubtful.take() {
-            self.decide(&doubtful, false);
-        }
+        };
+        Some(Message {
+            kind,
+            bytes: self.pool.bytes(line),
+            exchange,
+        })
     }
 
     // ---- inputs
@@ -211,7 +215,7 @@ impl Walk {
         }
         self.now = self.now.max(timed.at);
         match &timed.input {
-            Input::Packet(packet) => self.take_packet(number, packet),
+            Input::Packet(packet) => self.take_packet(number, timed, packet),
             Input::Tick => {}
             Input::Presence(_) => self.take_reply(Some(self.now)),
             Input::Key(_) | Input::Signature(_) => self.take_reply(None),
@@ -229,7 +233,7 @@ impl Walk {
     }
 
     /// Takes a packet of a host.
-    fn take_packet(&mut self, number: u64, packet: &Packet) {
+    fn take_packet(&mut self, number: u64, timed: &Timed, packet: &Packet) {
         let place = self
             .channels
             .place(channel_of(packet), number, &mut self.ends);
@@ -254,11 +258,13 @@ impl Walk {
                 cmd,
                 len,
                 part,
-            } => {
-                let transaction = Transaction::of(number, cid, cmd, (len, part));
-                self.begin(place, transaction, len, part);
-            }
-            View::More { seq, part, .. } => self.go_on(place, number, seq, part),
+            } => self.begin(
+                place,
+                Transaction::of(number, cid, cmd, (len, part)),
+                len,
+                part,
+            ),
+            View::More { seq, part, .. } => self.go_on(place, number, timed, seq, part),
         }
     }
 
@@ -266,9 +272,10 @@ impl Walk {
     fn begin(&mut self, place: usize, transaction: Transaction, length: u16, part: &[u8])
         requires { place < 6 }
     {
+        let extent = Extent::begun(length);
         let begun = Exchange {
             transaction,
-            length,
+            extent,
             at: self.now,
             ..Exchange::default()
         };
@@ -276,35 +283,32 @@ impl Walk {
         self.of = Some(transaction);
         if transaction.command.is_some() && length <= LONGEST_MESSAGE {
             self.pool.begin(transaction.line, length, part);
-            if is_whole(length, 0) {
+            if extent.is_whole() {
                 self.shown = self.complete(place, &transaction);
             }
         }
     }
 
-    /// Takes a continuation packet of a host.
-    fn go_on(&mut self, place: usize, number: u64, sequence: u8, part: &[u8])
+    /// Takes a continuation packet of a host, which an input has.
+    fn go_on(&mut self, place: usize, number: u64, timed: &Timed, sequence: u8, part: &[u8])
         requires { place < 6 }
     {
-        let (of, gap, is_next) = match self.channels.list[place].go_on(sequence, self.now) {
-            Continuation::Stray => {
-                self.part = Part::Stray;
-                return;
-            }
-            Continuation::Misnumbered(of, gap) => (of, gap, false),
-            Continuation::Next(of, gap) => (of, gap, true),
+        let Some(continuation) = self.channels.list[place].go_on(sequence, self.now) else {
+            self.part = Part::Stray;
+            return;
         };
+        let of = continuation.of;
         self.of = Some(of);
-        let mut is_whole = false;
-        if is_next {
+        if continuation.is_next {
             self.pool.add(of.line, part);
-            is_whole = self.channels.list[place].has_whole(of.line) && of.command.is_some();
         }
-        if gap >= NO_TIME_OUT {
+        let is_whole = continuation.is_whole && of.command.is_some();
+        if continuation.gap >= NO_TIME_OUT {
             self.doubtful = Some(Doubtful {
                 line: number,
+                input: *timed,
                 of,
-                is_next,
+                is_next: continuation.is_next,
                 is_whole,
             });
         } else if is_whole {
@@ -337,7 +341,7 @@ impl Walk {
             (Some(command), Some([_, item @ ..])) if check(item).result.is_ok() => {
                 RpId::of_request(command, item)
             }
-            _ => RpId::none(),
+            _ => RpId::default(),
         }
     }
 
@@ -353,6 +357,7 @@ impl Walk {
         let of = if is_late { None } else { Some(doubtful.of) };
         self.decided = Some(Decided {
             line: doubtful.line,
+            input: doubtful.input,
             of,
             shown,
         });
@@ -361,64 +366,50 @@ impl Walk {
     // ---- packets of the device
 
     fn take_sent(&mut self, number: u64, packet: &Packet) {
-        let place = self
-            .channels
-            .place(channel_of(packet), number, &mut self.ends);
+        let channel = channel_of(packet);
+        let place = self.channels.place(channel, number, &mut self.ends);
         let doubtful = self.doubtful.take();
-        if let View::Start {
-            cmd: ERROR,
-            part: [code, ..],
-            ..
-        } = packet.view()
+        let is_time_out = matches!(
+            packet.view(),
+            View::Start {
+                cmd: ERROR,
+                part: [TIMED_OUT, ..],
+                ..
+            }
+        );
+        if let Some(doubtful) = &doubtful
+            && !is_time_out
         {
-            self.take_error(place, *code, doubtful);
-            return;
-        }
-        if let Some(doubtful) = &doubtful {
             self.decide(doubtful, false);
         }
-        match packet.view() {
-            View::Start { cmd: KEEPALIVE, .. } => {
-                self.cut(place);
-                self.of = self.channels.list[place].keep_alive(&mut self.ends);
-            }
-            View::Start { cmd, len, part, .. } => {
-                self.cut(place);
+        let (command, length, part) = match packet.view() {
+            View::Start { cmd, len, part, .. } => (cmd, len, part),
+            View::More { seq, part, .. } => return self.answer_on(place, number, seq, part),
+        };
+        // Of the device's last message no further packet comes.
+        if let Some(line) = self.channels.list[place].cut(&mut self.ends) {
+            self.pool.release(line);
+        }
+        match (command, part) {
+            (ERROR, [code, ..]) => self.take_error(place, *code, doubtful),
+            (KEEPALIVE, _) => self.of = self.channels.list[place].keep_alive(&mut self.ends),
+            _ => {
                 let answer = Answer {
                     line: number,
-                    command: cmd,
-                    length: len,
+                    command,
+                    extent: Extent::begun(length),
                     part,
                 };
                 self.take_answer(place, &answer);
             }
-            View::More { seq, part, .. } => self.answer_on(place, number, seq, part),
-        }
-    }
-
-    /// Forgets the device's last message on a channel.
-    fn cut(&mut self, place: usize)
-        requires { place < 6 }
-    {
-        if let Some(line) = self.channels.list[place].cut(&mut self.ends) {
-            self.pool.release(line);
         }
     }
 
     fn take_error(&mut self, place: usize, code: u8, doubtful: Option<Doubtful>)
         requires { place < 6 }
     {
-        self.cut(place);
-        if let Some(doubtful) = &doubtful
-            && code != TIMED_OUT
-        {
-            self.decide(doubtful, false);
-        }
-        let (of, is_late) = self.channels.list[place].refuse(
-            code,
-            doubtful.as_ref(),
-            &mut self.ends,
-        );
+        let channel = &mut self.channels.list[place];
+        let (of, is_late) = channel.refuse(code, doubtful.as_ref(), &mut self.ends);
         if let Some(doubtful) = &doubtful
             && code == TIMED_OUT
         {
@@ -434,12 +425,10 @@ impl Walk {
         requires { place < 6 }
     {
         self.of = self.channels.list[place].answer(answer, &mut self.ends);
-        let is_kept = answer.command == CBOR
-            && answer.length > 0
-            && answer.length <= LONGEST_MESSAGE;
-        if is_kept {
-            self.pool.begin(answer.line, answer.length, answer.part);
-            if is_whole(answer.length, 0) {
+        let length = answer.extent.length;
+        if answer.command == CBOR && length > 0 && length <= LONGEST_MESSAGE {
+            self.pool.begin(answer.line, length, answer.part);
+            if answer.extent.is_whole() {
                 self.learn(answer.line, answer.line);
                 self.shown = Some(Shown::Answer(answer.line, place));
             }

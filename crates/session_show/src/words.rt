@@ -4,10 +4,23 @@ use crate::pen::Pen;
 use authn_core::Presence;
 use ctap_cbor::Kind;
 
+/// Numbers and their names.
+pub type Names = &'static [(i128, &'static str)];
+
+/// Returns the name that a number has in a list.
+pub fn name_in(names: Names, number: i128) -> Option<&'static str> {
+    for (named, name) in names {
+        if *named == number {
+            return Some(*name);
+        }
+    }
+    None
+}
+
 /// Writes two spaces and a name, where there is one and the text is explained.
 pub fn write_name(pen: &mut Pen, name: Option<&str>) {
     if let Some(name) = name
-        && pen.explains()
+        && pen.explains
     {
         pen.text("  ");
         pen.text(name);
@@ -39,11 +52,37 @@ pub fn presence_word(presence: Presence) -> &'static str {
     }
 }
 
-/// A number and its name.
-type Named = (u8, &'static str);
+/// The names of a message's commands (section 11.2.9).
+pub const MESSAGES: Names = &[
+    (0x01, "PING"),
+    (0x03, "MSG"),
+    (0x04, "LOCK"),
+    (0x06, "INIT"),
+    (0x08, "WINK"),
+    (0x10, "CBOR"),
+    (0x11, "CANCEL"),
+    (0x3b, "KEEPALIVE"),
+    (0x3f, "ERROR"),
+];
+
+/// The letters of an INIT's capabilities (section 11.2.9.1.3).
+pub const CAPABILITIES: Flags = &[(0x01, " WINK"), (0x04, " CBOR"), (0x08, " NMSG")];
+
+/// Bits and the letters of those that are set.
+pub type Flags = &'static [(u8, &'static str)];
+
+/// Writes a byte of flags, and the letters of those that are set.
+pub fn write_flags(pen: &mut Pen, flags: u8, letters: Flags) {
+    pen.hex(&[flags]);
+    for (flag, name) in letters {
+        if flags & *flag != 0 {
+            pen.text(name);
+        }
+    }
+}
 
 /// The names of an ERROR's codes (section 11.2.9.1.6).
-const ERRORS: &[Named] = &[
+pub const ERRORS: Names = &[
     (0x01, "ERR_INVALID_CMD"),
     (0x02, "ERR_INVALID_PAR"),
     (0x03, "ERR_INVALID_LEN"),
@@ -56,10 +95,10 @@ const ERRORS: &[Named] = &[
 ];
 
 /// The names of a KEEPALIVE's statuses (section 11.2.9.2.1).
-const KEEPALIVES: &[Named] = &[(0x01, "STATUS_PROCESSING"), (0x02, "STATUS_UPNEEDED")];
+pub const KEEPALIVES: Names = &[(0x01, "STATUS_PROCESSING"), (0x02, "STATUS_UPNEEDED")];
 
 /// The names of the authenticator's commands (section 6).
-const COMMANDS: &[Named] = &[
+pub const COMMANDS: Names = &[
     (0x01, "authenticatorMakeCredential"),
     (0x02, "authenticatorGetAssertion"),
     (0x04, "authenticatorGetInfo"),
@@ -74,7 +113,7 @@ const COMMANDS: &[Named] = &[
 ];
 
 /// The names of statuses (section 8.2).
-const STATUSES: &[Named] = &[
+pub const STATUSES: Names = &[
     (0x00, "CTAP2_OK"),
     (0x01, "CTAP1_ERR_INVALID_COMMAND"),
     (0x02, "CTAP1_ERR_INVALID_PARAMETER"),
@@ -127,33 +166,3 @@ const STATUSES: &[Named] = &[
     (0xf0, "CTAP2_ERR_VENDOR_FIRST"),
     (0xff, "CTAP2_ERR_VENDOR_LAST"),
 ];
-
-/// Returns the name that a number has in a list.
-fn name_in(names: &'static [Named], number: u8) -> Option<&'static str> {
-    for (named, name) in names {
-        if *named == number {
-            return Some(*name);
-        }
-    }
-    None
-}
-
-/// Returns the name of an ERROR's code.
-pub fn error_name(code: u8) -> Option<&'static str> {
-    name_in(ERRORS, code)
-}
-
-/// Returns the name of a KEEPALIVE's status.
-pub fn keepalive_name(status: u8) -> Option<&'static str> {
-    name_in(KEEPALIVES, status)
-}
-
-/// Returns the name of a command of the authenticator.
-pub fn command_name(command: u8) -> Option<&'static str> {
-    name_in(COMMANDS, command)
-}
-
-/// Returns the name of a status.
-pub fn status_name(status: u8) -> Option<&'static str> {
-    name_in(STATUSES, status)
-}

@@ -18,7 +18,7 @@ returns-in-Lines-clause-does g c =
     )
 
 pub returns-in-Summary-clause-status : goal.returns-in-Summary-clause-status
-returns-in-Summary-clause-status g c = is_status c.show_summary-answer.result c.shown_to-in-Summary.result c.shown_to-in-Summary.ensures.status
+returns-in-Summary-clause-status g c = is_status c.show_form-answer.result c.shown_to-in-Summary.result c.shown_to-in-Summary.ensures.status
 
 pub returns-in-Summary-clause-does : goal.returns-in-Summary-clause-does
 returns-in-Summary-clause-does g c =
@@ -27,13 +27,13 @@ returns-in-Summary-clause-does g c =
       c.in_ok-open_log.ensures.opened,
       rw c.in-Summary.is (
         refl,
-        both_ok _ _ c.show_summary-answer.result c.shown_to-in-Summary.result c.shown_to-in-Summary.ensures.status c.show_summary-answer.ensures
+        both_ok _ _ c.show_form-answer.result c.shown_to-in-Summary.result c.shown_to-in-Summary.ensures.status c.show_form-answer.ensures
             (rw (sym c.in_ok-open_log.ensures.silent) c.shown_to-in-Summary.ensures.silent),
       ),
     )
 
 pub returns-in-Json-clause-status : goal.returns-in-Json-clause-status
-returns-in-Json-clause-status g c = is_status c.show_objects-answer.result c.shown_to-in-Json.result c.shown_to-in-Json.ensures.status
+returns-in-Json-clause-status g c = is_status c.show_form-answer-in-Json.result c.shown_to-in-Json.result c.shown_to-in-Json.ensures.status
 
 pub returns-in-Json-clause-does : goal.returns-in-Json-clause-does
 returns-in-Json-clause-does g c =
@@ -42,14 +42,14 @@ returns-in-Json-clause-does g c =
       c.in_ok-open_log.ensures.opened,
       rw c.in-Json.is (
         refl,
-        both_ok _ _ c.show_objects-answer.result c.shown_to-in-Json.result c.shown_to-in-Json.ensures.status c.show_objects-answer.ensures
+        both_ok _ _ c.show_form-answer-in-Json.result c.shown_to-in-Json.result c.shown_to-in-Json.ensures.status c.show_form-answer-in-Json.ensures
             (rw (sym c.in_ok-open_log.ensures.silent) c.shown_to-in-Json.ensures.silent),
       ),
     )
 
 pub returns-in-JsonSummary-clause-status : goal.returns-in-JsonSummary-clause-status
 returns-in-JsonSummary-clause-status g c =
-    is_status c.show_summary-answer-in-JsonSummary.result c.shown_to-in-JsonSummary.result c.shown_to-in-JsonSummary.ensures.status
+    is_status c.show_form-answer-in-JsonSummary.result c.shown_to-in-JsonSummary.result c.shown_to-in-JsonSummary.ensures.status
 
 pub returns-in-JsonSummary-clause-does : goal.returns-in-JsonSummary-clause-does
 returns-in-JsonSummary-clause-does g c =
@@ -58,7 +58,7 @@ returns-in-JsonSummary-clause-does g c =
       c.in_ok-open_log.ensures.opened,
       rw c.in-JsonSummary.is (
         refl,
-        both_ok _ _ c.show_summary-answer-in-JsonSummary.result c.shown_to-in-JsonSummary.result c.shown_to-in-JsonSummary.ensures.status c.show_summary-answer-in-JsonSummary.ensures
+        both_ok _ _ c.show_form-answer-in-JsonSummary.result c.shown_to-in-JsonSummary.result c.shown_to-in-JsonSummary.ensures.status c.show_form-answer-in-JsonSummary.ensures
             (rw (sym c.in_ok-open_log.ensures.silent) c.shown_to-in-JsonSummary.ensures.silent),
       ),
     )

@@ -1,6 +1,6 @@
 use Rattle.std.proofs.Common.{◌∙◌, refl, sym}
 use Rattle.session_show.proofs.Lines.{bad_line, broken_line, shown_line}
-use Rattle.session_show.proofs.json_showing.ObjectsTelling.tell.Goals as goal
+use Rattle.session_show.proofs.log_writer.LogWriterTelling.tell.Goals as goal
 
 pub returns-in_default-clause-shown : goal.returns-in_default-clause-shown
 returns-in_default-clause-shown g c = bad_line c.args.number c.args.line.now _ (sym c.read_line.ensures ∙ c.in_default.is)

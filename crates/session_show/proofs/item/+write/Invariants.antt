@@ -1,0 +1,8 @@
+use Rattle.std.proofs.Common.{◌+◌, ◌-◌, ◌*◌}
+use Rattle.session_show.proofs.item.+write.Given as goal
+
+abbrev pub decreases-write_value : goal.decreases-write_value
+decreases-write_value l = 2 * (5 - l.level)
+
+abbrev pub decreases-write_inside : goal.decreases-write_inside
+decreases-write_inside l = 2 * (5 - l.level) + 1

@@ -1,0 +1,92 @@
+//! The lines of members, and of what their bytes hold.
+
+use crate::item::{DIAGNOSTIC, Diagnostic, write_scalar};
+use crate::member_names::Map;
+use crate::pen::Pen;
+use crate::putting::Written;
+use crate::words::{name_in, write_name};
+use ctap_cbor::{Cursor, Item};
+
+/// Writes a member: its key, its name where it has one, and its value, with what that means.
+pub fn write_member(pen: &mut Pen, map: Map, key: Item<'_>, value: &[u8]) {
+    write_scalar(pen, key, DIAGNOSTIC);
+    if let Item::Int(number) = key
+        && let Some(name) = name_in(map.names(), number)
+    {
+        pen.text(" ");
+        pen.text(name);
+    }
+    pen.text(": ");
+    Diagnostic(value).write(pen);
+    if let (Item::Int(number), Ok(Item::Int(value))) = (key, Cursor::new(value).item(1)) {
+        write_name(pen, map.name_of(number, value));
+    }
+    pen.text("\n");
+}
+
+/// Writes the front of a line.
+pub fn write_front(pen: &mut Pen, number: u64, name: &str) {
+    pen.decimal(number);
+    pen.text("       ");
+    pen.text(name);
+}
+
+/// Writes the line of a field that is bytes, in hexadecimal digits.
+pub fn write_bytes(pen: &mut Pen, number: u64, name: &str, bytes: &[u8]) {
+    write_front(pen, number, name);
+    pen.hex(bytes);
+    pen.text("\n");
+}
+
+/// Writes the line of a field that is a data item, where there is one.
+pub fn write_item(pen: &mut Pen, number: u64, name: &str, item: &[u8]) {
+    if !item.is_empty() {
+        write_front(pen, number, name);
+        Diagnostic(item).write(pen);
+        pen.text("\n");
+    }
+}
+
+/// Returns the bytes of the number in front of a signature in DER (RFC 3279, section 2.2.3), and what comes after it. The
+/// number isn't below zero, and in as few bytes as it can be.
+fn first_number(bytes: &[u8]) -> Option<(&[u8], &[u8])> {
+    let [2, len, rest @ ..] = bytes else {
+        return None;
+    };
+    let len = usize::from(*len);
+    if rest.len() < len {
+        return None;
+    }
+    let (number, rest) = rest.split_at(len);
+    let is_shortest = match number {
+        [] => false,
+        [0, second, ..] => *second >= 128,
+        [first, ..] => *first < 128,
+    };
+    if is_shortest {
+        Some((number, rest))
+    } else {
+        None
+    }
+}
+
+/// Returns the bytes of a signature's two numbers, where it is well formed.
+fn numbers_of(signature: &[u8]) -> Option<(&[u8], &[u8])> {
+    let [0x30, len, rest @ ..] = signature else {
+        return None;
+    };
+    if usize::from(*len) != rest.len() {
+        return None;
+    }
+    let (r, rest) = first_number(rest)?;
+    let (s, rest) = first_number(rest)?;
+    if rest.is_empty() { Some((r, s)) } else { None }
+}
+
+/// Writes a line for each of a signature's two numbers, where it is well formed.
+pub fn write_signature(pen: &mut Pen, number: u64, signature: &[u8]) {
+    if let Some((r, s)) = numbers_of(signature) {
+        write_bytes(pen, number, "r ", r);
+        write_bytes(pen, number, "s ", s);
+    }
+}
