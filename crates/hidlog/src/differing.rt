@@ -89,17 +89,6 @@ pub struct Texts {
     pub hint: Vec<u8>,
 }
 
-impl Texts {
-    fn new(alloc: Global) -> Self {
-        Texts {
-            logged: Vec::new(alloc),
-            sent: Vec::new(alloc),
-            reason: Vec::new(alloc),
-            hint: Vec::new(alloc),
-        }
-    }
-}
-
 /// Says what differs in a log, after the text of the fault: explained, the packets; and all differences, where they are
 /// wished for. Where nothing differs, it says which bytes were signed otherwise than this key asks. The log is read again,
 /// if it can be.
@@ -335,7 +324,13 @@ fn texts_of<S: Source>(
     reader: &mut S,
     difference: &Difference,
 ) -> Texts {
-    let mut texts = Texts::new(wish.reporting.alloc);
+    let alloc = wish.reporting.alloc;
+    let mut texts = Texts {
+        logged: Vec::new(alloc),
+        sent: Vec::new(alloc),
+        reason: Vec::new(alloc),
+        hint: Vec::new(alloc),
+    };
     let _ = comparison.put_reason(difference, &mut ToWrite::new(&mut texts.reason));
     let _ = comparison.put(
         difference,

@@ -216,13 +216,13 @@ impl<'a, S: Opens> HostLog<'a, S> {
         ensures stream { self.new.stream ≡ self.old.stream }
         ensures recent { self.new.recent ≡ self.old.recent }
     {
-        self.seen = Seen::new(Progress::new(self.seen.progress.is_said(), size));
+        self.seen = Seen::new(Progress::new(self.seen.progress.is_said, size));
         self.path = match size {
             Some(_) => String::from_str(self.rt.alloc(), path).ok(),
             None => None,
         };
         if self.is_kept && self.path.is_none() {
-            self.seen.keep(self.rt.alloc());
+            self.seen.kept = Some(Vec::new(self.rt.alloc()));
         }
     }
 
@@ -259,7 +259,7 @@ impl<S: Opens> HostLog<'_, S> {
         ensures stream { self.new.stream ≡ self.old.stream }
         ensures recent { self.new.recent ≡ self.old.recent }
     {
-        let (rt, len) = (self.rt, self.seen.len());
+        let (rt, len) = (self.rt, self.seen.len);
         if more == 0 {
             self.seen.progress.end(rt);
         } else {
@@ -327,7 +327,7 @@ impl<S: Opens> Logs for HostLog<'_, S> {
         if self.path.is_some() {
             return self.reread();
         }
-        let kept = self.seen.take_kept()?;
+        let kept = self.seen.kept.take()?;
         let spent = Noting::new(S::standard(self.rt));
         let rest = mem::replace(&mut self.stream, spent);
         let reader = BufReader::new(self.rt.alloc(), Cursor::new(kept).chain(rest)).ok()?;

@@ -39,58 +39,40 @@ fn moment_len(fields: &[u8]) -> usize {
     fields.len()
 }
 
-/// Returns how many bytes in front fit a reply about presence.
-fn presence_len(field: &[u8]) -> usize {
-    let granted = shared_len(field, b"granted");
-    let denied = shared_len(field, b"denied");
-    granted.max(denied).max(shared_len(field, b"timeout"))
-}
-
-/// Returns how many bytes in front fit a new key: an id and two coordinates, or `no`.
-fn key_len(field: &[u8]) -> usize {
-    let id = hex_len(field, 64);
-    if id < 64 {
-        return id.max(shared_len(field, b"no"));
-    }
-    let mut len = id;
-    for _ in 0..2 {
-        let rest = after(field, len);
-        let digits = match rest {
-            [b' ', digits @ ..] => hex_len(digits, 64),
-            _ => return len,
-        };
-        len = len.saturating_add(digits).saturating_add(1);
-        if digits < 64 {
+/// Returns how many bytes in front fit fields of hexadecimal digits.
+fn digits_len(fields: &[u8], most: &[usize]) -> usize {
+    let mut len = 0_usize;
+    for (place, most) in most.iter().enumerate() {
+        let mut field = after(fields, len);
+        if place > 0 {
+            let [b' ', digits @ ..] = field else {
+                return len;
+            };
+            field = digits;
+            len = len.saturating_add(1);
+        }
+        let digits = hex_len(field, *most);
+        len = len.saturating_add(digits);
+        if digits < *most {
             return len;
         }
     }
     len
 }
-
-/// Returns how many bytes in front fit the field after the moment of a line with this letter.
-fn field_len(letter: u8, field: &[u8]) -> usize {
-    match letter {
-        b'>' => hex_len(field, 128),
-        b'p' => presence_len(field),
-        b'k' => key_len(field),
-        _ => hex_len(field, 144).max(shared_len(field, b"no")),
-    }
-}
-
-/// Returns how many bytes in front fit the fields of an input.
+/// Returns how many bytes in front fit what comes after the moment of a line with this letter: a word, or fields of so
+/// many hexadecimal digits.
 fn fields_len(letter: u8, fields: &[u8]) -> usize {
-    let digits = moment_len(fields);
-    if letter == b't' || digits == 0 {
-        return digits;
+    let (words, digits): (&[&str], &[usize]) = match letter {
+        b'>' => (&[], &[128]),
+        b'p' => (&["granted", "denied", "timeout"], &[]),
+        b'k' => (&["no"], &[64, 64, 64]),
+        _ => (&["no"], &[144]),
+    };
+    let mut len = digits_len(fields, digits);
+    for word in words {
+        len = len.max(shared_len(fields, word.as_bytes()));
     }
-    match fields.split_at_checked(digits) {
-        Some((_, [b' ', field @ ..])) => {
-            digits
-                .saturating_add(field_len(letter, field))
-                .saturating_add(1)
-        }
-        _ => digits,
-    }
+    len
 }
 
 /// Returns how many bytes in front fit a log line. The one after them fits none.
@@ -98,7 +80,16 @@ fn fitting_len(line: &[u8]) -> usize {
     match line {
         [b'<', b' ', packet @ ..] => hex_len(packet, 128).saturating_add(2),
         [b'>' | b't' | b'p' | b'k' | b's', b' ', fields @ ..] => {
-            fields_len(line[0], fields).saturating_add(2)
+            let digits = moment_len(fields);
+            let len = digits.saturating_add(2);
+            match fields.split_at_checked(digits) {
+                Some((_, [b' ', fields @ ..])) if line[0] != b't' && digits > 0 => {
+                    fields_len(line[0], fields)
+                        .saturating_add(len)
+                        .saturating_add(1)
+                }
+                _ => len,
+            }
         }
         [b'>' | b'<' | b't' | b'p' | b'k' | b's', ..] => 1,
         _ => 0,

@@ -17,7 +17,7 @@ const ERASED: &[u8] = b"\r                              \r";
 /// Says how much was read, if that is to be said.
 #[derive(Clone, Copy)]
 pub struct Progress {
-    is_said: bool,
+    pub is_said: bool,
     /// The bytes of the whole log, where they are known.
     size: Option<u64>,
     /// At how many bytes the next line is written.
@@ -34,11 +34,6 @@ impl Progress {
             next: LONG,
             is_written: false,
         }
-    }
-
-    /// Returns whether it is said how much was read.
-    pub fn is_said(&self) -> bool {
-        self.is_said
     }
 
     /// Says that so many bytes were read. The cursor stays at the line's front, so that what is written next is over it.

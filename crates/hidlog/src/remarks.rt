@@ -35,7 +35,7 @@ impl Ending {
 
     /// Returns whether the log is to be read once more to see whether what was signed is what the key asks for.
     pub fn is_read_again(&self, seen: &Seen) -> bool {
-        self.has_served && seen.len() <= READ_AGAIN_AT_MOST
+        self.has_served && seen.len <= READ_AGAIN_AT_MOST
     }
 }
 
@@ -71,12 +71,12 @@ impl Remarks {
 /// Returns what may be wrong with a log in which nothing differs: a line for each.
 fn notes(alloc: Global, seen: &Seen, ending: &Ending) -> Result<String, AllocError> {
     let mut text = String::new(alloc);
-    if seen.len() == 0 {
+    if seen.len == 0 {
         writeln!(text, "the log is empty")?;
-    } else if !seen.has_input() {
+    } else if !seen.has_input {
         writeln!(text, "the log has no inputs")?;
     }
-    if !seen.ends_line() {
+    if !seen.ends_line {
         writeln!(
             text,
             "the last line has no line feed, so the log may be cut off"

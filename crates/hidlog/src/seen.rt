@@ -1,6 +1,5 @@
 //! What was seen of a log that is read.
 use crate::progress::Progress;
-use std::alloc::Global;
 
 /// The most bytes that are kept of a log that can't be read again, as of a pipe.
 const KEPT_AT_MOST: usize = 1 << 20;
@@ -9,12 +8,12 @@ const KEPT_AT_MOST: usize = 1 << 20;
 #[derive(Drop)]
 pub struct Seen {
     /// How many bytes it had.
-    len: u64,
-    /// Whether the last of them is a line feed.
-    ends_line: bool,
-    has_input: bool,
+    pub len: u64,
+    /// Whether the last of them is a line feed; where there is none, it is as if one were.
+    pub ends_line: bool,
+    pub has_input: bool,
     /// All of them, where they are kept.
-    kept: Option<Vec<u8>>,
+    pub kept: Option<Vec<u8>>,
     pub progress: Progress,
 }
 
@@ -42,11 +41,6 @@ impl Seen {
         }
     }
 
-    /// Keeps what comes.
-    pub fn keep(&mut self, alloc: Global) {
-        self.kept = Some(Vec::new(alloc));
-    }
-
     /// Takes the bytes that come next; none at the log's end.
     pub fn take(&mut self, bytes: &[u8]) {
         self.has_input = self.has_input || has_input(self.ends_line, bytes);
@@ -66,25 +60,5 @@ impl Seen {
         if !is_short || kept.extend_from_slice(bytes).is_err() {
             self.kept = None;
         }
-    }
-
-    /// Returns how many bytes it had.
-    pub fn len(&self) -> u64 {
-        self.len
-    }
-
-    /// Returns whether it has an input.
-    pub fn has_input(&self) -> bool {
-        self.has_input
-    }
-
-    /// Returns whether its last line is ended by a line feed. It is where there is none.
-    pub fn ends_line(&self) -> bool {
-        self.ends_line
-    }
-
-    /// Returns all bytes, where they are kept, and keeps no more.
-    pub fn take_kept(&mut self) -> Option<Vec<u8>> {
-        self.kept.take()
     }
 }
