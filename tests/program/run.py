@@ -23,6 +23,7 @@ from concurrent.futures import ThreadPoolExecutor
 from pathlib import Path
 from typing import Any, Callable, Optional, Sequence
 
+import held
 import person
 from running import AGAIN, COUNTS, EXAMPLES, INIT, PROGRAM, SNAPSHOT, STACK, TOP, Said, explained, run, wants
 
@@ -390,15 +391,19 @@ def folders_on_standard_input(_: Path) -> None:
 def failed_calls_are_not_made_again(_: Path) -> None:
     """A read or a write that failed once is told, and made no more: EINTR and EAGAIN too. What came before isn't lost."""
     log = (EXAMPLES / "registration.log").read_bytes()
+    lived = run(["live"], log).stdout
     for error, name in (
         ("EINTR", "Interrupted system call (os error 4)"),
         ("EAGAIN", "Resource temporarily unavailable (os error 11)"),
     ):
-        for when in (1, 2, 5):
-            trace = ["-e", f"inject=write:error={error}:when={when}"]
-            said = run(["replay"], log, trace=trace)
+        for when in (1, 2):
+            said = run(["replay"], log, trace=["-e", f"inject=write:error={error}:when={when}"])
             wants(said, 1, WRITING_FAILED)
-            assert log.startswith(said.stdout) and said.stdout.count(b"> ") <= when, said
+            assert log.startswith(said.stdout) and said.stdout.count(b"= held") == 0, said
+        for when in (1, 2, 5):
+            said = run(["live"], log, trace=["-e", f"inject=write:error={error}:when={when}"])
+            wants(said, 1, WRITING_FAILED)
+            assert lived.startswith(said.stdout) and said.stdout.count(b"> ") <= when, said
         said = run(["replay"], log, trace=["-e", f"inject=read:error={error}:when=1"])
         wants(said, 1, b"hidlog: line 1: reading failed\n", b"")
         said = run(["replay"], log, trace=["-e", f"inject=read:error={error}:when=2"])
@@ -686,7 +691,7 @@ class Skipped(Exception):
     """Something is missing that a test needs."""
 
 
-TRACED = {a_failed_write_keeps, faults_of_files_say_why, failed_calls_are_not_made_again}
+TRACED = {a_failed_write_keeps, faults_of_files_say_why, failed_calls_are_not_made_again, *held.TRACED}
 TESTS = [
     live_refuses_first,
     live_needs_permission,
@@ -717,6 +722,7 @@ TESTS = [
     the_named_log_is_kept,
     a_terminal_is_told,
     little_stack_is_enough,
+    *held.TESTS,
     *person.TESTS,
 ]
 

@@ -2,7 +2,9 @@
 use Rattle.std.proofs.Common.{◌≡◌, ◌∙◌, inl, inr, ℕ, ◌+◌, ◌<◌, ◌≤◌, Bool, true, false, List, [], ◌∷◌, ◌++◌, length, take, get_or, Option, Some, None, Ok, Err, OnOk, MatchOption, is_err, refl, sym, ap, subst, arith}
 use Rattle.std.specs.Borrow.{Bor}
 use Rattle.std.proofs.lemmas.List.{map-append, take_more}
-use Rattle.session_log.specs.Command.{RunsLog, Status, start_with}
+use Rattle.session_log.specs.Command.{PlaysLog, Status, start_with}
+use Rattle.session_log.specs.declared.fault.LogFault.TheVariants.{Write}
+use Rattle.hidlog.specs.Program.{Ended, Settles}
 use Rattle.session_log.specs.declared.command.Command.TheVariants.{Check}
 use Rattle.cred_table.specs.declared.row.Row.{Row}
 use Rattle.token_session.specs.Meters.{SessionState}
@@ -15,26 +17,30 @@ use Rattle.hidlog.specs.Several.{AreSame, IsSame, IsSameAt}
 module _ {D I O F : Type 0} (holds : D → List ℕ → List ℕ → Type 0) (unreadable : D → List ℕ → Type 0)
     (written unwritten : D → List ℕ → List ℕ → D → Type 0) (unwritable : D → List ℕ → Type 0)
     (opened : I → List ℕ → I → Type 0) (unopenable : I → List ℕ → Type 0)
-    (left : I → Option (List ℕ)) (unread : I → ℕ) (ended : I → Bool) (taken : O → Option (List ℕ)) (unput : O → ℕ)
+    (left : I → Option (List ℕ)) (unread : I → ℕ) (ended : I → Bool) (taken : O → Option (List ℕ)) (unput : O → ℕ) (waits : O → List ℕ)
     (said : F → Option (List ℕ)) (unsaid : F → ℕ) (explained : Bool) where
   -- a log that was played without a fault is the same
-  same_ran : (load : Option (List ℕ)) (rows : List Row) (files : D) (ran : Status) (s : SessionState) (input : I × I) (output : O × O) → Opens holds files load rows
-      → RunsLog Check (start_with rows) [] left unread ended taken unput ran s input output → OnOk ran (IsSame holds opened left ended load files input)
-  same_ran load rows files (Ok x) s input output opens (Ok m, is, p) = (rows, p.2.0, opens, p.2.2, p.2.4.faultless, p.4.2)
-  same_ran load rows files (Ok x) s input output opens (Err f, is, p) = cc
-  same_ran load rows files (Err code) s input output opens h = tt
+  same_ran : (load : Option (List ℕ)) (rows : List Row) (files : D) (answer whole : Ended) (s : SessionState) (input : I × I) (first between last : O) → Opens holds files load rows
+      → PlaysLog Check (start_with rows) [] left unread ended taken unput answer s input (first, between) → Settles taken unput waits answer (between, last) whole
+      → OnOk whole (IsSame holds opened left ended load files input)
+  same_ran load rows files answer (Err f) s input first between last opens p settles = tt
+  same_ran load rows files (Ok x) (Ok y) s input first between last opens p settles = (rows, p.2.0, opens, p.2.2, p.2.4.faultless, p.4.2)
+  same_ran load rows files (Err f) (Ok y) s input first between last opens p (inl settled) = let no : Ok y ≡ Err f = settled.0 in cc
+  same_ran load rows files (Err f) (Ok y) s input first between last opens p (inr (inl failed)) = let no : Ok y ≡ Err Write = failed.0 in cc
+  same_ran load rows files (Err f) (Ok y) s input first between last opens p (inr (inr failed)) = let no : Ok y ≡ Err Write = failed.1 in cc
 
   -- a command that ran on without a fault played the log so
   ran_on : (load : Option (List ℕ)) (rows : List Row) (files : D × D) (r : Status) (input : I × I) (output : O × O) (faults : F × F) → Opens holds files.0 load rows
-      → RunsOn holds unreadable written unwritten unwritable opened unopenable left unread ended taken unput said unsaid explained Check None r files input output faults (start_with rows)
+      → RunsOn holds unreadable written unwritten unwritable opened unopenable left unread ended taken unput waits said unsaid explained Check None r files input output faults (start_with rows)
       → OnOk r (IsSame holds opened left ended load files.0 input)
   ran_on load rows files (Err code) input output faults opens h = tt
-  ran_on load rows files (Ok x) input output faults opens (Ok y, s, runs, saved) = same_ran load rows files.0 (Ok y) s input output opens runs
-  ran_on load rows files (Ok x) input output faults opens (Err code, s, runs, saved) = let no : Ok x ≡ Err code = saved.0 in cc
+  ran_on load rows files (Ok x) input output faults opens (answer, Ok y, s, between, plays, settles, saved) =
+      same_ran load rows files.0 answer (Ok y) s input output.0 between output.1 opens plays settles
+  ran_on load rows files (Ok x) input output faults opens (answer, Err f, s, between, plays, settles, saved) = let no : Ok x ≡ Err 1 = saved.0 in cc
 
   -- A comparison that ended without a fault found the log the same.
   pub same_log : (load : Option (List ℕ)) (log : List ℕ) (r : Status) (files : D × D) (input : I × I) (output : O × O) (faults : F × F)
-      → RunsCommand holds unreadable written unwritten unwritable opened unopenable left unread ended taken unput said unsaid explained Check load None (Some log) r files input output faults
+      → RunsCommand holds unreadable written unwritten unwritable opened unopenable left unread ended taken unput waits said unsaid explained Check load None (Some log) r files input output faults
       → OnOk r ((start : I) × MatchOption (named (Some log)) (start ≡ input.0) (λ path. opened input.0 path start) × IsSame holds opened left ended load files.0 (start, input.1))
   same_log load log (Err code) files input output faults h = tt
   same_log load log (Ok x) files input output faults (inl h) = let no : Ok x ≡ Err 1 = h.0 in cc
@@ -46,7 +52,7 @@ module _ {D I O F : Type 0} (holds : D → List ℕ → List ℕ → Type 0) (un
   -- what is asked of several logs is done
   pub several_do : (load : Option (List ℕ)) (all : Bool) (logs : List (Bor (List ℕ))) (wording : Wording) (r : Status) (files : D × D) (input : I × I) (output : O × O) (faults : F × F) → 2 ≤ length logs → files.1 ≡ files.0
       → OnOk r (AreSame holds opened left ended load files.0 (texts_of logs) input)
-      → Does holds unreadable written unwritten unwritable opened unopenable left unread ended taken unput said unsaid explained (check load all false (texts_of logs)) wording r files input output faults
+      → Does holds unreadable written unwritten unwritable opened unopenable left unread ended taken unput waits said unsaid explained (check load all false (texts_of logs)) wording r files input output faults
   several_do load all [] wording r files input output faults many kept same = absurd (omega arith)
   several_do load all (log ∷ []) wording r files input output faults many kept same = absurd (omega arith)
   several_do load all (log ∷ next ∷ logs) wording r files input output faults many kept same = (kept, same)
@@ -54,7 +60,7 @@ module _ {D I O F : Type 0} (holds : D → List ℕ → List ℕ → Type 0) (un
   -- and what is asked of logs of which JSON is written
   pub as_json_do : (load : Option (List ℕ)) (all : Bool) (logs : List (Bor (List ℕ))) (wording : Wording) (r : Status) (files : D × D) (input : I × I) (output : O × O) (faults : F × F) → 1 ≤ length logs → files.1 ≡ files.0
       → OnOk r (AreSame holds opened left ended load files.0 (texts_of logs) input)
-      → Does holds unreadable written unwritten unwritable opened unopenable left unread ended taken unput said unsaid explained (check load all true (texts_of logs)) wording r files input output faults
+      → Does holds unreadable written unwritten unwritable opened unopenable left unread ended taken unput waits said unsaid explained (check load all true (texts_of logs)) wording r files input output faults
   as_json_do load all [] wording r files input output faults some kept same = absurd (omega arith)
   as_json_do load all (log ∷ logs) wording r files input output faults some kept same = (kept, same)
 

@@ -1,13 +1,12 @@
 -- What each command does. A pair is the files, a source or a target before and after the call.
-use Rattle.std.specs.Prelude.{◌≡◌, ◌⊎◌, ℕ, Bool, true, false, List, [], ◌∷◌, Option, Some, None, Result, Err, MatchOption, MatchResult, IsSomeAnd, OnOk, codes}
+use Rattle.std.specs.Prelude.{◌≡◌, ◌⊎◌, ℕ, Bool, true, false, List, [], ◌∷◌, Option, Some, None, Err, MatchOption, MatchResult, IsSomeAnd, OnOk, codes}
 use Rattle.clap.specs.Words.{IsAmong}
 use Rattle.clap.specs.declared.error.kind.ErrorKind.{ErrorKind}
 use Rattle.clap.specs.declared.error.kind.ErrorKind.TheVariants.{OutOfMemory}
 use Rattle.authn_core.specs.Turn.{Start}
 use Rattle.cred_table.specs.declared.row.Row.{Row}
 use Rattle.token_session.specs.Meters.{SessionState}
-use Rattle.session_log.specs.declared.fault.LogFault.{LogFault}
-use Rattle.session_log.specs.Command.{IsCounted, RunsLog, Status, start_with, status_of}
+use Rattle.session_log.specs.Command.{IsCounted, PlaysLog, Status, start_with, status_of}
 use Rattle.session_log.specs.Ending.{ending_of}
 use Rattle.session_log.specs.Replay.{ReadsTo}
 use Rattle.session_log.specs.Streams.{IsAllRead}
@@ -20,7 +19,7 @@ use Rattle.hidlog.specs.CommandLine.{Ask, answers_to, asked_by, explains, named,
 use Rattle.hidlog.specs.declared.remarks.Terminals.{Terminals}
 use Rattle.hidlog.specs.declared.command_line.Form.{Form}
 use Rattle.hidlog.specs.declared.command_line.Form.TheVariants.{Lines}
-use Rattle.hidlog.specs.Program.{Explains, IsTold, IsWhole, LacksMemory, SaysMore, cannot_read_log}
+use Rattle.hidlog.specs.Program.{Ended, Explains, IsTold, IsWhole, LacksMemory, SaysMore, Settles, cannot_read_log}
 use Rattle.hidlog.specs.Saved.{FailsToOpen, FailsToSave, Opens, Saves}
 use Rattle.hidlog.specs.Several.{AreSame}
 
@@ -39,7 +38,7 @@ module _ {D I O F : Type 0} (holds : D → List ℕ → List ℕ → Type 0) (un
     (written unwritten : D → List ℕ → List ℕ → D → Type 0) (unwritable : D → List ℕ → Type 0)
     (opened : I → List ℕ → I → Type 0) (unopenable : I → List ℕ → Type 0)
     (left : I → Option (List ℕ)) (unread : I → ℕ) (ended : I → Bool) (taken : O → Option (List ℕ)) (unput : O → ℕ)
-    (said : F → Option (List ℕ)) (unsaid : F → ℕ) (explained : Bool) where
+    (waits : O → List ℕ) (said : F → Option (List ℕ)) (unsaid : F → ℕ) (explained : Bool) where
   -- The log at the path is read, or that on standard input where none is named. Where it can't be opened, the status is
   -- 1, and nothing is written.
   abbrev pub Reads : Option (List ℕ) → ((I × I) → Type 0) → Status → (D × D) → (I × I) → (O × O) → (F × F) → Type 0
@@ -57,13 +56,15 @@ module _ {D I O F : Type 0} (holds : D → List ℕ → List ℕ → Type 0) (un
       × FailsToOpen holds unreadable files.0 path said unsaid explained faults)
       ⊎ ((rows : List Row) × Opens holds files.0 path rows × Goes (start_with rows))
 
-  -- The log was played on the start. Then, where it had no fault, the credentials were saved at the path, if there is
-  -- one.
+  -- The log was played on the start, and what was held back of its text was written out. Then, where nothing failed, the
+  -- credentials were saved at the path, if there is one.
   abbrev pub RunsOn : Command → Option (List ℕ) → Status → (D × D) → (I × I) → (O × O) → (F × F) → Start → Type 0
   RunsOn command save status files input output faults start =
-      (ran : Status) × (s : SessionState) × RunsLog command start [] left unread ended taken unput ran s input output
-      × MatchResult ran (λ _. Saves written unwritten save s said unsaid explained status files faults)
-      (λ code. (status ≡ Err code) × (files.1 ≡ files.0))
+      (answer : Ended) × (whole : Ended) × (s : SessionState) × (put : O)
+      × PlaysLog command start [] left unread ended taken unput answer s input (output.0, put)
+      × Settles taken unput waits answer (put, output.1) whole
+      × MatchResult whole (λ _. Saves written unwritten save s said unsaid explained status files faults)
+      (λ _. (status ≡ Err 1) × (files.1 ≡ files.0))
 
   -- The command plays the log at a path, from the credentials of a snapshot, and saves those that there are then. Where
   -- it is seen before that the file to save can't be written to, the status is 2, the log isn't read, and nothing is
@@ -77,16 +78,19 @@ module _ {D I O F : Type 0} (holds : D → List ℕ → List ℕ → Type 0) (un
       status files input output faults
 
   -- The log was shown: these of its lines, by texts that begin with their numbers, and no more was read than it takes to
-  -- find a fault. Without a fault all of it was read, and no read and no write failed.
+  -- find a fault. What was held back was written out then. Without a fault all of it was read, and no read and no write
+  -- failed.
   abbrev pub ShowsLog : Form → Wording → Status → (D × D) → (I × I) → (O × O) → (F × F) → Type 0
   ShowsLog Lines wording status files input output faults =
-      ((answer : Result (Unit {0}) LogFault) × (status ≡ status_of answer)
-      × Shows (IsLineText wording) (left input.0, left input.1) (taken output.0, taken output.1) (ending_of answer)
+      ((answer : Ended) × (whole : Ended) × (put : O) × (status ≡ status_of whole)
+      × Shows (IsLineText wording) (left input.0, left input.1) (taken output.0, taken put) (ending_of answer)
       × ReadsTo reading tt (left input.0) (left input.1) (IsAllRead left ended input.1) (ending_of answer)
-      × IsCounted left unread ended unput answer input output)
+      × IsCounted left unread ended unput answer input (output.0, put)
+      × Settles taken unput waits answer (put, output.1) whole)
       × (files.1 ≡ files.0) × OnOk status (faults.1 ≡ faults.0)
   ShowsLog _ wording status files input output faults =
-      (files.1 ≡ files.0) × OnOk status (IsWhole left ended unread unput input output × (faults.1 ≡ faults.0))
+      (files.1 ≡ files.0) × OnOk status (IsWhole left ended unread unput input output × (waits output.1 ≡ [])
+      × (faults.1 ≡ faults.0))
 
   -- What is asked for is done. Of several logs, and where the answer is JSON, each is compared, the files stay as they are,
   -- and the status is 0 only where none differs.
@@ -113,15 +117,15 @@ module _ {D I O F : Type 0} (holds : D → List ℕ → List ℕ → Type 0) (un
     (written unwritten : D → List ℕ → List ℕ → D → Type 0) (unwritable : D → List ℕ → Type 0)
     (opened : I → List ℕ → I → Type 0) (unopenable : I → List ℕ → Type 0)
     (left : I → Option (List ℕ)) (unread : I → ℕ) (ended : I → Bool) (taken : O → Option (List ℕ)) (unput : O → ℕ)
-    (said : F → Option (List ℕ)) (unsaid : F → ℕ) where
+    (waits : O → List ℕ) (said : F → Option (List ℕ)) (unsaid : F → ℕ) where
   -- What words ask for is done, or memory was refused. Where they ask for nothing, clap's answer is returned. Except for
   -- what was asked for, the files and the log are left as they are. Texts are for people where that is asked for, or
   -- where they go to a terminal.
   abbrev pub Answers : List (List ℕ) → Terminals → Status → (D × D) → (I × I) → (O × O) → (F × F) → Type 0
   Answers words terminals status files input output faults = MatchOption (asked_by words)
       ((files.1 ≡ files.0) × (input.1 ≡ input.0) × ((kind : ErrorKind) × IsAmong kind (OutOfMemory ∷ answers_to words)
-      × Explains kind taken unput said unsaid status output faults))
-      (λ asked. Does holds unreadable written unwritten unwritable opened unopenable left unread ended taken unput said unsaid
+      × Explains kind taken unput waits said unsaid status output faults))
+      (λ asked. Does holds unreadable written unwritten unwritable opened unopenable left unread ended taken unput waits said unsaid
       (explains asked.1 terminals.faults) asked.0 (wording_for (explains asked.1 terminals.output)) status files input output
       faults
       ⊎ ((files.1 ≡ files.0) × (input.1 ≡ input.0) × LacksMemory said unsaid status output faults))

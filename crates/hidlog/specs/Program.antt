@@ -1,12 +1,15 @@
 -- What the program answers, and what it writes. A pair is a source or a target before and after the call.
-use Rattle.std.specs.Prelude.{◌≡◌, ◌≢◌, ◌⊎◌, ℕ, Bool, true, false, List, [], ◌∷◌, ◌++◌, Option, Err, MatchResult, codes}
+use Rattle.std.specs.Prelude.{◌≡◌, ◌≢◌, ◌⊎◌, ◌<◌, ◌+◌, ◌-◌, ◌^◌, ℕ, Bool, true, false, List, [], ◌∷◌, ◌++◌, length, Option, Result, Ok, Err, MatchResult, codes}
 use Rattle.std.specs.Bool.{MatchBool}
 use Rattle.clap.specs.declared.error.kind.ErrorKind.{ErrorKind}
 use Rattle.clap.specs.declared.error.kind.ErrorKind.TheVariants.{DisplayHelp, DisplayVersion, OutOfMemory}
 use Rattle.cred_table.specs.declared.fault.SnapshotFault.{SnapshotFault}
 use Rattle.cred_table.specs.declared.fault.SnapshotFault.TheVariants.{NotSnapshot, TooMany, RowBroken, Memory}
+use Rattle.std.specs.Io.KnownBytes.{Keeps}
 use Rattle.session_log.specs.Command.{Status}
-use Rattle.session_log.specs.Streams.{IsAllRead, IsTaken, IsBroken}
+use Rattle.session_log.specs.Streams.{IsAllRead, IsTaken, IsBroken, PutsLine}
+use Rattle.session_log.specs.declared.fault.LogFault.{LogFault}
+use Rattle.session_log.specs.declared.fault.LogFault.TheVariants.{Write}
 
 -- a text was given to a target, whole or its front
 abbrev pub IsGiven : {F : Type 0} → (F → Option (List ℕ)) → (F → ℕ) → (F × F) → List ℕ → Type 0
@@ -32,6 +35,19 @@ SaysMore taken failed target = ((taken target.1 ≡ taken target.0) × (failed t
 abbrev pub IsWhole : {I O : Type 0} → (I → Option (List ℕ)) → (I → Bool) → (I → ℕ) → (O → ℕ) → (I × I) → (O × O) → Type 0
 IsWhole left ended unread unput input output = IsAllRead left ended input.1
     × (unread input.1 ≡ unread input.0) × (unput output.1 ≡ unput output.0)
+
+-- what a log's fault or its end comes to
+abbrev pub Ended : Type 0
+Ended = Result (Unit {0}) LogFault
+
+-- After this answer all that a target held back was handed on, and the answer is the same; or that failed, and so it is
+-- that of a write that failed. After a write that failed, or as many as can be counted, nothing is handed on.
+abbrev pub Settles : {O : Type 0} → (O → Option (List ℕ)) → (O → ℕ) → (waits : O → List ℕ) → Ended → (O × O) → Ended → Type 0
+Settles taken failed waits answer output ended =
+    ((ended ≡ answer) × Keeps (taken output.0) (taken output.1) × (failed output.1 ≡ failed output.0) × (waits output.1 ≡ []))
+    ⊎ ((ended ≡ Err Write) × Keeps (taken output.0) (taken output.1) × (failed output.1 ≡ failed output.0 + 1)
+    × (0 < length (waits output.1)))
+    ⊎ (((answer ≡ Err Write) ⊎ (failed output.0 ≡ 2 ^ 64 - 1)) × (ended ≡ Err Write) × (output.1 ≡ output.0))
 
 -- the text where memory is refused
 abbrev pub no_memory : List ℕ
@@ -79,16 +95,17 @@ Refuses said unsaid status output faults =
     (status ≡ Err 2) × (output.1 ≡ output.0) × ((text : List ℕ) × IsGiven said unsaid faults text)
 
 -- Help was written; or it couldn't be, and that was.
-abbrev pub Helps : {O F : Type 0} → (O → Option (List ℕ)) → (O → ℕ) → (F → Option (List ℕ)) → (F → ℕ) → Status
-    → (O × O) → (F × F) → Type 0
-Helps taken failed said unsaid status output faults = (text : List ℕ) × MatchResult status
-    (λ _. IsTaken taken failed output text × (faults.1 ≡ faults.0))
-    (λ code. (code ≡ 2) × IsBroken taken failed output text × IsGiven said unsaid faults writing_failed)
+abbrev pub Helps : {O F : Type 0} → (O → Option (List ℕ)) → (O → ℕ) → (waits : O → List ℕ) → (F → Option (List ℕ)) → (F → ℕ)
+    → Status → (O × O) → (F × F) → Type 0
+Helps {O} taken failed waits said unsaid status output faults = (text : List ℕ) × (answer : Ended) × (ended : Ended) × (put : O)
+    × PutsLine taken failed (output.0, put) text answer × Settles taken failed waits answer (put, output.1) ended
+    × MatchResult ended (λ _. (status ≡ Ok tt) × (faults.1 ≡ faults.0))
+    (λ _. (status ≡ Err 2) × IsGiven said unsaid faults writing_failed)
 
 -- An answer of clap's was given, of this kind, or there was no memory for it.
-abbrev pub Explains : {O F : Type 0} → ErrorKind → (O → Option (List ℕ)) → (O → ℕ) → (F → Option (List ℕ)) → (F → ℕ)
-    → Status → (O × O) → (F × F) → Type 0
-Explains kind taken failed said unsaid status output faults =
+abbrev pub Explains : {O F : Type 0} → ErrorKind → (O → Option (List ℕ)) → (O → ℕ) → (waits : O → List ℕ)
+    → (F → Option (List ℕ)) → (F → ℕ) → Status → (O × O) → (F × F) → Type 0
+Explains kind taken failed waits said unsaid status output faults =
     LacksMemory said unsaid status output faults
-    ⊎ ((kind ≢ OutOfMemory) × MatchBool (is_help kind) (Helps taken failed said unsaid status output faults)
+    ⊎ ((kind ≢ OutOfMemory) × MatchBool (is_help kind) (Helps taken failed waits said unsaid status output faults)
     (Refuses said unsaid status output faults))

@@ -6,8 +6,9 @@ ghost use Rattle.hidlog.specs.CommandLine.{path_of};
 ghost use Rattle.hidlog.specs.Commands.{RunsCommand, looked_at};
 
 use crate::files::Files;
+use crate::held::{Output, Texts, settled};
 use crate::logs::Logs;
-use crate::process::Reporting;
+use crate::process::{Reporting, status_of};
 use crate::program::{open_log, path_in};
 use crate::remarks::Remarks;
 use crate::snapshots::{begin, look, save_rows};
@@ -33,6 +34,14 @@ impl Play<'_> {
             Command::Replay | Command::Check | Command::Quiet => None,
         }
     }
+
+    /// Returns of which texts the end is held back while more of the log is at hand. `live` answers line by line.
+    fn held_back(&self) -> Texts {
+        match self.command {
+            Command::Replay | Command::Quiet => Texts::OfComments,
+            Command::Live | Command::Check => Texts::AtOnce,
+        }
+    }
 }
 
 /// Plays the log, and saves the credentials that the session has after it, where there is a path for them. Where
@@ -51,7 +60,7 @@ pub fn play_on<D, L, O, E>(
 where
     D: Files,
     L: Logs,
-    O: Target,
+    O: Output,
     E: Target,
     requires fresh { session.old ≡ session_of (start_with []) [] }
     requires reads { L.failed input.old < 2 ^ 64 - 1 }
@@ -59,7 +68,7 @@ where
     requires tells { E.failed faults.old < 2 ^ 64 - 1 }
     ensures status { IfErr result (λ code. (code ≡ 1) ⊎ (code ≡ 2)) }
     ensures does { RunsCommand D.holds D.unreadable D.written D.unwritten D.unwritable L.opened L.unopenable L.left L.failed L.ended
-        O.taken O.failed E.taken E.failed reporting.explains
+        O.taken O.failed O.waits E.taken E.failed reporting.explains
         play.now.command (path_of play.now.load) (path_of play.now.save) (path_of play.now.log) result
         (files.old, files.new) (input.old, input.new) (output.old, output.new) (faults.old, faults.new) }
     ensures kept { path_of play.now.save ≡ None → files.new ≡ files.old }
@@ -73,7 +82,9 @@ where
         path_in(play.log),
         faults,
     )?;
-    play.command.run(session, input, output, faults)?;
+    output.hold(play.held_back());
+    let answer = play.command.play(session, input, output);
+    status_of(faults, settled(output, answer))?;
     remarks.look(play.command, session);
     match play.save {
         Some(path) => save_rows(files, reporting, path, path_in(play.log), session, faults),

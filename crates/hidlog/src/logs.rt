@@ -3,11 +3,13 @@ ghost use Rattle.std.specs.Prelude.{◌≡◌, ℕ, List, [], IfOk, OnOk, MatchR
 ghost use Rattle.std.specs.Io.KnownBytes.{Keeps, IsAtEnd, prepend_known};
 ghost use Rattle.hidlog.specs.Streams.{unread};
 
+use crate::held::{Ahead, LastLines};
 use crate::progress::Progress;
 use crate::recent::Recent;
 use crate::seen::Seen;
 use crate::streams::Noting;
 use session_log::{Failed, FromRead, Source};
+use std::cell::Cell;
 use std::fs::{self, File};
 use std::io::{self, BufReader, Chain, Cursor, Error, IsTerminal, Read, Stdin, Write};
 use std::mem;
@@ -142,6 +144,9 @@ pub struct HostLog<'a, S> {
     is_kept: bool,
     seen: Seen,
     recent: Recent,
+    /// Those of what was read last, and what of them isn't handed on yet, which the output looks at.
+    last: LastLines,
+    ahead: &'a Cell<Ahead>,
     ended: bool,
     failures: u64,
 }
@@ -179,7 +184,12 @@ fn size_of_input(rt: &HostRuntime) -> Option<u64> {
 impl<'a, S: Opens> HostLog<'a, S> {
     /// Returns the log on standard input, or that there is no memory. Where `is_kept`, a log that can't be read again is
     /// kept, if it is short. A person reads what the audience says.
-    pub fn new(rt: &'a HostRuntime, is_kept: bool, audience: Audience) -> io::Result<Self>
+    pub fn new(
+        rt: &'a HostRuntime,
+        is_kept: bool,
+        audience: Audience,
+        ahead: &'a Cell<Ahead>,
+    ) -> io::Result<Self>
         ensures { IfOk result (λ log. ⟦<HostLog<'a, S> as Source>⟧.failed log ≡ 0) }
     {
         Ok(HostLog {
@@ -192,6 +202,8 @@ impl<'a, S: Opens> HostLog<'a, S> {
             is_kept,
             seen: Seen::new(Progress::new(audience.sees_progress, None)),
             recent: Recent::new(rt.alloc())?,
+            last: LastLines::of(b""),
+            ahead,
             ended: false,
             failures: 0,
         })
@@ -206,6 +218,7 @@ impl<'a, S: Opens> HostLog<'a, S> {
         self.stream = Noting::new(stream);
         self.is_new = is_new;
         self.recent.clear();
+        self.ahead.set(Ahead::Nothing);
         self.ended = false;
     }
 
@@ -246,6 +259,7 @@ impl<'a, S: Opens> HostLog<'a, S> {
         }
         let n = self.recent.fill(&mut self.stream)?;
         self.seen.take(self.recent.unread());
+        self.last = LastLines::of(self.recent.unread());
         self.say_read(n);
         Ok(())
     }
@@ -281,7 +295,9 @@ impl<S: Opens> Source for HostLog<'_, S> {
             self.failures += 1;
             return Err(Failed);
         }
-        let n = self.recent.take(out);
+        let most = self.last.most(self.recent.unread().len());
+        let n = self.recent.take(most, out);
+        self.ahead.set(self.last.ahead(self.recent.unread().len()));
         self.ended = self.ended || n == 0 && !out.is_empty();
         Ok(n)
     }

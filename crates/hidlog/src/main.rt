@@ -11,6 +11,7 @@ mod differing;
 mod disk;
 mod escaped;
 mod files;
+mod held;
 mod logs;
 mod misfit;
 mod objects;
@@ -33,6 +34,7 @@ use differing::{Wish, tell_differences};
 use disk::HostDisk;
 use escaped::Escaped;
 use files::{Files, HostFiles};
+use held::{Ahead, Held, Output};
 use logs::{HostLog, Logs, ProcessLog};
 use misfit::first_reason;
 use process::{Reporting, no_memory, tell, words_of};
@@ -42,6 +44,7 @@ use screen::Screen;
 use session_log::{Target, ToWrite};
 use several::note_one;
 use std::alloc::Global;
+use std::cell::Cell;
 use std::io;
 use std::process::ExitCode;
 use streams::{Faults, Noting, Told};
@@ -142,7 +145,7 @@ fn play<'a, D, L, O, E>(
 where
     D: Files,
     L: Logs,
-    O: Target,
+    O: Output,
     E: Target,
     requires reads { L.failed input.old < 2 ^ 64 - 1 }
     requires writes { O.failed output.old < 2 ^ 64 - 1 }
@@ -150,7 +153,7 @@ where
     ensures status { IfErr result (λ code. (code ≡ 1) ⊎ (code ≡ 2)) }
     // What the words ask for is done. After that one text may be written to the faults, and nothing else.
     ensures played { Plays D.holds D.unreadable D.written D.unwritten D.unwritable L.opened L.unopenable L.left L.failed L.ended
-        O.taken O.failed ⟦<Faults<E> as Target>⟧.taken ⟦<Faults<E> as Target>⟧.failed (texts_of words.now) terminals result
+        O.taken O.failed O.waits ⟦<Faults<E> as Target>⟧.taken ⟦<Faults<E> as Target>⟧.failed (texts_of words.now) terminals result
         (files.old, files.new) (input.old, input.new) (output.old, output.new) (faults.old, faults.new) }
 {
     let ended = run(
@@ -172,7 +175,8 @@ fn play_here<E: Target>(rt: &HostRuntime, words: &[&str], faults: &mut Faults<E>
     let terminals = terminals_of(rt);
     let is_check = matches!(words.get(1), Some(word) if *word == "check");
     let audience = audience_of(rt, words, terminals, is_check);
-    let made: io::Result<ProcessLog<'_>> = HostLog::new(rt, is_check, audience);
+    let ahead = Cell::new(Ahead::Nothing);
+    let made: io::Result<ProcessLog<'_>> = HostLog::new(rt, is_check, audience, &ahead);
     let Ok(mut input) = made else {
         return Err(no_memory(faults));
     };
@@ -183,13 +187,14 @@ fn play_here<E: Target>(rt: &HostRuntime, words: &[&str], faults: &mut Faults<E>
     };
     let mut writer = Noting::new(io::writer(rt));
     let style = style_of(rt, words, terminals);
+    let screen = Screen::new(alloc, ToWrite::new(&mut writer), style);
     let ended = play(
         &mut HostFiles(HostDisk(rt)),
         alloc,
         words,
         terminals,
         &mut input,
-        &mut Screen::new(alloc, ToWrite::new(&mut writer), style),
+        &mut Held::new(alloc, screen, &ahead),
         &mut remarks,
         faults,
     );

@@ -1,5 +1,6 @@
 //! What the program's process hands to it.
 ghost use Rattle.std.specs.Prelude.{◌≡◌, ◌<◌, ◌-◌, ◌^◌, ◌⊎◌, IfErr, OnOk, OnErr};
+ghost use Rattle.session_log.specs.Command.{status_of as status};
 ghost use Rattle.hidlog.specs.Program.{IsGiven, IsTold, no_memory as no_memory_text, not_text};
 
 use crate::escaped::Escaped;
@@ -71,6 +72,18 @@ pub fn log_fault<E: Target>(faults: &mut E, fault: &LogFault) -> u8
 {
     tell_fault(faults, fault);
     1
+}
+
+/// Writes the fault of an answer, if it has one. An error holds the exit status, 1.
+pub fn status_of<E: Target>(faults: &mut E, answer: Result<(), LogFault>) -> Result<(), u8>
+    requires { E.failed faults.old < 2 ^ 64 - 1 }
+    ensures status { result ≡ status answer }
+    ensures silent { OnOk result (faults.new ≡ faults.old) }
+{
+    match answer {
+        Ok(()) => Ok(()),
+        Err(fault) => Err(log_fault(faults, &fault)),
+    }
 }
 
 fn arguments<R: Env + AllocGlobal>(rt: &R) -> io::Result<Vec<String>> {

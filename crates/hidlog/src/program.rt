@@ -1,10 +1,10 @@
 //! The program over any source and targets.
 ghost use Rattle.std.specs.Prelude.{◌≡◌, ◌<◌, ◌-◌, ◌^◌, ◌⊎◌, ◌∷◌, ℕ, List, [], false, true, None, Some, Result, IfErr, IsSomeAnd, MatchOption, OnOk, OnErr, codes, option_and_then};
 ghost use Rattle.clap.specs.Words.{kind_of};
-ghost use Rattle.session_log.specs.Command.{IsCounted, start_with, status_of};
+ghost use Rattle.session_log.specs.Command.{IsCounted, start_with};
 ghost use Rattle.session_log.specs.Ending.{ending_of};
 ghost use Rattle.session_log.specs.Replay.{ReadsTo};
-ghost use Rattle.session_log.specs.Streams.{IsAllRead};
+ghost use Rattle.session_log.specs.Streams.{IsAllRead, PutsLine};
 ghost use Rattle.session_show.specs.Shown.{IsLineText, Shows, reading};
 ghost use Rattle.token_session.specs.Meters.{session_of};
 ghost use Rattle.hidlog.specs.CommandLine.{check, named, show as shown, path_of, texts_of};
@@ -17,8 +17,9 @@ use crate::commands::{Play, play_on};
 use crate::differing::Wish;
 use crate::escaped::escaped_lines;
 use crate::files::Files;
+use crate::held::{Output, Texts, settled};
 use crate::logs::Logs;
-use crate::process::{Reporting, WRITING_FAILED, log_fault, no_memory, tell, tell_why};
+use crate::process::{Reporting, WRITING_FAILED, no_memory, status_of, tell, tell_why};
 use crate::remarks::{Remarks, Terminals};
 use crate::several::check_each;
 use clap::Error;
@@ -30,7 +31,7 @@ use token_session::Session;
 
 /// Writes what clap answers: help to the output, what is wrong with the words to the faults. The status is 2 except for
 /// help that was written.
-fn answer_words<O: Target, E: Target>(
+fn answer_words<O: Output, E: Target>(
     alloc: Global,
     error: &Error,
     output: &mut O,
@@ -38,7 +39,7 @@ fn answer_words<O: Target, E: Target>(
 ) -> Result<(), u8>
     requires writes { O.failed output.old < 2 ^ 64 - 1 }
     requires tells { E.failed faults.old < 2 ^ 64 - 1 }
-    ensures { Explains (kind_of error.now) O.taken O.failed E.taken E.failed result (output.old, output.new)
+    ensures { Explains (kind_of error.now) O.taken O.failed O.waits E.taken E.failed result (output.old, output.new)
         (faults.old, faults.new) }
 {
     let text = match error.to_string(alloc) {
@@ -48,11 +49,23 @@ fn answer_words<O: Target, E: Target>(
     if error.use_stderr() {
         return Err(refuse_words(alloc, text.as_str(), faults));
     }
-    if put_all(output, text.as_bytes()).is_err() {
+    let answer = put_text(output, text.as_bytes());
+    if settled(output, answer).is_err() {
         tell(faults, WRITING_FAILED);
         return Err(2);
     }
     Ok(())
+}
+
+/// Writes a text to the output.
+fn put_text<O: Target>(output: &mut O, text: &[u8]) -> Result<(), LogFault>
+    requires { O.failed output.old < 2 ^ 64 - 1 }
+    ensures { PutsLine O.taken O.failed (output.old, output.new) text.now result }
+{
+    match put_all(output, text) {
+        Ok(()) => Ok(()),
+        Err(_) => Err(LogFault::Write),
+    }
 }
 
 /// Writes what is wrong with the words, line by line, with what they have that can't be seen escaped. The exit status, 2.
@@ -138,14 +151,14 @@ pub fn play_log<D, L, O, E>(
 where
     D: Files,
     L: Logs,
-    O: Target,
+    O: Output,
     E: Target,
     requires reads { L.failed input.old < 2 ^ 64 - 1 }
     requires writes { O.failed output.old < 2 ^ 64 - 1 }
     requires tells { E.failed faults.old < 2 ^ 64 - 1 }
     ensures status { IfErr result (λ code. (code ≡ 1) ⊎ (code ≡ 2)) }
     ensures does { RunsCommand D.holds D.unreadable D.written D.unwritten D.unwritable L.opened L.unopenable L.left L.failed L.ended
-        O.taken O.failed E.taken E.failed reporting.explains
+        O.taken O.failed O.waits E.taken E.failed reporting.explains
         play.now.command (path_of play.now.load) (path_of play.now.save) (path_of play.now.log) result
         (files.old, files.new) (input.old, input.new) (output.old, output.new) (faults.old, faults.new) }
     ensures kept { path_of play.now.save ≡ None → files.new ≡ files.old }
@@ -198,18 +211,6 @@ fn show_form<L: Logs, O: Target>(
     }
 }
 
-/// Writes the fault that a log was shown up to, if it has one. An error holds the exit status, 1.
-fn shown_to<E: Target>(faults: &mut E, answer: Result<(), LogFault>) -> Result<(), u8>
-    requires { E.failed faults.old < 2 ^ 64 - 1 }
-    ensures status { result ≡ status_of answer }
-    ensures silent { OnOk result (faults.new ≡ faults.old) }
-{
-    match answer {
-        Ok(()) => Ok(()),
-        Err(fault) => Err(log_fault(faults, &fault)),
-    }
-}
-
 /// Returns how lines are worded.
 fn wording_of(explains: bool) -> Wording
     ensures { result ≡ wording_for explains }
@@ -256,33 +257,34 @@ fn show_log<D, L, O, E>(
 where
     D: Files,
     L: Logs,
-    O: Target,
+    O: Output,
     E: Target,
     requires reads { L.failed input.old < 2 ^ 64 - 1 }
     requires writes { O.failed output.old < 2 ^ 64 - 1 }
     requires tells { E.failed faults.old < 2 ^ 64 - 1 }
     ensures status { IfErr result (λ code. (code ≡ 1) ⊎ (code ≡ 2)) }
     ensures does { Does D.holds D.unreadable D.written D.unwritten D.unwritable L.opened L.unopenable L.left L.failed L.ended
-        O.taken O.failed E.taken E.failed reporting.explains (shown form false (path_of log.entry)) wording result
+        O.taken O.failed O.waits E.taken E.failed reporting.explains (shown form false (path_of log.entry)) wording result
         (files.now, files.now) (input.old, input.new) (output.old, output.new) (faults.old, faults.new) }
 {
     open_log(input, reporting, log, faults)?;
+    output.hold(Texts::OfInputs);
     match form {
         Form::Lines => {
             let answer = show_lines(wording, input, output);
-            shown_to(faults, answer)
+            status_of(faults, settled(output, answer))
         }
         Form::Summary => {
             let answer = show_form(LogForm::Table, input, output);
-            shown_to(faults, answer)
+            status_of(faults, settled(output, answer))
         }
         Form::JsonSummary => {
             let answer = show_form(LogForm::Summary, input, output);
-            shown_to(faults, answer)
+            status_of(faults, settled(output, answer))
         }
         Form::Json => {
             let answer = show_form(LogForm::Objects, input, output);
-            shown_to(faults, answer)
+            status_of(faults, settled(output, answer))
         }
     }
 }
@@ -300,14 +302,14 @@ fn check_logs<'a, D, L, O, E>(
 where
     D: Files,
     L: Logs,
-    O: Target,
+    O: Output,
     E: Target,
     requires reads { L.failed input.old < 2 ^ 64 - 1 }
     requires writes { O.failed output.old < 2 ^ 64 - 1 }
     requires tells { E.failed faults.old < 2 ^ 64 - 1 }
     ensures status { IfErr result (λ code. (code ≡ 1) ⊎ (code ≡ 2)) }
     ensures does { Does D.holds D.unreadable D.written D.unwritten D.unwritable L.opened L.unopenable L.left L.failed L.ended
-        O.taken O.failed E.taken E.failed wish.now.reporting.explains
+        O.taken O.failed O.waits E.taken E.failed wish.now.reporting.explains
         (check (path_of wish.now.load) wish.now.is_all false (texts_of logs.now)) fixed result
         (files.old, files.new) (input.old, input.new) (output.old, output.new) (faults.old, faults.new) }
 {
@@ -344,11 +346,11 @@ fn check_as_json<'a, D, L, O, E>(
 where
     D: Files,
     L: Logs,
-    O: Target,
+    O: Output,
     E: Target,
     ensures status { IfErr result (λ code. (code ≡ 1) ⊎ (code ≡ 2)) }
     ensures does { Does D.holds D.unreadable D.written D.unwritten D.unwritable L.opened L.unopenable L.left L.failed L.ended
-        O.taken O.failed E.taken E.failed wish.now.reporting.explains
+        O.taken O.failed O.waits E.taken E.failed wish.now.reporting.explains
         (check (path_of wish.now.load) wish.now.is_all true (texts_of logs.now)) fixed result
         (files.old, files.new) (input.old, input.new) (output.old, output.new) (faults.old, faults.new) }
 {
@@ -378,7 +380,7 @@ pub fn run<'a, D, L, O, E>(
 where
     D: Files,
     L: Logs,
-    O: Target,
+    O: Output,
     E: Target,
     requires reads { L.failed input.old < 2 ^ 64 - 1 }
     requires writes { O.failed output.old < 2 ^ 64 - 1 }
@@ -386,7 +388,7 @@ where
     ensures status { IfErr result (λ code. (code ≡ 1) ⊎ (code ≡ 2)) }
     // What the words ask for is done.
     ensures answered { Answers D.holds D.unreadable D.written D.unwritten D.unwritable L.opened L.unopenable L.left L.failed L.ended
-        O.taken O.failed E.taken E.failed (texts_of words.now) terminals result
+        O.taken O.failed O.waits E.taken E.failed (texts_of words.now) terminals result
         (files.old, files.new) (input.old, input.new) (output.old, output.new) (faults.old, faults.new) }
 {
     let asked = match task_of(alloc, words) {

@@ -91,15 +91,15 @@ impl Recent {
         Ok(n)
     }
 
-    /// Moves the front of those that weren't handed on to `out`. Returns how many.
-    pub fn take(&mut self, out: &mut [u8]) -> usize
-        ensures count { result ≡ min (length (unread self.old.held.items self.old.at self.old.end)) (length out.old) }
+    /// Moves the front of those that weren't handed on to `out`, so many at most. Returns how many.
+    pub fn take(&mut self, most: usize, out: &mut [u8]) -> usize
+        ensures count { result ≡ min (min (length (unread self.old.held.items self.old.at self.old.end)) (length out.old)) most }
         ensures len { length out.new ≡ length out.old }
         ensures bytes { unread self.old.held.items self.old.at self.old.end
             ≡ take result out.new ++ unread self.new.held.items self.new.at self.new.end }
     {
         let new = self.unread();
-        let n = new.len().min(out.len());
+        let n = new.len().min(out.len()).min(most);
         out[..n].copy_from_slice(&new[..n]);
         self.at += n;
         n

@@ -6,6 +6,6 @@ use Rattle.hidlog.proofs.program.check_as_json.Goals as goal
 pub returns-in_default-clause-does : goal.returns-in_default-clause-does
 returns-in_default-clause-does g c =
     as_json_do g.D.Files.holds g.D.Files.unreadable g.D.Files.written g.D.Files.unwritten g.D.Files.unwritable g.L.Logs.opened g.L.Logs.unopenable g.L.Source.left g.L.Source.failed g.L.Source.ended
-    g.O.Target.taken g.O.Target.failed g.E.Target.taken g.E.Target.failed c.args.wish.now.reporting.explains (path_of c.args.wish.now.load) c.args.wish.now.is_all c.args.logs.now Fixed c.check_each-in_default.result
+    g.O.Target.taken g.O.Target.failed g.O.Output.waits g.E.Target.taken g.E.Target.failed c.args.wish.now.reporting.explains (path_of c.args.wish.now.load) c.args.wish.now.is_all c.args.logs.now Fixed c.check_each-in_default.result
     (c.args.files.now, c.check_each-in_default.new.files) (c.args.input.now, c.check_each-in_default.new.input) (c.args.output.now, c.check_each-in_default.new.output) (c.args.faults.now, c.check_each-in_default.new.faults)
     c.in_default.len_at_least c.check_each-in_default.ensures.kept c.check_each-in_default.ensures.same

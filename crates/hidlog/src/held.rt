@@ -1,0 +1,243 @@
+//! What is written of a log, held back while more of the log is at hand.
+ghost use Rattle.std.specs.Prelude.{◌≡◌, ◌<◌, ◌≤◌, ◌-◌, ◌^◌, ◌+◌, [], List, ℕ, length, drop, vec_len, is_ok, if◌then◌else◌, OnOk, OnErr};
+ghost use Rattle.std.specs.Io.KnownBytes.{Keeps, append_known};
+ghost use Rattle.hidlog.specs.Program.{Settles};
+
+use session_log::{Failed, LogFault, Target, ToWrite};
+use std::alloc::Global;
+use std::cell::Cell;
+use std::io::Write;
+
+/// The most bytes that are held back.
+const HELD: usize = 8192;
+
+/// A line that was read whole and isn't played yet, of which a text may be written: the last one.
+#[derive(Clone, Copy, Debug, PartialEq, Eq)]
+pub enum Ahead {
+    /// None is known.
+    Nothing,
+    /// A comment or an empty line.
+    Comment,
+    /// Another one: an input, or a line that is refused.
+    Input,
+}
+
+/// The lines of which a command writes a text.
+#[derive(Clone, Copy, Debug, PartialEq, Eq)]
+pub enum Texts {
+    /// Each text is out as soon as it is written.
+    AtOnce,
+    /// Those of inputs.
+    OfInputs,
+    /// Those of comments, too.
+    OfComments,
+}
+
+impl Texts {
+    /// Returns whether one of these lines lies ahead.
+    fn lie(self, ahead: Ahead) -> bool {
+        match ahead {
+            Ahead::Nothing => false,
+            Ahead::Comment => self == Texts::OfComments,
+            Ahead::Input => self != Texts::AtOnce,
+        }
+    }
+}
+
+/// How far from the end of the bytes that were read the last whole lines begin, of which a text may be written; 0 where
+/// there is none.
+#[derive(Clone, Copy)]
+pub struct LastLines {
+    input: usize,
+    /// That of a comment behind the input.
+    comment: usize,
+}
+
+impl LastLines {
+    /// Returns that of bytes. A line that began before them isn't one of theirs.
+    pub fn of(bytes: &[u8]) -> Self {
+        let mut last = LastLines {
+            input: 0,
+            comment: 0,
+        };
+        let (mut first, mut is_whole) = (b'<', false);
+        for (len, byte) in bytes.iter().rev().enumerate() {
+            if *byte == b'\n' {
+                if is_whole {
+                    last.note(first, len);
+                }
+                is_whole = true;
+            }
+            if last.input > 0 {
+                break;
+            }
+            first = *byte;
+        }
+        last
+    }
+
+    /// Notes a whole line by its first byte, which may be its line feed.
+    fn note(&mut self, first: u8, len: usize) {
+        match first {
+            b'<' | b'=' => {}
+            b'#' | b'\n' if self.comment > 0 => {}
+            b'#' | b'\n' => self.comment = len,
+            _ => self.input = len,
+        }
+    }
+
+    /// Returns how many of the last so many bytes are handed on at most, so that the next of these lines begins what is
+    /// handed on after them.
+    pub fn most(&self, len: usize) -> usize
+        ensures { 0 < result }
+    {
+        if 0 < self.input && self.input < len {
+            len - self.input
+        } else if 0 < self.comment && self.comment < len {
+            len - self.comment
+        } else {
+            usize::MAX
+        }
+    }
+
+    /// Returns what lies ahead of the last so many bytes.
+    pub fn ahead(&self, len: usize) -> Ahead {
+        if 0 < self.input && self.input <= len {
+            Ahead::Input
+        } else if 0 < self.comment && self.comment <= len {
+            Ahead::Comment
+        } else {
+            Ahead::Nothing
+        }
+    }
+}
+
+/// A target that may hold back the end of what it takes.
+pub trait Output: Target {
+    ghost use Rattle.std.specs.Prelude.{◌≡◌, ◌<◌, ◌-◌, ◌^◌, ◌+◌, [], List, ℕ, length, is_ok, if◌then◌else◌, OnOk, OnErr};
+    ghost use Rattle.std.specs.Io.KnownBytes.{Keeps};
+
+    /// The bytes that it took and didn't hand on yet.
+    ghost waits: { Self → List ℕ };
+
+    /// Lets it hold back texts of a log that is played, while another of these lies ahead.
+    fn hold(&self, texts: Texts);
+
+    /// Hands on all that it holds back. A call that failed isn't made again.
+    fn settle(&mut self) -> Result<(), Failed>
+        requires { Self.failed self.old < 2 ^ 64 - 1 }
+        ensures kept { Keeps (Self.taken self.old) (Self.taken self.new) }
+        ensures none { OnOk result (waits self.new ≡ []) }
+        ensures some { OnErr result (0 < length (waits self.new)) }
+        ensures counted { Self.failed self.new
+            ≡ (if is_ok result then Self.failed self.old else Self.failed self.old + 1) };
+}
+
+impl<W: Write> Output for ToWrite<W> {
+    ghost waits = { λ _. [] };
+
+    fn hold(&self, _texts: Texts) {}
+
+    fn settle(&mut self) -> Result<(), Failed> {
+        Ok(())
+    }
+}
+
+/// Returns the answer after all that the output held back was handed on, where that can be done.
+pub fn settled<O: Output>(output: &mut O, answer: Result<(), LogFault>) -> Result<(), LogFault>
+    ensures { Settles O.taken O.failed O.waits answer (output.old, output.new) result }
+{
+    if answer == Err(LogFault::Write) {
+        return answer;
+    }
+    if output.failures() == u64::MAX {
+        return Err(LogFault::Write);
+    }
+    match output.settle() {
+        Ok(()) => answer,
+        Err(_) => Err(LogFault::Write),
+    }
+}
+
+/// A target over another one, which holds back what it takes while a text lies ahead.
+#[derive(Drop)]
+pub struct Held<'a, T> {
+    inner: T,
+    ahead: &'a Cell<Ahead>,
+    texts: Cell<Texts>,
+    bytes: Vec<u8>,
+    /// How many of the bytes were handed on.
+    at: usize,
+    ghost within: { at ≤ vec_len bytes },
+}
+
+impl<'a, T: Target> Held<'a, T> {
+    /// Returns the target, which took nothing yet and hands all on at once.
+    pub fn new(alloc: Global, inner: T, ahead: &'a Cell<Ahead>) -> Self
+        ensures counted { ⟦<Held<'a, T> as Target>⟧.failed result ≡ T.failed inner }
+        ensures waits { ⟦<Held<'a, T> as Output>⟧.waits result ≡ [] }
+    {
+        Held {
+            inner,
+            ahead,
+            texts: Cell::new(Texts::AtOnce),
+            bytes: Vec::new(alloc),
+            at: 0,
+        }
+    }
+}
+
+impl<T: Target> Held<'_, T> {
+    /// Returns whether so many bytes more are held back.
+    fn holds(&self, more: usize) -> bool {
+        self.texts.get().lie(self.ahead.get()) && self.bytes.len().saturating_add(more) <= HELD
+    }
+
+    /// Hands on all that is held back.
+    fn hand_on(&mut self) -> Result<(), Failed>
+        requires { T.failed self.old.inner < 2 ^ 64 - 1 }
+        ensures kept { Keeps (append_known (T.taken self.old.inner) (drop self.old.at self.old.bytes.items))
+            (append_known (T.taken self.new.inner) (drop self.new.at self.new.bytes.items)) }
+        ensures none { OnOk result (drop self.new.at self.new.bytes.items ≡ []) }
+        ensures some { OnErr result (0 < length (drop self.new.at self.new.bytes.items)) }
+        ensures counted { T.failed self.new.inner
+            ≡ (if is_ok result then T.failed self.old.inner else T.failed self.old.inner + 1) }
+    {
+        'waiting: while self.at < self.bytes.len() {
+            self.at += self.inner.put(self.bytes.as_slice().split_at(self.at).1)?;
+        }
+        self.bytes.clear();
+        self.at = 0;
+        Ok(())
+    }
+}
+
+impl<T: Target> Target for Held<'_, T> {
+    ghost taken = { λ s. append_known (T.taken s.inner) (drop s.at s.bytes.items) };
+
+    ghost failed = { λ s. T.failed s.inner };
+
+    fn put(&mut self, piece: &[u8]) -> Result<usize, Failed> {
+        if self.holds(piece.len()) && self.bytes.extend_from_slice(piece).is_ok() {
+            return Ok(piece.len());
+        }
+        self.hand_on()?;
+        self.inner.put(piece)
+    }
+
+    fn failures(&self) -> u64 {
+        self.inner.failures()
+    }
+}
+
+impl<T: Target> Output for Held<'_, T> {
+    ghost waits = { λ s. drop s.at s.bytes.items };
+
+    fn hold(&self, texts: Texts) {
+        self.texts.set(texts);
+    }
+
+    fn settle(&mut self) -> Result<(), Failed> {
+        self.hand_on()
+    }
+}
