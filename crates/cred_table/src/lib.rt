@@ -14,9 +14,8 @@
 //! save(&table, &mut snapshot)?;
 //!
 //! let mut copy = Store::<4>::new();
-//! let loaded = load(snapshot.as_slice(), &mut copy);
-//! assert!(rt; loaded.is_ok());
-//! assert_eq!(rt; copy.len(), 1);
+//! load(snapshot.as_slice(), &mut copy)?;
+//! assert!(rt; copy.len() == 1);
 //! ```
 #![tactic(auto)]
 
