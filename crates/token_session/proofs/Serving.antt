@@ -1,5 +1,5 @@
 -- An input that is served by what the transport makes of it is the composed turn.
-use Rattle.std.proofs.Common.{◌≡◌, ℕ, ◌+◌, ◌≤◌, List, ◌++◌, length, max, Option, None, append_assoc, append-nil, cond, refl, subst, sym, ◌∙◌, ap, arith, length-append, Some, IfSome, min}
+use Rattle.std.proofs.Common.{◌≡◌, ℕ, ◌≤◌, List, ◌++◌, max, Option, None, append_assoc, append-nil, cond, refl, sym, ◌∙◌, ap, arith, Some, IfSome, min}
 use Rattle.hid_assemble.specs.declared.verdict.Verdict.{Verdict}
 use Rattle.hid_assemble.specs.Assembly.{Assembly, accepted}
 use Rattle.hid_assemble.specs.Verdicts.{verdict}

@@ -1,4 +1,4 @@
-use Rattle.std.proofs.Common.{rules, arith}
+use Rattle.std.proofs.Common.{arith}
 use Rattle.authn_core.proofs.authenticator.Core.make_key.Goals as goal
 
 pub wait-requires : goal.wait-requires

@@ -1,4 +1,4 @@
-use Rattle.std.proofs.Common.{rules, arith}
+use Rattle.std.proofs.Common.{arith}
 use Rattle.authn_core.proofs.Readiness.{pending_raised, find_raised}
 use Rattle.authn_core.proofs.authenticator.Core.sign.Goals as goal
 

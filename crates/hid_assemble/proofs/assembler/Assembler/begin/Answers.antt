@@ -1,8 +1,5 @@
 use Rattle.std.proofs.Common.{◌≡◌, length, subst, sym, ◌∙◌, arith}
-use Rattle.hid_assemble.specs.Assembly.{IsOpenMessage}
-use Rattle.hid_assemble.specs.Kept.{assembly}
 use Rattle.hid_assemble.specs.Table.{initialization_row}
-use Rattle.hid_assemble.specs.declared.assembler.Contents.TheVariants.{Open as HoldsOpen}
 use Rattle.hid_assemble.proofs.Says.{RowSays, row_says}
 use Rattle.hid_assemble.proofs.Keeping.{given-is, one_more, short_state, long_state}
 use Rattle.hid_assemble.proofs.assembler.Assembler.begin.Goals as goal

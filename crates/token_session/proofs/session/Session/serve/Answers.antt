@@ -1,4 +1,4 @@
-use Rattle.std.proofs.Common.{◌≡◌, ◌≤◌, ◌+◌, [], length, Some, None, refl, sym, ◌∙◌, append-nil, length-append, rules, arith}
+use Rattle.std.proofs.Common.{◌≡◌, [], Some, refl, sym, ◌∙◌, append-nil, length-append, rules, arith}
 use Rattle.std.proofs.lemmas.Bool.Decides.{nat_tests}
 use Rattle.authn_core.specs.State.{Request, PresenceIs, KeyIs, SignatureIs, Cancel, Drop}
 use Rattle.authn_core.specs.Turn.{working}
