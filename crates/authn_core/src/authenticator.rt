@@ -207,6 +207,8 @@ impl<T: Table<C>, const C: usize> Core<T, C> {
     }
 
     /// Takes the turn of an event that came at `at`.
+    // It isn't inlined: where it is, what reads a request isn't inlined into it.
+    #[inline(never)]
     #[tactic(auto, unfolding(crate::specs::Turn::turn))]
     pub fn take(&mut self, at: u64, event: &Event<'_>) -> Turn
         ensures { IsTurn self.old self.new (answer_of result) at (event_of event.now) }

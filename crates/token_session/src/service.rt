@@ -88,6 +88,7 @@ impl<const C: usize> Keeper<C> {
     }
 
     /// Sends what a turn returned to the channel that asked. `before` is the work that waited before the turn.
+    #[inline(always)]
     #[tactic(auto, unfolding(crate::specs::Replies::answer_packets, crate::specs::Machine::answer_keeps_alive))]
     fn send(&mut self, now: u64, cid: u32, before: Option<Work>, turn: &Turn, outbox: &mut Outbox)
         requires { length outbox.old + length (answer_packets (Some cid) (status_of (option_map work_of before))
