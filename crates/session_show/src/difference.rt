@@ -427,7 +427,7 @@ fn put_message<T: Target>(
     }
     let said = Line::Sent(*packet);
     walk.take(line, &said);
-    if let Some(message) = walk.entry(line, b"", said).own.message {
+    if let Some(message) = walk.entry(line, b"", &said).own.message {
         put_written(writer, pen, &MessageLines(line, message))?;
     }
     Ok(match walk.channels.on(channel_of(packet)) {

@@ -54,7 +54,7 @@ pub struct Own<'a> {
     pub number: u64,
     pub line: &'a [u8],
     /// What the line says.
-    pub said: Line,
+    pub said: &'a Line,
     /// The transaction that it belongs to.
     pub of: Option<Transaction>,
     /// The message whose last packet it has.
@@ -78,12 +78,12 @@ pub struct Entry<'a> {
 /// What follows the lines of a log.
 pub trait Follows {
     /// Takes the next line, which has this number and says this, and returns what is shown for it.
-    fn next_entry<'a>(&'a mut self, number: u64, line: &'a [u8], said: Line) -> Entry<'a>;
+    fn next_entry<'a>(&'a mut self, number: u64, line: &'a [u8], said: &'a Line) -> Entry<'a>;
 }
 
 impl Follows for Walk {
-    fn next_entry<'a>(&'a mut self, number: u64, line: &'a [u8], said: Line) -> Entry<'a> {
-        self.take(number, &said);
+    fn next_entry<'a>(&'a mut self, number: u64, line: &'a [u8], said: &'a Line) -> Entry<'a> {
+        self.take(number, said);
         self.entry(number, line, said)
     }
 }
@@ -178,7 +178,7 @@ fn write_more(pen: &mut Pen, number: u64, message: &Message<'_>, first: u8, item
 impl Written for Entry<'_> {
     /// Writes what comes after the number and a space: lines that end with a line feed.
     fn write(&self, pen: &mut Pen) {
-        match &self.own.said {
+        match self.own.said {
             Line::Input(timed) => write_input(pen, timed),
             Line::Sent(packet) => {
                 pen.text("< ");

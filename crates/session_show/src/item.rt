@@ -17,8 +17,6 @@ pub struct Notation {
     colon: &'static str,
     /// What is before the digits of a byte string, and after them.
     bytes: (&'static str, &'static str),
-    /// What is before a map's key that is a number, and after it.
-    key: &'static str,
     is_json: bool,
 }
 
@@ -27,7 +25,6 @@ pub const DIAGNOSTIC: &Notation = &Notation {
     comma: ", ",
     colon: ": ",
     bytes: ("h'", "'"),
-    key: "",
     is_json: false,
 };
 
@@ -36,7 +33,6 @@ pub const JSON: &Notation = &Notation {
     comma: ",",
     colon: ":",
     bytes: ("\"", "\""),
-    key: "\"",
     is_json: true,
 };
 
@@ -135,13 +131,15 @@ fn write_inside(
 
 /// Writes a map's key, by its name where it is a number that has one.
 fn write_key(pen: &mut Pen, key: Item<'_>, notation: &Notation, names: Names) {
-    if let Item::Int(number) = key {
-        pen.text(notation.key);
+    if let Item::Int(number) = key
+        && notation.is_json
+    {
+        pen.text("\"");
         match name_in(names, number) {
             Some(name) => pen.text(name),
             None => pen.integer(number),
         }
-        pen.text(notation.key);
+        pen.text("\"");
     } else {
         write_scalar(pen, key, notation);
     }

@@ -14,7 +14,7 @@ use token_session::{Input, Timed};
 
 /// Writes the objects of a line. A comment that isn't UTF-8 is written in hexadecimal digits.
 pub fn write_line(pen: &mut Pen, own: &Own<'_>) {
-    match &own.said {
+    match own.said {
         Line::Input(timed) => match &timed.input {
             Input::Packet(packet) => write_packet(pen, own, ("host", Some(timed.at)), packet),
             _ => write_reply(pen, own, timed),

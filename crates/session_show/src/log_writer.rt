@@ -166,7 +166,7 @@ impl Telling for LogWriter {
         self.last = number;
         let lines = Lines {
             form: self.form,
-            entry: self.walk.entry(number, line, said),
+            entry: self.walk.entry(number, line, &said),
             has_head: self.is_begun,
         };
         self.counts.add_line(&lines.entry);

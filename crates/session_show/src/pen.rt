@@ -90,10 +90,16 @@ impl Pen {
 
     /// Writes a text.
     pub fn text(&mut self, text: &str) {
-        if !self.is_quoted {
+        if self.is_quoted {
+            self.quoted(text);
+        } else {
             self.bytes(text.as_bytes());
-            return;
         }
+    }
+
+    /// Writes a text in a JSON text.
+    // Apart from the other, which is called more often than anything else.
+    fn quoted(&mut self, text: &str) {
         for byte in text.as_bytes() {
             if matches!(byte, b'"' | b'\\') {
                 self.bytes(b"\\");

@@ -49,7 +49,7 @@ impl<F: Follows> Showing<F> {
         let Some(said) = read_line(line) else {
             return Err(LogFault::BadLine(number));
         };
-        let entry = self.followed.next_entry(number, line, said);
+        let entry = self.followed.next_entry(number, line, &said);
         if !wording.has_text(line, &said) {
             return Ok(());
         }

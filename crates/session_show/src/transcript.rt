@@ -14,8 +14,8 @@ pub struct Transcript {
 }
 
 impl Follows for Transcript {
-    fn next_entry<'a>(&'a mut self, number: u64, line: &'a [u8], said: Line) -> Entry<'a> {
-        let (kind, bytes) = match &said {
+    fn next_entry<'a>(&'a mut self, number: u64, line: &'a [u8], said: &'a Line) -> Entry<'a> {
+        let (kind, bytes) = match said {
             Line::Input(timed) => match &timed.input {
                 Input::Packet(packet) => (Kind::Request, self.requests.add(packet)),
                 _ => (Kind::Request, None),

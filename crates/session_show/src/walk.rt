@@ -44,7 +44,7 @@ pub enum Part {
 pub struct Doubtful {
     pub line: u64,
     /// What its line says.
-    input: Timed,
+    said: Line,
     pub of: Transaction,
     /// Whether it is the next one of the message.
     pub is_next: bool,
@@ -65,7 +65,7 @@ enum Shown {
 #[derive(Clone, Copy)]
 struct Decided {
     line: u64,
-    input: Timed,
+    said: Line,
     /// The transaction that it belongs to.
     of: Option<Transaction>,
     shown: Option<Shown>,
@@ -164,7 +164,7 @@ impl Walk {
     // ---- what the last line is
 
     /// Returns the last line, which has this number and says this, as it is shown, with what it shows of lines before it.
-    pub fn entry<'a>(&'a self, number: u64, line: &'a [u8], said: Line) -> Entry<'a> {
+    pub fn entry<'a>(&'a self, number: u64, line: &'a [u8], said: &'a Line) -> Entry<'a> {
         Entry {
             late: self.late(),
             own: Own {
@@ -186,7 +186,7 @@ impl Walk {
         Some(Own {
             number: decided.line,
             line: b"",
-            said: Line::Input(decided.input),
+            said: &decided.said,
             of: decided.of,
             message: self.message(decided.shown),
         })
@@ -306,7 +306,7 @@ impl Walk {
         if continuation.gap >= NO_TIME_OUT {
             self.doubtful = Some(Doubtful {
                 line: number,
-                input: *timed,
+                said: Line::Input(*timed),
                 of,
                 is_next: continuation.is_next,
                 is_whole,
@@ -357,7 +357,7 @@ impl Walk {
         let of = if is_late { None } else { Some(doubtful.of) };
         self.decided = Some(Decided {
             line: doubtful.line,
-            input: doubtful.input,
+            said: doubtful.said,
             of,
             shown,
         });
