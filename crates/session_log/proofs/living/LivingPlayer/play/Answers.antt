@@ -1,4 +1,4 @@
-use Rattle.std.proofs.Common.{◌≡◌, Some, flat_map, ◌++◌, refl, ◌∙◌, ap, subst}
+use Rattle.std.proofs.Common.{◌≡◌, Bool, cond, Some, [], flat_map, ◌++◌, refl, sym, ◌∙◌, ap, subst}
 use Rattle.authn_core.specs.Needs.{IsNeed}
 use Rattle.authn_core.specs.Views.{needed}
 use Rattle.token_session.specs.Meters.{stepped}
@@ -6,7 +6,7 @@ use Rattle.session_log.specs.Session.{live_machine, session_needs}
 use Rattle.session_log.specs.Needs.{need_lines}
 use Rattle.session_log.specs.Said.{said}
 use Rattle.session_log.specs.Text.{ArePackets, ended, sent_text}
-use Rattle.session_log.specs.declared.line.Line.TheVariants.{Input}
+use Rattle.session_log.specs.declared.line.Line.TheVariants.{Comment, Input}
 use Rattle.session_log.proofs.Exits.{writes_for}
 use Rattle.session_log.proofs.living.LivingPlayer.play.Goals as goal
 
@@ -21,3 +21,12 @@ returns-in-Input-clause-played g c =
     writes_for live_machine g.T.Target.taken g.T.Target.failed c.args._number s c.step.new.self line (Input x) (c.args.writer.now, c.put_served.new.writer) c.put_served.result text is refl
     c.step.ensures.state (subst ArePackets c.step.ensures.packets c.put_served.ensures.packets, subst IsNeed need c.need.ensures.sized)
     (λ i. c.requires.ended i ++ flat_map sent_text (c.step.ensures.packets i) ++ flat_map ended (need_lines (need i))) c.put_served.ensures.puts
+
+pub returns-else-is_need_line-clause-played : goal.returns-else-is_need_line-clause-played
+returns-else-is_need_line-clause-played g c =
+    let s = c.args.session.now in
+    let line = c.args.line.now in
+    let is : said line ≡ Some Comment = c.requires.means ∙ ap Some c.in-Comment.is in
+    let other = sym c.if-is_need_line.false ∙ c.is_need_line.ensures in
+    writes_for live_machine g.T.Target.taken g.T.Target.failed c.args._number s s line Comment (c.args.writer.now, c.put_text.new.writer) c.put_text.result c.args.text.now is refl refl tt
+    (c.requires.ended ∙ ap (λ (b : Bool). cond b [] (ended line)) other) c.put_text.ensures
