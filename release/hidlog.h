@@ -106,12 +106,17 @@ enum hidlog_key_fault {
     HIDLOG_KEY_WORK_WAITS = -7,     /* a change of credentials while hidlog_key_need isn't HIDLOG_NEED_NOTHING */
     HIDLOG_KEY_CLASHES = -8,        /* hidlog_key_add: another one is discoverable, with the same RP and user handle */
     HIDLOG_KEY_NOT_SNAPSHOT = -17,  /* hidlog_key_make: the bytes are no snapshot of versions 1 and 2 */
-    HIDLOG_KEY_TOO_MANY_ROWS = -18, /* hidlog_key_make: over 64 rows; hidlog_key_add: 64 others are held */
+    HIDLOG_KEY_TOO_MANY_ROWS = -18, /* hidlog_key_make: more rows than there is capacity for; hidlog_key_add: it is full */
     HIDLOG_KEY_ROW_BROKEN = -19     /* hidlog_key_make: a row doesn't hold what a row holds */
 };
 
 /* How many bytes a key takes. */
 size_t hidlog_key_size(void);
+
+/* For how many credentials a key has capacity: 64, and 256 where the program is linked with libhidlog-256, which has the
+ * same functions for keys and logs of that capacity. A program that is compiled for it defines HIDLOG_CAPACITY as 256
+ * (`pkg-config --cflags --libs hidlog-256` does), so that its buffers for snapshots are long enough. */
+size_t hidlog_key_capacity(void);
 
 /* Makes a key that is switched on at `at`, with the credentials of a snapshot (0 bytes: none). Returns 0. */
 int32_t hidlog_key_make(struct hidlog_key *key, const uint8_t aaguid[16], uint64_t at, const uint8_t *snapshot,
@@ -161,7 +166,7 @@ struct hidlog_credential {
     uint32_t discoverable; /* 0 or 1 */
     uint32_t counter;      /* the signature counter */
 };
-/* How many credentials are held, 0 to 64. */
+/* How many credentials are held, 0 to HIDLOG_CAPACITY. */
 int32_t hidlog_key_credentials(struct hidlog_key *key);
 /* Writes the one at this place, from 0. Returns 0, or HIDLOG_KEY_BAD_ARGUMENT where there is none. */
 int32_t hidlog_key_credential(struct hidlog_key *key, size_t place, struct hidlog_credential *credential);
@@ -179,13 +184,16 @@ int32_t hidlog_key_remove(struct hidlog_key *key, uint64_t at, const uint8_t id[
 /* Takes out all. */
 int32_t hidlog_key_clear(struct hidlog_key *key, uint64_t at);
 
-/* No snapshot is longer: 13 bytes, and 283 for each of 64 credentials. */
-enum { HIDLOG_SNAPSHOT_LONGEST = 18125 };
+#ifndef HIDLOG_CAPACITY
+#define HIDLOG_CAPACITY 64
+#endif
+/* No snapshot is longer: 13 bytes, and 283 for each credential. */
+enum { HIDLOG_SNAPSHOT_LONGEST = 13 + 283 * HIDLOG_CAPACITY };
 /* Writes a snapshot of the credentials to the front of `out`, which has `room` bytes, at least HIDLOG_SNAPSHOT_LONGEST:
  * what hidlog_key_make takes, at any time. Private keys are the caller's to keep. Returns how many bytes it has. */
 int32_t hidlog_key_save(struct hidlog_key *key, uint8_t *out, size_t room);
 
-/* How many assertions wait for authenticatorGetNextAssertion, 0 to 64. */
+/* How many assertions wait for authenticatorGetNextAssertion, 0 to HIDLOG_CAPACITY. */
 int32_t hidlog_key_pending(struct hidlog_key *key);
 
 struct hidlog_meters { uint64_t requests, bytes, steps; uint32_t held, rows, pending, zero; };
