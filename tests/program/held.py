@@ -43,13 +43,13 @@ def many_lines_take_few_writes(room: Path) -> None:
         assert count <= most, f"{words}: {count} writes and not {most}"
 
 
-def read_up_to(program: subprocess.Popen[bytes], end: bytes) -> bytes:
-    """Returns what a program writes, up to this end; fails where that doesn't come."""
+def read_up_to(program: subprocess.Popen[bytes], part: bytes) -> bytes:
+    """Returns what a program writes, until this part is in it; fails where that doesn't come."""
     assert program.stdout is not None
     text = b""
-    while not text.endswith(end):
+    while part not in text:
         ready, _, _ = select.select([program.stdout], [], [], 20)
-        assert ready, f"{text!r} came, and no {end!r}"
+        assert ready, f"{text!r} came, and no {part!r}"
         more = os.read(program.stdout.fileno(), 65536)
         assert more, f"{text!r} came, and then the end"
         text += more
