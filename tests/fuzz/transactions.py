@@ -22,10 +22,8 @@ from typing import Optional
 
 sys.dont_write_bytecode = True
 TOP = os.path.realpath(os.path.join(os.path.dirname(os.path.abspath(__file__)), "..", ".."))
-sys.path.insert(0, os.path.join(TOP, "python", "src"))
-
-import executors
-from hidlog import cbor
+import executors  # which finds the corpus's modules, also on other machines
+from hidlog_conformance import ctap_cbor
 from hostile import MAKE, RESET, Maker, encode
 
 PING, INIT, CBOR, CANCEL, KEEPALIVE, ERROR = 0x01, 0x06, 0x10, 0x11, 0x3B, 0x3F
@@ -165,7 +163,7 @@ class Machine:
         """Keeps the credential that an answer made, or notes which one a refusal excludes."""
         if message[0] not in (0, EXCLUDED):
             return
-        asked = cbor.decode(owner.data[1:])
+        asked = ctap_cbor.decode(owner.data[1:])
         site = asked[2]["id"]
         if message[0] == EXCLUDED:
             names = [it["id"] for it in asked[5]]
@@ -173,7 +171,7 @@ class Machine:
             if held:
                 self.excluded[line] = names.index(held[-1].name), held[-1].line
             return
-        data = cbor.decode(message[1:])[2]
+        data = ctap_cbor.decode(message[1:])[2]
         made = Made(
             relying_party=site,
             user=asked[3]["id"],

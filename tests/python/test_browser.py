@@ -130,7 +130,7 @@ def test_errors_are_the_doms_and_this_packages(make: Make) -> None:
         browser.get(REQUEST)
     key.faults.clear()
     key.faults.status = "KEY_STORE_FULL"
-    with pytest.raises(hidlog.NotAllowedError, match="0x28 KEY_STORE_FULL: the key holds 64"):
+    with pytest.raises(hidlog.NotAllowedError, match="0x28 KEY_STORE_FULL: the key holds as many credentials"):
         browser.create(creation("bob"))
     kinds = ("NotAllowed", "InvalidState", "Security", "NotSupported", "Abort", "Encoding", "WebAuthnType")
     for kind in kinds:
