@@ -22,7 +22,9 @@ from typing import Optional
 
 sys.dont_write_bytecode = True
 TOP = os.path.realpath(os.path.join(os.path.dirname(os.path.abspath(__file__)), "..", ".."))
-import executors  # which finds the corpus's modules, also on other machines
+sys.path.insert(0, os.path.join(TOP, "conformance"))
+
+import executors
 from hidlog_conformance import ctap_cbor
 from hostile import MAKE, RESET, Maker, encode
 
