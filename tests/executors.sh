@@ -27,7 +27,7 @@ for _ in 1 2 3; do
         --no-dashboard --no-nanny >>"$work/workers" 2>&1 &
     started+=($!)
 done
-address=$(sed -n 's|.*"address": "tcp://\(127[^"]*\)".*|\1|p' "$work/scheduler.json" | head -1)
+address=$(sed -n 's|.*"address": "tcp://\(127[^"]*\)".*|\1|p' "$work/scheduler.json" | sed -n 1p)
 executor=dask://$address
 failed=0
 

@@ -61,7 +61,7 @@ replays "$copy/hidlog"
 # So is a definition, which is written in place. A proof decides only whether a program is made, so the calls after the
 # first don't ask for it; the first does.
 for kind in specs proofs; do
-    changed=$(find "$copy/crates/session_log/$kind" -name '*.antt' | sort | head -1)
+    changed=$(find "$copy/crates/session_log/$kind" -name '*.antt' | sort | sed -n 1p)
     cp -p "$changed" "$work/changed"
     echo '-- changed' >>"$changed"
     touch -d 2001-01-01 "$changed"

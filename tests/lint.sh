@@ -6,6 +6,9 @@ cd "$(dirname "${BASH_SOURCE[0]}")/.."
 mapfile -t shell < <(git ls-files -z -co --exclude-standard |
     xargs -0 awk 'FNR == 1 { if ($0 ~ /^#!.*[\/ ](ba)?sh$/) print FILENAME; nextfile }')
 shellcheck --severity=warning "${shell[@]}"
+# A reader that stops early ends its writer by SIGPIPE, now and then, and pipefail makes a failure of that.
+early=$(grep -l pipefail "${shell[@]}" | xargs grep -nE '[^|][|] *(head|grep -[a-zA-Z]*[qm])' || true)
+[ -z "$early" ] || { echo "FAILED: read all of it, as sed -n 1p does:"; echo "$early"; exit 1; }
 mapfile -t python < <(git ls-files -co --exclude-standard '*.py')
 black --quiet --check --line-length 120 "${python[@]}"
 untyped='^(bench|examples|python/src|tests/(fuzz|python|web))/'

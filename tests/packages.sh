@@ -62,12 +62,14 @@ dpkg-deb -x "$room"/first/python3-hidlog_*.deb "$room/root"
 } >"$room/python3-hidlog"
 chmod +x "$room/python3-hidlog"
 has_cases python3-hidlog "$room/python3-hidlog" cases_of_the_file arguments_are_utf_8
-[ "$("$room/python3-hidlog" mermaid "$log" | head -1)" = sequenceDiagram ] || stop "python3-hidlog has no commands of its own"
+[ "$("$room/python3-hidlog" mermaid "$log" | sed -n 1p)" = sequenceDiagram ] ||
+    stop "python3-hidlog has no commands of its own"
 if python3 -c 'import venv, ensurepip' 2>/dev/null; then
     python3 -m venv "$room/venv"
     "$room/venv/bin/pip" install --quiet --no-index --no-deps --disable-pip-version-check "$room"/first/*x86_64.whl
     has_cases wheel "$room/venv/bin/hidlog" cases_of_the_file cases_of_logs arguments_are_utf_8
-    [ "$("$room/venv/bin/hidlog" mermaid "$log" | head -1)" = sequenceDiagram ] || stop "the wheel has no commands of its own"
+    [ "$("$room/venv/bin/hidlog" mermaid "$log" | sed -n 1p)" = sequenceDiagram ] ||
+        stop "the wheel has no commands of its own"
 fi
 # The completion of bash knows the commands, their options, and where a path follows.
 completes() {

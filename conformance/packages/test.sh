@@ -20,7 +20,8 @@ played() {
     local said
     said=$("$@" --device "$reference" --touch-line touch --only ping/bytes_00 --report text 2>/dev/null | tail -1)
     [[ $said =~ ^[1-9][0-9]*\ passed,\ 0\ failed ]] || { echo "$*: $said" && exit 1; }
-    "$@" --device "$reference" --touch-line touch --only pin/registers --report html 2>/dev/null | grep -q "<h2>By section</h2>"
+    "$@" --device "$reference" --touch-line touch --only pin/registers --report html 2>/dev/null |
+        grep "<h2>By section</h2>" >/dev/null
     "$@" --device "$reference" --touch-line touch --reset --only pin/registers 2>/dev/null | tail -1
     "$@" --version
 }

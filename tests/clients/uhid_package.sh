@@ -74,7 +74,7 @@ order=(virtio/virtio_ring virtio/virtio virtio/virtio_pci_legacy_dev virtio/virt
 {
     printf '%s\n' '#!/bin/busybox sh' '/bin/busybox mount -t proc proc /proc' '/bin/busybox mount -t devtmpfs dev /dev'
     for module in "${order[@]}"; do
-        file=$(find "$kernel" -name "${module##*/}.ko*" | head -1)
+        file=$(find "$kernel" -name "${module##*/}.ko*" | sed -n 1p)
         [ -n "$file" ] || continue
         case $file in *.xz) xz -dc "$file" ;; *) cat "$file" ;; esac >"$root/modules/${module##*/}.ko"
         echo "/bin/busybox insmod /modules/${module##*/}.ko"

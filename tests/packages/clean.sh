@@ -82,9 +82,9 @@ clean "the command, as dpkg diverts it" "apt-get install $debs
 cmp /usr/bin/hidlog <(dpkg-deb --fsys-tarfile /packages/hidlog_${version}_amd64.deb | tar -xO ./usr/bin/hidlog)
 apt-get install /packages/python3-hidlog_${version}_amd64.deb
 cd /usr/share/doc/hidlog && hidlog check examples/sign_in.log && hidlog.plain check examples/sign_in.log
-hidlog mermaid examples/sign_in.log | head -1
+hidlog mermaid examples/sign_in.log | sed -n 1p
 apt-get install --reinstall $debs
-hidlog mermaid examples/sign_in.log | head -1
+hidlog mermaid examples/sign_in.log | sed -n 1p
 apt-get purge python3-hidlog
 ! hidlog mermaid examples/sign_in.log && ! [ -e /usr/bin/hidlog.plain ] && ! [ -d /usr/lib/python3/dist-packages/hidlog ]
 hidlog check examples/sign_in.log
